@@ -1,4 +1,4 @@
-// Pictures as PNG, and pictures that move: the same forms as tools/vga_report/png.py and apng.py write.
+// Pictures as PNG, and pictures that move: the same forms as tools/vga_report/png.py writes.
 import { Trouble } from "./trouble.js";
 import { joinedBytes, throughStream } from "./bytes.js";
 

@@ -2,6 +2,7 @@
 //! `picture PICTURE.ppm`.
 
 use std::error::Error;
+use std::process::ExitCode;
 use std::{env, fs, thread};
 
 use zaklimot::{Card, Direction::Up, Regs};
@@ -14,11 +15,27 @@ fn draw(mut card: Card) -> Result<Vec<u8>, zaklimot::Error> {
     Ok(card.frame()?.ppm())
 }
 
-fn main() -> Result<(), Box<dyn Error>> {
-    let words: Vec<String> = env::args().collect();
-    let path = words.get(1).ok_or("picture PICTURE.ppm")?;
+fn picture(path: &str) -> Result<(), Box<dyn Error>> {
     let card = Card::new()?;
     let ppm = thread::spawn(move || draw(card)).join().expect("the thread ends")?;
-    fs::write(path, ppm)?;
+    fs::write(path, ppm).map_err(|error| format!("{path} can't be written: {error}"))?;
     Ok(())
+}
+
+fn main() -> ExitCode {
+    let words: Vec<String> = env::args().collect();
+    let path = match words.as_slice() {
+        [_, path] => path,
+        _ => {
+            eprintln!("picture PICTURE.ppm");
+            return ExitCode::from(2);
+        }
+    };
+    match picture(path) {
+        Ok(()) => ExitCode::SUCCESS,
+        Err(error) => {
+            eprintln!("picture: {error}");
+            ExitCode::FAILURE
+        }
+    }
 }

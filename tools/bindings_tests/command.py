@@ -6,13 +6,12 @@ import argparse
 import tempfile
 import time
 from pathlib import Path
-from typing import Callable, Optional, Sequence
+from typing import Callable
 
-from vga_library.gated import gated_archive
 from vga_library.making import MOVING, Place, make_library
-from vga_library.telling import phases
 from vga_library.targets import BACKENDS
-from vga_library.toolchain import kit_archive, proved_archive
+from vga_library.toolchain import gated_archive, kit_archive, proved_archive
+from vga_report.crates import phases
 from vga_report import cli
 from vga_report.progress import Progress
 from vga_report.trouble import Trouble
@@ -38,16 +37,8 @@ def _parser() -> argparse.ArgumentParser:
     given.add_argument(
         "--library", type=Path, metavar="FOLDER", help="one that `vga-library make` has made; else it is made"
     )
-    given.add_argument(
-        "--gated", action="store_true", help="over the libraries that `rt ci` left, which must have run just before"
-    )
-    parser.add_argument(
-        "--proof", type=Path, metavar="FOLDER", help="with --gated: keeps the crate's proof there, or takes it from there"
-    )
+    cli.add_checks(parser, CHECKS, given)
     parser.add_argument("--ready", action="store_true", help="tests nothing, and tells what this machine lacks")
-    parser.add_argument(
-        "--only", action="append", default=[], choices=CHECKS, help="this check alone; again and again"
-    )
     return parser
 
 
@@ -73,11 +64,7 @@ def _library(words: argparse.Namespace, folder: Path, progress: Progress) -> Pat
 
 def _run(words: argparse.Namespace, progress: Progress) -> None:
     """Makes each check that is wanted, and tells a line for it."""
-    if words.proof is not None and not words.gated:
-        raise Trouble("--proof keeps a proof of --gated")
-    missing = lacking()
-    if missing:
-        raise Trouble("this machine lacks\n" + "\n".join(f"  {line}" for line in missing))
+    cli.refuse_to_check(words, lacking())
     if words.ready:
         return
     with tempfile.TemporaryDirectory(prefix="vga-bindings-tests-") as name:
@@ -89,6 +76,5 @@ def _run(words: argparse.Namespace, progress: Progress) -> None:
             print(f"{check}: {told} ({time.monotonic() - begun:.0f} s)", flush=True)
 
 
-def main(words: Optional[Sequence[str]] = None) -> int:
-    """Runs a command line, and answers its exit status."""
-    return cli.main(_parser, words)
+# Runs a command line, and answers its exit status.
+main = cli.runner(_parser)

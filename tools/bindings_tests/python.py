@@ -7,9 +7,8 @@ import sys
 from pathlib import Path
 
 from vga_report import TOP
+from vga_report.processes import tested
 from vga_report.trouble import Wrong
-
-from .running import run
 
 PACKAGE = TOP / "bindings" / "python"
 # How unittest ends, and what a test may be skipped for.
@@ -21,7 +20,7 @@ def check_python(library: Path, _: Path) -> str:
     """Each test passes, and none is skipped but for want of numpy."""
     words = [sys.executable, "-B", "-m", "unittest", "discover", "--verbose", "--start-directory", PACKAGE / "tests"]
     environment = {"ZAKLIMOT_DIR": str(library), "ZAKLIMOT_LIBRARY": "", "PYTHONPATH": str(PACKAGE / "src")}
-    _, said = run(words, environment=environment)
+    said = tested(words, environment=environment).errors.decode("utf-8", "replace")
     ran, skipped = RAN.search(said), SKIPPED.findall(said)
     if ran is None or set(skipped) - {MAY_BE_SKIPPED}:
         raise Wrong(f"tests were skipped: {', '.join(sorted(set(skipped)))}")

@@ -8,10 +8,8 @@ import sys
 from pathlib import Path
 
 from vga_report import TOP
-from vga_report.processes import captured
+from vga_report.processes import captured, tested
 from vga_report.trouble import Wrong
-
-from .running import run
 
 CRATES = "bindings/rust"
 # The crates, and what they name outside.
@@ -32,6 +30,9 @@ zaklimot = { path = "../bindings/rust/zaklimot" }
 TEXT = "; blanks and cases\r\nversion 2\n int AX=3\nrepeat 2\nput b8000 41\nGET b8000\nend\n\nin 3cc"
 PRINTED = "version 2\nint ax=0003 bx=0000 cx=0000 dx=0000\nrepeat 2\nput B8000 41\nget B8000\nend\nin 3CC\n"
 REPORT = "1 ax=0003 bx=0000 cx=0000 dx=0000\n2 ok\n3 41\n4 ok\n5 41\n6 67\n"
+# What is told of a picture that can't be written.
+NOWHERE = "no-such-folder/picture.ppm"
+UNWRITTEN = f"picture: {NOWHERE} can't be written: "
 # Lengths of slices: one step, some that leave a rest, and all.
 SLICES = ("1", "4", "6", "1000")
 # What is told of slices of no step, and within how many seconds.
@@ -50,7 +51,8 @@ def _cargo(library: Path, folder: Path, *words: str) -> str:
     if not tree.exists():
         for name in COPIED:
             shutil.copytree(TOP / name, tree / name, ignore=shutil.ignore_patterns("target", "Cargo.lock"))
-    return run(["cargo", *words], tree / CRATES, _environment(library, folder))[0]
+    done = tested(["cargo", *words], tree / CRATES, environment=_environment(library, folder))
+    return done.output.decode("utf-8", "replace")
 
 
 def check_rust(library: Path, folder: Path) -> str:
@@ -67,12 +69,15 @@ def check_rust_examples(library: Path, folder: Path) -> str:
     _cargo(library, folder, "build", "--offline", "--examples")
     made = folder / "target" / "debug" / "examples"
     ppm, script = folder / "picture.ppm", folder / "few.vga"
-    run([made / "picture", ppm])
+    tested([made / "picture", ppm])
     if ppm.read_bytes() != _python_picture(library, folder):
         raise Wrong("the picture of Rust is not Python's")
+    done = captured([made / "picture", NOWHERE], folder)
+    if done.status != 1 or not done.errors.decode("utf-8", "replace").startswith(UNWRITTEN):
+        raise Wrong(f"Rust does not tell that a picture can't be written: {done.errors!r}")
     script.write_bytes(TEXT.encode("ascii"))
     for steps in SLICES:
-        if run([made / "slices", script, steps])[0] != PRINTED + REPORT:
+        if tested([made / "slices", script, steps]).output.decode("ascii") != PRINTED + REPORT:
             raise Wrong(f"in slices of {steps}, Rust writes another text or report")
     script.write_text(BAD, "ascii")
     done = captured([made / "slices", script, "1"])
@@ -102,7 +107,9 @@ def _check_page(library: Path, folder: Path) -> None:
     for file, program in programs.items():
         name = "first" if file == "src/main.rs" else Path(file).stem
         words = ["cargo", "run", "--offline", "--quiet", "--bin", name]
-        told, _ = run(words, project, _environment(library, folder))
+        told = tested(
+            words, project, environment=_environment(library, folder)
+        ).output.decode("utf-8", "replace")
         wanted = re.findall(r"println!\(.*\); // (.*)", program)
         if not wanted or told.splitlines() != wanted:
             raise Wrong(f"a program of docs/RUST.md writes {told}, and not {wanted}")
@@ -112,7 +119,7 @@ def _python_picture(library: Path, folder: Path) -> bytes:
     """The picture that the first program in Python draws."""
     ppm = folder / "python.ppm"
     environment = {"ZAKLIMOT_DIR": str(library), "PYTHONPATH": str(TOP / "bindings" / "python" / "src")}
-    run([sys.executable, "-B", PYTHON / "picture.py", ppm], environment=environment)
+    tested([sys.executable, "-B", PYTHON / "picture.py", ppm], environment=environment)
     return ppm.read_bytes()
 
 

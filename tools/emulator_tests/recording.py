@@ -3,10 +3,8 @@
 from __future__ import annotations
 
 import gzip
-import json
 import os
 import shutil
-import socket
 import tempfile
 import time
 from contextlib import ExitStack
@@ -14,16 +12,16 @@ from dataclasses import dataclass
 from pathlib import Path
 from typing import Callable, Sequence
 
+from vga_floppy.running import ANSWERING, Monitor, monitor_at
 from vga_report.processes import started
 from vga_report.streams import writing
-from vga_report.trouble import Trouble
 
 QEMU = "qemu-system-x86_64"
 EVENTS = "memory_region_ops_read\nmemory_region_ops_write\n"
 # The regions of the log that are the VGA's.
 KEPT = ("'vga", "'vbe'", "'cirrus-io'", "'cirrus-low-memory'")
-# Seconds between two looks, until the monitor listens, and that the cursor's phase lasts about half of.
-LOOK, LISTENING, PHASE = 0.1, 10, 0.12
+# Seconds between two looks, and that the cursor's phase lasts about half of.
+LOOK, PHASE = 0.1, 0.12
 # Screens are taken again and again, since qemu blinks by a clock of its own.
 SCREENS = 6
 
@@ -40,38 +38,6 @@ class Machine:
     quiet: float = 3
     most: float = 60
     keys: Sequence[str] = ()
-
-
-class Monitor:
-    """qemu's monitor, which takes commands as JSON on a socket."""
-
-    def __init__(self, path: Path) -> None:
-        self._socket = socket.socket(socket.AF_UNIX)
-        until = time.monotonic() + LISTENING
-        while self._socket.connect_ex(str(path)):
-            if time.monotonic() > until:
-                raise Trouble("qemu's monitor doesn't listen")
-            time.sleep(LOOK)
-        self._lines = self._socket.makefile("rw")
-        self._lines.readline()
-        self.do("qmp_capabilities")
-
-    def do(self, name: str, **arguments: object) -> None:
-        """Does a command, and waits for its answer."""
-        self._lines.write(json.dumps({"execute": name, "arguments": arguments}) + "\n")
-        self._lines.flush()
-        for line in self._lines:
-            answer = json.loads(line)
-            if "error" in answer:
-                raise Trouble(answer["error"]["desc"])
-            if "return" in answer:
-                return
-        raise Trouble("qemu has ended")
-
-    def close(self) -> None:
-        """Hangs up."""
-        self._lines.close()
-        self._socket.close()
 
 
 def wait_for_quiet(path: Path, machine: Machine) -> bool:
@@ -98,27 +64,27 @@ def _qemu(machine: Machine, folder: Path) -> list[str]:
     ]
 
 
-def _take_screens(monitor: Monitor, base: Path) -> None:
+def _take_screens(do: Monitor, base: Path) -> None:
     """Takes the screen of a machine that is stopped, at several phases of the cursor."""
     for number in range(SCREENS):
-        monitor.do("cont")
+        do("cont")
         time.sleep(PHASE)
-        monitor.do("stop")
+        do("stop")
         path = base.with_name(f"{base.name}.{number}.ppm")
-        monitor.do("screendump", filename=str(path.resolve()))
+        do("screendump", filename=str(path.resolve()))
 
 
-def _use(monitor: Monitor, machine: Machine, kept: Path, base: Path, say: Callable[[str], None]) -> None:
+def _use(do: Monitor, machine: Machine, kept: Path, base: Path, say: Callable[[str], None]) -> None:
     """Waits for the software, presses its keys, and takes the screen once it is quiet."""
     is_quiet = wait_for_quiet(kept, machine)
     for key in machine.keys:
-        monitor.do("send-key", keys=[{"type": "qcode", "data": part} for part in key.split("-")])
+        do("send-key", keys=[{"type": "qcode", "data": part} for part in key.split("-")])
         is_quiet = wait_for_quiet(kept, machine)
     if not is_quiet:
         say(f"{base.name}: the software was still busy when its screen was taken")
-    monitor.do("stop")
+    do("stop")
     before = kept.stat().st_size
-    _take_screens(monitor, base)
+    _take_screens(do, base)
     time.sleep(LOOK)
     if kept.stat().st_size != before:
         say(f"{base.name}: the software drew while its screen was taken")
@@ -134,12 +100,11 @@ def record(machine: Machine, base: Path, say: Callable[[str], None]) -> Path:
         lines = stack.enter_context(kept.open("wb"))
         keeper = stack.enter_context(started(["grep", "--line-buffered", "-F", *words, log], stdout=lines))
         qemu = stack.enter_context(started(_qemu(machine, folder)))
-        monitor = Monitor(folder / "monitor")
-        _use(monitor, machine, kept, base, say)
-        monitor.do("quit")
-        monitor.close()
-        qemu.wait(LISTENING)
-        keeper.wait(LISTENING)
+        with monitor_at(folder / "monitor") as do:
+            _use(do, machine, kept, base, say)
+            do("quit")
+        qemu.wait(ANSWERING)
+        keeper.wait(ANSWERING)
         trace = base.with_name(base.name + ".trace.gz")
         with kept.open("rb") as source, writing(str(trace)) as stream, gzip.open(stream, "wb", 6) as target:
             shutil.copyfileobj(source, target)

@@ -147,4 +147,4 @@ def _all_known(words: argparse.Namespace) -> bool:
 
 
 if __name__ == "__main__":
-    sys.exit(cli.main(_parser))
+    sys.exit(cli.runner(_parser)())

@@ -7,24 +7,23 @@ import shutil
 import tempfile
 from contextlib import contextmanager
 from pathlib import Path
-from typing import Callable, Iterator, Optional, Sequence
+from typing import Callable, Iterator
 
 from vga_library.building import built_archive, memory_part
-from vga_library.gated import gated_archive
 from vga_library.making import MOVING, Place, make_library
 from vga_library.targets import TARGETS, X86_64, Target
+from vga_library.toolchain import gated_archive
 from vga_report import cli
 from vga_report.progress import Progress
 from vga_report.trouble import Trouble
 
 from .compilers import Built, lacking
-from .examples import check_examples
+from .examples import check_examples, check_scripts
 from .header import check_header, check_names
 from .installing import check_installing
 from .pc import check_pc
 from .programs import check_advances, check_blocks, check_clock, check_memory, check_misuse, check_pictures, check_state
 from .programs import check_threads, check_transfers
-from .scripts import check_scripts
 from .suite import check_joined, check_restored, check_sliced, check_suite
 
 Check = Callable[[Built, Path], str]
@@ -66,15 +65,7 @@ def _parser() -> argparse.ArgumentParser:
     parser.add_argument(
         "--archive", type=Path, metavar="FILE", help="an archive that was built already, in the place of both compilers'"
     )
-    parser.add_argument(
-        "--gated", action="store_true", help="over the libraries that `rt ci` left, which must have run just before"
-    )
-    parser.add_argument(
-        "--proof", type=Path, metavar="FOLDER", help="with --gated: keeps the crate's proof there, or takes it from there"
-    )
-    parser.add_argument(
-        "--only", action="append", default=[], choices=[*ONCE, *EACH], help="this check alone; again and again"
-    )
+    cli.add_checks(parser, [*ONCE, *EACH])
     return parser
 
 
@@ -111,12 +102,9 @@ def _wanted(words: argparse.Namespace, target: Target) -> list[str]:
 
 def _run(words: argparse.Namespace, _: Progress) -> None:
     """Makes each check that is wanted, and tells what came of it."""
-    if words.proof is not None and not words.gated:
-        raise Trouble("--proof keeps a proof of --gated")
     target = TARGETS[words.target]
-    wanted, missing = _wanted(words, target), lacking(target)
-    if missing:
-        raise Trouble("this machine lacks\n" + "\n".join(f"  {line}" for line in missing))
+    wanted = _wanted(words, target)
+    cli.refuse_to_check(words, lacking(target))
     with _libraries(words, target) as libraries:
         for name, check in {**ONCE, **EACH}.items():
             for built in libraries if name in EACH else libraries[:1]:
@@ -127,6 +115,5 @@ def _run(words: argparse.Namespace, _: Progress) -> None:
                 print(f"{name}, {built.name}: {told}" if name in EACH else f"{name}: {told}", flush=True)
 
 
-def main(words: Optional[Sequence[str]] = None) -> int:
-    """Runs a command line, and answers its exit status."""
-    return cli.main(_parser, words)
+# Runs a command line, and answers its exit status.
+main = cli.runner(_parser)

@@ -8,8 +8,7 @@ from pathlib import Path
 from typing import Mapping, NamedTuple, Optional, Sequence
 
 from vga_library.targets import AARCH64, X86_64, Target
-from vga_report.processes import captured
-from vga_report.trouble import Wrong
+from vga_report.processes import captured, tested
 
 STRICT = ("-Wall", "-Wextra", "-Wpedantic", "-Wconversion", "-Werror")
 SANITIZED = ("-g", "-fsanitize=address,undefined", "-fno-sanitize-recover=all")
@@ -113,11 +112,7 @@ def _has_sanitizers(compiler: Compiler, runner: Sequence[str]) -> bool:
 
 def run(words: Sequence[str | Path], env: Optional[Mapping[str, str]] = None) -> str:
     """What a program writes that ends well. Else it is told how it ended."""
-    done = captured(words, environment=env)
-    if done.status:
-        line = " ".join(str(word) for word in words)
-        raise Wrong(f"{line}\n  ended with status {done.status}\n{done.said()}")
-    return done.output.decode("utf-8", "surrogateescape")
+    return tested(words, environment=env).output.decode("utf-8", "surrogateescape")
 
 
 def build(compiler: str, built: Built, sources: Sequence[Path], made: Path, *flags: str) -> None:

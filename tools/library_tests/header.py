@@ -4,9 +4,8 @@ from __future__ import annotations
 
 from pathlib import Path
 
-from vga_library.header import calls_of
 from vga_library.making import fonts_file
-from vga_report.version import HEADER, version
+from vga_report.version import HEADER, calls_of, version
 from vga_report.trouble import Wrong
 
 from .compilers import SANITIZED, STRICT, Built, run

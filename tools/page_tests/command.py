@@ -8,13 +8,13 @@ import time
 from pathlib import Path
 from typing import Iterator, Optional, Sequence
 
-from vga_library.telling import phases
+from vga_report.crates import phases
 from vga_page.making import kit_line, made_modules
 from vga_page.wasm import MOST_MODULE, check_module, kit_of
 from vga_report import cli
 from vga_report.debugging import read_at_most
 from vga_report.progress import Progress
-from vga_report.trouble import Trouble, Wrong
+from vga_report.trouble import Wrong
 
 from .built import built_page, check_built, module_in
 from .node import node_words
@@ -38,22 +38,12 @@ def _parser() -> argparse.ArgumentParser:
     parser.add_argument(
         "--module", metavar="FILE", help="a module that was made already; else it is made"
     )
-    parser.add_argument(
-        "--gated", action="store_true",
-        help="over the libraries that `rt ci` left, which must have run just before",
-    )
-    parser.add_argument(
-        "--proof", type=Path, metavar="FOLDER",
-        help="with --gated: keeps the crate's proof there, or takes it from there",
-    )
+    cli.add_checks(parser, CHECKS)
     parser.add_argument(
         "--ready", action="store_true", help="tests nothing, and tells what this machine lacks"
     )
     parser.add_argument(
         "--browser", action="store_true", help="the page as built in Chromium, and nothing else"
-    )
-    parser.add_argument(
-        "--only", action="append", default=[], choices=CHECKS, help="this check alone; again and again"
     )
     return parser
 
@@ -127,13 +117,11 @@ def _run(words: argparse.Namespace, progress: Progress) -> None:
 
 def _test(words: argparse.Namespace, progress: Progress) -> None:
     """Looks at the words and at node, and makes the checks."""
-    if words.proof is not None and not words.gated:
-        raise Trouble("--proof keeps a proof of --gated")
+    cli.refuse_to_check(words)
     node_words()
     if not words.ready:
         _run(words, progress)
 
 
-def main(words: Optional[Sequence[str]] = None) -> int:
-    """Runs a command line, and answers its exit status."""
-    return cli.main(_parser, words)
+# Runs a command line, and answers its exit status.
+main = cli.runner(_parser)

@@ -7,8 +7,8 @@ import shutil
 from pathlib import Path
 from typing import Mapping, Optional, Sequence
 
-from vga_report.processes import Failed, captured, run
-from vga_report.trouble import Trouble, Wrong
+from vga_report.processes import captured, tested
+from vga_report.trouble import Trouble
 
 NAME, PACKAGE = "node", "nodejs"
 # The first version that has memories of 64-bit addresses, by a flag where they are an experiment.
@@ -46,7 +46,5 @@ def run_node(
     seconds: int = MOST_SECONDS,
 ) -> str:
     """What a script writes that ends well within so many seconds; else a Wrong tells what it said."""
-    try:
-        return run([*node_words(), *words], seconds=seconds, environment=environment)
-    except Failed as failed:
-        raise Wrong(str(failed)) from failed
+    done = tested([*node_words(), *words], seconds=seconds, environment=environment)
+    return done.output.decode("utf-8", "replace")

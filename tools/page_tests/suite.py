@@ -11,7 +11,7 @@ from threading import Event
 from typing import Any
 
 from vga_report.cases import Case, read_cases
-from vga_report.processes import MEBIBYTE, Limits, captured, output_of, run_command
+from vga_report.processes import MEBIBYTE, Limits, captured, ended_well, run_command
 from vga_report.program import PROGRAM
 from vga_report.running import said_lines
 from vga_report.trouble import Trouble, Wrong
@@ -60,7 +60,7 @@ def _assembled(text: Path) -> dict[str, str]:
     made, printed = text.with_suffix(".bin"), text.with_suffix(".dis")
     if captured([PROGRAM, "asm", text, made]).status:
         return {}
-    printed.write_bytes(output_of([PROGRAM, "dis", made]))
+    printed.write_bytes(ended_well([PROGRAM, "dis", made]).output)
     return {"assembled": str(made), "printed": str(printed)}
 
 

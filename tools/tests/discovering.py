@@ -91,6 +91,5 @@ def _test(parsed: argparse.Namespace, _: Progress) -> int:
     return PASSED if result.wasSuccessful() else FAILED
 
 
-def main(words: Optional[Sequence[str]] = None) -> int:
-    """Runs a command line, and answers its exit status."""
-    return cli.main(_parser, words)
+# Runs a command line, and answers its exit status.
+main = cli.runner(_parser)

@@ -5,8 +5,8 @@ in the folder where it runs:
 
     python3 floppy.py [WHAT]
 
-With `crash` it ends with status 3, with `wait` it starts a child that sleeps, leaves its number in the file `child`
-beside the folder, and sleeps itself.
+With `crash` it ends with status 3. With `wait FILE` it starts a child that sleeps, leaves its
+number in the file, and sleeps itself.
 """
 
 from __future__ import annotations
@@ -197,7 +197,7 @@ def main(what: str) -> int:
         return 3
     if what == "wait":
         child = subprocess.Popen([sys.executable, "-c", "import time; time.sleep(600)"])
-        Path(sys.argv[2]).write_text(f"{child.pid} {Path.cwd()}")
+        Path(sys.argv[2]).write_text(f"{child.pid}\n")
         time.sleep(600)
     image.write_bytes(Machine(image.read_bytes(), Adapter()).run())
     # As dosbox, it goes on.

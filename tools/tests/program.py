@@ -4,14 +4,15 @@ from __future__ import annotations
 
 import os
 import subprocess
-import tempfile
 import unittest
 from pathlib import Path
-from typing import Mapping, NamedTuple, Sequence
+from typing import Mapping, NamedTuple, Optional
 
 from vga_report.program import FONTS, PROGRAM
 
 
+# So long may a run take.
+MOST_SECONDS = 60
 # Why a test is skipped. The gate sees to it that none is, once the program is built.
 UNBUILT = "the program isn't built: (cd crates/vga && rt run -- --help) builds it"
 
@@ -30,15 +31,18 @@ class Ran(NamedTuple):
     said: str
 
 
-def run_texts(texts: Mapping[str, bytes]) -> dict[str, Ran]:
-    """What `vga go` answers to each of these texts. Where the program isn't built yet, the test is skipped."""
-    want_program()
-    with tempfile.TemporaryDirectory() as folder:
-        return {name: _run(Path(folder), text) for name, text in texts.items()}
-
-
-def _run(folder: Path, text: bytes) -> Ran:
-    (folder / "text").write_bytes(text)
-    words: Sequence[str | Path] = [PROGRAM, "go", folder / "text", "--fonts", FONTS]
-    done = subprocess.run(words, capture_output=True)
+def run_program(
+    *words: str | bytes | Path, given: bytes = b"", folder: Optional[Path] = None
+) -> Ran:
+    """How a run of the program with these words ends."""
+    done = subprocess.run(
+        [PROGRAM, *words], cwd=folder, input=given, capture_output=True, timeout=MOST_SECONDS
+    )
     return Ran(done.returncode, done.stdout, done.stderr.decode())
+
+
+def run_texts(texts: Mapping[str, bytes]) -> dict[str, Ran]:
+    """What `vga go` answers to each of these texts. Without the program the test is skipped."""
+    want_program()
+    words = ("go", "/dev/stdin", "--fonts", FONTS)
+    return {name: run_program(*words, given=text) for name, text in texts.items()}

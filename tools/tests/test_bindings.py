@@ -2,8 +2,6 @@
 
 from __future__ import annotations
 
-import contextlib
-import io
 import os
 import shutil
 import subprocess
@@ -13,55 +11,45 @@ import unittest
 from pathlib import Path
 from unittest import mock
 
-from bindings_tests import command, needs, python, running, rust
+from bindings_tests import command, needs, python, rust
 from vga_library.making import package_text
 from vga_report import TOP
+from vga_report.processes import Done, tested
 from vga_report.trouble import TROUBLE, Wrong
 from vga_report.version import version
 
-
-def ended(*words: str) -> tuple[int, str]:
-    """The exit status of a command line, and what it says on standard error."""
-    said = io.StringIO()
-    with contextlib.redirect_stderr(said):
-        return command.main(words), said.getvalue()
+from .tools import call
 
 
 class Words(unittest.TestCase):
-    def setUp(self) -> None:
-        patch = mock.patch.object(command, "lacking", lambda: [])
-        patch.start()
-        self.addCleanup(patch.stop)
-
     def test_words_that_cannot_be_meant(self) -> None:
-        for words in (["--proof", "folder"], ["--library", "no-such-folder"]):
-            status, said = ended(*words)
-            self.assertEqual((status, said.partition(": ")[0]), (TROUBLE, "vga-bindings-tests"))
-        self.assertEqual(ended("--ready"), (0, ""))
+        with mock.patch.object(command, "lacking", lambda: []):
+            for words in (["--proof", "folder"], ["--library", "no-such-folder"]):
+                status, _, said = call(command.main, *words)
+                self.assertEqual((status, said.partition(": ")[0]), (TROUBLE, "vga-bindings-tests"))
+            self.assertEqual(call(command.main, "--ready"), (0, "", ""))
 
-
-class Needs(unittest.TestCase):
     def test_what_is_lacking_is_named_with_its_package(self) -> None:
         with mock.patch.object(needs.shutil, "which", lambda name: None if "cargo" in name else name):
             told = needs.lacking()
             self.assertEqual(told[:2], ["cargo: install the package cargo", "cargo-clippy: install the package rust-clippy"])
-            status, said = ended("--ready")
+            status, _, said = call(command.main, "--ready")
         self.assertEqual(status, TROUBLE)
         self.assertIn("  cargo: install the package cargo\n", said)
 
 
 class Judging(unittest.TestCase):
     def test_a_program_that_ends_badly_is_wrong(self) -> None:
-        self.assertEqual(running.run([sys.executable, "-c", "print(7)"]), ("7\n", ""))
+        self.assertEqual(tested([sys.executable, "-c", "print(7)"]), Done(0, b"7\n", b""))
         with self.assertRaisesRegex(Wrong, "it ended with status 1\n(?s:.*)no such test"):
-            running.run([sys.executable, "-c", "raise SystemExit('no such test')"])
+            tested([sys.executable, "-c", "raise SystemExit('no such test')"])
 
     def test_tests_that_are_skipped_are_wrong(self) -> None:
         for said, is_right in (
             ("Ran 9 tests in 1s\n", True), ("a ... skipped 'numpy is not here'\nRan 9 tests in 1s\n", True),
             ("a ... skipped 'ZAKLIMOT_DIR is not set'\nRan 9 tests in 1s\n", False), ("", False),
         ):
-            with mock.patch.object(python, "run", lambda *_, **__: ("", said)):
+            with mock.patch.object(python, "tested", lambda *_, **__: Done(0, b"", said.encode())):
                 if is_right:
                     self.assertTrue(python.check_python(TOP, TOP).startswith("9 tests"))
                 else:
@@ -130,7 +118,3 @@ class Finding(unittest.TestCase):
                 self.assertNotIn("rustc-link", told)
                 for way in (*ways, "tools/vga-library make kit", "set ZAKLIMOT_DIR"):
                     self.assertIn(way, said)
-
-
-if __name__ == "__main__":
-    unittest.main()

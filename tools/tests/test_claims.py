@@ -99,3 +99,23 @@ class Model(unittest.TestCase):
         self.assertIn("call_of", words)
         self.assertIn("window_among", words)
         self.assertEqual(sorted(word for word in words if f"`{word}`" not in PROOFS.read_text()), [])
+
+
+class Modules(unittest.TestCase):
+    """What stands beside the tools names none of their modules that is not there."""
+
+    NAMED = re.compile(
+        r"from ((?:vga|page|library|bindings|emulator)_\w+)\.(\w+) import"
+        r"|tools/(\w+/\w+\.(?:py|css|js|c))\b"
+    )
+
+    def test_each_is_there(self) -> None:
+        ends, seen = ("mjs", "js", "py", "md"), 0
+        # Neither crates, tools themselves, nor what is hidden.
+        files = [path for end in ends for path in ROOT.glob(f"[!.ct]*/**/*.{end}")]
+        for path in files:
+            for package, module, file in self.NAMED.findall(path.read_text("utf-8", "replace")):
+                with self.subTest(path.relative_to(ROOT), module=module or file):
+                    self.assertTrue((ROOT / "tools" / (file or f"{package}/{module}.py")).is_file())
+                    seen += 1
+        self.assertGreater(seen, 20)

@@ -1,4 +1,4 @@
-"""The command itself, as a user runs it."""
+"""The command itself, as a user runs it; and the suite's list, with the scripts of its cases."""
 
 from __future__ import annotations
 
@@ -6,37 +6,25 @@ import hashlib
 import json
 import os
 import shlex
-import signal
 import subprocess
 import sys
-import time
 import unittest
+from functools import partial
 from pathlib import Path
 
+from vga_report.cases import Case, read_cases
+from vga_report.trouble import Trouble
+
 from .making import BLACK, RED, WHITE, png_rows, ppm, report
-from .test_cases import Folder
+from .tools import TOOLS, Folder, begin, run_tool
 
-HERE = Path(__file__).resolve().parent
-PROGRAM = HERE.parent / "vga-report"
-ADAPTER = f"{shlex.quote(sys.executable)} {shlex.quote(str(HERE / 'adapter.py'))} {{script}}"
+PROGRAM = TOOLS / "vga-report"
+ADAPTER = shlex.join([sys.executable, str(TOOLS / "tests" / "adapter.py")]) + " {script}"
 PICTURE = ppm(9, 1, RED * 4 + BLACK * 5)
+run = partial(run_tool, PROGRAM.name)
 
 
-def run(*words: str | Path, given: bytes = b"") -> tuple[int, bytes, str]:
-    """Exit status, standard output and standard error of the command."""
-    done = subprocess.run([sys.executable, PROGRAM, *words], input=given, capture_output=True, timeout=200)
-    return done.returncode, done.stdout, done.stderr.decode()
-
-
-class Files(Folder):
-    def report(self, name: str, *answers: str | bytes) -> str:
-        """A report as a file."""
-        path = self.folder / name
-        path.write_bytes(report(*answers))
-        return str(path)
-
-
-class Text(Files):
+class Text(Folder):
     def test_a_file_and_standard_input(self) -> None:
         path = self.report("r", "ok", ppm(9, 1, 9 * BLACK))
         text = b"1 ok\n2 picture 37 9x1 8f4a7758d19428aa7b8da8bb8fc0c974\n"
@@ -47,15 +35,9 @@ class Text(Files):
         message = "vga-report: standard input:2: step 2 is to come, and not '3 ok'\n"
         self.assertEqual(run("text", "-", given=b"1 ok\n3 ok\n"), (2, b"1 ok\n", message))
 
-    def test_a_file_that_is_not_there(self) -> None:
-        path = self.folder / "none"
-        self.assertEqual(run("text", path), (2, b"", f"vga-report: {path}: No such file or directory\n"))
-
     def test_a_closed_pipe_ends_it_silently(self) -> None:
         path = self.report("r", *("ok" for _ in range(50000)))
-        process = subprocess.Popen(
-            [sys.executable, PROGRAM, "text", path], stdout=subprocess.PIPE, stderr=subprocess.PIPE
-        )
+        process = begin(PROGRAM.name, "text", path)
         assert process.stdout is not None and process.stderr is not None
         with process, process.stdout, process.stderr:
             self.assertEqual(process.stdout.readline(), b"1 ok\n")
@@ -64,7 +46,7 @@ class Text(Files):
         self.assertEqual(process.returncode, 141)
 
 
-class Pictures(Files):
+class Pictures(Folder):
     def test_each_picture_is_a_file(self) -> None:
         path, folder = self.report("r", PICTURE, "ok", ppm(1, 1, WHITE)), self.folder / "a" / "b"
         names = f"{folder / '0001.png'}\n{folder / '0003.png'}\n".encode()
@@ -77,7 +59,6 @@ class Pictures(Files):
         path, folder = self.report("r", PICTURE), self.folder / "a"
         self.assertEqual(run("pictures", path, folder, "--ppm")[0], 0)
         self.assertEqual((folder / "0001.ppm").read_bytes(), PICTURE)
-        self.assertEqual(run("pictures", path, folder, "--ppm", "--aspect")[0], 2)
 
     def test_one_step_on_standard_output(self) -> None:
         path = self.report("r", PICTURE, "ok", ppm(1, 1, WHITE))
@@ -106,7 +87,7 @@ class Pictures(Files):
         self.assertIn("standard input:2: the picture of step 2 is cut off: of 37 bytes there are 35", message)
 
 
-class Compare(Files):
+class Compare(Folder):
     def test_reports_that_agree(self) -> None:
         path = self.report("a", "ok", PICTURE)
         text = f"{path} and standard input agree: 2 steps, 1 picture\n".encode()
@@ -141,9 +122,6 @@ class Compare(Files):
         self.assertEqual(message, f"vga-report: no pictures differ, so {marked} isn't written\n")
         self.assertFalse(marked.exists())
 
-    def test_standard_input_twice(self) -> None:
-        self.assertEqual(run("compare", "-", "-"), (2, b"", "vga-report: standard input can be read once\n"))
-
     def test_a_report_as_text_shows_it(self) -> None:
         path, other = self.report("a", "ok", PICTURE), self.report("b", "ok", ppm(9, 1, BLACK * 9))
         shown = run("text", path)[1]
@@ -157,13 +135,11 @@ class Compare(Files):
         self.assertEqual(run("pictures", "-", self.folder / "p", given=shown), (2, b"", message))
 
 
-class Pipes(Files):
+class Pipes(Folder):
     def test_the_writer_of_standard_input_is_not_cut_off(self) -> None:
         data = report(PICTURE, *("ok" for _ in range(50000)))
-        process = subprocess.Popen(
-            [sys.executable, PROGRAM, "pictures", "-", "-", "--step", "1"],
-            stdin=subprocess.PIPE, stdout=subprocess.DEVNULL,
-        )
+        streams = {"stdin": subprocess.PIPE, "stdout": subprocess.DEVNULL, "stderr": None}
+        process = begin(PROGRAM.name, "pictures", "-", "-", "--step", "1", **streams)
         assert process.stdin is not None
         with process, process.stdin:
             process.stdin.write(data)
@@ -179,7 +155,7 @@ class Pipes(Files):
         self.assertEqual((done.returncode, done.stderr), (2, message))
 
 
-class Check(Files):
+class Check(Folder):
     def test_as_expected_and_not(self) -> None:
         path, expected = self.report("r", "ok", "ok", "55"), self.folder / "e"
         for text, status, said in [
@@ -193,29 +169,7 @@ class Check(Files):
                 self.assertEqual(run("check", path, expected), (status, said.encode(), ""))
 
 
-class Words(Files):
-    def test_numbers_have_ranges(self) -> None:
-        for words in (
-            ("suite", "x {script}", "--timeout", "-1"),
-            ("suite", "x {script}", "--timeout", "0"),
-            ("suite", "x {script}", "--timeout", "nan"),
-            ("suite", "x {script}", "--timeout", "inf"),
-            ("suite", "x {script}", "--jobs", "0"),
-            ("suite", "x {script}", "--jobs", "1000"),
-            ("suite", "x {script}", "--output", "-1"),
-            ("pictures", "r", "f", "--scale", "0"),
-            ("pictures", "r", "f", "--scale", "1001"),
-            ("pictures", "r", "f", "--scale", "+1"),
-            ("pictures", "r", "f", "--step", "-1"),
-        ):
-            with self.subTest(words):
-                status, output, message = run(*words)
-                self.assertEqual((status, output), (2, b""))
-                self.assertIn(f"argument {words[-2]}: '{words[-1]}' is no number", message)
-
-    def test_an_empty_name(self) -> None:
-        self.assertEqual(run("text", ""), (2, b"", "vga-report: the name of a file is empty\n"))
-
+class Words(Folder):
     @unittest.skipIf(sys.platform in ("win32", "darwin"), "names of any bytes are of Linux")
     def test_names_of_any_bytes(self) -> None:
         folder = bytes(self.folder) + b"/\xff\xfe "
@@ -234,7 +188,7 @@ class Words(Files):
         self.assertIn(b"\\udcff\\udcfe /none: No such file or directory\n", done.stderr)
 
 
-class Closed(Files):
+class Closed(Folder):
     """Standard streams that are closed."""
 
     def shell(self, rest: str, *words: str) -> tuple[int, bytes, bytes]:
@@ -255,29 +209,8 @@ class Closed(Files):
         self.assertEqual(self.shell("2>&-", "text", str(self.folder / "none")), (2, b"", b""))
 
 
-class Inputs(Files):
+class Inputs(Folder):
     """A file that is read is never written."""
-
-    def told(self, name: str, path: str) -> tuple[int, bytes, str]:
-        return 2, b"", f"vga-report: {name}: it is read as {path}, so it isn't written\n"
-
-    def test_a_marked_picture_over_a_report(self) -> None:
-        path, other = self.report("a", PICTURE), self.report("b", ppm(9, 1, BLACK * 9))
-        for name in (path, other):
-            status, _, message = run("compare", path, other, "--picture", name)
-            self.assertEqual((status, message), (2, self.told(name, name)[2]))
-        self.assertEqual((Path(path).read_bytes(), Path(other).read_bytes()),
-                         (report(PICTURE), report(ppm(9, 1, BLACK * 9))))
-
-    def test_a_picture_over_its_report(self) -> None:
-        path = self.report("0001.ppm", PICTURE)
-        self.assertEqual(run("pictures", path, self.folder, "--ppm"), self.told(path, path))
-        self.assertEqual(Path(path).read_bytes(), report(PICTURE))
-
-    def test_a_link_is_the_file_that_it_names(self) -> None:
-        path, link = self.report("a", PICTURE), self.folder / "0001.png"
-        link.symlink_to(path)
-        self.assertEqual(run("pictures", path, self.folder), self.told(str(link), path))
 
     def test_standard_output_that_is_appended_to_the_report(self) -> None:
         path = self.report("a", "ok", "ok")
@@ -288,7 +221,59 @@ class Inputs(Files):
         self.assertEqual(Path(path).read_bytes(), b"1 ok\n2 ok\n")
 
 
-class Suite(Files):
+# Cases of a suite, each a script with the report that is expected of it; the words of the command;
+# and what is told.
+NOTHING_ASKED = "all that it asks is a picture, a dump, a refusal or a fault of the script"
+ENDED = "the command ended with status 3, and said\n             first\n             no such part?"
+REFUSING = (
+    ("get A0000\nget A0000\n", "1 E1 NotDecoded\n2 FF\n"),
+    ("get A0000\nget A0000\n", "1 E1 NotDecoded\n2 55\n"),
+)
+SUITES: list[tuple[tuple[tuple[str, str], ...], str, list[str]]] = [
+    # A skipped step, and damage behind a difference, hide none.
+    (
+        (("frame\nget A0000\n", "1 ragged\n2 55\n"),), "",
+        ["c/0: step 2: FF, not 55 (`get A0000`, c/0.vga:2)\n"],
+    ),
+    (
+        (("get A0000\ncut\n", "1 55\n2 ok\n"),), "",
+        ["c/0: step 1: FF, not 55 (`get A0000`, c/0.vga:1)\n"],
+    ),
+    # A bus may refuse nothing.
+    (REFUSING, "", ["\n2 cases: 2 differ\n"]),
+    (REFUSING, "--no-refusals", [
+        "c/0: 1 of 2 steps are skipped, the others agree\n",
+        "c/1: step 2: FF, not 55 (`get A0000`, c/1.vga:2)\n",
+    ]),
+    # A machine is compared up to a refusal.
+    ((("get A0000\nget A0000\nget A0000\n", "1 FF\n2 E1 NotDecoded\n3 55\n"),
+      ("get A0000\nget A0000\n", "1 55\n2 E1 NotDecoded\n"),
+      ("crash\n", "F7 BadLine(1)\n"), (
+          "crash\nget A0000\n", "1 E1 NotDecoded\n2 55\n"
+      )), "--machine", [
+        "c/0: 2 of 3 steps are skipped, the others agree\n",
+        "c/1: step 1: FF, not 55 (`get A0000`, c/1.vga:1)\n",
+        f"c/2: {NOTHING_ASKED}\n", f"c/3: {NOTHING_ASKED}\n", "\n4 cases: 3 skipped, 1 differ\n",
+    ]),
+    # A fault is the report.
+    ((("fault\n", "F7 BadLine(2)\n"), ("fault\n", "F7 BadLine(1)\n"), ("fault\n", "1 ok\n")), "", [
+        "  agrees   c/0\n", "c/1: the run: F7 BadLine(2), not F7 BadLine(1)\n",
+        "c/2: step 1: F7 BadLine(2) (fault), not ok (`fault`, c/2.vga:1)\n",
+        "\n3 cases: 1 agree, 2 differ\n",
+    ]),
+    # A command may fail.
+    ((("crash\n", "1 FF\n"), ("get 0\ncrash\n", "1 FF\n"), ("cut\n", "1 FF\n")), "--timeout 40", [
+        f"  failed   c/0\n           c/0: {ENDED}\n", f"  failed   c/1\n           c/1: {ENDED}\n",
+        "  failed   c/2\n           c/2: its report:1: the report ends within a line\n",
+    ]),
+    (
+        (("wait\n", "1 FF\n"),), "--timeout 1",
+        ["  failed   c/0\n           c/0: the command took too long\n"],
+    ),
+]
+
+
+class Suite(Folder):
     def setUp(self) -> None:
         super().setUp()
         (self.folder / "two.fnt").write_bytes(b"12")
@@ -343,29 +328,16 @@ class Suite(Files):
             }],
         })
 
-    def test_a_skipped_step_hides_no_difference(self) -> None:
-        self.case("a/one", "frame\nget A0000\n", "1 ragged\n2 55\n")
-        self.assertIn("a/one: step 2: FF, not 55 (`get A0000`, a/one.vga:2)\n", self.run_suite()[1])
-
-    def test_a_bus_that_refuses_nothing(self) -> None:
-        self.case("a/one", "get A0000\nget A0000\n", "1 E1 NotDecoded\n2 FF\n")
-        self.case("a/two", "get A0000\nget A0000\n", "1 E1 NotDecoded\n2 55\n")
-        self.assertEqual(self.run_suite()[1].splitlines()[-1], "2 cases: 2 differ")
-        output = self.run_suite("--no-refusals")[1]
-        self.assertIn("a/one: 1 of 2 steps are skipped, the others agree\n", output)
-        self.assertIn("a/two: step 2: FF, not 55 (`get A0000`, a/two.vga:2)\n", output)
-
-    def test_a_machine_is_compared_up_to_a_refusal(self) -> None:
-        self.case("a/one", "get A0000\nget A0000\nget A0000\n", "1 FF\n2 E1 NotDecoded\n3 55\n")
-        self.case("a/two", "get A0000\nget A0000\n", "1 55\n2 E1 NotDecoded\n")
-        self.case("a/three", "crash\n", "F7 BadLine(1)\n")
-        self.case("a/four", "crash\nget A0000\n", "1 E1 NotDecoded\n2 55\n")
-        output = self.run_suite("--machine")[1]
-        self.assertIn("a/one: 2 of 3 steps are skipped, the others agree\n", output)
-        self.assertIn("a/two: step 1: FF, not 55 (`get A0000`, a/two.vga:1)\n", output)
-        self.assertIn("a/three: all that it asks is a picture, a dump, a refusal or a fault of the script\n", output)
-        self.assertIn("a/four: all that it asks is a picture, a dump, a refusal or a fault of the script\n", output)
-        self.assertEqual(output.splitlines()[-1], "4 cases: 3 skipped, 1 differ")
+    def test_what_is_told_of_cases(self) -> None:
+        for cases, words, wanted in SUITES:
+            with self.subTest(cases, words=words):
+                self.lines = ["fonts two.fnt"]
+                for number, (script, expected) in enumerate(cases):
+                    self.case(f"c/{number}", script, expected)
+                status, output, _ = self.run_suite(*words.split())
+                self.assertEqual(status, 1)
+                for text in wanted:
+                    self.assertIn(text, output)
 
     def test_a_machine_gets_no_step_that_is_to_be_refused(self) -> None:
         self.case("a/one", "get A0000\nout 3C2 01\ncrash\nget A0000\n", "1 FF\n2 ok\n3 E1 NotDecoded\n4 55\n")
@@ -386,10 +358,6 @@ class Suite(Files):
         case = json.loads(self.run_suite("--json")[1])["rules"][0]["cases"][0]
         self.assertEqual((case["steps"], case["skipped"], case["answers"], case["differing"], case["step"]), (5, 1, 3, 2, 2))
 
-    def test_a_damage_behind_a_difference_hides_none(self) -> None:
-        self.case("a/one", "get A0000\ncut\n", "1 55\n2 ok\n")
-        self.assertIn("a/one: step 1: FF, not 55 (`get A0000`, a/one.vga:1)\n", self.run_suite()[1])
-
     def test_scripts_as_they_are_handed_over(self) -> None:
         self.write("front", "out 3C2 01\n")
         self.lines.append("front front")
@@ -404,51 +372,6 @@ class Suite(Files):
         self.assertEqual((folder / "b/two.bin").read_bytes(), b"VV")
         self.assertEqual((folder / "list.txt").read_text(), "a/one.vga fonts/two.fnt\nb/two.bin fonts/two.fnt\n")
         self.assertEqual((folder / "fonts/two.fnt").read_bytes(), b"12")
-        message = "vga-report: the files want a folder\n"
-        self.assertEqual(run("scripts", "-", "--list", path), (2, b"", message))
-
-    def test_commands_that_fail(self) -> None:
-        ended = "the command ended with status 3, and said\n             "
-        for script, reason in [
-            ("crash\n", f"{ended}first\n             no such part?"),
-            ("get 0\ncrash\n", f"{ended}first\n             no such part?"),
-            ("cut\n", "its report:1: the report ends within a line"),
-            ("wait\n", "the command took too long"),
-        ]:
-            with self.subTest(script):
-                self.lines = ["fonts two.fnt"]
-                self.case("a/one", script, "1 FF\n")
-                status, output, _ = self.run_suite("--timeout", "1" if script == "wait\n" else "40")
-                self.assertEqual(status, 1)
-                self.assertIn(f"  failed   a/one\n           a/one: {reason}\n", output)
-
-    @unittest.skipIf(sys.platform == "win32", "signals are of POSIX")
-    def test_an_interrupt_ends_it_silently(self) -> None:
-        self.case("a/one", "wait\n", "1 ok\n")
-        path = self.write("list.txt", "\n".join(self.lines) + "\n")
-        words = [sys.executable, PROGRAM, "suite", ADAPTER + " {fonts}", "--list", path]
-        # Who starts the tests in the background may have interrupts ignored, and the program would inherit that.
-        process = subprocess.Popen(
-            words,
-            stdout=subprocess.PIPE,
-            stderr=subprocess.PIPE,
-            preexec_fn=lambda: signal.signal(signal.SIGINT, signal.SIG_DFL),
-        )
-        while process.poll() is None and not (self.folder / "two.fnt.waiting").exists():
-            time.sleep(0.05)
-        process.send_signal(signal.SIGINT)
-        output, message = process.communicate(timeout=40)
-        self.assertEqual((process.returncode, output, message), (130, b"", b""))
-
-    def test_a_fault_is_the_report(self) -> None:
-        self.case("a/one", "fault\n", "F7 BadLine(2)\n")
-        self.case("a/two", "fault\n", "F7 BadLine(1)\n")
-        self.case("a/three", "fault\n", "1 ok\n")
-        status, output, _ = self.run_suite()
-        self.assertEqual(status, 1)
-        self.assertIn("  agrees   a/one\n", output)
-        self.assertIn("a/two: the run: F7 BadLine(2), not F7 BadLine(1)\n", output)
-        self.assertIn("a/three: step 1: F7 BadLine(2) (fault), not ok (`fault`, a/three.vga:1)\n", output)
 
     def test_scripts_of_bytes_want_a_command_of_their_own(self) -> None:
         self.write("a/one.hex", "69 6E 20 33 43 43 ; in 3CC\n")
@@ -571,5 +494,90 @@ class Suite(Files):
                 self.assertEqual(run("scripts", self.folder / "new", "--list", path), (2, b"", message))
 
 
-if __name__ == "__main__":
-    unittest.main()
+class Cases(Folder):
+    def cases(self, text: str) -> list[Case]:
+        return read_cases(self.write("list.txt", text))
+
+
+class Lists(Cases):
+    def test_each_kind_of_line(self) -> None:
+        cases = self.cases(
+            "# Heading\n\nfonts zero.fnt\na/one\na/two until 5\nwrong a/three\nwrong a/three until 2\n"
+            "front text.vga\na/four\nfront none\nfonts other.fnt\nbytes b/five\nbytes b/six until 0\n"
+        )
+        zero, other, front = self.folder / "zero.fnt", self.folder / "other.fnt", self.folder / "text.vga"
+        self.assertEqual(
+            [(case.name, case.fonts, case.front, case.until, case.is_bytes) for case in cases],
+            [
+                ("a/one", zero, None, None, False),
+                ("a/two", zero, None, 5, False),
+                ("a/four", zero, front, None, False),
+                ("b/five", other, None, None, True),
+                ("b/six", other, None, 0, True),
+            ],
+        )
+        self.assertEqual([case.group for case in cases], ["a", "a", "a", "b", "b"])
+
+    def test_a_line_that_is_no_case(self) -> None:
+        for line in ("a b", "a until", "a until x", "bytes a b"):
+            with self.subTest(line), self.assertRaises(Trouble) as caught:
+                self.cases("fonts zero.fnt\n" + line + "\n")
+            self.assertEqual(str(caught.exception), f"{self.folder}/list.txt:2: no case: '{line}'")
+
+
+class Scripts(Cases):
+    def script(self, line: str, **files: str) -> bytes:
+        """The script of the only case of a list."""
+        self.write("one.txt", "1 ok\n")
+        for name, text in files.items():
+            self.write(name.replace("_", "."), text)
+        return self.cases(line)[-1].stopped_script()
+
+    def test_the_text_as_it_stands(self) -> None:
+        self.assertEqual(self.script("one\n", one_vga="; é\nframe\n"), "; é\nframe\n".encode())
+
+    def test_a_front_stands_before_it(self) -> None:
+        self.assertEqual(self.script("front f\none\n", f="out 3C2 01\n", one_vga="frame\n"), b"out 3C2 01\nframe\n")
+
+    def test_a_run_that_is_stopped_shows_the_state(self) -> None:
+        looks = b"show regs\nshow beam\nshow latches\nshow bda\n"
+        text = "; Comment\n\nout 3C2 01 ; more\n\t\r\n  frame\nframe"
+        for steps, front in [
+            (0, b"; Comment\n\n"),
+            (1, b"; Comment\n\nout 3C2 01 ; more\n\t\r\n"),
+            (2, b"; Comment\n\nout 3C2 01 ; more\n\t\r\n  frame\n"),
+            (3, text.encode() + b"\n"),
+            (9, text.encode() + b"\n"),
+        ]:
+            with self.subTest(steps):
+                self.assertEqual(self.script(f"one until {steps}\n", one_vga=text), front + looks)
+
+    def test_a_script_with_a_mistake_stays_whole(self) -> None:
+        self.assertEqual(self.script("one until 0\n", one_vga="fram\n", one_txt="F7 BadLine(1)\n"), b"fram\n")
+
+    def test_a_front_counts_among_the_steps(self) -> None:
+        script = self.script("front f\none until 2\n", f="frame\n", one_vga="in 3CC\nin 3CD\n")
+        self.assertTrue(script.startswith(b"frame\nin 3CC\nshow regs\n"), script)
+
+    def test_digits_of_bytes(self) -> None:
+        self.assertEqual(self.script("bytes one\n", one_hex="; x\n56 47\t4a*3\n00*2 ; 11\n"), b"VGJJJ\0\0")
+
+    def test_digits_that_are_none(self) -> None:
+        for word in ("5", "567", "GG", "56*", "56*0", "56*x"):
+            with self.subTest(word), self.assertRaises(Trouble) as caught:
+                self.script("bytes one\n", one_hex="56\n" + word + "\n")
+            self.assertEqual(str(caught.exception), f"{self.folder}/one.hex:2: '{word}' is no byte")
+
+
+class Rules(Cases):
+    def test_the_first_line_of_the_first_comment(self) -> None:
+        for text, rule in [
+            ("; The rule.\n; More.\nframe\n", "The rule."),
+            ("frame ; Behind.\n", "Behind."),
+            (";\n;  Zwölf. \n", "Zwölf."),
+            ("; \x1b[2Jbad\n", "?[2Jbad"),
+            ("frame\n", "one"),
+        ]:
+            with self.subTest(text):
+                self.write("one.vga", text)
+                self.assertEqual(self.cases("one\n")[0].rule(), rule)

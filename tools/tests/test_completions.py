@@ -79,7 +79,6 @@ class Fish(Shell):
     FONTS = ["zaklimot.fnt", "fonts/", "bars.bin", "bars.vga", "one two.vga"]
 
     def complete_by(self, helps: Mapping[str, str]) -> None:
-        (self.folder / FISH_FOLDER).mkdir(parents=True)
         self.write(f"{FISH_FOLDER}/vga.fish", self.made(helps)[FISH])
 
     def lines(self, line: str) -> list[str]:
@@ -213,7 +212,3 @@ class Zsh(Shell):
             "t": "try ", "help t": "help try ", "dis a z": "dis a zaklimot.fnt ",
             "try -sz": "try -szaklimot.fnt ", "try --sound=z": "try --sound=zaklimot.fnt ",
         })
-
-
-if __name__ == "__main__":
-    unittest.main()

@@ -14,9 +14,9 @@ from urllib.parse import unquote
 from vga_report.debugging import data_element, page_data
 from vga_report.program import FONTS
 
-from .test_command import Files
 from .test_page import Alone
 from .test_run import Fake
+from .tools import Folder
 
 TOOLS = Path(__file__).resolve().parents[1]
 TEXT = "; A script.\nint ax=3 ; = ax=0003\nframe ; <!-- </script> \u00e9\n"
@@ -31,7 +31,7 @@ def small_page() -> str:
     return f"<!DOCTYPE html>\n<title>page</title>\n{element}\n<script>\n'zaklimot-data'\n</script>\n"
 
 
-class Release(Files):
+class Release(Folder):
     """A folder that has the tool, the fonts and the page."""
 
     def setUp(self) -> None:
@@ -150,7 +150,7 @@ class WithListing(Release, Fake, Alone):
         html, made = self.folder / "page.html", self.folder / "x y" / "debug.html"
         for path, given in ((self.path, b""), ("-", Path(self.path).read_bytes())):
             with self.subTest(path):
-                words = ["--vga", str(self.program), "--html", str(html), "--debug", str(made)]
+                words = ["--vga", str(self.vga), "--html", str(html), "--debug", str(made)]
                 status, output, said = self.ran(path, *words, given=given)
                 self.assertEqual((status, said), (0, ""))
                 self.assertTrue(output.endswith("\n6 steps, 1 refused, 1 picture, 4 of 4 answers as expected\n"))
@@ -160,12 +160,8 @@ class WithListing(Release, Fake, Alone):
     def test_the_page_of_a_script_with_a_mistake(self) -> None:
         path = self.write("bad.vga", "frame\nmove 1\n")
         html = str(self.folder / "page.html")
-        words = ["--vga", str(self.program), "--html", html, "--debug", str(self.made)]
+        words = ["--vga", str(self.vga), "--html", html, "--debug", str(self.made)]
         status, _, said = self.ran(path, *words)
         self.assertEqual(status, 2)
         self.assertIn("F7 BadLine(2)", said)
         self.assertEqual(self.opened(self.made.read_text("utf-8"))["text"], "frame\nmove 1\n")
-
-
-if __name__ == "__main__":
-    unittest.main()

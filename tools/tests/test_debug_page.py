@@ -7,7 +7,6 @@ import contextlib
 import gzip
 import io
 import json
-import sys
 import tempfile
 import unittest
 from pathlib import Path
@@ -15,18 +14,15 @@ from unittest import mock
 
 from page_tests import built, node, scripts, suite
 from page_tests import command as tests_command
-from vga_library.header import calls_of
-from vga_report.version import HEADER
+from vga_report.version import HEADER, calls_of
 from vga_report.processes import Failed, run
 from vga_page import command, page, wasm
 from vga_page.bundling import joined
 from vga_page.page import DATA, SCRIPT, STYLE, Sources, about, data_of, examples, make_page, packed, page_text
 from vga_page.retargeting import LAYOUTS, TRIPLES, retargeted
-from vga_library.telling import Phases
 from vga_page.wasm import check_module, exports_of, kit_of, with_kit
 from vga_report.trouble import TROUBLE
 from vga_report.debugging import page_data
-from vga_report.progress import Progress
 from vga_report.trouble import Trouble, Wrong
 
 FRAME = f"<!DOCTYPE html>\n{STYLE}\n{DATA}\n{SCRIPT}\n"
@@ -298,17 +294,6 @@ class Running(unittest.TestCase):
         self.assertTrue(heard[-1] in ("two", "three"))
         self.assertEqual(run(["sh", "-c", 'printf "$ONE"'], environment={"ONE": "1"}), "1")
 
-    def test_phases_and_crates(self) -> None:
-        told: list[str] = []
-        progress = mock.create_autospec(Progress)
-        progress.tell.side_effect = told.append
-        hear = Phases(progress, ["low", "high"])("proving")
-        for line in ("", "crate high: modules loaded=1 checked=2", "so far"):
-            hear(line)
-        self.assertEqual([line.partition(" ")[2] for line in told], [
-            "proving", "proving", "proving: high, crate 2 of 2, is done", "proving: so far",
-        ])
-
 
 class Commands(unittest.TestCase):
     def said(self, *words: str) -> str:
@@ -414,7 +399,3 @@ class Tests(unittest.TestCase):
             for file, content in (("a.mjs", text), ("browser.mjs", text), ("b.mjs", "")):
                 (Path(name) / file).write_text(content)
             self.assertEqual([path.name for path in scripts.test_files(Path(name))], ["a.mjs"])
-
-
-if __name__ == "__main__":
-    unittest.main()

@@ -2,18 +2,23 @@
 
 from __future__ import annotations
 
+import socket
 import struct
 import subprocess
 import sys
+import threading
 import unittest
 from pathlib import Path
 
-from emulator_tests.calling import MOST_SECTORS, NO_CALL, SECTOR, Call, caller, screen
+from emulator_tests.software import MOST_SECTORS, NO_CALL, SECTOR, Call, caller, screen
 from emulator_tests.recording import Machine, wait_for_quiet
 from emulator_tests.software import SOFTWARE, archive_file
 from emulator_tests.traces import Replayed
 
-from .test_cases import Folder
+from vga_floppy.running import monitor_at
+from vga_report.trouble import Trouble
+
+from .tools import Folder
 
 PROGRAM = Path(__file__).resolve().parents[1] / "emulator_tests" / "traces.py"
 MODES = (3, 7, 0x0D, 0x10, 0x12, 0x13)
@@ -64,6 +69,40 @@ class Recording(Folder):
         self.assertFalse(wait_for_quiet(path, Machine([], quiet=0.01, most=0.3)))
 
 
+class Monitors(Folder):
+    def test_commands_and_what_is_refused(self) -> None:
+        """A fake of qemu's monitor, with an event before each answer."""
+        asked: list[str] = []
+        path = self.folder / "monitor"
+        with socket.socket(socket.AF_UNIX) as server:
+            server.bind(str(path))
+            server.listen()
+
+            def serve() -> None:
+                connection, _ = server.accept()
+                with connection, connection.makefile("rw") as lines:
+                    lines.write("{}\n")
+                    lines.flush()
+                    for line in lines:
+                        asked.append(line)
+                        bad = "no_such" in line
+                        answer = '{"error": {"desc": "there is none"}}' if bad else '{"return": {}}'
+                        lines.write('{"event": "STOP"}\n' + answer + "\n")
+                        lines.flush()
+
+            serving = threading.Thread(target=serve)
+            serving.start()
+            with self.assertRaisesRegex(
+                Trouble, "^qemu: its monitor doesn't do no_such: there is none$"
+            ):
+                with monitor_at(path) as do:
+                    do("screendump", filename="a")
+                    do("no_such")
+            serving.join(10)
+        self.assertEqual(asked[1], '{"execute": "screendump", "arguments": {"filename": "a"}}\n')
+        self.assertEqual(len(asked), 3)
+
+
 class Traces(unittest.TestCase):
     REPLAYED = Replayed(1_000, 900, 800, 850, 70, 0, 0, 0)
 
@@ -85,7 +124,3 @@ class Traces(unittest.TestCase):
         told = subprocess.run([sys.executable, PROGRAM, "folder", "none"], capture_output=True, text=True)
         self.assertEqual(told.returncode, 2)
         self.assertIn("there is no software none", told.stderr)
-
-
-if __name__ == "__main__":
-    unittest.main()

@@ -2,25 +2,26 @@
 
 from __future__ import annotations
 
-import contextlib
-import io
 import json
 import os
 import re
+import shlex
 import shutil
 import signal
 import subprocess
 import sys
 import time
 import unittest
+from functools import partial
 from pathlib import Path
+from typing import Callable
 
 from vga_floppy import image as images
 from vga_floppy.answers import report_lines
 from vga_floppy.command import main
 from vga_floppy.image import CODE, Run, image_for, read_image
 from vga_floppy.machines import DOSBOX, MACHINES
-from vga_floppy.serial import read_record
+from vga_floppy.image import read_record
 from vga_floppy.table import reset_steps, table_for
 from vga_floppy.table_page import FIRST_MARK, LAST_MARK
 from vga_report.cases import read_cases
@@ -30,10 +31,9 @@ from vga_report.words import SUITE
 from zaklimot.format import Script
 
 from .floppy import ANSWERS, MARK, Adapter, Machine
-from .test_cases import Folder
-from .test_processes import is_running
+from .tools import TOOLS, TOP, Folder, begin, call, run_tool
 
-PROGRAM = Path(__file__).resolve().parents[1] / "vga-floppy"
+run = partial(run_tool, "vga-floppy")
 FLOPPY = Path(__file__).with_name("floppy.py")
 FAULT = re.compile(r"F[0-9]+ [A-Za-z]+(\([0-9]+\))?")
 SCRIPT = b"""version 2
@@ -77,15 +77,6 @@ REPORT = b"""1 ok
 19 skipped
 20 5A
 """
-
-
-def run(*words: str | Path, given: bytes = b"", path: str | None = None) -> tuple[int, bytes, str]:
-    """Exit status, standard output and standard error of the command."""
-    environment = {**os.environ, **({"PATH": path} if path else {})}
-    done = subprocess.run(
-        [sys.executable, PROGRAM, *words], input=given, capture_output=True, timeout=200, env=environment
-    )
-    return done.returncode, done.stdout, done.stderr.decode()
 
 
 def machine(script: bytes) -> tuple[Machine, Adapter]:
@@ -239,7 +230,6 @@ class Several(Folder):
         status, _, said = run("make", folder, self.folder / "image")
         self.assertEqual(status, 2)
         self.assertTrue(said.startswith(f"vga-floppy: {folder}/two.vga:1: F7 BadLine(1): "))
-        self.assertEqual(run("make", self.folder, "-")[2], f"vga-floppy: {self.folder}: Is a directory\n")
 
     def test_a_name_of_a_file_elsewhere(self) -> None:
         for name in ("../one", "/tmp/one"):
@@ -260,14 +250,10 @@ class Left(Folder):
         self.image = self.machine.run()
         self.record = b"".join(self.machine.record)
 
-    def image_trouble(self, image: bytes) -> str:
+    def trouble(self, read: Callable[[bytes, str], Run], data: bytes) -> str:
+        """What is told of an image or a record."""
         with self.assertRaises(Trouble) as caught:
-            list(report_lines(read_image(image, "it"), "it"))
-        return str(caught.exception)
-
-    def record_trouble(self, record: bytes) -> str:
-        with self.assertRaises(Trouble) as caught:
-            list(report_lines(read_record(record, "it"), "it"))
+            list(report_lines(read(data, "it"), "it"))
         return str(caught.exception)
 
     def changed(self, at: int, byte: int) -> bytes:
@@ -291,7 +277,7 @@ class Left(Folder):
             (self.changed(512 * 5 + 11, 0x77), "it: its table of steps is damaged"),
         ):
             with self.subTest(message):
-                self.assertEqual(self.image_trouble(image), message)
+                self.assertEqual(self.trouble(read_image, image), message)
 
     def test_answers_of_another_number_than_steps(self) -> None:
         table = read_image(self.image, "it").table
@@ -312,7 +298,7 @@ class Left(Folder):
             (b"\r\n".join(lines[:at + 2] + lines[at + 3:]), "it: the end of the record tells of other answers"),
         ):
             with self.subTest(message):
-                self.assertEqual(self.record_trouble(record), message)
+                self.assertEqual(self.trouble(read_record, record), message)
 
     def test_the_last_of_two_records_counts(self) -> None:
         other, _ = machine(b"in 3CC\n")
@@ -356,8 +342,6 @@ class Commands(Folder):
         image = self.folder / "image"
         for words, message in (
             (("make", script, image), f"{script}:2: F7 BadLine(2): there is no step 'move'; "),
-            (("make", self.folder / "none", image), f"{self.folder}/none: No such file or directory\n"),
-            (("make", self.folder, image), f"{self.folder}: Is a directory\n"),
             (("make", script, self.folder / "no" / "image"), f"{script}:2: "),
             (("read", text), f"{text}: it is no image of vga-floppy\n"),
             (("read", "--serial", text), f"{text}: it holds no record of vga-floppy\n"),
@@ -377,36 +361,25 @@ class Commands(Folder):
             self.assertEqual(run("make", "-", self.folder / "image", given=script), (2, b"", "vga-floppy: " + message))
         self.assertEqual(list(self.folder.iterdir()), [])
 
-    @unittest.skipUnless(Path("/dev/full").exists(), "there is no /dev/full")
-    def test_a_full_disk(self) -> None:
-        script = self.write("script.vga", "frame\n")
-        message = "vga-floppy: /dev/full: No space left on device\n"
-        self.assertEqual(run("make", script, "/dev/full"), (2, b"", message))
-        booted, _ = machine(b"in 3CC\n")
-        (self.folder / "image").write_bytes(booted.run())
-        self.assertEqual(run("read", self.folder / "image", "/dev/full"), (2, b"", message))
-
-
 @unittest.skipUnless(Path("/proc/self/stat").exists(), "processes are looked at as Linux shows them")
 class Runs(Folder):
     """Runs on an emulator that is a program of these tests."""
 
     def path_with(self, *words: str | Path) -> str:
         """A path of programs in which dosbox is the machine of these tests, with such words."""
-        program = self.folder / "bin" / "dosbox"
-        program.parent.mkdir(exist_ok=True)
-        program.write_text("#!/bin/sh\nexec " + " ".join(f"'{word}'" for word in (sys.executable, FLOPPY, *words)) + "\n")
-        program.chmod(0o755)
-        return f"{program.parent}:{os.environ['PATH']}"
+        program = self.program(
+            "bin/dosbox",
+            f"#!/bin/sh\nexec {shlex.join(map(str, (sys.executable, FLOPPY, *words)))}\n",
+        )
+        return f"{Path(program).parent}:{os.environ['PATH']}"
 
     def run_on(self, *words: str, path: str, script: str = SCRIPT.decode()) -> tuple[int, bytes, str]:
         scratch = self.folder / "scratch"
         scratch.mkdir(exist_ok=True)
-        os.environ["TMPDIR"] = str(scratch)
-        try:
-            done = run("run", "--on", "dosbox", self.write("script.vga", script), *words, path=path)
-        finally:
-            del os.environ["TMPDIR"]
+        environment = {**os.environ, "PATH": path, "TMPDIR": str(scratch)}
+        done = run(
+            "run", "--on", "dosbox", self.write("script.vga", script), *words, env=environment
+        )
         self.assertEqual(list(scratch.iterdir()), [], "a folder of a run is left")
         return done
 
@@ -414,7 +387,10 @@ class Runs(Folder):
         self.assertEqual(self.run_on(path=self.path_with()), (0, REPORT, ""))
 
     def test_a_full_disk_beneath_the_run(self) -> None:
-        words = ["sh", "-c", 'ulimit -f 100 && exec "$@"', "sh", sys.executable, str(PROGRAM), "run", "--on", "dosbox", "-"]
+        words = [
+            "sh", "-c", 'ulimit -f 100 && exec "$@"', "sh", sys.executable,
+            str(TOOLS / "vga-floppy"), "run", "--on", "dosbox", "-",
+        ]
         done = subprocess.run(
             words, input=b"frame\n", capture_output=True, timeout=60,
             env={**os.environ, "PATH": self.path_with(), "TMPDIR": str(self.folder)},
@@ -441,61 +417,29 @@ class Runs(Folder):
         done = self.run_on("--seconds", "2", path=self.path_with("wait", told))
         self.assertEqual(done, (2, b"", "vga-floppy: dosbox: the script has not ended within 2 seconds\n"))
         self.assertLess(time.monotonic() - began, 30)
-        self.assert_ended(int(told.read_text().split()[0]))
-
-    def test_signals_end_all_that_was_started(self) -> None:
-        for number, status in ((signal.SIGTERM, 143), (signal.SIGINT, 130)):
-            with self.subTest(number):
-                told = self.folder / f"child-{number}"
-                environment = {**os.environ, "PATH": self.path_with("wait", told)}
-                words = [sys.executable, PROGRAM, "run", "--on", "dosbox", self.write("script.vga", "frame\n"), self.folder / "report"]
-                with subprocess.Popen(
-                    words, env=environment, stdout=subprocess.PIPE, stderr=subprocess.PIPE,
-                    # A shell's background job ignores it.
-                    preexec_fn=lambda: signal.signal(signal.SIGINT, signal.SIG_DFL),
-                ) as process:
-                    self.wait_for(told, process)
-                    process.send_signal(number)
-                    self.assertEqual((process.communicate(timeout=20), process.returncode), ((b"", b""), status))
-                child, folder = told.read_text().split()
-                self.assert_ended(int(child))
-                self.assertFalse(Path(folder).exists())
-                self.assertFalse((self.folder / "report").exists())
+        self.assert_ended(int(told.read_text()))
 
     @unittest.skipUnless(sys.platform.startswith("linux"), "Linux alone ends a process with its parent")
     def test_an_emulator_ends_with_a_command_that_is_killed(self) -> None:
         told = self.folder / "child"
-        environment = {**os.environ, "PATH": self.path_with("wait", told)}
-        words = [sys.executable, PROGRAM, "run", "--on", "dosbox", self.write("script.vga", "frame\n")]
-        with subprocess.Popen(words, env=environment, stdout=subprocess.DEVNULL) as process:
-            self.wait_for(told, process)
+        environment = {
+            **os.environ, "PATH": self.path_with("wait", told), "TMPDIR": str(self.folder)
+        }
+        words = ["vga-floppy", "run", "--on", "dosbox", self.write("script.vga", "frame\n")]
+        with begin(*words, env=environment) as process:
+            child = self.wait_for(told, process)
             emulators = subprocess.run(["ps", "-o", "pid=", "--ppid", str(process.pid)], capture_output=True).stdout.split()
             process.kill()
-        child, folder = told.read_text().split()
-        shutil.rmtree(folder)
         self.assertEqual(len(emulators), 1)
         self.assert_ended(int(emulators[0]))
         # What the emulator itself has started no signal reaches then.
         os.kill(int(child), signal.SIGKILL)
 
-    def wait_for(self, path: Path, process: subprocess.Popen[bytes]) -> None:
-        """Waits until a file has something, as long as a process runs."""
-        while not path.exists() or not path.read_text():
-            self.assertIsNone(process.poll())
-            time.sleep(0.01)
-
-    def assert_ended(self, number: int) -> None:
-        until = time.monotonic() + 10
-        while is_running(number) and time.monotonic() < until:
-            time.sleep(0.01)
-        self.assertFalse(is_running(number))
-
-
 class Pages(Folder):
     """Tables of the suite's results, and the cases that a page names."""
 
     def test_cases_that_a_machine_is_asked_have_answers_of_one(self) -> None:
-        page = (PROGRAM.parents[1] / "docs" / "REAL-MACHINES.md").read_text("utf-8")
+        page = (TOP / "docs" / "REAL-MACHINES.md").read_text("utf-8")
         named = set(re.findall(r"`((?:host|words|ports|crtc|attribute|dac|services|heights|graphics)/[a-z0-9-]+)`", page))
         self.assertGreater(len(named), 30)
         answered = {case.name for case in read_cases(str(SUITE)) if case.has_answers_of_machine()}
@@ -504,7 +448,9 @@ class Pages(Folder):
     def test_all_that_a_machine_is_asked_fits_an_image(self) -> None:
         cases = [case for case in read_cases(str(SUITE)) if case.has_answers_of_machine()]
         scripts = {case.name: script_of(case.machine_script(), case.name) for case in cases}
-        self.assertIn(f" {len(cases)} of them", (PROGRAM.parents[1] / "docs" / "REAL-MACHINES.md").read_text("utf-8"))
+        self.assertIn(
+            f" {len(cases)} of them", (TOP / "docs" / "REAL-MACHINES.md").read_text("utf-8")
+        )
         self.assertEqual(len(image_for(scripts, "all")), images.IMAGE_SIZE)
 
     def results(self, name: str, **cases: tuple[str, int, int, str, str]) -> str:
@@ -520,10 +466,8 @@ class Pages(Folder):
 
     def write_page(self, *results: str) -> tuple[int, str, str]:
         page = Path(self.write("page.md", f"Before.\n{FIRST_MARK}\nold\n{LAST_MARK}\nAfter.\n"))
-        said = io.StringIO()
-        with contextlib.redirect_stderr(said):
-            status = main(["table", str(page), *results])
-        return status, page.read_text(), said.getvalue()
+        status, _, said = call(main, "table", page, *results)
+        return status, page.read_text(), said
 
     def test_tables_between_the_marks(self) -> None:
         versions = {name: vars(machine)["version"] for name, machine in MACHINES.items()}

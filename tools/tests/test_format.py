@@ -290,7 +290,3 @@ class Importing(unittest.TestCase):
         # A library that can't be found would be told where it is wanted.
         done = subprocess.run(words, env={"ZAKLIMOT_LIBRARY": "/no-such-file"}, capture_output=True, text=True, timeout=60)
         self.assertEqual((done.stdout, done.stderr), ("zaklimot\nTrue False False\n", ""))
-
-
-if __name__ == "__main__":
-    unittest.main()

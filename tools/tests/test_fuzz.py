@@ -3,11 +3,8 @@
 from __future__ import annotations
 
 import contextlib
-import io
 import signal
 import subprocess
-import sys
-import tempfile
 import unittest
 from dataclasses import replace
 from pathlib import Path
@@ -15,19 +12,19 @@ from random import Random
 from unittest import mock
 
 from vga_fuzz import command
-from vga_fuzz.command import TOP
 from vga_fuzz.feeding import Fed, Program
 from vga_fuzz.judging import meant_by, trouble_of
 from vga_fuzz.making import Input, make
-from vga_fuzz.running import Limits, Outcome
-from vga_fuzz.steps import block, spelled, step
+from vga_fuzz.judging import Limits, Outcome
+from vga_fuzz.making import block, spelled, step
 from zaklimot.format import (
     FORMS, HEADERS, MAGIC, MOST_COUNT, Block, Script, Step, decode, encoded, parse_text, print_text,
 )
 
+from .tools import Folder, begin, call
+
 # A program that takes each text as the same script, prints bytes as they are, and answers each script alike.
-GOOD = """#!{python}
-import os, signal, sys, time
+GOOD = """import os, signal, sys, time
 command, file = sys.argv[1:3]
 data = open(file, "rb").read()
 if command == "asm":
@@ -68,61 +65,66 @@ SHORT = replace(LIMITS, seconds=5)
 SCRIPT, TEXT = Input(False, b"VGAS\x01\x03\xda\x03", "script"), Input(True, b"in 3DA\n", "text")
 
 
-class Files(unittest.TestCase):
-    def setUp(self) -> None:
-        folder = tempfile.TemporaryDirectory()
-        self.addCleanup(folder.cleanup)
-        self.folder = Path(folder.name)
-
-    def program(self, wrong: str = "") -> str:
+class Fuzzed(Folder):
+    def program_that(self, wrong: str = "") -> str:
         """A program that is good, or does something wrong when it runs a script or a text."""
-        path = self.folder / "program"
         answer = 'sys.stdout.buffer.write(b"1 55\\n")'
-        source = GOOD.format(python=sys.executable)
-        self.assertIn(answer, source)
-        path.write_text(source.replace(answer, wrong or answer))
-        path.chmod(0o755)
-        return str(path)
+        self.assertIn(answer, GOOD)
+        return self.program("program", GOOD.replace(answer, wrong or answer))
 
     def fed(self, given: Input, path: str, limits: Limits = LIMITS) -> Fed:
         return Program(path, "fonts", self.folder, limits).feed(given)
 
 
-class Judging(Files):
+class Judging(Fuzzed):
     def test_nothing_is_wrong_with_a_good_program(self) -> None:
         for given in (SCRIPT, TEXT):
-            self.assertEqual(self.fed(given, self.program()), Fed("done"))
+            self.assertEqual(self.fed(given, self.program_that()), Fed("done"))
 
     def test_each_wrong_is_found(self) -> None:
         for wrong, said in WRONGS.items():
             for given, name in ((SCRIPT, "run"), (TEXT, "go")):
                 with self.subTest(wrong, command=name):
-                    fed = self.fed(given, self.program(wrong), SHORT if "sleep" in wrong else LIMITS)
+                    fed = self.fed(
+                        given, self.program_that(wrong), SHORT if "sleep" in wrong else LIMITS
+                    )
                     self.assertEqual(fed.answer, "wrong")
                     self.assertIn(fed.trouble, (f"vga {name}: {said}", f"vga {name} {said}"))
 
     def test_faults_of_one_command_alone(self) -> None:
         refused = "sys.exit('vga: F7 BadLine(1)')"
-        fed = self.fed(SCRIPT, self.program(f"{refused} if command == 'run' else None"))
+        fed = self.fed(SCRIPT, self.program_that(f"{refused} if command == 'run' else None"))
         self.assertEqual(fed.trouble, "vga run answers F7 BadLine(1), and not done")
         bad = Input(True, b"move 1\n", "text")
-        self.assertEqual(self.fed(bad, self.program()).trouble, "vga go: step 1 is answered, and the script has none")
-        self.assertEqual(self.fed(bad, self.program("pass")).trouble, "vga go answers done, and not F7 BadLine(1)")
+        self.assertEqual(
+            self.fed(bad, self.program_that()).trouble,
+            "vga go: step 1 is answered, and the script has none",
+        )
+        self.assertEqual(
+            self.fed(bad, self.program_that("pass")).trouble,
+            "vga go answers done, and not F7 BadLine(1)",
+        )
 
     def test_reports_that_differ(self) -> None:
-        fed = self.fed(TEXT, self.program("print('1 55' if command == 'go' else '1 FF')"))
+        fed = self.fed(TEXT, self.program_that("print('1 55' if command == 'go' else '1 FF')"))
         self.assertEqual(fed.trouble, "vga go and vga run have reports that differ")
 
     def test_a_text_that_spells_another_script(self) -> None:
-        path = Path(self.program())
-        path.write_text(path.read_text().replace("stdout.buffer.write(data)", "stdout.buffer.write(data + b'x')"))
-        self.assertEqual(self.fed(SCRIPT, str(path)).trouble, "vga asm: what vga dis prints spells another script")
+        path = self.program(
+            "program", GOOD.replace("stdout.buffer.write(data)", "stdout.buffer.write(data + b'x')")
+        )
+        self.assertEqual(
+            self.fed(SCRIPT, path).trouble, "vga asm: what vga dis prints spells another script"
+        )
 
     def test_a_report_that_fills_its_room(self) -> None:
         full = "\n    try:\n        for n in range(1, 100000): sys.stdout.buffer.write(b'%d 55\\n' % n)\n"
         full += "        sys.stdout.flush()\n    except OSError: os.dup2(os.open('/dev/null', os.O_WRONLY), 1);"
         long = Input(False, b"VGAS\x02\x0d\xff\xff\x03\xda\x03\x0e", "script")
-        self.assertEqual(self.fed(long, self.program(full + " sys.exit('vga: F9 WriteFault')")), Fed("F9 WriteFault"))
+        self.assertEqual(
+            self.fed(long, self.program_that(full + " sys.exit('vga: F9 WriteFault')")),
+            Fed("F9 WriteFault"),
+        )
 
     def test_reports_that_change(self) -> None:
         seen = self.folder / "seen"
@@ -130,10 +132,10 @@ class Judging(Files):
         for given, name in ((SCRIPT, "run"), (TEXT, "go")):
             seen.unlink(missing_ok=True)
             trouble = f"vga {name} and vga {name} once more have reports that differ"
-            self.assertEqual(self.fed(given, self.program(wrong)).trouble, trouble)
+            self.assertEqual(self.fed(given, self.program_that(wrong)).trouble, trouble)
 
     def test_a_printed_text_that_answers_otherwise(self) -> None:
-        fed = self.fed(SCRIPT, self.program("print('1 54' if command == 'go' else '1 55')"))
+        fed = self.fed(SCRIPT, self.program_that("print('1 54' if command == 'go' else '1 55')"))
         self.assertEqual(fed.trouble, "vga run and vga go of what vga dis prints have reports that differ")
 
     def test_want_of_memory_behind_whole_lines(self) -> None:
@@ -167,24 +169,20 @@ class Making(unittest.TestCase):
         self.assertEqual(meant_by(parse_text, HEADERS[1]), ("F7 BadLine(1)", Script()))
 
 
-class Command(Files):
-    def run_command(self, *words: str) -> tuple[int, list[str]]:
-        """Exit status and lines of the command."""
-        with contextlib.redirect_stdout(io.StringIO()) as output:
-            status = command.main([*words, "--seed", "3", "--inputs", "4"])
-        return status, output.getvalue().split("\n")
+class Command(Fuzzed):
+    def run_command(self, *words: str) -> tuple[int, list[str], str]:
+        """Exit status, lines and what is said of the command."""
+        status, output, said = call(command.main, *words, "--seed", "3", "--inputs", "4")
+        return status, output.split("\n"), said
 
     def setUp(self) -> None:
         super().setUp()
-        texts = self.folder / "texts"
-        texts.mkdir()
-        (texts / "one.vga").write_bytes(TEXT.data)
-        self.addCleanup(setattr, command, "TEXTS", command.TEXTS)
-        command.TEXTS = (texts,)
+        texts = Path(self.write("texts/one.vga", TEXT.data)).parent
+        self.patch(mock.patch.object(command, "TEXTS", (texts,)))
 
     def test_figures_where_nothing_is_wrong(self) -> None:
         with mock.patch.object(Program, "feed", return_value=Fed("done")):
-            status, lines = self.run_command(self.program())
+            status, lines, _ = self.run_command(self.program_that())
         self.assertEqual((status, lines[-2]), (0, "0 with something wrong"))
         self.assertTrue(lines[0].startswith("seed 3: 4 inputs in "))
         self.assertIn("        4 done", lines)
@@ -197,38 +195,21 @@ class Command(Files):
 
     def test_inputs_are_kept_with_which_something_is_wrong(self) -> None:
         keep = self.folder / "kept"
-        status, lines = self.run_command(self.program("sys.exit(3)"), "--keep", str(keep))
+        status, lines, _ = self.run_command(self.program_that("sys.exit(3)"), "--keep", str(keep))
         self.assertEqual((status, lines[-2]), (1, "4 with something wrong"))
         self.assertRegex(lines[0], r"^input 1 \([a-z, ]+\): vga (run|go): status 3: ''$")
         self.assertEqual(sorted(file.stem for file in keep.iterdir()), ["1", "2", "3", "4"])
         before = {file: file.read_bytes() for file in keep.iterdir()}
-        with contextlib.redirect_stderr(io.StringIO()) as said:
-            self.assertEqual(self.run_command(self.program("sys.exit(3)"), "--seed", "2", "--keep", str(keep))[0], 2)
-        self.assertIn("the folder has files, and none of them is to be lost", said.getvalue())
+        status, _, said = self.run_command(
+            self.program_that("sys.exit(3)"), "--seed", "2", "--keep", str(keep)
+        )
+        self.assertEqual(status, 2)
+        self.assertIn("the folder has files, and none of them is to be lost", said)
         self.assertEqual({file: file.read_bytes() for file in keep.iterdir()}, before)
-
-    def test_what_can_not_be_meant_is_told(self) -> None:
-        tool = [sys.executable, str(TOP / "tools" / "vga-fuzz")]
-        for words, told in (
-            (["/bin/true"], "vga asm: status 0, and it has written no script"),
-            ([str(self.folder)], "it is no program"),
-            *(([option, "0"], "is no number") for option in ("--timeout", "--memory", "--output", "--seconds")),
-            (["--memory", "-1"], "is no number"),
-            (["--seconds", "nan"], "is no number of seconds"),
-        ):
-            with self.subTest(words):
-                done = subprocess.run([*tool, *words], capture_output=True, text=True, timeout=60)
-                self.assertEqual(done.returncode, 2)
-                self.assertIn(told, done.stderr)
-                self.assertNotIn("Traceback", done.stderr)
 
     def test_a_user_who_ends_it_gets_the_figures(self) -> None:
         keep = self.folder / "kept"
-        process = subprocess.Popen(
-            [sys.executable, "-u", str(TOP / "tools" / "vga-fuzz"), self.program("sys.exit(3)"), "--keep", str(keep)],
-            stdout=subprocess.PIPE, stderr=subprocess.PIPE, text=True,
-            preexec_fn=lambda: signal.signal(signal.SIGINT, signal.default_int_handler),
-        )
+        process = begin("vga-fuzz", self.program_that("sys.exit(3)"), "--keep", keep, text=True)
         assert process.stdout is not None
         self.assertTrue(process.stdout.readline().startswith("input 1 "))
         output = said = ""
@@ -240,11 +221,3 @@ class Command(Files):
                 break
         self.assertEqual((process.returncode, said), (130, ""))
         self.assertRegex(output, r"(?s)^(?:input .*)?seed 1: [0-9,]+ inputs? in .*[0-9]+ with something wrong\n$")
-
-    def test_a_program_that_is_not_there(self) -> None:
-        with contextlib.redirect_stderr(io.StringIO()):
-            self.assertEqual(command.main([str(self.folder / "none")]), 2)
-
-
-if __name__ == "__main__":
-    unittest.main()

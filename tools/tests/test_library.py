@@ -2,26 +2,25 @@
 
 from __future__ import annotations
 
-import contextlib
-import io
 import re
-import tempfile
 import unittest
 from pathlib import Path
 from unittest import mock
 
+from library_tests import compilers
 from library_tests.compilers import COMPILERS
 from library_tests.examples import SIXTEEN, bars, colours_script
 from library_tests.header import LAYOUT, OBJECTS, names_in
 from library_tests.programs import expect
 from library_tests.suite import judged
-from vga_library import command, gated, made
-from vga_library.header import calls_of
+from vga_library import making, toolchain
 from vga_library.targets import X86_64
-from vga_report import TOP
-from vga_report.version import HEADER, Version, version_of, without_comments
+from vga_report import TOP, crates
+from vga_report.version import HEADER, Version, calls_of, version_of, without_comments
 from vga_library.making import MOVING, Place, cmake_text, cmake_version_text, package_text
-from vga_report.trouble import TROUBLE, Trouble, Wrong
+from vga_report.trouble import Trouble, Wrong
+
+from .tools import Folder
 
 TEXT = HEADER.read_text("ascii")
 PAGE = TOP / "docs" / "LIBRARY.md"
@@ -79,73 +78,56 @@ class Places(unittest.TestCase):
         for whole in (text, told):
             self.assertNotIn("@", whole)
 
-    def test_words_that_cannot_be_meant(self) -> None:
-        for words in (
-            ["install", "--prefix", "usr"], ["install", "--prefix", "/usr", "--libdir", "/lib"],
-            ["make", "kit", "--archive", "no-such-file"],
-        ):
-            said = io.StringIO()
-            with self.subTest(words), contextlib.redirect_stderr(said):
-                self.assertEqual(command.main(words), TROUBLE)
-            self.assertTrue(said.getvalue().startswith("vga-library: "))
 
-
-class Made(unittest.TestCase):
+class Made(Folder):
     """What `install` takes of what `make` has made."""
 
     def setUp(self) -> None:
-        folder = tempfile.TemporaryDirectory()
-        self.addCleanup(folder.cleanup)
-        top, names = Path(folder.name), ["low", "vga_c"]
-        for name in names:
-            (top / "crates" / name / "src").mkdir(parents=True)
-            (top / "crates" / name / "src" / "lib.rt").write_text(name)
-        (top / "crates.txt").write_text("vga_c: low\n")
-        self.low, self.parts = top / "crates" / "low" / "src" / "lib.rt", (top / "one.a", top / "two.a")
-        for path in self.parts:
-            path.write_text(path.name)
-        for name, value in (
-            ("TOP", top), ("FOLDER", top / "crates" / "vga_c" / "out" / "made"), ("below", lambda _: ["low"]),
-        ):
-            patch = mock.patch.object(made, name, value)
-            patch.start()
-            self.addCleanup(patch.stop)
+        super().setUp()
+        self.low = Path(self.write("crates/low/src/lib.rt", "low"))
+        self.write("crates/vga_c/src/lib.rt", "vga_c")
+        self.write("crates.txt", "vga_c: low\n")
+        self.parts = [Path(self.write(name, name)) for name in ("one.a", "two.a")]
+        folder = self.folder / "crates" / "vga_c" / "out" / "made"
+        self.patch(
+            mock.patch.multiple(making, TOP=self.folder, FOLDER=folder, below=lambda _: ["low"])
+        )
 
     def test_the_same_sources(self) -> None:
-        self.assertIsNone(made.kept("llvm", X86_64))
-        kept = made.keep("llvm", X86_64, *self.parts)
+        self.assertIsNone(making.kept("llvm", X86_64))
+        kept = making.keep("llvm", X86_64, *self.parts)
         self.assertEqual([path.read_text() for path in kept], ["one.a", "two.a"])
-        self.assertEqual(made.kept("llvm", X86_64), kept)
-        self.assertIsNone(made.kept("rattle", X86_64))
+        self.assertEqual(making.kept("llvm", X86_64), kept)
+        self.assertIsNone(making.kept("rattle", X86_64))
 
     def test_other_sources_or_archives(self) -> None:
-        kept = made.keep("llvm", X86_64, *self.parts)
+        kept = making.keep("llvm", X86_64, *self.parts)
         self.low.write_text("changed")
-        self.assertIsNone(made.kept("llvm", X86_64))
+        self.assertIsNone(making.kept("llvm", X86_64))
         self.low.write_text("low")
-        self.assertEqual(made.kept("llvm", X86_64), kept)
+        self.assertEqual(making.kept("llvm", X86_64), kept)
         kept[0].write_text("changed")
-        self.assertIsNone(made.kept("llvm", X86_64))
+        self.assertIsNone(making.kept("llvm", X86_64))
         kept[0].unlink()
-        self.assertIsNone(made.kept("llvm", X86_64))
+        self.assertIsNone(making.kept("llvm", X86_64))
 
     def test_a_new_source(self) -> None:
-        made.keep("llvm", X86_64, *self.parts)
+        making.keep("llvm", X86_64, *self.parts)
         self.low.with_name("more.rt").write_text("")
-        self.assertIsNone(made.kept("llvm", X86_64))
+        self.assertIsNone(making.kept("llvm", X86_64))
 
 
 class Gated(unittest.TestCase):
     def test_crates_below_stand_lowest_first(self) -> None:
-        below = gated.below("vga_c")
+        below = crates.below("vga_c")
         self.assertEqual(below[0], "vga_bits")
         self.assertEqual(len(below), len(set(below)))
         for place, name in enumerate(below):
-            self.assertLessEqual(set(gated.below(name)), set(below[:place]), name)
+            self.assertLessEqual(set(crates.below(name)), set(below[:place]), name)
 
     def test_what_the_gate_has_not_left(self) -> None:
-        with mock.patch.object(gated, "TOP", Path("nowhere")), self.assertRaises(Trouble):
-            gated.rlib("vga_bits")
+        with mock.patch.object(toolchain, "TOP", Path("nowhere")), self.assertRaises(Trouble):
+            toolchain.rlib("vga_bits")
 
 
 class Page(unittest.TestCase):
@@ -212,8 +194,6 @@ class Checks(unittest.TestCase):
             expect("threads", wanted.replace("alike", "differ", 1))
 
     def test_what_is_lacking_is_told_with_its_package(self) -> None:
-        from library_tests import compilers
-
         with mock.patch("shutil.which", return_value=None):
             told = compilers.lacking(X86_64)
         for name in (*(compiler.c for compiler in COMPILERS), "nm", "objcopy"):
@@ -228,15 +208,9 @@ class Checks(unittest.TestCase):
         self.assertEqual((len(bars()), bars()[-3:].hex().upper()), (3 * 640 * 480, SIXTEEN[15]))
 
 
-class Laying(unittest.TestCase):
+class Laying(Folder):
     def test_what_is_laid_is_told(self) -> None:
-        from vga_library import making
-
-        with tempfile.TemporaryDirectory() as name, mock.patch.object(making, "run", return_value=""):
-            laid = making.make_library(Path("a"), Path("b"), Place(name), making.MOVING)
-            self.assertIn(Path(name) / "include" / "zaklimot.h", laid)
-            self.assertTrue((Path(name) / "share" / "zaklimot" / "zaklimot.fnt").is_file())
-
-
-if __name__ == "__main__":
-    unittest.main()
+        with mock.patch.object(making, "run", return_value=""):
+            laid = making.make_library(Path("a"), Path("b"), Place(str(self.folder)), making.MOVING)
+        self.assertIn(self.folder / "include" / "zaklimot.h", laid)
+        self.assertTrue((self.folder / "share" / "zaklimot" / "zaklimot.fnt").is_file())

@@ -9,7 +9,7 @@ from vga_memory.command import CRATES, ENDING, FILES, GROWTH, cases_of, jobs
 from vga_memory.judging import (
     CALLS, FAULT, IN_WORDS, REFUSED, REFUSED_IN_STEP, RIGHT, Wrong, judge_calls, judge_program
 )
-from vga_memory.program import NoSuchMain, growing
+from vga_memory.trying import NoSuchMain, growing
 from vga_memory.trying import Answer, answers_of
 
 EARLY = Answer(1, b"", "Error: memory allocation failed\n")
@@ -127,7 +127,3 @@ class Program(unittest.TestCase):
         for name, answers in wrongs.items():
             with self.subTest(name), self.assertRaises(Wrong):
                 judge_program(answers, WHOLE, FRONTS)
-
-
-if __name__ == "__main__":
-    unittest.main()

@@ -11,7 +11,7 @@ from vga_report.faults import Files, explained
 from vga_report.mistakes import mistake_in
 
 from .program import run_texts
-from .test_cases import Folder
+from .tools import Folder
 
 # The bad lines and texts with their reasons, which the page's tests read too: so both tell the same.
 TABLE = json.loads((Path(__file__).resolve().parent / "mistakes.json").read_text("utf-8"))
@@ -123,7 +123,3 @@ class Faults(Folder):
         ):
             with self.subTest(fault):
                 self.assert_told(fault, "s", reason, data)
-
-
-if __name__ == "__main__":
-    unittest.main()

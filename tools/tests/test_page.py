@@ -5,13 +5,13 @@ from __future__ import annotations
 import base64
 import json
 import re
-import unittest
 from html.parser import HTMLParser
 from typing import Optional
 
 from .making import BLACK, RED, png_rows, ppm
-from .test_command import PICTURE, Files, run
+from .test_command import PICTURE, run
 from .test_run import Fake
+from .tools import Folder
 
 # Elements that have no end.
 VOID = {"meta", "input", "img", "br"}
@@ -53,7 +53,7 @@ def read(page: str) -> Reader:
     return reader
 
 
-class Alone(Files):
+class Alone(Folder):
     """A test of pages that stand alone."""
 
     def assert_stands_alone(self, page: str) -> Reader:
@@ -129,7 +129,3 @@ class Comparisons(Alone):
         marked = png_rows(base64.b64decode(sources[2].partition(",")[2]))
         self.assertEqual(marked, (9, 1, [b"\x55\0\0" * 3 + b"\xff\x20\x20" + bytes(15)]))
         self.assertIn("2 steps differ; 2 steps, 1 picture", text)
-
-
-if __name__ == "__main__":
-    unittest.main()

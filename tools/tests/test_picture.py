@@ -2,16 +2,14 @@
 
 from __future__ import annotations
 
-import contextlib
 import io
-import os
 import random
 import subprocess
 import sys
 import tempfile
 import unittest
 from collections import Counter
-from functools import lru_cache
+from functools import lru_cache, partial
 from itertools import chain, product
 from pathlib import Path
 
@@ -20,7 +18,7 @@ from vga_picture.colours import Fewer, chosen_colours, indexed
 from vga_picture.command import main
 from vga_picture.mode import MODES
 from vga_picture.planes import best_numbers, planes_of, put_steps
-from vga_picture.word import MASKS, Bytes, Word, Write, least_writes
+from vga_picture.planes import MASKS, Bytes, Word, Write, least_writes
 from vga_report.png import Shape, write_png
 from vga_report.program import FONTS
 from zaklimot.format import Picture
@@ -28,23 +26,16 @@ from zaklimot.format import Picture
 from .making import png_rows, ppm
 from .program import run_texts
 from .screen import Screen
-from .test_cases import Folder
+from .tools import EXAMPLES, Folder, call, run_tool
 from .test_images import png
 
-PROGRAM = Path(__file__).resolve().parents[1] / "vga-picture"
-EXAMPLES = Path(__file__).resolve().parents[2] / "examples"
+run = partial(run_tool, "vga-picture")
 sys.path.insert(0, str(EXAMPLES))
 
 import test_card  # noqa: E402
 
 FONT = FONTS.read_bytes()
 Dots = list[list[tuple[int, int, int]]]
-
-
-def run(*words: str | Path, given: bytes = b"") -> tuple[int, bytes, str]:
-    """Exit status, standard output and standard error of the command."""
-    done = subprocess.run([sys.executable, PROGRAM, *words], input=given, capture_output=True, timeout=200)
-    return done.returncode, done.stdout, done.stderr.decode()
 
 
 def ppm_of(dots: Dots) -> bytes:
@@ -90,13 +81,13 @@ def drawn(text: bytes) -> tuple[bytes, Screen]:
 
 def made_of(image: bytes, *words: str) -> tuple[str, bytes]:
     """What is told of a script of an image, and the script."""
-    told = io.StringIO()
-    with tempfile.TemporaryDirectory() as folder, contextlib.redirect_stdout(told), contextlib.redirect_stderr(told):
-        paths = Path(folder) / "image", Path(folder) / "script"
+    with tempfile.TemporaryDirectory() as folder:
+        paths = Path(folder, "image"), Path(folder, "script")
         paths[0].write_bytes(image)
-        if main(["script", *map(str, paths), *words]):
-            raise AssertionError(told.getvalue())
-        return told.getvalue(), paths[1].read_bytes()
+        status, output, said = call(main, "script", *paths, *words)
+        if status:
+            raise AssertionError(said)
+        return output, paths[1].read_bytes()
 
 
 def script(image: bytes, *words: str) -> bytes:
@@ -487,18 +478,15 @@ class Sizes(unittest.TestCase):
 class Refusals(Folder):
     GOOD = png_of([[(1, 2, 3)] * 320] * 200)
 
-    def refused(self, told: str, given: bytes, *words: str) -> None:
+    def refused(self, told: str, given: bytes) -> None:
         """A refusal in one line, and nothing written."""
-        script = self.folder / "s.vga"
-        script.write_bytes(b"old")
+        script, image = self.write("s.vga", "old"), self.write("image", given)
         with self.subTest(told):
-            image, said = self.folder / "image", io.StringIO()
-            image.write_bytes(given)
-            with contextlib.redirect_stderr(said), contextlib.redirect_stdout(io.StringIO()) as out:
-                status = main(["script", str(image), str(script), *(words or ("--mode", "13"))])
-            self.assertEqual((status, out.getvalue(), said.getvalue()), (2, "", f"vga-picture: {image}: {told}\n"))
-            self.assertEqual({path.name for path in self.folder.iterdir()}, {"image", "s.vga"})
-            self.assertEqual(script.read_bytes(), b"old")
+            done = call(main, "script", image, script, "--mode", "13")
+            self.assertEqual(done, (2, "", f"vga-picture: {image}: {told}\n"))
+            self.assertEqual(
+                (self.names(), Path(script).read_bytes()), (["image", "s.vga"], b"old")
+            )
 
     def test_what_is_no_image(self) -> None:
         good = self.GOOD
@@ -522,37 +510,9 @@ class Refusals(Folder):
         self.assertEqual(picture, shown([[(32, 32, 32)] * 320] * 200, 2, 2))
 
     def test_fonts(self) -> None:
-        fonts = self.folder / "fonts"
-        fonts.write_bytes(bytes(9))
+        fonts = self.write("fonts", bytes(9))
         status, _, said = run("script", "-", "-", "--mode", "3", "--fonts", fonts, given=self.GOOD)
         self.assertEqual((status, said), (2, f"vga-picture: {fonts}: a font file has 9,728 bytes, and this has 9\n"))
-
-    def test_standard_input_twice(self) -> None:
-        done = run("script", "-", "-", "--mode", "3", "--fonts", "-", given=self.GOOD)
-        self.assertEqual(done, (2, b"", "vga-picture: standard input can be read once\n"))
-
-    def test_words(self) -> None:
-        for words in (
-            (), ("--mode", "7"), ("--mode", "13", "--scale", "--fit"), ("--mode", "13", "--nearest", "--dither", "floyd"),
-            ("--mode", "13", "--dither", "none"), ("--mode", "13", "--dither", "refused"),
-        ):
-            with self.subTest(words):
-                said = io.StringIO()
-                with contextlib.redirect_stderr(said):
-                    status = main(["script", "-", "-", *words])
-                self.assertEqual((status, said.getvalue()[:6]), (2, "usage:"))
-
-    def test_a_file_that_is_not_there(self) -> None:
-        path = self.folder / "none"
-        self.assertEqual(run("script", path, "-", "--mode", "13")[2], f"vga-picture: {path}: No such file or directory\n")
-
-    @unittest.skipUnless(os.path.exists("/dev/full"), "this system has no full device")
-    def test_a_full_disk(self) -> None:
-        image = self.folder / "i.png"
-        image.write_bytes(self.GOOD)
-        said = "vga-picture: /dev/full: No space left on device\n"
-        self.assertEqual(run("script", image, "/dev/full", "--mode", "13"), (2, b"", said))
-
 
 class Examples(unittest.TestCase):
     """The examples are what the tool makes of the test card."""
@@ -574,7 +534,3 @@ class Examples(unittest.TestCase):
                 card = card_of(*map(int, size.split("x")))
                 told = made_of(ppm_of(card.rows), *words.split())[0]
                 self.assertIn(f"card.png card.vga {words}\n    {told}", page)
-
-
-if __name__ == "__main__":
-    unittest.main()

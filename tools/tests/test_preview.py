@@ -7,31 +7,28 @@ import shutil
 import subprocess
 import sys
 import unittest
-from pathlib import Path
 
-from .test_cases import Folder
+from .tools import TOP, Folder
 
-PREVIEW = Path(__file__).resolve().parents[2] / "fonts" / "preview.py"
+PREVIEW = TOP / "fonts" / "preview.py"
 # A program that does each call, and whose picture is black.
-GOOD = """#!{python}
-import sys
+GOOD = """import sys
 steps = open(sys.argv[2]).read().split("\\n")[:-1]
 for number, step in enumerate(steps, 1):
-    if step == "frame":
+    if {frame}:
         sys.stdout.write("%d picture 16\\nP6\\n2 1\\n63\\n" % number + "\\0" * 6 + "\\n")
     else:
-        print(number, answer if {wrong} else "ax=0000 bx=0000 cx=0000 dx=0000")
+        print(number, 'E4 BadFunction' if {wrong} else "ax=0000 bx=0000 cx=0000 dx=0000")
 """
 
 
 @unittest.skipIf(os.name != "posix", "a script is a program on POSIX")
 class Specimens(Folder):
-    def run_preview(self, wrong: str = "False", more: str = "") -> tuple[int, str, str]:
-        """How it ends with a program that answers so where something is wrong."""
-        program = self.folder / "program"
-        text = GOOD.format(python=sys.executable, wrong=wrong).replace("answer if", "'E4 BadFunction' if") + more
-        program.write_text(text)
-        program.chmod(0o755)
+    def run_preview(
+        self, wrong: str = "False", more: str = "", frame: str = 'step == "frame"'
+    ) -> tuple[int, str, str]:
+        """How it ends with a program of which something is wrong, more, or otherwise a frame."""
+        program = self.program("program", GOOD.format(wrong=wrong, frame=frame) + more)
         out = self.folder / "out"
         out.mkdir(exist_ok=True)
         done = subprocess.run([sys.executable, PREVIEW, program, "--out", out], capture_output=True, text=True)
@@ -56,12 +53,9 @@ class Specimens(Folder):
         self.assertIn("preview.py: specimen-8.png is not written: the program ended with status 3\n", said)
 
     def test_a_frame_without_a_picture(self) -> None:
-        self.run_preview()
-        program = self.folder / "program"
-        program.write_text(program.read_text().replace('if step == "frame"', "if False"))
-        done = subprocess.run([sys.executable, PREVIEW, program, "--out", self.folder], capture_output=True, text=True)
-        self.assertEqual(done.returncode, 1)
-        self.assertIn("specimen-8.png is not written: step 3810 has no picture\n", done.stderr)
+        status, _, said = self.run_preview(frame="False")
+        self.assertEqual(status, 1)
+        self.assertIn("specimen-8.png is not written: step 3810 has no picture\n", said)
 
 
 class Fonts(Folder):
@@ -80,7 +74,3 @@ class Fonts(Folder):
         made = self.folder / "made.fnt"
         subprocess.run([sys.executable, PREVIEW.parent / "make_font.py", made], check=True, capture_output=True)
         self.assertEqual(made.read_bytes(), (PREVIEW.parent / "zaklimot.fnt").read_bytes())
-
-
-if __name__ == "__main__":
-    unittest.main()

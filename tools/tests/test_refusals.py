@@ -45,7 +45,3 @@ class Refusals(unittest.TestCase):
         for case in CASES:
             answer = ran[case["text"]].report.decode("ascii").splitlines()[-1].partition(" ")[2]
             self.assertEqual(answer, case["answer"], case["text"])
-
-
-if __name__ == "__main__":
-    unittest.main()

@@ -2,7 +2,6 @@
 
 from __future__ import annotations
 
-import contextlib
 import hashlib
 import io
 import os
@@ -11,7 +10,6 @@ import re
 import shutil
 import subprocess
 import tarfile
-import tempfile
 import unittest
 import zipfile
 from pathlib import Path
@@ -22,14 +20,15 @@ from vga_report import TOP
 from vga_report.version import version
 from vga_library.targets import X86_64
 from vga_release import command
-from vga_release.commit import Commit, File, clean_commit
+from vga_release.commit import Commit, File
 from vga_release.gathering import FRONT, INSTALL, LINKS, MADE_OF, PAGE, PATHS, made_of, settled
 from vga_release.packing import Entry, pack
-from vga_release.pages import Pages
-from vga_release.wheel import wheel_of
+from vga_release.gathering import Pages
+from vga_release.gathering import wheel_of
 from vga_report.processes import Done
 from vga_report.trouble import TROUBLE
-from vga_report.trouble import Trouble
+
+from .tools import Folder, call
 
 ENTRIES: dict[str, Entry] = {
     "z/lib/b.so.1": File(b"library"), "z/lib/b.so": "b.so.1", "z/bin/vga": File(b"program", True), "z/a": File(b""),
@@ -170,38 +169,33 @@ def commands_of(text: str) -> Iterator[str]:
             yield line.strip("(")
 
 
-class Wheels(unittest.TestCase):
+class Wheels(Folder):
     def test_the_wheel_has_the_library(self) -> None:
         files = {place: entry for place, entry in sources().items() if isinstance(entry, File)}
-        with tempfile.TemporaryDirectory() as name:
-            library = Path(name) / "library"
-            for place in ("lib/libzaklimot.so", "share/zaklimot/zaklimot.fnt"):
-                (library / place).parent.mkdir(parents=True)
-                (library / place).write_bytes(place.encode())
-            made = []
-            for number in "12":
-                folder = Path(name) / number
-                folder.mkdir()
-                made.append(wheel_of(files, library, folder, X86_64))
-            self.assertEqual(made[0].read_bytes(), made[1].read_bytes())
-            self.assertEqual(made[0].name, f"zaklimot-{version()}-py3-none-linux_x86_64.whl")
-            with zipfile.ZipFile(made[0]) as wheel:
-                self.assertEqual(wheel.read("zaklimot/carried/libzaklimot.so"), b"lib/libzaklimot.so")
-                self.assertIn("zaklimot/format/table.py", wheel.namelist())
+        for place in ("lib/libzaklimot.so", "share/zaklimot/zaklimot.fnt"):
+            self.write(f"library/{place}", place)
+        made = []
+        for number in "12":
+            (self.folder / number).mkdir()
+            made.append(wheel_of(files, self.folder / "library", self.folder / number, X86_64))
+        self.assertEqual(made[0].read_bytes(), made[1].read_bytes())
+        self.assertEqual(made[0].name, f"zaklimot-{version()}-py3-none-linux_x86_64.whl")
+        with zipfile.ZipFile(made[0]) as wheel:
+            self.assertEqual(wheel.read("zaklimot/carried/libzaklimot.so"), b"lib/libzaklimot.so")
+            self.assertIn("zaklimot/format/table.py", wheel.namelist())
 
 
-class Installing(unittest.TestCase):
+class Installing(Folder):
     """The command that lays a release below a prefix."""
 
     def setUp(self) -> None:
-        folder = tempfile.TemporaryDirectory()
-        self.addCleanup(folder.cleanup)
-        self.folder = Path(folder.name)
+        super().setUp()
         self.release = self.folder / "a release"
-        for place, text in (("bin/vga", "program"), ("include/z.h", "header"), ("lib/z.so.1", "library"), ("share/z/f.fnt", "font")):
-            (self.release / place).parent.mkdir(parents=True)
-            (self.release / place).write_text(text)
-        (self.release / "bin/vga").chmod(0o755)
+        self.program("a release/bin/vga", "#!program")
+        for place, text in (
+            ("include/z.h", "header"), ("lib/z.so.1", "library"), ("share/z/f.fnt", "font")
+        ):
+            self.write(f"a release/{place}", text)
         (self.release / "lib/z.so").symlink_to("z.so.1")
         shutil.copy(TOP / "tools" / "vga_release" / INSTALL, self.release / INSTALL)
 
@@ -221,7 +215,7 @@ class Installing(unittest.TestCase):
 
     def test_a_stage_stands_before_the_prefix(self) -> None:
         self.assertEqual(self.install("--destdir=stage", "--prefix=/usr").returncode, 0)
-        self.assertEqual((self.folder / "stage/usr/bin/vga").read_text(), "program")
+        self.assertEqual((self.folder / "stage/usr/bin/vga").read_text(), "#!program")
 
     def test_what_it_refuses(self) -> None:
         (self.folder / "full" / "bin" / "vga").mkdir(parents=True)
@@ -237,35 +231,29 @@ class Installing(unittest.TestCase):
                 done = self.install(*words)
                 self.assertEqual((done.returncode, done.stdout), (2, ""))
                 self.assertIn(told, done.stderr.splitlines()[-1])
-        self.assertEqual((self.release / "bin/vga").read_text(), "program")
+        self.assertEqual((self.release / "bin/vga").read_text(), "#!program")
 
 
-class Packed(unittest.TestCase):
+class Packed(Folder):
     def test_the_archive_and_its_checksum(self) -> None:
-        with tempfile.TemporaryDirectory() as name, contextlib.redirect_stdout(io.StringIO()) as told:
-            given = Path(name) / "given"
-            given.write_bytes(b"built")
-            with mock.patch.object(command, "clean_commit", return_value=COMMIT), mock.patch.object(
-                command, "release_entries", return_value=ENTRIES
-            ), mock.patch.object(command, "want"):
-                words = [name, "--program", str(given), "--archive", str(given), "--archive-aarch64", str(given)]
-                self.assertEqual(command.main(words), 0)
-            archive, sums = (Path(line) for line in told.getvalue().splitlines())
-            number = hashlib.sha256(archive.read_bytes()).hexdigest()
-            self.assertEqual(sums.read_text("ascii"), f"{number}  {archive.name}\n")
+        given = self.write("given", "built")
+        made = {
+            "clean_commit": lambda: COMMIT, "release_entries": lambda *_: ENTRIES,
+            "check_program": lambda _: None,
+        }
+        self.patch(mock.patch.multiple(command, **made))
+        words = ["--program", given, "--archive", given, "--archive-aarch64", given]
+        status, output, _ = call(command.main, self.folder, *words)
+        archive, sums = map(Path, output.splitlines())
+        number = hashlib.sha256(archive.read_bytes()).hexdigest()
+        self.assertEqual((status, sums.read_text("ascii")), (0, f"{number}  {archive.name}\n"))
 
 
 class Commits(unittest.TestCase):
     def test_what_is_changed_is_no_release(self) -> None:
         done = Done(0, b" M README.md\n", b"")
-        with mock.patch("vga_report.processes.captured", return_value=done), self.assertRaises(Trouble) as raised:
-            clean_commit()
-        self.assertIn("M README.md", str(raised.exception))
-        said = io.StringIO()
-        with mock.patch("vga_report.processes.captured", return_value=done), contextlib.redirect_stderr(said):
-            self.assertEqual(command.main(["release"]), TROUBLE)
-        self.assertTrue(said.getvalue().startswith("vga-release: a release is made from a commit"))
-
-
-if __name__ == "__main__":
-    unittest.main()
+        with mock.patch("vga_report.processes.captured", return_value=done):
+            status, _, said = call(command.main, "release")
+        self.assertEqual(status, TROUBLE)
+        self.assertTrue(said.startswith("vga-release: a release is made from a commit"))
+        self.assertIn("M README.md", said)

@@ -1,17 +1,19 @@
-"""Scripts beside their answers, and answers that scripts expect."""
+"""Scripts beside their answers, and beside those that they expect; scripts of a folder."""
 
 from __future__ import annotations
 
 import io
 import json
 import os
-import subprocess
+import signal
 import sys
 import unittest
 from concurrent.futures import ThreadPoolExecutor
 from pathlib import Path
 from unittest import mock
+from xml.etree import ElementTree
 
+from vga_report import program
 from vga_report.blessing import blessed_line
 from vga_report.expecting import answer_of, handed_in, is_as_expected, is_worth_telling
 from vga_report.listing import Choice, Row
@@ -24,12 +26,11 @@ from zaklimot.format import Answer, count_in, steps_in
 
 from .making import BLACK, RED, ppm, stream
 from .program import run_texts
-from .test_command import PROGRAM, Files, run
+from .test_command import run
+from .tools import EXAMPLES, TOP, Folder, begin, run_tool
 
-EXAMPLES = Path(__file__).resolve().parents[2] / "examples"
 # A program that understands texts of a few steps: `asm` copies, `dis` prints in upper case, `go` answers by the name.
-FAKE = """#!{python}
-import sys
+FAKE = """import sys
 words = sys.argv[1:]
 data = open(words[1], "rb").read()
 steps = [line.split(b";")[0].split() for line in data.split(b"\\n")]
@@ -55,16 +56,22 @@ elif words[0] in ("go", "run"):
 TEXT = "; A script.\n\nout 3c2 1\nget a0000 ; = E6\nin 3da\nframe ; = picture 9x1\nint ax=3 ; = ax=0003\nshow regs ; = 2 lines...\n"
 
 
-class Fake(Files):
+class Fake(Folder):
     def setUp(self) -> None:
         super().setUp()
-        self.program = self.folder / "vga"
-        self.program.write_text(FAKE.format(python=sys.executable, picture=ppm(9, 1, RED * 4 + BLACK * 5)))
-        self.program.chmod(0o755)
+        self.vga = Path(self.program("vga", FAKE.format(picture=ppm(9, 1, RED * 4 + BLACK * 5))))
         self.path = self.write("s.vga", TEXT)
 
+    def change_program(self, old: str, new: str, more: str = "") -> None:
+        """Puts something else into the program, and something behind it."""
+        text = self.vga.read_text()
+        self.assertIn(old, text)
+        self.vga.write_text(text.replace(old, new) + more)
+
     def run_script(self, *words: str, path: str = "", given: bytes = b"") -> tuple[int, str, str]:
-        status, output, said = run("run", path or self.path, "--vga", str(self.program), *words, given=given)
+        status, output, said = run(
+            "run", path or self.path, "--vga", str(self.vga), *words, given=given
+        )
         return status, output.decode(), said
 
 
@@ -129,20 +136,30 @@ class Listings(Fake):
 
     @unittest.skipUnless(Path("/dev/stdin").exists(), "this system has no name for standard input")
     def test_standard_input_by_its_name(self) -> None:
-        words = [sys.executable, PROGRAM, "run", "/dev/stdin", "--vga", self.program]
-        with open(self.path, "rb") as script:
-            done = subprocess.run(words, stdin=script, capture_output=True)
-        self.assertEqual(done.stdout.decode(), self.run_script()[1])
+        _, output, _ = run_tool(
+            "vga-report", "run", "/dev/stdin", "--vga", self.vga, given=TEXT.encode()
+        )
+        self.assertEqual(output.decode(), self.run_script()[1])
 
     def test_scripts_that_can_not_be_read(self) -> None:
-        self.assertEqual(run("run", "", "--vga", str(self.program))[2], "vga-report: the name of a file is empty\n")
         message = f"vga-report: {self.folder}: the script can't be read\n"
-        self.program.write_text(self.program.read_text() + "sys.exit('the script can\\'t be read')\n")
+        self.change_program("", "", "sys.exit('the script can\\'t be read')\n")
         self.assertEqual(self.run_script(path=self.path)[2], message.replace(str(self.folder), self.path))
 
-    def test_no_program(self) -> None:
-        status, _, said = run("run", self.path, "--vga", str(self.folder / "none"))
-        self.assertEqual((status, said), (2, f"vga-report: {self.folder / 'none'}: No such file or directory\n"))
+    def test_no_toolchain(self) -> None:
+        told = (
+            "vga-report: rt: it is not in the path: it is the command of the Rattle toolchain, "
+            "which README.md tells of under \"Run it\". Without it --vga runs a program that is "
+            "built already, and --debug FILE writes a page that runs the script in a browser\n"
+        )
+        environment = {**os.environ, "PATH": str(self.folder)}
+        self.assertEqual(run("run", self.path, "--try", env=environment), (2, b"", told))
+        with mock.patch.dict(os.environ, environment), mock.patch(
+            "vga_report.program.PROGRAM", self.folder / "none"
+        ):
+            with self.assertRaisesRegex(Trouble, "^rt: it is not in the path: "):
+                build_program(Progress())
+        self.assertIn("## Run it\n", (TOP / "README.md").read_text("utf-8"))
 
     def test_a_release_has_no_sources(self) -> None:
         with mock.patch("vga_report.program.CRATE", self.folder), mock.patch("vga_report.program.PROGRAM", self.folder / "none"):
@@ -153,7 +170,7 @@ class Listings(Fake):
                 build_program(Progress())
 
     def test_a_report_that_ends_before_its_script(self) -> None:
-        self.program.write_text(self.program.read_text().replace("in enumerate(numbered[:stop], 1)", "in enumerate(numbered[:2], 1)"))
+        self.change_program("in enumerate(numbered[:stop], 1)", "in enumerate(numbered[:2], 1)")
         status, output, said = self.run_script()
         self.assertEqual((status, said), (2, f"vga-report: {self.path}: the report ends after 2 of 6 steps\n"))
         self.assertIn("     4      2  GET A0000 ", output)
@@ -163,15 +180,14 @@ class Listings(Fake):
         self.assertEqual(run("run", self.write("none.vga", "; no step\n"), "--vga", "/bin/true")[0], 0)
 
     def test_a_report_that_goes_on_behind_its_script(self) -> None:
-        self.program.write_text(self.program.read_text() + "if words[0] == 'go': out.write(b'7 ok\\n')\n")
+        self.change_program("", "", "if words[0] == 'go': out.write(b'7 ok\\n')\n")
         status, _, said = self.run_script()
         self.assertEqual((status, said), (2, f"vga-report: {self.path}: the report goes on behind the last step, 6\n"))
 
     def test_long_scripts_take_no_longer_a_step(self) -> None:
         path = self.write("long.vga", "out 3c4 02\n" * 50_000)
-        words = [sys.executable, PROGRAM, "run", path, "--vga", self.program, "--only", "50000"]
-        done = subprocess.run(words, capture_output=True, text=True, timeout=40)
-        self.assertEqual(done.stdout.splitlines()[1:], [
+        output = self.run_script("--only", "50000", path=path)[1]
+        self.assertEqual(output.splitlines()[1:], [
             " 50000  50000  OUT 3C4 02          ok", "50000 steps, 0 pictures",
         ])
 
@@ -181,14 +197,11 @@ class Listings(Fake):
             with open(name, "wb") as stream:
                 stream.write(data)
         # As the program does, which wants words of UTF-8.
-        self.program.write_text(self.program.read_text().replace("words = sys.argv[1:]", "words = sys.argv[1:]; ' '.join(words).encode()"))
-        words = [sys.executable, PROGRAM, "run", path, "--fonts", fonts, "--vga", self.program]
-        done = subprocess.run(words, capture_output=True, timeout=40)
-        self.assertEqual(done.stdout.decode(), self.run_script()[1])
-
-    def test_a_script_without_an_end(self) -> None:
-        done = run("run", "/dev/zero", "--vga", str(self.program))
-        self.assertEqual(done, (2, b"", "vga-report: /dev/zero: F6 TooLong: a script has at most 16,777,216 bytes\n"))
+        self.change_program(
+            "words = sys.argv[1:]", "words = sys.argv[1:]; ' '.join(words).encode()"
+        )
+        _, output, _ = run("run", path, "--fonts", fonts, "--vga", self.vga)
+        self.assertEqual(output.decode(), self.run_script()[1])
 
     def test_answers_that_differ(self) -> None:
         path = self.write("t.vga", "get 0 ; = 55\nget 1 ; = *\nframe ; = picture 9x2\n")
@@ -210,7 +223,6 @@ class Listings(Fake):
             "in 3DA  ; = E1 NotDecoded ; \u00e9\n"
         ))
         self.assertEqual(self.run_script("--bless", path=path)[:2], (0, f"{path}: 0 answers written\n"))
-        self.assertEqual(self.run_script("--bless", path="-", given=b"")[0], 2)
 
     def test_expectations_that_are_met_stay_as_they_are(self) -> None:
         path = self.write("t.vga", "frame ; = picture 9x1\nin 3DA ; = e1 notdecoded\nshow regs ; = 2 lines...\nint ; = ax=0003\n")
@@ -276,12 +288,6 @@ class Listings(Fake):
         status, output, _ = self.run_script("--json", "-", path=self.write("t.vga", "move\n"))
         told = json.loads(output)
         self.assertEqual((status, told["answers"], "F7 BadLine(1)" in told["trouble"]), (2, [], True))
-
-    def test_a_picture_over_the_script(self) -> None:
-        path = self.write("0001.png", "frame\n")
-        status, _, said = self.run_script("--pictures", str(self.folder), path=path)
-        self.assertEqual((status, said), (2, f"vga-report: {path}: it is read as {path}, so it isn't written\n"))
-
 
 class Expectations(unittest.TestCase):
     def test_what_is_as_expected(self) -> None:
@@ -356,5 +362,68 @@ class Examples(unittest.TestCase):
                     self.assertTrue(is_as_expected(step, wanted or "", line.name), answer_of(step))
 
 
-if __name__ == "__main__":
-    unittest.main()
+class Several(Fake):
+    def setUp(self) -> None:
+        super().setUp()
+        self.tests = self.folder / "tests"
+        for name, text in (("a.vga", "get 0 ; = E6\n"), ("more/b.vga", "get 0 ; = 55\nin 60\n"), ("notes.txt", "")):
+            self.write(f"tests/{name}", text)
+
+    def test_each_script_of_a_folder(self) -> None:
+        status, output, said = self.run_script("--jobs", "2", path=str(self.tests))
+        a, b = self.tests / "a.vga", self.tests / "more" / "b.vga"
+        self.assertEqual((status, said), (1, ""))
+        self.assertEqual(output, (
+            f"{a}: 1 step, 0 pictures, 1 of 1 answers as expected\n{b}:1: step 1: GET 0 answers E6, not 55\n"
+            f"{b}: 2 steps, 1 refused, 0 pictures, 0 of 1 answers as expected\n2 scripts, 1 differs\n"
+        ))
+
+    def test_a_name_that_looks_like_an_option(self) -> None:
+        (self.tests / "-c.vga").write_text("frame\n")
+        status, output, _ = run_tool("vga-report", "run", ".", "--vga", self.vga, cwd=self.tests)
+        self.assertEqual((status, output.split(b"\n")[0]), (1, b"-c.vga: 1 step, 1 picture"))
+
+    def test_for_machines(self) -> None:
+        (self.tests / "c.vga").write_text("move <&>\n")
+        junit, told = self.folder / "junit.xml", self.folder / "told.json"
+        status, output, said = self.run_script("--junit", str(junit), "--json", str(told), path=str(self.tests))
+        self.assertEqual((status, output.splitlines()[-1]), (2, "3 scripts, 1 differs, 1 can't be run"))
+        self.assertIn("c.vga:1: F7 BadLine(1): there is no step 'move'", said)
+        suite = ElementTree.parse(junit).getroot()
+        self.assertEqual([suite.get(name) for name in ("tests", "failures", "errors")], ["3", "1", "1"])
+        self.assertEqual([[part.tag for part in case] for case in suite], [[], ["error"], ["failure"]])
+        self.assertIn("GET 0 answers E6, not 55", suite[2][0].text or "")
+        scripts = json.loads(told.read_text())
+        self.assertEqual([(one["steps"], one["wrong"], bool(one["trouble"])) for one in scripts], [(1, 0, False), (0, 0, True), (2, 1, False)])
+
+    def test_the_program_is_built_where_it_is_lacking(self) -> None:
+        # A toolchain that tells what it is asked for, and builds nothing.
+        rt = self.program(
+            "bin/rt", "#!/bin/sh\necho \"$@\" > asked; echo crate vga: proved >&2; exit 3\n"
+        )
+        crate = Path(self.write("crate/src/main.rt", "")).parents[1]
+        path = {"PATH": f"{Path(rt).parent}{os.pathsep}{os.environ['PATH']}"}
+        with mock.patch.dict(os.environ, path), mock.patch.multiple(
+            program, CRATE=crate, PROGRAM=crate / "out"
+        ):
+            with self.assertRaisesRegex(Trouble, "^rt: it ended with status 3"):
+                program.build_program(Progress())
+        self.assertEqual((crate / "asked").read_text(), "run -- --help\n")
+
+
+class Watching(Fake):
+    def test_it_runs_again_when_the_script_changes(self) -> None:
+        words = ["run", self.path, "--vga", self.vga, "--quiet", "--watch"]
+        process = begin("vga-report", *words, text=True)
+        assert process.stdout is not None and process.stderr is not None
+        with process.stdout, process.stderr:
+            # What is not as it should be ends the watching all the same.
+            self.addCleanup(process.wait)
+            self.addCleanup(process.kill)
+            self.assertIn("6 steps", process.stdout.readline())
+            self.write("s.vga", "move\n")
+            self.assertEqual(process.stdout.readline(), f"{self.path} has changed\n")
+            self.assertIn("F7 BadLine(1)", process.stderr.readline())
+            process.send_signal(signal.SIGINT)
+            self.assertEqual(process.wait(60), 130)
+            self.assertNotIn("Traceback", process.stderr.read())

@@ -1,15 +1,19 @@
-"""Files that are written: whole, or not at all."""
+"""Files that are written, whole or not at all; and the line that tells how far work has come."""
 
 from __future__ import annotations
 
+import io
 import os
 import stat
 import unittest
+from unittest import mock
 
+from vga_report.crates import Phases
+from vga_report.progress import DELAY, Progress
 from vga_report.streams import reading, write_file, writing
 from vga_report.trouble import Trouble
 
-from .test_cases import Folder
+from .tools import Folder
 
 
 class Writing(Folder):
@@ -69,5 +73,65 @@ class Writing(Folder):
         self.assertEqual((self.folder / "a").read_text(), "old")
 
 
-if __name__ == "__main__":
-    unittest.main()
+class Terminal(io.StringIO):
+    """A terminal that keeps what is written on it."""
+
+    def isatty(self) -> bool:
+        return True
+
+
+class Lines(unittest.TestCase):
+    def setUp(self) -> None:
+        self.terminal = Terminal()
+        self.now = 100.0
+        for target, value in [("sys.stderr", self.terminal), ("time.monotonic", lambda: self.now)]:
+            patch = mock.patch(target, value)
+            patch.start()
+            self.addCleanup(patch.stop)
+
+    def test_short_work_shows_nothing(self) -> None:
+        progress = Progress()
+        self.assertFalse(progress.is_due())
+        progress.clear()
+        self.assertEqual(self.terminal.getvalue(), "")
+
+    def test_long_work_shows_one_line_and_clears_it(self) -> None:
+        progress = Progress()
+        self.now += DELAY
+        self.assertTrue(progress.is_due())
+        progress.tell("r: 10 %")
+        self.assertFalse(progress.is_due())
+        self.now += DELAY
+        self.assertTrue(progress.is_due())
+        progress.tell("r: 9 %")
+        progress.clear()
+        progress.clear()
+        self.assertEqual(self.terminal.getvalue(), "\rr: 10 %\rr: 9 % \r      \r")
+
+    def test_a_line_is_no_longer_than_the_terminal(self) -> None:
+        with mock.patch.dict("os.environ", COLUMNS="10"):
+            Progress().tell("r: a long name")
+        self.assertEqual(self.terminal.getvalue(), "\rr: a long")
+
+    def test_phases_tell_the_crate_that_is_proved(self) -> None:
+        told: list[str] = []
+        progress = mock.create_autospec(Progress)
+        progress.tell.side_effect = told.append
+        hear = Phases(progress, ["low", "high"])("proving")
+        for line in (
+            "", "so far", "rt: low: begins with what is kept",
+            "crate high: modules loaded=1 checked=2", "linked",
+        ):
+            self.now += 61
+            hear(line)
+        self.assertEqual(told, [
+            "0:00 proving", "1:01 proving", "2:02 proving: so far",
+            "3:03 proving: low, crate 1 of 2", "4:04 proving: high, crate 2 of 2, is done",
+            "5:05 proving: high, crate 2 of 2, is done",
+        ])
+
+    def test_no_terminal(self) -> None:
+        with mock.patch("sys.stderr", io.StringIO()):
+            progress = Progress()
+            self.now += DELAY
+            self.assertFalse(progress.is_due())

@@ -2,13 +2,10 @@
 
 from __future__ import annotations
 
-import contextlib
 import io
 import os
 import shutil
-import stat
 import subprocess
-import tempfile
 import unittest
 import zipfile
 from pathlib import Path
@@ -16,16 +13,17 @@ from unittest import mock
 
 from library_tests import command as tests, compilers, suite
 from library_tests.compilers import MACHINES, Built
-from vga_library import building, command, gated, made, toolchain
+from vga_library import building, command, making, toolchain
 from vga_library.building import HEAP, HEAP_OPTIONS
 from vga_library.targets import AARCH64, TARGETS, X86_64
 from vga_release import gathering
+from vga_report import processes
 from vga_report.processes import PACKAGES, Done
-from vga_report.streams import write_file
 from vga_report.trouble import TROUBLE
 from vga_report.version import version
 
 from .test_release import sources
+from .tools import Folder, call
 
 # A program that notes its words, and writes a file where -o or -c names one, or its fourth word.
 FAKE = """\
@@ -70,49 +68,36 @@ int main(void)
 """
 
 
-class Fakes(unittest.TestCase):
+class Fakes(Folder):
     """Programs of the cross compiler and of the toolchain that note how they are called."""
 
     def setUp(self) -> None:
-        folder = tempfile.TemporaryDirectory()
-        self.addCleanup(folder.cleanup)
-        self.folder = Path(folder.name)
+        super().setUp()
         self.notes, kit = self.folder / "notes", self.folder / "kit"
         names = [f"bin/{name}" for name in ("rt", *AARCH64.programs())]
         for name in (*names, "kit/bin/rattle"):
-            path = self.folder / name
-            path.parent.mkdir(parents=True, exist_ok=True)
-            write_file(str(path), FAKE.encode("ascii"))
-            path.chmod(path.stat().st_mode | stat.S_IXUSR)
+            self.program(name, FAKE)
         path = f"{self.folder / 'bin'}:{os.environ['PATH']}"
-        self.patch(mock.patch.dict(os.environ, {"PATH": path, "NOTES": str(self.notes), "KIT": str(kit)}))
-        crate = self.folder / "crates" / "vga_c"
-        (crate / "out").mkdir(parents=True)
-        for module in (building, gated, toolchain):
-            self.patch(mock.patch.object(module, "CRATE", crate))
-        self.patch(mock.patch.object(building, "KEPT", crate / "out" / "incremental"))
-        self.patch(mock.patch.object(gated, "rlib", lambda name: Path(f"{name}.rlib")))
-        self.patch(mock.patch.object(made, "FOLDER", crate / "out" / "made"))
-        self.crate = crate
-
-    def patch(self, patch: mock._patch) -> None:  # type: ignore[type-arg]
-        patch.start()
-        self.addCleanup(patch.stop)
+        self.crate = self.folder / "crates" / "vga_c"
+        (self.crate / "out").mkdir(parents=True)
+        self.patch(
+            mock.patch.dict(os.environ, {"PATH": path, "NOTES": str(self.notes), "KIT": str(kit)}),
+            mock.patch.multiple(building, CRATE=self.crate, KEPT=self.crate / "out" / "incremental"),
+            mock.patch.multiple(
+                toolchain, CRATE=self.crate, rlib=lambda name: Path(f"{name}.rlib")
+            ),
+            mock.patch.object(making, "FOLDER", self.crate / "out" / "made"),
+        )
 
     def noted(self) -> list[list[str]]:
+        """The words of each program that was called."""
         return [line.split(" ") for line in self.notes.read_text("utf-8").splitlines()]
-
-    def run_tool(self, *words: str) -> tuple[int, str, str]:
-        output, said = io.StringIO(), io.StringIO()
-        with contextlib.redirect_stdout(output), contextlib.redirect_stderr(said):
-            status = command.main(words)
-        return status, output.getvalue(), said.getvalue()
 
 
 class Making(Fakes):
     def test_what_is_run_and_what_is_laid(self) -> None:
         place = self.folder / "kit-for-arm"
-        status, told, said = self.run_tool("make", str(place), "--target", "aarch64")
+        status, told, said = call(command.main, "make", str(place), "--target", "aarch64")
         self.assertEqual((status, said), (0, ""))
         self.assertIn(f"{place / 'lib' / f'libzaklimot.so.{version()}'}\n", told)
         calls = [words for words in self.noted() if words != ["rt", "doc"]]
@@ -130,26 +115,26 @@ class Making(Fakes):
         self.assertIn(str(HEAP), calls[2])
 
     def test_install_takes_what_was_made_for_the_same_processor(self) -> None:
-        self.assertEqual(self.run_tool("make", str(self.folder / "first"), "--target", "aarch64")[0], 0)
+        self.assertEqual(call(command.main, "make", str(self.folder / "first"), "--target", "aarch64")[0], 0)
         self.notes.unlink()
         words = ["install", "--prefix", "/usr", "--destdir", str(self.folder / "stage")]
-        self.assertEqual(self.run_tool(*words, "--target", "aarch64")[0], 0)
+        self.assertEqual(call(command.main, *words, "--target", "aarch64")[0], 0)
         self.assertEqual({words[0] for words in self.noted()}, set(AARCH64.programs()))
-        self.assertIsNone(made.kept("llvm", X86_64))
-        with mock.patch.object(made, "HEAP", Path(__file__)):
-            self.assertIsNone(made.kept("llvm", AARCH64))
-        self.assertIsNotNone(made.kept("llvm", AARCH64))
+        self.assertIsNone(making.kept("llvm", X86_64))
+        with mock.patch.object(making, "HEAP", Path(__file__)):
+            self.assertIsNone(making.kept("llvm", AARCH64))
+        self.assertIsNotNone(making.kept("llvm", AARCH64))
 
     def test_what_cannot_be_made_is_told_before_the_long_work(self) -> None:
         place = str(self.folder / "none")
-        self.assertEqual(self.run_tool("make", place, "--target", "aarch64", "--backend", "rattle"), (
+        self.assertEqual(call(command.main, "make", place, "--target", "aarch64", "--backend", "rattle"), (
             TROUBLE, "", "vga-library: aarch64: the toolchain has no compiler rattle for it\n",
         ))
         for program in AARCH64.programs():
             path = self.folder / "bin" / program
             path.rename(self.folder / "away")
             with self.subTest(program), mock.patch.dict(os.environ, {"PATH": str(self.folder / "bin")}):
-                self.assertEqual(self.run_tool("make", place, "--target", "aarch64"), (
+                self.assertEqual(call(command.main, "make", place, "--target", "aarch64"), (
                     TROUBLE, "", f"vga-library: {program}: it is not in the path: install the package {PACKAGES[program]}\n",
                 ))
             (self.folder / "away").rename(path)
@@ -177,18 +162,16 @@ class Making(Fakes):
 
 
 @unittest.skipUnless(shutil.which("cc"), "there is no C compiler")
-class Heap(unittest.TestCase):
+class Heap(Folder):
     def test_what_it_answers(self) -> None:
-        with tempfile.TemporaryDirectory() as name:
-            source, program = Path(name) / "taking.c", Path(name) / "taking"
-            source.write_text(TAKING, "ascii")
-            # A compiler that knows malloc would warn of so large a request.
-            words = ["cc", *HEAP_OPTIONS, "-fno-builtin", source, HEAP, "-o", program]
-            subprocess.run(words, check=True, timeout=60)
-            self.assertEqual(subprocess.run([program], timeout=60).returncode, 0)
+        source, program = self.write("taking.c", TAKING), self.folder / "taking"
+        # A compiler that knows malloc would warn of so large a request.
+        words = ["cc", *HEAP_OPTIONS, "-fno-builtin", source, HEAP, "-o", program]
+        subprocess.run(words, check=True, timeout=60)
+        self.assertEqual(subprocess.run([program], timeout=60).returncode, 0)
 
 
-class Testing(unittest.TestCase):
+class Testing(Folder):
     """The tests of the library for another processor run its programs in an emulator."""
 
     def test_each_processor_has_its_programs(self) -> None:
@@ -209,19 +192,17 @@ class Testing(unittest.TestCase):
             return Done(0, b'{"rules": [{"cases": [{"name": "a", "answer": "agrees"}]}]}', b"")
 
         built = Built("given", Path("kit"), Path("crates.a"), AARCH64)
-        with mock.patch.object(compilers, "captured", noting), mock.patch.object(suite, "captured", noting):
-            self.assertEqual(suite.check_suite(built, Path("made")), "1 cases agree")
+        self.patch(
+            mock.patch.multiple(processes, captured=noting, check_program=lambda _: None),
+            mock.patch.object(suite, "captured", noting),
+        )
+        self.assertEqual(suite.check_suite(built, Path("made")), "1 cases agree")
         self.assertEqual(called[0][0], "aarch64-linux-gnu-gcc")
         front = "env ASAN_OPTIONS=detect_leaks=0 qemu-aarch64 -L /usr/aarch64-linux-gnu made/harness-given "
         texts, scripts = (word for word in called[1] if "harness" in word)
         self.assertEqual((texts, scripts), (f"{front}{{script}} {{fonts}} {{until}}", f"{front}--bytes {{script}} {{fonts}}"))
 
     def test_checks_of_this_machine_alone(self) -> None:
-        said = io.StringIO()
-        with contextlib.redirect_stderr(said):
-            self.assertEqual(tests.main(["--target", "aarch64", "--only", "pc"]), TROUBLE)
-        self.assertEqual(said.getvalue(), "vga-library-tests: pc: there is no such check for aarch64\n")
-
-
-if __name__ == "__main__":
-    unittest.main()
+        told = "vga-library-tests: pc: there is no such check for aarch64\n"
+        done = call(tests.main, "--target", "aarch64", "--only", "pc")
+        self.assertEqual(done, (TROUBLE, "", told))

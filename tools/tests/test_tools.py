@@ -1,22 +1,22 @@
-"""What all tools have in common: their words begin and end in one way, and they run other programs in one way."""
+"""What all tools have in common: how they begin and end, and run others; and the gate."""
 
 from __future__ import annotations
 
-import contextlib
 import importlib
-import io
 import os
 import re
+import shutil
 import subprocess
 import sys
 import unittest
 
-from vga_report import TOP
 from vga_report.processes import started
 from vga_report.trouble import TROUBLE, Trouble
 from vga_report.version import version
 
-TOOLS = TOP / "tools"
+from .program import UNBUILT
+from .tools import TOOLS, TOP, Folder, call
+
 MAIN = re.compile(r"^from ([\w.]+) import main$", re.M)
 # Starts programs, of which the first sends a signal amid its start; its status tells that the signal came.
 STARTING = """
@@ -32,16 +32,30 @@ try:
 except KeyboardInterrupt:
     sys.exit(7)
 """
+# Tests of which some want a file in the place of the program.
+TESTS = f"""
+import os, unittest
+HAS = os.path.exists({{path!r}})
+class New(unittest.TestCase):
+    def test_one(self):
+        if not HAS: self.skipTest({UNBUILT!r})
+    @unittest.skip("another reason")
+    def test_two(self): pass
+    def test_three(self): open({{path!r}} + ".three", "a").write("3")
+class Whole(unittest.TestCase):
+    @classmethod
+    def setUpClass(cls):
+        if not HAS: raise unittest.SkipTest({UNBUILT!r})
+    def test_four(self): pass
+"""
+RUN = "import sys; from tests.discovering import main; sys.exit(main(['--folder', *sys.argv[1:]]))"
 
 
 def said(name: str, *words: str) -> tuple[int, str, str]:
     """What a tool answers to these words: its exit status, its output, and what it says."""
     found = MAIN.search((TOOLS / name).read_text("utf-8"))
     assert found is not None, name
-    main = importlib.import_module(found[1]).main
-    with contextlib.redirect_stdout(io.StringIO()) as output, contextlib.redirect_stderr(io.StringIO()) as errors:
-        status = main(list(words))
-    return status, output.getvalue(), errors.getvalue()
+    return call(importlib.import_module(found[1]).main, *words)
 
 
 class Words(unittest.TestCase):
@@ -81,16 +95,13 @@ class Endings(unittest.TestCase):
         done = subprocess.run(words, capture_output=True, text=True, timeout=60)
         return done.returncode, done.stderr
 
-    def test_an_output_that_takes_nothing(self) -> None:
+    def test_an_output_that_takes_nothing_or_is_closed(self) -> None:
         for name in Words.NAMES:
-            with self.subTest(name):
-                told = f"{name}: standard output: No space left on device\n"
-                self.assertEqual(self.ended(name, ">/dev/full"), (TROUBLE, told))
-
-    def test_an_output_that_is_closed(self) -> None:
-        for name in Words.NAMES:
-            with self.subTest(name):
-                self.assertEqual(self.ended(name, ">&-"), (TROUBLE, f"{name}: standard output: it is closed\n"))
+            for rest, told in ((">/dev/full", "No space left on device"), (">&-", "it is closed")):
+                with self.subTest(name, rest=rest):
+                    self.assertEqual(
+                        self.ended(name, rest), (TROUBLE, f"{name}: standard output: {told}\n")
+                    )
 
     def test_a_reader_that_has_gone(self) -> None:
         for name in Words.NAMES:
@@ -122,5 +133,58 @@ class Programs(unittest.TestCase):
         self.assertEqual((done.returncode, done.stderr), (7, b""))
 
 
-if __name__ == "__main__":
-    unittest.main()
+class Again(Folder):
+    def run_tests(self, *words: str) -> tuple[int, str]:
+        """Exit status and standard error of the tests in a folder."""
+        command = [sys.executable, "-c", RUN, str(self.folder / "new"), *words]
+        done = subprocess.run(command, cwd=TOOLS, capture_output=True, text=True, timeout=60)
+        return done.returncode, done.stdout + done.stderr
+
+    def test_tests_that_were_skipped_run_and_may_not_be_skipped(self) -> None:
+        program, kept = self.folder / "program", str(self.folder / "kept")
+        self.write("new/__init__.py", "")
+        self.write("new/test_new.py", TESTS.format(path=str(program)))
+        status, said = self.run_tests("--keep", kept)
+        self.assertEqual((status, said.splitlines()[-1]), (0, "OK (skipped=3)"))
+        status, said = self.run_tests("--again", kept)
+        self.assertEqual(status, 1)
+        self.assertIn("skipped, though the program is to be built: ", said)
+        program.touch()
+        status, said = self.run_tests("--again", kept)
+        self.assertEqual((status, said.splitlines()[-1]), (0, "OK"))
+        self.assertIn("Ran 2 tests", said)
+        # What needs no program ran in the first run alone.
+        self.assertEqual((self.folder / "program.three").read_text(), "3")
+
+
+    def test_a_signal_ends_them(self) -> None:
+        self.write("new/__init__.py", "")
+        lines = "import os, signal, unittest\nclass New(unittest.TestCase):\n"
+        lines += "    def test_one(self): os.kill(os.getpid(), signal.SIGTERM)\n    def test_two(self): print('two')\n"
+        self.write("new/test_new.py", lines)
+        status, said = self.run_tests()
+        self.assertEqual((status, "two" in said), (143, False))
+
+
+@unittest.skipIf(sys.platform == "win32", "a script is a program on POSIX")
+class Failing(Folder):
+    def test_nothing_runs_on_where_a_test_fails(self) -> None:
+        gate = self.folder / "gate"
+        shutil.copytree(TOP / ".ci", gate / ".ci")
+        number = self.folder / "number"
+        fakes = {
+            "vga-page-tests": "#!/bin/sh\n",
+            "vga-bindings-tests": "#!/bin/sh\n",
+            "vga-memory": f"import os, time\nopen({str(number)!r}, 'w').write(str(os.getpid()))\ntime.sleep(600)\n",
+            "tests-of-tools": f"#!/bin/sh\nwhile ! [ -s {number} ]; do sleep 0.05; done\nexit 1\n",
+        }
+        for name, text in fakes.items():
+            self.program(f"gate/tools/{name}", text)
+        temporary = self.folder / "tmp"
+        temporary.mkdir()
+        done = subprocess.run(
+            [gate / ".ci" / "run"], capture_output=True, timeout=60, env={**os.environ, "TMPDIR": str(temporary)}
+        )
+        self.assertEqual(done.returncode, 1)
+        self.assert_ended(int(number.read_text()))
+        self.assertEqual(list(temporary.iterdir()), [])

@@ -1,4 +1,4 @@
-"""Traces: the lines that are read, the steps that they become, time, frames, warnings, and reports held against them."""
+"""Traces: their lines, the steps and blocks that they become, and reports against them."""
 
 from __future__ import annotations
 
@@ -10,38 +10,34 @@ import os
 import resource
 import signal
 import subprocess
-import sys
 import unittest
+from functools import partial
 from pathlib import Path
+from random import Random
+from typing import Iterable, Iterator
 from unittest import mock
 
 from vga_report.timing import Timing
 from vga_report.trouble import Trouble
 from vga_trace import converting
+from vga_trace.checking import count
 from vga_trace.command import main
 from vga_trace.converting import Listing, Wanted
-from vga_trace.cycle import MEMORY, PORT, VBE, Cycle
-from vga_trace.kinds import count
+from vga_trace.folding import Coded, Row, alone, folded
 from vga_trace.passing import Flips, Pauses, with_frames_every
 from vga_trace.step import ADVANCE, FRAME, IN, NAMES, OUT, OUTW, PUT, Step, steps_of, without_polls
-from vga_trace.trace import Trace
+from vga_trace.trace import MEMORY, PORT, VBE, Cycle, Trace
 from zaklimot.format import Step as ScriptStep
 
 from .making import ppm, report
 from .program import run_texts
-from .test_cases import Folder
+from .tools import EXAMPLES, Folder, begin, call, run_tool
 
-PROGRAM = Path(__file__).resolve().parents[1] / "vga-trace"
-EXAMPLES = Path(__file__).resolve().parents[2] / "examples"
+run = partial(run_tool, "vga-trace")
 # What a trace from power-on begins with.
 BEGIN = b"0 w p 3C2 67 1\n"
 PICTURE = ppm(9, 1, bytes(27))
-
-
-def run(*words: str | Path, given: bytes = b"") -> tuple[int, bytes, str]:
-    """Exit status, standard output and standard error of the command."""
-    done = subprocess.run([sys.executable, PROGRAM, *words], input=given, capture_output=True, timeout=200)
-    return done.returncode, done.stdout, done.stderr.decode()
+POLL, OTHER, WRITE = Step(IN, 0x3DA), Step(IN, 0x3C9), Step(OUT, 0x3C0, 0x20)
 
 
 def trace(data: bytes) -> Trace:
@@ -319,9 +315,7 @@ class Warnings(unittest.TestCase):
 
 class Converting(Folder):
     def trace(self, data: bytes) -> str:
-        path = self.folder / "trace"
-        path.write_bytes(data)
-        return str(path)
+        return self.write("trace", data)
 
     def test_a_script_as_bytes_and_as_text(self) -> None:
         path, script = self.trace(BEGIN + b"5 r p 3CC 67 1\n"), self.folder / "script"
@@ -358,30 +352,18 @@ class Converting(Folder):
         self.assertIn("trace:2: it is no cycle", said)
         self.assertEqual(sorted(file.name for file in self.folder.iterdir()), ["script", "trace"])
 
-    def test_a_full_disk_and_a_file_that_is_not_there(self) -> None:
-        self.assertEqual(run("convert", self.trace(BEGIN), "/dev/full")[::2], (2, "vga-trace: /dev/full: No space left on device\n"))
-        none = self.folder / "none"
-        self.assertEqual(run("kinds", none), (2, b"", f"vga-trace: {none}: No such file or directory\n"))
-
     def test_too_long_is_told_with_a_number_of_cycles_that_fit(self) -> None:
         steps = b"".join(b"- w p 3C4 %X 1\n" % at for at in range(50))
         path, script = self.trace(BEGIN + steps), str(self.folder / "script")
-        with mock.patch.multiple(converting, MOST_BYTES=200, FOR_THE_END=64), contextlib.redirect_stderr(io.StringIO()) as said:
-            self.assertEqual(main(["convert", path, script]), 2)
+        with mock.patch.multiple(converting, MOST_BYTES=200, FOR_THE_END=64):
             most = "more than 200 bytes, or means more than 16,777,216 steps"
             told = f"{most}; `--to 32` ends before that, and `--from 33` goes on behind it"
-            self.assertEqual(said.getvalue(), f"vga-trace: {path}: the script has {told}\n")
+            self.assertEqual(
+                call(main, "convert", path, script),
+                (2, "", f"vga-trace: {path}: the script has {told}\n"),
+            )
             self.assertFalse(os.path.exists(script))
-            with contextlib.redirect_stdout(io.StringIO()):
-                self.assertEqual(main(["convert", path, script, "--to", "32"]), 0)
-
-    def test_words_that_mean_nothing(self) -> None:
-        for words in ((), ("convert", "a"), ("convert", "a", "b", "--frames", "0"), ("kinds", "a", "--to", "0")):
-            self.assertEqual(run(*words)[0], 2)
-        path = self.trace(BEGIN)
-        for words in (("convert", path, "-"), ("kinds", path)):
-            said = run(*words, "--from", "300", "--to", "100")[2]
-            self.assertIn("--from 300 is behind --to 100: no cycle is both", said if isinstance(said, str) else said.decode())
+            self.assertEqual(call(main, "convert", path, script, "--to", "32")[0], 0)
 
     def test_the_program_takes_what_is_written(self) -> None:
         text = b"- w p 3C4 302 2\n- w p 3C4 204 2\n- w p 3CE 1005 2\n- w p 3CE E06 2\n- w p 3CE FF08 2\n"
@@ -396,10 +378,7 @@ class Endings(Folder):
 
     def begun(self, *words: str | Path, **options: object) -> subprocess.Popen[bytes]:
         """The command, to which a trace is given bit by bit."""
-        pipe = subprocess.PIPE
-        command: subprocess.Popen[bytes] = subprocess.Popen(
-            [sys.executable, PROGRAM, *words], stdin=pipe, stdout=pipe, stderr=pipe, **options  # type: ignore[call-overload]
-        )
+        command = begin("vga-trace", *words, stdin=subprocess.PIPE, **options)
         self.addCleanup(command.communicate)
         self.addCleanup(command.kill)
         return command
@@ -438,8 +417,7 @@ class Endings(Folder):
         script.write_bytes(b"old")
         for number, status in ((signal.SIGTERM, 143), (signal.SIGINT, 130)):
             with self.subTest(number):
-                # What runs in the background ignores what the user types.
-                command = self.begun("convert", "-", script, preexec_fn=lambda: signal.signal(signal.SIGINT, signal.SIG_DFL))
+                command = self.begun("convert", "-", script)
                 assert command.stdin is not None
                 command.stdin.write(BEGIN * 5000)
                 command.stdin.flush()
@@ -487,9 +465,9 @@ class Checking(Folder):
 
     def check(self, *answers: str | bytes, given: bytes = TRACE, options: tuple[str, ...] = ()) -> tuple[int, list[str], str]:
         """Exit status, the lines, and what is said of a report with these answers."""
-        path = self.folder / "trace"
-        path.write_bytes(given)
-        status, out, said = run("check", path, "-", *options, given=report(*answers))
+        status, out, said = run(
+            "check", self.write("trace", given), "-", *options, given=report(*answers)
+        )
         return status, out.decode().split("\n")[:-1], said
 
     def changed(self, **answers: str) -> tuple[str | bytes, ...]:
@@ -563,10 +541,8 @@ class Checking(Folder):
         self.assertEqual(self.check("ok", PICTURE, given=given, options=("--to", "1"))[0], 0)
         self.assertEqual(self.check("ok", "00", PICTURE, given=given)[0], 2)
 
-    def test_a_damaged_report_and_standard_input_twice(self) -> None:
-        self.assertEqual(run("check", "-", "-")[2], "vga-trace: standard input can be read once\n")
-        path = self.folder / "trace"
-        path.write_bytes(self.TRACE)
+    def test_a_damaged_report(self) -> None:
+        path = self.write("trace", self.TRACE)
         said = "vga-trace: standard input:2: step 2 is to come, and not '3 ok'\n"
         self.assertEqual(run("check", path, "-", given=b"1 ok\n3 ok\n"), (2, b"", said))
 
@@ -574,15 +550,19 @@ class Checking(Folder):
 class Example(Folder):
     PATH = EXAMPLES / "typed-line.trace"
 
-    def test_its_picture_and_its_reads(self) -> None:
-        script = run("convert", self.PATH, "-", "--text")[1]
-        ran = run_texts({"line": script})["line"]
-        picture = ran.report[ran.report.index(b"P6"):-1]
-        self.assertEqual(hashlib.md5(picture).hexdigest(), "c568c179decaec703a3333f9afda3326")
-        path = self.folder / "report"
-        path.write_bytes(ran.report)
-        status, out, said = run("check", self.PATH, path)
-        self.assertEqual((status, out.split(b"\n")[0], said), (0, b"586 steps, 0 refused, 187 reads answered, 0 differ", ""))
+    def test_its_picture_and_its_reads_from_several_cycles_on(self) -> None:
+        cuts = ("1", "2", "300", "586")
+        runs = run_texts({cut: run("convert", self.PATH, "-", "--text", "--from", cut)[1] for cut in cuts})
+        for cut, ran in runs.items():
+            with self.subTest(cut):
+                picture = ran.report[ran.report.index(b"P6"):-1]
+                self.assertEqual(hashlib.md5(picture).hexdigest(), "c568c179decaec703a3333f9afda3326")
+                path = self.write("report", ran.report)
+                status, out, said = run("check", self.PATH, path, "--from", cut)
+                self.assertEqual((status, said), (0, ""))
+                whole = b"586 steps, 0 refused, 187 reads answered, 0 differ\n"
+                self.assertIn(whole if cut == "1" else b" steps, 0 refused, ", out)
+                self.assertEqual(run("check", self.PATH, path)[0], 0 if cut == "1" else 2)
 
     def test_its_report_is_the_same_without_blocks(self) -> None:
         texts = {option: run("convert", self.PATH, "-", "--text", *option.split())[1] for option in ("", "--no-repeat")}
@@ -591,20 +571,111 @@ class Example(Folder):
         runs = run_texts(texts)
         self.assertEqual(runs[""], runs["--no-repeat"])
 
-    def test_its_picture_and_its_reads_from_the_middle(self) -> None:
-        cuts = ("2", "300", "586")
-        runs = run_texts({cut: run("convert", self.PATH, "-", "--text", "--from", cut)[1] for cut in cuts})
-        for cut, ran in runs.items():
-            with self.subTest(cut):
-                picture = ran.report[ran.report.index(b"P6"):-1]
-                self.assertEqual(hashlib.md5(picture).hexdigest(), "c568c179decaec703a3333f9afda3326")
-                path = self.folder / "report"
-                path.write_bytes(ran.report)
-                status, out, said = run("check", self.PATH, path, "--from", cut)
-                self.assertEqual((status, said), (0, ""))
-                self.assertIn(b" steps, 0 refused, ", out)
-                self.assertEqual(run("check", self.PATH, path)[0], 2)
-
     def test_what_it_becomes(self) -> None:
         told = b"586 cycles, 586 steps, 2,810 bytes, 2 blocks: 186 in, 184 putw, 121 outw, 93 out, 1 getw, 1 frame\n"
         self.assertEqual(run("convert", self.PATH, self.folder / "script"), (0, told, ""))
+
+
+def coded(steps: Iterable[Step], is_text: bool = False) -> list[Coded]:
+    """Steps as they are folded."""
+    return [Coded(step, step.data(), step.text() if is_text else b"") for step in steps]
+
+
+def lines(steps: Iterable[Step]) -> list[str]:
+    """The lines of the folded steps."""
+    return b"".join(row.text for row in folded(coded(steps, is_text=True))).decode().splitlines()
+
+
+def meant(data: bytes) -> Iterator[bytes]:
+    """The bytes of the steps that a script's body means, read without the tool's own code. Blocks have no blocks."""
+    lengths = {1: 4, 2: 5, 3: 3, 4: 3, 5: 6, 6: 7, 7: 5, 8: 5, 0x0A: 5, 0x0B: 1}
+    at, block, count = 0, [], 1
+    while at < len(data):
+        if data[at] == 0x0D:
+            block, count, at = [], int.from_bytes(data[at + 1:at + 3], "little"), at + 3
+            assert count > 1, "a block of one round"
+            continue
+        if data[at] == 0x0E:
+            yield from block * count
+            block, count, at = [], 1, at + 1
+            continue
+        step, at = data[at:at + lengths[data[at]]], at + lengths[data[at]]
+        if count > 1:
+            block.append(step)
+        else:
+            yield step
+
+
+class Folding(unittest.TestCase):
+    def test_rows_of_equal_steps(self) -> None:
+        self.assertEqual(lines([WRITE, *[POLL] * 100, WRITE]), ["out 3C0 20", "repeat 100", "in 3DA", "end", "out 3C0 20"])
+
+    def test_rows_of_equal_groups(self) -> None:
+        self.assertEqual(lines([POLL, WRITE] * 30 + [POLL]), ["repeat 30", "in 3DA", "out 3C0 20", "end", "in 3DA"])
+        group = [Step(PUT, 0xA0000 + at, at) for at in range(8)]
+        self.assertEqual(lines(group * 3), ["repeat 3", *(f"put A000{at} 0{at}" for at in range(8)), "end"])
+        longer = [Step(PUT, 0xA0000 + at, at) for at in range(9)]
+        self.assertEqual(len(lines(longer * 3)), 27)
+
+    def test_short_rows_stay(self) -> None:
+        # Five polls of three bytes are 15 bytes, and a block of them seven: less than half.
+        for step, least in ((POLL, 5), (WRITE, 4), (Step(PUT, 0xA0000), 4), (Step(FRAME), 10)):
+            with self.subTest(step):
+                self.assertEqual(len(lines([step] * (least - 1))), least - 1)
+                self.assertEqual(lines([step] * least)[0], f"repeat {least}")
+
+    def test_more_rounds_than_a_block_has(self) -> None:
+        rows = list(folded(coded([POLL] * (2 * 65535 + 3))))
+        self.assertEqual([row.steps for row in rows], [65535, 65535, 1, 1, 1])
+        self.assertEqual(rows[0].data, bytes.fromhex("0D FFFF 03DA03 0E"))
+
+    def test_reads_of_other_values_are_one_row_in_bytes_and_not_in_text(self) -> None:
+        steps = [Step(IN, 0x3C9, value) for value in range(20)]
+        self.assertEqual([row.steps for row in folded(coded(steps))], [20])
+        self.assertEqual(lines(steps), [f"in 3C9 ; = {value:02X}" for value in range(20)])
+
+    def test_the_steps_are_the_same_whatever_they_are(self) -> None:
+        for seed in range(20):
+            random, steps = Random(seed), []
+            while len(steps) < 9000:
+                group = random.choices([POLL, OTHER, WRITE, Step(FRAME), Step(PUT, 0xA0000, 1)], k=random.randint(1, 10))
+                steps += group * random.choice((1, 1, 2, 3, 5, 20, 300))
+            with self.subTest(seed):
+                rows = list(folded(coded(steps)))
+                data = b"".join(row.data for row in rows)
+                plain = b"".join(row.data for row in alone(coded(steps)))
+                self.assertEqual(b"".join(meant(data)), plain)
+                self.assertEqual(sum(row.steps for row in rows), len(steps))
+                self.assertLess(len(data), len(plain))
+
+    def test_the_cycle_of_a_row(self) -> None:
+        steps = [POLL._replace(cycle=number) for number in range(1, 11)]
+        self.assertEqual([row.cycle for row in folded(coded([WRITE, *steps, WRITE._replace(cycle=11)]))], [0, 10, 11])
+        self.assertEqual(Row(b"", b"", 1, 1).is_block, False)
+
+
+class Scripts(Folder):
+    def test_version_2_where_there_are_blocks(self) -> None:
+        given = BEGIN + 6 * b"- r p 3C9 0 1\n"
+        text = b"version 2\nout 3C2 67\nrepeat 6\nin 3C9 ; = 00\nend\nframe\n"
+        said = f"7 cycles, 8 steps, {len(text)} bytes, 1 blocks: 6 in, 1 out, 1 frame\n"
+        self.assertEqual(run("convert", "-", "-", "--text", given=given), (0, text, said))
+        data = b"VGAS\x02" + bytes.fromhex("01C20367 0D0600 03C903 0E 0B")
+        self.assertEqual(run("convert", "-", "-", given=given)[1], data)
+
+    def test_version_1_where_there_are_none_or_they_are_not_wanted(self) -> None:
+        self.assertEqual(run("convert", "-", "-", given=BEGIN)[1][:5], b"VGAS\x01")
+        given = BEGIN + 6 * b"- r p 3C9 0 1\n"
+        data = b"VGAS\x01" + bytes.fromhex("01C20367" + 6 * "03C903" + "0B")
+        self.assertEqual(run("convert", "-", "-", "--no-repeat", given=given)[1], data)
+
+    def test_a_script_that_means_too_many_steps_is_told(self) -> None:
+        path, script = self.write(
+            "trace", BEGIN + 300 * b"- r p 3DA 0 1\n" + b"- w p 3C4 0 1\n"
+        ), self.folder / "script"
+        with mock.patch.multiple(converting, MOST_STEPS=200, FOR_THE_END=10):
+            status, _, said = call(main, "convert", path, script)
+        self.assertEqual(status, 2)
+        told = "200 steps; `--to 1` ends before that, and `--from 2` goes on behind it"
+        self.assertIn(f"or means more than {told}", said)
+        self.assertFalse(script.exists())

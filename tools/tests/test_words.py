@@ -8,8 +8,8 @@ from pathlib import Path
 
 from vga_report.program import FONTS, PROGRAM
 
-from .program import Ran, want_program
-from .test_cases import Folder
+from .program import MOST_SECONDS, Ran, run_program, want_program
+from .tools import Folder
 
 # The text of a script, with a comment; its bytes; its printed text; and its report.
 TEXT = b"OUT 3c2 63 ; colour addresses\n\nput A0000 ff\r\nin 3CC"
@@ -18,7 +18,6 @@ PRINTED = b"out 3C2 63\nput A0000 FF\nin 3CC\n"
 REPORT = b"1 ok\n2 ok\n3 63\n"
 # Each command's help. It is the interface, so a change of a letter is to be seen.
 HELP = Path(__file__).resolve().parent / "help"
-MOST_SECONDS = 60
 
 REFUSED = (
     "--version", "", "asm", "asm x", "asm x y z", "asm x y --fonts f", "dis", "dis x y", "dis x --fonts f", "dis -x",
@@ -42,10 +41,7 @@ class Program(Folder):
             (self.folder / name).write_bytes(content)
 
     def ran(self, *words: str | bytes, given: bytes = b"") -> Ran:
-        done = subprocess.run(
-            [PROGRAM, *words], cwd=self.folder, input=given, capture_output=True, timeout=MOST_SECONDS
-        )
-        return Ran(done.returncode, done.stdout, done.stderr.decode())
+        return run_program(*words, given=given, folder=self.folder)
 
 
 class Jobs(Program):

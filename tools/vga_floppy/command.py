@@ -4,7 +4,6 @@ from __future__ import annotations
 
 import argparse
 import os
-from typing import Optional, Sequence
 
 from vga_report import cli
 from vga_report.images import Image
@@ -22,7 +21,7 @@ from .answers import Reports, report_lines
 from .image import IMAGE_SIZE, Run, image_for, read_image
 from .machines import LGPL, MACHINES, SEABIOS
 from .running import Wanted, run_on
-from .serial import read_record
+from .image import read_record
 from .table_page import write_tables
 
 # A longer file is no image and no record.
@@ -158,6 +157,5 @@ def _table(words: argparse.Namespace, _: Progress) -> int:
     return AGREED
 
 
-def main(words: Optional[Sequence[str]] = None) -> int:
-    """Runs a command line, and answers its exit status."""
-    return cli.main(_parser, words)
+# Runs a command line, and answers its exit status.
+main = cli.runner(_parser)

@@ -21,7 +21,7 @@ from zaklimot.format import HEADERS
 
 from .feeding import Fed, Program, Wrong
 from .making import Input, make
-from .running import Limits
+from .judging import Limits
 
 PROGRAM = TOP / "crates" / "vga" / "out" / "vga"
 FONTS = TOP / "fonts" / "zaklimot.fnt"
@@ -160,6 +160,5 @@ def _run(words: argparse.Namespace, _: Progress) -> int:
         return _fuzz(words, Path(folder))
 
 
-def main(words: Optional[Sequence[str]] = None) -> int:
-    """Runs a command line, and answers its exit status."""
-    return cli.main(_parser, words)
+# Runs a command line, and answers its exit status.
+main = cli.runner(_parser)

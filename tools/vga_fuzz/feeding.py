@@ -10,7 +10,7 @@ from zaklimot.format import Script, decode, parse_text
 
 from .judging import DONE, DONE_ANSWER, OUT_OF_MEMORY, WRITE_FAULT, answer_of, meant_by, trouble_of
 from .making import Input
-from .running import Limits, Outcome, run
+from .judging import Limits, Outcome, run
 
 
 @dataclass(frozen=True)

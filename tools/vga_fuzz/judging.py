@@ -1,19 +1,24 @@
-"""What is wrong with how a run of the program ended."""
+"""Runs the program within limits of time, memory and output; and what is wrong with its end."""
 
 from __future__ import annotations
 
 import io
-from typing import Callable, Optional
+import resource
+import subprocess
+from dataclasses import dataclass
+from pathlib import Path
+from typing import Callable, Optional, Sequence
 
+from vga_report.processes import started
 from vga_report.report import Report
 from vga_report.trouble import Trouble
 from zaklimot.format import LINE, Script, ScriptFault, is_answer_to
 
-from .running import Outcome
-
 DONE, FAULTY, WORDS = 0, 1, 2
 DONE_ANSWER = "done"
 WRITE_FAULT, OUT_OF_MEMORY = "F9 WriteFault", "F10 OutOfMemory"
+# So much of what a program says on standard error is read.
+MOST_SAID = 4096
 
 
 def answer_of(outcome: Outcome) -> str:
@@ -79,3 +84,46 @@ def _trouble_of_fault(outcome: Outcome, script: Optional[Script]) -> Optional[st
     if line[1] == OUT_OF_MEMORY and script is not None:
         return _trouble_of_report(outcome.report, script, is_whole=False)
     return f"{len(outcome.report)} bytes are written before {line[1]}" if outcome.report else None
+
+
+@dataclass(frozen=True)
+class Limits:
+    """What one run of the program may take."""
+
+    seconds: float
+    memory: int
+    output: int
+
+
+@dataclass(frozen=True)
+class Outcome:
+    """How a run ended: its status, or None where it took too long; its report and what it said."""
+
+    status: Optional[int]
+    report: bytes
+    said: bytes
+    is_report_full: bool
+
+
+def _limit(limits: Limits) -> None:
+    """Sets the limits of the process that will be the program."""
+    resource.setrlimit(resource.RLIMIT_CORE, (0, 0))
+    resource.setrlimit(resource.RLIMIT_AS, (limits.memory, limits.memory))
+    resource.setrlimit(resource.RLIMIT_FSIZE, (limits.output, limits.output))
+
+
+def run(words: Sequence[str], folder: Path, limits: Limits) -> Outcome:
+    """Runs a program. A write past the limit of output fails, as one on a full disk does."""
+    report, said = folder / "report", folder / "said"
+    with open(report, "wb") as output, open(said, "wb") as errors:
+        # Python ignores the signal of a file that has become too large, and the program shall too.
+        given = {"restore_signals": False, "preexec_fn": lambda: _limit(limits)}
+        with started(words, stdout=output, stderr=errors, **given) as process:
+            try:
+                status = process.wait(limits.seconds)
+            except subprocess.TimeoutExpired:
+                status = None
+    with open(said, "rb") as stream:
+        message = stream.read(MOST_SAID)
+    data = report.read_bytes()
+    return Outcome(status, data, message, len(data) >= limits.output)

@@ -7,9 +7,8 @@ from typing import Optional
 
 from vga_report.processes import Hearer, run
 
-from .gated import gated_archive
 from .targets import X86_64, Target
-from .toolchain import CRATE, kit_archive, proved_archive
+from .toolchain import CRATE, gated_archive, kit_archive, proved_archive
 
 # The memory's functions for processors for which the kit has none.
 HEAP = Path(__file__).resolve().parent / "heap.c"

@@ -6,19 +6,17 @@ import argparse
 import os
 import tempfile
 from pathlib import Path
-from typing import Optional, Sequence
 
 from vga_report import cli
-from vga_report.processes import want
+from vga_report.crates import phases
+from vga_report.processes import check_program
 from vga_report.progress import Progress
 from vga_report.streams import check_folder, to_read
 from vga_report.trouble import Trouble
 
 from .building import built_archive, memory_part
-from .made import keep, kept
-from .making import MOVING, Place, make_library
+from .making import MOVING, Place, keep, kept, make_library
 from .targets import BACKENDS, TARGETS, X86_64, Target
-from .telling import phases
 from .toolchain import ARCHIVE
 
 # Where files go that a package names no other place for.
@@ -82,7 +80,7 @@ def _wanted_target(words: argparse.Namespace) -> Target:
     if words.archive is None and words.backend not in target.backends:
         raise Trouble(f"the toolchain has no compiler {words.backend} for it", target.name)
     for name in target.programs():
-        want(name)
+        check_program(name)
     return target
 
 
@@ -116,6 +114,5 @@ def _install(words: argparse.Namespace, progress: Progress) -> None:
     _lay(words, Place(prefix, words.libdir, stage), prefix, progress, takes_made=True)
 
 
-def main(words: Optional[Sequence[str]] = None) -> int:
-    """Runs a command line, and answers its exit status."""
-    return cli.main(_parser, words)
+# Runs a command line, and answers its exit status.
+main = cli.runner(_parser)

@@ -1,18 +1,26 @@
-"""Makes the files of the library, and lays them into a folder."""
+"""Makes the files of the library, and lays them into a folder.
+
+What they are made of is kept, so that `install` takes it, without a proof and without the
+toolchain: only where the crates' sources are, byte for byte, those that it was made of.
+"""
 
 from __future__ import annotations
 
+import hashlib
 import shutil
 import tempfile
 from pathlib import Path, PurePosixPath
-from typing import NamedTuple
-
-from vga_report.processes import run
-from vga_report.streams import refuse_input
+from typing import Iterator, NamedTuple, Optional
 
 from vga_report import TOP
+from vga_report.crates import below
+from vga_report.processes import run
+from vga_report.streams import filled, refuse_input
 from vga_report.version import HEADER, Version, version
+
+from .building import HEAP
 from .targets import X86_64, Target
+from .toolchain import CRATE
 
 NAME = "zaklimot"
 # The name by which CMake finds it, and the files that it reads, with places for what is made.
@@ -25,6 +33,10 @@ FONTS = TOP / "fonts" / f"{NAME}.fnt"
 CPP_HEADER = HEADER.with_suffix(".hpp")
 # In the place of a prefix: one that goes with the folder wherever it is moved.
 MOVING = ""
+# What is kept for `install`, for each processor in a folder of its own.
+FOLDER = CRATE / "out" / "made"
+# The crate's archive, the functions that take its memory, and what they were made of.
+CRATES, MEMORY, MADE_OF = "crates.a", "memory.a", "made-of"
 
 
 class Place(NamedTuple):
@@ -65,15 +77,17 @@ def package_text(prefix: str, library_folder: str, told: Version) -> str:
 
 def cmake_text(library_folder: str, told: Version) -> str:
     """What CMake's `find_package` reads. It finds the files from its own place, wherever that is."""
-    upwards = _upwards(library_folder, f"cmake/{CMAKE_NAME}")
-    return (CMAKE / "config.cmake.in").read_text("ascii").replace("@UPWARDS@", upwards).replace(
-        "@LIBRARY_FOLDER@", library_folder).replace("@VERSION@", str(told)).replace("@MAJOR@", str(told.major))
+    return filled(
+        CMAKE / "config.cmake.in", UPWARDS=_upwards(
+            library_folder, f"cmake/{CMAKE_NAME}"
+        ), LIBRARY_FOLDER=library_folder,
+        VERSION=str(told), MAJOR=str(told.major),
+    )
 
 
 def cmake_version_text(told: Version) -> str:
     """What `find_package` asks for the version: equal major numbers fit, and a minor one that is not lower."""
-    text = (CMAKE / "version.cmake.in").read_text("ascii")
-    return text.replace("@VERSION@", str(told)).replace("@MAJOR@", str(told.major))
+    return filled(CMAKE / "version.cmake.in", VERSION=str(told), MAJOR=str(told.major))
 
 
 def joined_object(archive: Path, memory: Path, folder: Path, target: Target) -> Path:
@@ -154,3 +168,53 @@ def make_library(
 def fonts_file() -> Path:
     """The project's font, which a card is opened with."""
     return FONTS
+
+
+def _digest(data: bytes) -> str:
+    return hashlib.sha256(data).hexdigest()
+
+
+def _sources() -> Iterator[Path]:
+    """The files that the library's crate is made of, and those of the crates below it."""
+    yield TOP / "crates.txt"
+    for name in [*below(CRATE.name), CRATE.name]:
+        folder = TOP / "crates" / name
+        for entry in sorted(folder.iterdir()):
+            if entry.name != "out":
+                yield from sorted(path for path in (entry.rglob("*") if entry.is_dir() else [entry]) if path.is_file())
+
+
+def made_of(backend: str, target: Target) -> str:
+    """A line for the compiler and for each source, with its digest."""
+    lines = [f"{_digest(path.read_bytes())} {path.relative_to(TOP)}\n" for path in _sources()]
+    if target != X86_64:
+        lines.append(f"{_digest(HEAP.read_bytes())} {HEAP.name}\n")
+    return f"backend {backend}\n" + "".join(lines)
+
+
+def _parts(target: Target) -> tuple[Path, Path]:
+    """Where both parts are kept."""
+    return FOLDER / target.name / CRATES, FOLDER / target.name / MEMORY
+
+
+def keep(backend: str, target: Target, crates: Path, memory: Path) -> tuple[Path, Path]:
+    """Keeps both parts, and answers where."""
+    parts = _parts(target)
+    told = parts[0].with_name(MADE_OF)
+    told.parent.mkdir(parents=True, exist_ok=True)
+    told.unlink(missing_ok=True)
+    for source, place in zip((crates, memory), parts):
+        shutil.copyfile(source, place)
+    told.write_text(made_of(backend, target) + "".join(f"{_digest(path.read_bytes())} {path.name}\n" for path in parts), "utf-8")
+    return parts
+
+
+def kept(backend: str, target: Target) -> Optional[tuple[Path, Path]]:
+    """Both parts, where they were made by this compiler of these sources; else None."""
+    parts = _parts(target)
+    try:
+        told = parts[0].with_name(MADE_OF).read_text("utf-8")
+        own = "".join(f"{_digest(path.read_bytes())} {path.name}\n" for path in parts)
+    except FileNotFoundError:
+        return None
+    return parts if told == made_of(backend, target) + own else None

@@ -1,18 +1,29 @@
-"""The programs that make the library, and the Rattle kit's part of it."""
+"""The Rattle kit's part of the library, and the crate's archive.
+
+Right behind the gate the archive is made over the libraries that `rt ci` proved and built: `rt lib`
+does not take these, and would prove all crates once more. So its calls of the compiler are made
+here, over them: the crate itself is proved again, once, and a folder keeps its proof, so that each
+compiler builds over that. It is right as long as no source below the crate changed since `rt ci`
+ran.
+"""
 
 from __future__ import annotations
 
+import os
 from pathlib import Path
 from typing import Optional
 
-from vga_report.processes import Hearer, run
-
 from vga_report import TOP
+from vga_report.crates import below, uses
+from vga_report.processes import Hearer, run
+from vga_report.trouble import Trouble
 
-from .targets import BACKENDS
+from .targets import BACKENDS, X86_64, Target
 
 CRATE = TOP / "crates" / "vga_c"
 ARCHIVE = CRATE / "out" / "libvga_c.a"
+# What every crate stands on, unnamed.
+ALWAYS = "std"
 
 
 def kit_folder() -> Path:
@@ -30,3 +41,52 @@ def proved_archive(backend: str, heard: Optional[Hearer] = None) -> Path:
     flags = [] if backend == BACKENDS[0] else ["--backend", backend]
     run(["rt", "lib", *flags], CRATE, heard)
     return ARCHIVE
+
+
+def rlib(name: str) -> Path:
+    """The library that `rt ci` built of a crate."""
+    path = TOP / "crates" / name / "out" / "rlib" / f"{name}.rlib"
+    if not path.exists():
+        raise Trouble("it is not there: run rt ci first", str(path))
+    return path
+
+
+def _libraries(kit: Path) -> list[str | Path]:
+    """The words that name the libraries of the kit and of the repository."""
+    own = below(CRATE.name)
+    given = [name for name in uses()[CRATE.name] if name not in uses()]
+    words: list[str | Path] = []
+    for name in [ALWAYS, *given]:
+        words += ["--extern", f"{name}={kit / 'rlibs' / name}.rlib"]
+    words += ["-L", f"dependency={kit / 'rlibs'}"]
+    for name in own:
+        if name in uses()[CRATE.name]:
+            words += ["--extern", f"{name}={rlib(name)}"]
+    for name in own:
+        words += ["-L", f"dependency={rlib(name).parent}"]
+    return words
+
+
+def crate_words(kit: Path) -> list[str | Path]:
+    """What the compiler is told of the crate, whatever it is to do."""
+    words = ["--crate-name", CRATE.name, "src/lib.rt", *_libraries(kit)]
+    words += ["--antt-project", kit / "rattle" / "logic" / "antt-project.json"]
+    return [*words, "--links", f"{CRATE.name}=", "--crate-type", "staticlib"]
+
+
+def proving_words(kit: Path, kept: str | Path) -> list[str | Path]:
+    """What the compiler is told where it proves the crate, over what a folder keeps of its proof."""
+    jobs = min(4, os.cpu_count() or 1)
+    words = [*crate_words(kit), "--logic-built", kit / "logic_built", "--jobs", str(jobs)]
+    return [*words, "--incremental", kept]
+
+
+def gated_archive(backend: str, kept: Path, made: Path, target: Target = X86_64) -> Path:
+    """Proves the crate, keeps its proof in a folder, and builds the archive for a processor by one of the compilers.
+
+    Where the folder has the proof already, it is not made again.
+    """
+    kit = kit_folder()
+    words = [*proving_words(kit, kept.absolute()), "--toolchain", kit / "toolchain", "--backend", backend]
+    run([kit / "bin" / "rattle", "build", *words, "--target", target.triple, "-o", made], CRATE)
+    return made

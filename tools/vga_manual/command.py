@@ -1,22 +1,41 @@
-"""The words of the command line, what the command does, and how it ends."""
+"""The words of the command line; the files that are made of the helps, and their places."""
 
 from __future__ import annotations
 
 import argparse
 from pathlib import Path
-from typing import Optional, Sequence
+from typing import Callable
 
 from vga_report import cli
 from vga_report.program import found_program
 from vga_report.progress import Progress
 from vga_report.streams import check_file, check_folder, write_file
 
-from .making import PLACES, manual_files
+from .helps import Helps, read_helps
+from .page import manual_page
+from .shells import bash_completion, fish_completion, zsh_completion
 
+# Where man and the shells look for each file below a prefix, and what makes it.
+PLACES: dict[str, Callable[[Helps], str]] = {
+    "share/man/man1/vga.1": manual_page,
+    "share/bash-completion/completions/vga": bash_completion,
+    "share/zsh/site-functions/_vga": zsh_completion,
+    "share/fish/vendor_completions.d/vga.fish": fish_completion,
+}
 NO_PROGRAM = (
     "there is no program vga: (cd crates/vga && rt run -- --help) builds it, "
     "and --vga names another"
 )
+
+
+def manual_files(program: str) -> dict[str, bytes]:
+    """The manual page of a program `vga` and its completions, by their places below a prefix.
+
+    They hang on what the program prints as its help and on the release's number alone. A program
+    that can't be run, or whose help has another form, is a Trouble.
+    """
+    helps = read_helps(program)
+    return {place: make(helps).encode("utf-8") for place, make in PLACES.items()}
 
 
 def _parser() -> argparse.ArgumentParser:
@@ -52,6 +71,5 @@ def _make(words: argparse.Namespace, _: Progress) -> None:
         print(path)
 
 
-def main(words: Optional[Sequence[str]] = None) -> int:
-    """Runs a command line, and answers its exit status."""
-    return cli.main(_parser, words)
+# Runs a command line, and answers its exit status.
+main = cli.runner(_parser)

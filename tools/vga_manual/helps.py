@@ -1,224 +1,201 @@
-"""What a help tells: summary, usage, lists and paragraphs. No line of it is passed over."""
+"""The helps that the program prints, read whole. A line of another form is told with its place."""
 
 from __future__ import annotations
 
 import re
+import tempfile
 import textwrap
-from dataclasses import dataclass, replace
 from itertools import groupby
-from typing import Callable, NamedTuple, NoReturn, Optional, Sequence, TypeVar
+from pathlib import Path
+from threading import Event
+from typing import Mapping, NamedTuple, Optional, Sequence
 
+from vga_report.processes import MEBIBYTE, Limits, run_command, said_last
 from vga_report.trouble import Trouble
 
-USAGE = "Usage: "
-COMMANDS, ARGUMENTS, OPTIONS, EXAMPLES = "Commands:", "Arguments:", "Options:", "Examples:"
-# How an entry of each list is spelt. Two blanks or more stand before its text, which may also
-# stand on the next line.
-TEXT = r"(?:\s{2,}(?P<text>\S.*))?"
-VALUE_NAME, OPTION_NAME = r"[A-Z][\w-]*", r"--?[A-Za-z][\w-]*"
-COMMAND = re.compile(rf"  (?P<name>[a-z][\w-]*){TEXT}")
-ARGUMENT = re.compile(
-    rf"  (?:<(?P<name>{VALUE_NAME})>|\[(?P<optional>{VALUE_NAME})\])(?P<more>\.\.\.)?{TEXT}"
-)
-OPTION = re.compile(
-    rf" {{2}}(?: {{4}})?(?P<names>{OPTION_NAME}(?:, {OPTION_NAME})*)"
-    rf"(?:[ =]<(?P<value>{VALUE_NAME})>)?{TEXT}"
-)
+NAME = "vga"
+# The command that explains the others takes no options, and explains itself by its own name.
+HELP = "help"
+# What a help may take: seconds, and bytes.
+LIMITS = Limits(10, MEBIBYTE)
+USAGE, EXAMPLES = "Usage: ", "Examples:"
+# An entry of each list: what messages call it, and how its names and its value are spelt. Two
+# blanks or more stand before its text, which may also stand on the next line.
+VALUE, OPTION = r"[A-Z][\w-]*", r"--?[A-Za-z][\w-]*"
+FORMS = {
+    "Commands:": ("a command", r"  [a-z][\w-]*", ""),
+    "Arguments:": ("an argument", "  ", rf"(?:<{VALUE}>|\[{VALUE}\])(?:\.\.\.)?"),
+    "Options:": ("an option", rf" {{2}}(?: {{4}})?{OPTION}(?:, {OPTION})*", rf"(?:[ =]<{VALUE}>)?"),
+}
+ENTRY = r"({})({})(?:\s{{2,}}(\S.*))?"
 # A value in a usage, and how a usage spells that it takes options.
-VALUE = re.compile(rf"[<\[]({VALUE_NAME})[>\]]")
-ANY_OPTIONS = "OPTIONS"
+IN_USAGE, ANY_OPTIONS = re.compile(rf"[<\[]({VALUE})[>\]]"), "OPTIONS"
+# A sentence on the exit status.
+STATUS = re.compile(r"\bstatus is\b")
+# A line with its number from 1, and lines between blank ones.
+Line = tuple[int, str]
+Block = list[Line]
+# A paragraph: lines of prose, which may be filled anew, and lines that stay as they are, which is
+# told.
+Paragraph = tuple[tuple[bool, tuple[str, ...]], ...]
 
 
-class Line(NamedTuple):
-    """A line of a help, with its number from 1."""
+class Entry(NamedTuple):
+    """What a list has: a command, an argument with the name of its value, or an option with both.
 
-    number: int
-    text: str
-
-    @property
-    def is_indented(self) -> bool:
-        """Whether it begins with a blank."""
-        return self.text.startswith(" ")
-
-
-@dataclass(frozen=True)
-class Command:
-    """A command that a help lists."""
-
-    name: str
-    text: str
-
-
-@dataclass(frozen=True)
-class Argument:
-    """A word after a command: the name of its value, and whether it may be left out or repeated."""
-
-    name: str
-    text: str
-    is_optional: bool
-    is_repeated: bool
-
-
-@dataclass(frozen=True)
-class Option:
-    """An option: its names with their dashes, and the name of its value, which may be empty."""
+    An option has its names with their dashes, and its value may be empty.
+    """
 
     names: tuple[str, ...]
     value: str
     text: str
+    is_optional: bool = False
+    is_repeated: bool = False
 
 
-@dataclass(frozen=True)
-class Piece:
-    """Lines of a paragraph: prose, which may be filled anew, or lines that stay as they are."""
-
-    lines: tuple[str, ...]
-    is_literal: bool
-
-
-# Pieces without a blank line between them.
-Paragraph = tuple[Piece, ...]
-Entry = TypeVar("Entry", Command, Argument, Option)
-
-
-@dataclass(frozen=True)
-class Help:
+class Help(NamedTuple):
     """What the help of a program or a command tells. The usage begins with the program's name."""
 
     summary: str
     usage: str
-    commands: tuple[Command, ...] = ()
-    arguments: tuple[Argument, ...] = ()
-    options: tuple[Option, ...] = ()
-    examples: tuple[str, ...] = ()
-    paragraphs: tuple[Paragraph, ...] = ()
+    commands: tuple[Entry, ...]
+    arguments: tuple[Entry, ...]
+    options: tuple[Entry, ...]
+    examples: tuple[str, ...]
+    paragraphs: tuple[Paragraph, ...]
+
+    def saying(self, form: re.Pattern[str]) -> list[Paragraph]:
+        """The paragraphs in whose prose something of this form stands."""
+        return [told for told in self.paragraphs if form.search(prose_of(told))]
+
+
+# The program's help by an empty name, and then those of its commands, in the order of its list.
+Helps = Mapping[str, Help]
 
 
 def prose_of(paragraph: Paragraph) -> str:
     """A paragraph's prose on one line, without the lines that stay as they are."""
-    pieces = (piece for piece in paragraph if not piece.is_literal)
-    return " ".join(line for piece in pieces for line in piece.lines)
+    return " ".join(line for is_literal, lines in paragraph if not is_literal for line in lines)
 
 
-def _command(found: re.Match[str]) -> Command:
-    return Command(found["name"], found["text"] or "")
+def _is_indented(line: Line) -> bool:
+    return line[1].startswith(" ")
 
 
-def _argument(found: re.Match[str]) -> Argument:
-    name, is_repeated = found["name"] or found["optional"], found["more"] is not None
-    return Argument(name, found["text"] or "", found["optional"] is not None, is_repeated)
-
-
-def _option(found: re.Match[str]) -> Option:
-    return Option(tuple(found["names"].split(", ")), found["value"] or "", found["text"] or "")
-
-
-def _dedented(lines: Sequence[Line]) -> tuple[str, ...]:
+def _dedented(block: Sequence[Line]) -> tuple[str, ...]:
     """The texts of lines without the blanks with which all of them begin."""
-    return tuple(textwrap.dedent("\n".join(line.text for line in lines)).splitlines())
+    return tuple(textwrap.dedent("\n".join(text for _, text in block)).splitlines())
 
 
-def _paragraph(block: Sequence[Line]) -> Paragraph:
+def _paragraph(block: Block) -> Paragraph:
     """A paragraph, whose indented lines stay as they are."""
-    pieces = []
-    for is_literal, lines in groupby(block, lambda line: line.is_indented):
-        pieces.append(Piece(_dedented(list(lines)), is_literal))
-    return tuple(pieces)
+    parts = groupby(block, _is_indented)
+    return tuple((is_literal, _dedented(list(lines))) for is_literal, lines in parts)
 
 
-class _Reader:
-    """Reads a help, by whose name messages call it."""
+def _blocks(text: str, name: str) -> list[Block]:
+    """The lines of a help, between blank ones."""
+    lines = [(number, line.rstrip()) for number, line in enumerate(text.split("\n"), 1)]
+    for number, line in lines:
+        if not line.isprintable():
+            raise Trouble("it has a character that is not printable", name, number)
+    return [list(block) for is_text, block in groupby(lines, lambda line: bool(line[1])) if is_text]
 
-    def __init__(self, text: str, name: str) -> None:
-        self._name = name
-        lines = [Line(number, line.rstrip()) for number, line in enumerate(text.split("\n"), 1)]
+
+def _entries(block: Block, heading: str, name: str) -> tuple[Entry, ...]:
+    """The entries of a list. A line that is indented further continues the last one's text."""
+    entries: list[Entry] = []
+    kind, *spelt = FORMS[heading]
+    for number, line in block:
+        found, rest = re.fullmatch(ENTRY.format(*spelt), line), line.strip()
+        if found is not None:
+            names, value, text = (part or "" for part in found.groups())
+            ends = value.startswith("["), value.endswith("...")
+            shown = tuple(filter(None, names.strip().split(", ")))
+            entries.append(Entry(shown, value.strip(" =<[]>."), text, *ends))
+        elif entries and line.startswith("   ") and not rest.startswith("-"):
+            entries[-1] = entries[-1]._replace(text=f"{entries[-1].text} {rest}".strip())
+        else:
+            raise Trouble(f"it does not have the form of {kind}", name, number)
+    return tuple(entries)
+
+
+def _lists(blocks: Sequence[Block], name: str) -> tuple[dict[str, Block], list[Paragraph]]:
+    """The lines of each list by its heading, and the paragraphs."""
+    lists: dict[str, Block] = {}
+    paragraphs: list[Paragraph] = []
+    last: Optional[Block] = None
+    for block in blocks:
+        number, heading = block[0]
+        if heading in lists:
+            raise Trouble(f"`{heading}` stands in it twice", name, number)
+        if heading in (*FORMS, EXAMPLES):
+            last = lists[heading] = block[1:]
+        elif last is not None and _is_indented(block[0]):
+            # Blank lines may stand between a list's entries.
+            last += block
+        else:
+            last = None
+            paragraphs.append(_paragraph(block))
+    for heading, lines in lists.items():
         for line in lines:
-            if not line.text.isprintable():
-                self._refuse("it has a character that is not printable", line)
-        blocks = groupby(lines, lambda line: bool(line.text))
-        self._blocks = [list(block) for is_text, block in blocks if is_text]
-
-    def _refuse(self, reason: str, line: Optional[Line] = None) -> NoReturn:
-        raise Trouble(reason, self._name, None if line is None else line.number)
-
-    def read(self, words: str) -> Help:
-        """Reads all of it; the usage must begin with these words."""
-        about, usage, rest = self._parts(words)
-        lists, paragraphs = self._lists(rest)
-        return Help(
-            " ".join(line.text for line in about[0]),
-            usage,
-            self._entries(lists.get(COMMANDS, []), "a command", COMMAND, _command),
-            self._entries(lists.get(ARGUMENTS, []), "an argument", ARGUMENT, _argument),
-            self._entries(lists.get(OPTIONS, []), "an option", OPTION, _option),
-            _dedented(lists.get(EXAMPLES, [])),
-            tuple(_paragraph(block) for block in [*about[1:], *paragraphs]),
-        )
-
-    def _parts(self, words: str) -> tuple[list[list[Line]], str, list[list[Line]]]:
-        """What stands before the usage, the usage on one line, and what stands after it."""
-        for place, block in enumerate(self._blocks):
-            usage = " ".join(" ".join(line.text for line in block).split())
-            if not usage.startswith(USAGE):
-                continue
-            if not f"{usage} ".startswith(f"{USAGE}{words} "):
-                self._refuse(f"its usage does not begin with `{words}`", block[0])
-            if not place or self._blocks[0][0].is_indented:
-                self._refuse("it does not begin with a summary")
-            return self._blocks[:place], usage[len(USAGE):], self._blocks[place + 1:]
-        self._refuse(f"it has no usage, which begins with `{USAGE}{words}`")
-
-    def _lists(
-        self, blocks: Sequence[list[Line]]
-    ) -> tuple[dict[str, list[Line]], list[list[Line]]]:
-        """The lines of each list by its heading, and the paragraphs."""
-        lists: dict[str, list[Line]] = {}
-        paragraphs: list[list[Line]] = []
-        last: Optional[list[Line]] = None
-        for block in blocks:
-            heading = block[0].text
-            if heading in (COMMANDS, ARGUMENTS, OPTIONS, EXAMPLES):
-                if heading in lists:
-                    self._refuse(f"`{heading}` stands in it twice", block[0])
-                last = lists[heading] = block[1:]
-            elif last is not None and block[0].is_indented:
-                # Blank lines may stand between a list's entries.
-                last += block
-            else:
-                last = None
-                paragraphs.append(block)
-        for heading, lines in lists.items():
-            for line in lines:
-                if not line.is_indented:
-                    self._refuse(f"below `{heading}` it is not indented", line)
-        return lists, paragraphs
-
-    def _entries(
-        self, lines: Sequence[Line], kind: str, form: re.Pattern[str],
-        made: Callable[[re.Match[str]], Entry],
-    ) -> tuple[Entry, ...]:
-        """The entries of a list. A line that is indented further continues the last one's text."""
-        entries: list[Entry] = []
-        for line in lines:
-            found, text = form.fullmatch(line.text), line.text.strip()
-            if found is not None:
-                entries.append(made(found))
-            elif entries and line.text.startswith("   ") and not text.startswith("-"):
-                entries[-1] = replace(entries[-1], text=f"{entries[-1].text} {text}".strip())
-            else:
-                self._refuse(f"it does not have the form of {kind}", line)
-        return tuple(entries)
+            if not _is_indented(line):
+                raise Trouble(f"below `{heading}` it is not indented", name, line[0])
+    return lists, paragraphs
 
 
 def read_help(text: str, words: str, name: str) -> Help:
     """Reads a help, whose usage must begin with these words; a Trouble calls it by this name."""
-    return _Reader(text, name).read(words)
+    blocks = _blocks(text, name)
+    usages = [" ".join(" ".join(line for _, line in block).split()) for block in blocks]
+    at = next((at for at, usage in enumerate(usages) if usage.startswith(USAGE)), None)
+    if at is None:
+        raise Trouble(f"it has no usage, which begins with `{USAGE}{words}`", name)
+    if not f"{usages[at]} ".startswith(f"{USAGE}{words} "):
+        raise Trouble(f"its usage does not begin with `{words}`", name, blocks[at][0][0])
+    if not at or _is_indented(blocks[0][0]):
+        raise Trouble("it does not begin with a summary", name)
+    lists, paragraphs = _lists(blocks[at + 1:], name)
+    return Help(
+        " ".join(line for _, line in blocks[0]), usages[at][len(USAGE):],
+        *(_entries(lists.get(heading, []), heading, name) for heading in FORMS),
+        _dedented(lists.get(EXAMPLES, [])), (*map(_paragraph, blocks[1:at]), *paragraphs),
+    )
 
 
-def check_values(told: Help, name: str) -> None:
-    """Ends the work where the usage has a value that no argument and no option explains."""
-    arguments = (argument.name for argument in told.arguments)
-    explained = {ANY_OPTIONS, *arguments, *(option.value for option in told.options)}
-    for value in VALUE.findall(told.usage):
-        if value not in explained:
-            raise Trouble(f"its usage has {value}, which it does not explain", name)
+def _asked(program: str, words: Sequence[str], usage: str) -> tuple[Help, str]:
+    """The help that a program prints when it is run with these words, and what messages call it."""
+    name = " ".join([program, *words])
+    with tempfile.TemporaryDirectory(prefix="vga-manual-") as folder:
+        output, messages = Path(folder, "output"), Path(folder, "messages")
+        ended = run_command([program, *words], output, messages, LIMITS, Event())
+        if ended.status != 0:
+            said = said_last(messages)
+            told = f"it ended with status {ended.status}{said and ': '}{said}"
+            raise Trouble(ended.reason or told, name)
+        try:
+            return read_help(output.read_bytes().decode("utf-8"), usage, name), name
+        except UnicodeDecodeError as error:
+            raise Trouble("what it prints is not text", name) from error
+
+
+def read_helps(program: str) -> Helps:
+    """Asks the program for its helps, and reads them; a Trouble where one has another form."""
+    whole, whole_name = _asked(program, ["--help"], NAME)
+    if not whole.commands:
+        raise Trouble("it lists no commands", whole_name)
+    # The list of commands explains what its usage has.
+    helps = {"": whole._replace(arguments=(Entry((), "COMMAND", ""),))}
+    for command in (made.names[0] for made in whole.commands):
+        words = [HELP, HELP] if command == HELP else [command, "--help"]
+        told, name = _asked(program, words, f"{NAME} {command}")
+        if told.commands:
+            raise Trouble("it lists commands of its own, for which the manual has no place", name)
+        explained = {ANY_OPTIONS, *(entry.value for entry in (*told.arguments, *told.options))}
+        for value in IN_USAGE.findall(told.usage):
+            if value not in explained:
+                raise Trouble(f"its usage has {value}, which it does not explain", name)
+        helps[command] = told
+    if not whole.saying(STATUS):
+        raise Trouble("it says nothing of the exit status", whole_name)
+    return helps

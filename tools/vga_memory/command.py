@@ -3,13 +3,13 @@
 from __future__ import annotations
 
 import argparse
-from typing import NamedTuple, Optional, Sequence
+from typing import NamedTuple, Sequence
 
 from vga_report import TOP, cli
 from vga_report.progress import Progress
 
 from .judging import judge_calls, judge_program
-from .program import growing_program
+from .trying import growing_program
 from .trying import Answer, Case, try_cases
 
 CRATES = TOP / "crates"
@@ -97,6 +97,5 @@ def _parser() -> argparse.ArgumentParser:
     return parser
 
 
-def main(words: Optional[Sequence[str]] = None) -> int:
-    """Runs a command line, and answers its exit status."""
-    return cli.main(_parser, words)
+# Runs a command line, and answers its exit status.
+main = cli.runner(_parser)

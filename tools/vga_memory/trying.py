@@ -1,14 +1,16 @@
-"""Runs a program with one growth refused, by `rt try`: built once, and run once for each case."""
+"""Runs a program with one growth refused, by `rt try`; and a `vga` that makes growths first."""
 
 from __future__ import annotations
 
 import re
+import shutil
 import tempfile
+from contextlib import contextmanager
 from dataclasses import dataclass
 from pathlib import Path
-from typing import Mapping, NamedTuple, Sequence
+from typing import Iterator, Mapping, NamedTuple, Sequence
 
-from vga_report.processes import captured
+from vga_report.processes import captured, check_program
 from vga_report.trouble import Wrong
 
 # What stands before the output of a case, and what behind what it said.
@@ -16,6 +18,21 @@ SECTION = re.compile(rb"^== (\S+)\n", re.M)
 ENDED = re.compile(r"case=(\S+) run=(\S+)(?: status=(\d+))? .*proved=no")
 # Lines that `rt try` itself writes among those of the program.
 OWN_LINES = ("allocations: ", "checked: ", "interpreter: ")
+# The one line of its `main`, what stands before that line in the copy, and the function behind it.
+MAIN = "    ExitCode::from(status_of_job(&rt))\n"
+FIRST = "    let _ = grow(&rt);\n"
+GROW = """
+/// Makes a growth for each byte of standard input.
+fn grow(rt: &HostRuntime) -> io::Result<()> {
+    let mut room = [0; 256];
+    for _ in 0..std::io::Read::read(&mut rt.stdin(), &mut room)? {
+        let _ = Box::new(rt.alloc(), 0u8)?;
+    }
+    Ok(())
+}
+"""
+# What a try does not read.
+UNREAD = ("out", "data", "proofs", "must-fail")
 
 
 class Case(NamedTuple):
@@ -42,6 +59,7 @@ def try_cases(
     crate: Path, growth: int, cases: Mapping[str, Case], data: Mapping[str, Path]
 ) -> dict[str, Answer]:
     """What each case of a crate's program answers, with the growth of this number refused, where these files lie."""
+    check_program("rt")
     with tempfile.TemporaryDirectory(prefix="vga-memory-") as name:
         folder = Path(name)
         for case, (given, words) in cases.items():
@@ -70,3 +88,26 @@ def answers_of(output: bytes, errors: str) -> dict[str, Answer]:
         elif not line.startswith(OWN_LINES):
             said.append(line)
     return answers
+
+
+class NoSuchMain(Wrong):
+    """The `main` of the program is not the one that is known here."""
+
+
+def growing(source: str) -> str:
+    """The root file of the program, with the growths before what its `main` does."""
+    if source.count(MAIN) != 1:
+        raise NoSuchMain(f"main.rt has {source.count(MAIN)} lines {MAIN.strip()!r}, and not one")
+    return source.replace(MAIN, FIRST + MAIN) + GROW
+
+
+@contextmanager
+def growing_program(top: Path) -> Iterator[Path]:
+    """The folder of the changed crate, in a copy of the repository's crates that is there as long as this lasts."""
+    with tempfile.TemporaryDirectory(prefix="vga-memory-") as name:
+        copy = Path(name)
+        shutil.copy(top / "crates.txt", copy)
+        shutil.copytree(top / "crates", copy / "crates", ignore=shutil.ignore_patterns(*UNREAD))
+        root = copy / "crates" / "vga" / "src" / "main.rt"
+        root.write_text(growing(root.read_text()))
+        yield copy / "crates" / "vga"

@@ -4,9 +4,8 @@ from __future__ import annotations
 
 import argparse
 from pathlib import Path
-from typing import Optional, Sequence
 
-from vga_library.telling import phases
+from vga_report.crates import phases
 from vga_report import cli
 from vga_report.processes import MEBIBYTE
 from vga_report.progress import Progress
@@ -116,6 +115,5 @@ def _check_words(words: argparse.Namespace) -> None:
     check_file(words.file)
 
 
-def main(words: Optional[Sequence[str]] = None) -> int:
-    """Runs a command line, and answers its exit status."""
-    return cli.main(_parser, words)
+# Runs a command line, and answers its exit status.
+main = cli.runner(_parser)

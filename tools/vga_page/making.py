@@ -7,9 +7,9 @@ import tempfile
 from pathlib import Path
 from typing import Callable, Optional, Sequence
 
-from vga_library.gated import proving_words
+from vga_library.toolchain import proving_words
 from vga_library.toolchain import CRATE, kit_folder
-from vga_report.processes import Hearer, run, run_both
+from vga_report.processes import Hearer, ended_well, run
 from vga_report.trouble import Trouble
 
 from .retargeting import CPU, WASM, retargeted
@@ -52,7 +52,8 @@ class Maker:
 
     def _run(self, phase: str, words: Sequence[str | Path], folder: Optional[Path] = None) -> str:
         """Runs a program of a phase, and answers all that it says."""
-        return "".join(run_both(words, folder, self._phase(phase)))
+        done = ended_well(words, folder, self._phase(phase))
+        return (done.output + done.errors).decode("utf-8", "replace")
 
     def _rattle(self, phase: str, *words: str | Path) -> str:
         return self._run(phase, [self._kit / "bin" / "rattle", *words], CRATE)

@@ -4,8 +4,7 @@ from __future__ import annotations
 
 from typing import Iterable, Iterator, NamedTuple
 
-from vga_library.header import calls_of
-from vga_report.version import HEADER
+from vga_report.version import HEADER, calls_of
 from vga_report.trouble import Trouble
 
 MAGIC = b"\0asm\1\0\0\0"

@@ -5,11 +5,10 @@ from __future__ import annotations
 import argparse
 import os
 import sys
-from typing import Optional, Sequence
 
 from vga_report import cli
 from vga_report.images import image_bytes
-from vga_report.output import AGREED, name_of, refuse_twice
+from vga_report.output import AGREED, counted, name_of, refuse_twice
 from vga_report.png import Shape, write_png
 from vga_report.program import FONTS
 from vga_report.progress import Progress
@@ -75,7 +74,7 @@ def _drawn(words: argparse.Namespace, progress: Progress) -> tuple[Drawn, str]:
     image = read_image(image_bytes(words.image), name)
     image, size = fitted(image, mode, words.fit, name)
     made, count = indexed(six_bits(image), len(mode.entries), words.fewer, name)
-    told = f"{size}, {len(made.colours)} colour{'s' * (len(made.colours) != 1)}"
+    told = f"{size}, {counted(len(made.colours), 'colour')}"
     if count > len(mode.entries):
         told += f" for {count:,}, by {WAYS[words.fewer]}"
     if mode.kind is not Kind.CELLS:
@@ -108,6 +107,5 @@ def _script(words: argparse.Namespace, progress: Progress) -> int:
     return AGREED
 
 
-def main(words: Optional[Sequence[str]] = None) -> int:
-    """Runs a command line, and answers its exit status."""
-    return cli.main(_parser, words)
+# Runs a command line, and answers its exit status.
+main = cli.runner(_parser)

@@ -6,15 +6,14 @@ import argparse
 import hashlib
 import os
 from pathlib import Path
-from typing import Optional, Sequence
 
 from vga_report import TOP
 from vga_report.version import version
+from vga_report.crates import phases
 from vga_library.building import built_archive
 from vga_library.targets import AARCH64, BACKENDS, X86_64, Target
-from vga_library.telling import phases
 from vga_report import cli
-from vga_report.processes import Hearer, run, want
+from vga_report.processes import Hearer, check_program, run
 from vga_report.progress import Progress
 from vga_report.streams import check_folder, to_read, write_file, writing
 from vga_report.trouble import Trouble
@@ -79,7 +78,7 @@ def _release(words: argparse.Namespace, progress: Progress) -> None:
     _check_words(words)
     commit, name = clean_commit(), release_name()
     for program in (*X86_64.programs(), *AARCH64.programs()):
-        want(program)
+        check_program(program)
     entries = release_entries(commit, *_built(words, progress))
     words.folder.mkdir(parents=True, exist_ok=True)
     path = words.folder / f"{name}.tar.gz"
@@ -90,6 +89,5 @@ def _release(words: argparse.Namespace, progress: Progress) -> None:
     print(path, sums, sep="\n")
 
 
-def main(words: Optional[Sequence[str]] = None) -> int:
-    """Runs a command line, and answers its exit status."""
-    return cli.main(_parser, words)
+# Runs a command line, and answers its exit status.
+main = cli.runner(_parser)

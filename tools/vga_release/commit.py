@@ -7,7 +7,7 @@ import tarfile
 from typing import NamedTuple, Sequence
 
 from vga_report import TOP
-from vga_report.processes import output_of
+from vga_report.processes import ended_well
 from vga_report.trouble import Trouble
 
 
@@ -53,4 +53,4 @@ def _members(archive: tarfile.TarFile) -> list[tuple[str, File]]:
 
 
 def _git(*words: str) -> bytes:
-    return output_of(["git", "-C", str(TOP), *words])
+    return ended_well(["git", "-C", str(TOP), *words]).output

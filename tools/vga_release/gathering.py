@@ -1,24 +1,24 @@
-"""What a release holds."""
+"""What a release holds, the package for Python as a wheel among it; and its pages' links."""
 
 from __future__ import annotations
 
 import hashlib
+import posixpath
+import re
 import sys
 import tempfile
-from pathlib import Path
-from typing import Mapping
+from pathlib import Path, PurePosixPath
+from typing import Iterable, Mapping, Match
 
-from vga_report import TOP
 from vga_library.building import memory_part
 from vga_library.making import MOVING, Place, make_library
 from vga_library.targets import X86_64, Target
-from vga_manual.making import manual_files
-from vga_report.processes import output_of
+from vga_manual.command import manual_files
+from vga_report import TOP
+from vga_report.processes import run
 
 from .commit import Commit, File, files_of
 from .packing import Entry
-from .pages import Pages
-from .wheel import wheel_of
 
 # The tools that need no toolchain: the command of each, and its package.
 TOOLS = tuple(f"tools/vga{mark}{name}" for name in ("floppy", "fuzz", "picture", "report", "trace") for mark in "-_")
@@ -40,6 +40,17 @@ MADE_OF = "MADE-OF"
 # What this file tells of the commit, of the toolchain, and of what was built.
 HEAD = "commit {number}\ntoolchain {toolchain}\n"
 SCRIPTS = "scripts"
+PACKAGE = "bindings/python"
+# What the package is made of, where it lies in the repository.
+SOURCES = (PACKAGE, "fonts")
+# The package's own backend makes the wheel, as it does for pip.
+MAKING = "import sys, building; building.build_wheel(sys.argv[1])"
+# What stands between fences, which has no links; or a link or an image that leads to a file of the repository.
+LINK = re.compile(
+    r"^```.*?^```$"
+    r"|(?P<mark>!?)\[(?P<text>[^\[\]]*)\]\((?!https?:|#)(?P<place>[^()\s#]+)(?P<anchor>#[^()\s]*)?\)",
+    re.M | re.S,
+)
 
 
 def laid_files(folder: Path) -> dict[str, Entry]:
@@ -79,7 +90,7 @@ def built_files(files: Mapping[str, File], program: Path, archives: Mapping[Targ
 def suite_scripts() -> dict[str, Entry]:
     """The suite's scripts, each whole, as `vga-report scripts` writes them."""
     with tempfile.TemporaryDirectory(prefix="vga-release-") as name:
-        output_of([sys.executable, TOP / "tools" / "vga-report", "scripts", Path(name) / SCRIPTS])
+        run([sys.executable, TOP / "tools" / "vga-report", "scripts", Path(name) / SCRIPTS])
         return laid_files(Path(name))
 
 
@@ -106,9 +117,49 @@ def made_of(commit: Commit, toolchain: str, built: Mapping[str, Entry]) -> File:
 
 def release_entries(commit: Commit, program: Path, archives: Mapping[Target, Path]) -> dict[str, Entry]:
     """All files of a release."""
-    toolchain = output_of(["rt", "version"]).decode("ascii").strip()
+    toolchain = run(["rt", "version"]).strip()
     files = files_of(commit, PATHS)
     built = built_files(files, program, archives)
     install = File((Path(__file__).parent / INSTALL).read_bytes(), True)
     entries = {**files, **suite_scripts(), **built, **LINKS, INSTALL: install}
     return settled({**entries, MADE_OF: made_of(commit, toolchain, built)})
+
+
+def wheel_of(files: Mapping[str, File], library: Path, folder: Path, target: Target) -> Path:
+    """Makes the wheel for a processor in a folder, of these files of the repository and a folder of the library's."""
+    for place, file in files.items():
+        if place.startswith(tuple(f"{source}/" for source in SOURCES)):
+            laid = folder / "sources" / place
+            laid.parent.mkdir(parents=True, exist_ok=True)
+            laid.write_bytes(file.content)
+    made = folder / "made"
+    made.mkdir()
+    # With -B Python leaves nothing beside the sources, which would go into the wheel.
+    words = [sys.executable, "-B", "-c", MAKING, made]
+    # As where Python itself is built for another processor.
+    environment = {"ZAKLIMOT_DIR": str(library), "_PYTHON_HOST_PLATFORM": f"linux-{target.name}"}
+    run(words, folder / "sources" / PACKAGE, environment=environment)
+    return next(made.iterdir())
+
+
+class Pages:
+    """What is in a release, and where pages lie in it that lie elsewhere in the repository."""
+
+    def __init__(self, places: Iterable[str], moved: Mapping[str, str]) -> None:
+        self._moved = moved
+        self._places = {str(place) for name in places for place in (name, *PurePosixPath(name).parents)}
+
+    def settled(self, text: str, page: str) -> str:
+        """The text of a page, which lies at this place of the repository."""
+        folder = posixpath.dirname(self._moved.get(page, page)) or "."
+
+        def link(found: Match[str]) -> str:
+            if found["place"] is None:
+                return found[0]
+            target = posixpath.normpath(posixpath.join(posixpath.dirname(page), found["place"]))
+            place = self._moved.get(target, target)
+            if place not in self._places:
+                return found["text"]
+            return f"{found['mark']}[{found['text']}]({posixpath.relpath(place, folder)}{found['anchor'] or ''})"
+
+        return LINK.sub(link, text)

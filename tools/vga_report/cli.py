@@ -7,7 +7,8 @@ import os
 import signal
 import sys
 from contextlib import contextmanager
-from typing import IO, Callable, Iterator, Optional, Sequence
+from pathlib import Path
+from typing import IO, Callable, Iterable, Iterator, Optional, Sequence
 
 from .progress import Progress
 from .trouble import TROUBLE, Trouble
@@ -53,6 +54,31 @@ def tool_parser(name: str, does: str, example: str, page: str, statuses: str = D
     )
     made.add_argument("--version", action=_Version)
     return made
+
+
+def add_checks(
+    parser: argparse.ArgumentParser, checks: Iterable[str],
+    given: Optional[argparse._ActionsContainer] = None,
+) -> None:
+    """The options of a tool that checks the library's crate; `given` gets that of the gate."""
+    (given or parser).add_argument(
+        "--gated", action="store_true", help="over the libraries that `rt ci` left, which must have run just before"
+    )
+    parser.add_argument(
+        "--proof", type=Path, metavar="FOLDER", help="with --gated: keeps the crate's proof there, or takes it from there"
+    )
+    parser.add_argument(
+        "--only", action="append", default=[], choices=checks,
+        help="this check alone; again and again",
+    )
+
+
+def refuse_to_check(words: argparse.Namespace, lacking: Sequence[str] = ()) -> None:
+    """Ends the work where these options contradict one another, or the machine lacks something."""
+    if words.proof is not None and not words.gated:
+        raise Trouble("--proof keeps a proof of --gated")
+    if lacking:
+        raise Trouble("this machine lacks\n" + "\n".join(f"  {line}" for line in lacking))
 
 
 class Ended(BaseException):
@@ -151,16 +177,22 @@ def run(name: str, work: Callable[[], int], progress: Optional[Progress] = None)
     return status
 
 
-def main(made: Callable[[], argparse.ArgumentParser], words: Optional[Sequence[str]] = None) -> int:
-    """Runs a tool by its words: its parser sets a `job`, which takes them and the progress, and answers a status or None."""
-    progress, parser = Progress(), made()
+def runner(made: Callable[[], argparse.ArgumentParser]) -> Callable[[Optional[Sequence[str]]], int]:
+    """What runs a tool's command line, and answers its exit status.
 
-    def work() -> int:
-        try:
-            parsed = parser.parse_args(words)
-        except SystemExit as ended:
-            # The words ask for help, or mean nothing: the tool ends as ever.
-            return int(ended.code or 0)
-        return parsed.job(parsed, progress) or 0
+    Its parser sets a `job`, which takes the words and the progress, and answers a status or None.
+    """
+    def main(words: Optional[Sequence[str]] = None) -> int:
+        progress, parser = Progress(), made()
 
-    return run(parser.prog, work, progress)
+        def work() -> int:
+            try:
+                parsed = parser.parse_args(words)
+            except SystemExit as ended:
+                # The words ask for help, or mean nothing: the tool ends as ever.
+                return int(ended.code or 0)
+            return parsed.job(parsed, progress) or 0
+
+        return run(parser.prog, work, progress)
+
+    return main

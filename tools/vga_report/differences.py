@@ -9,6 +9,8 @@ from zaklimot.format import Answer, Picture
 from zaklimot.format.picture import different_dots
 from zaklimot.format.report import REFUSAL, SKIPPED
 
+from .output import counted
+
 END = "the end"
 DONE = "ok"
 
@@ -64,13 +66,7 @@ class Difference(NamedTuple):
     def dots(self) -> str:
         """How two pictures of one size differ; empty for all else."""
         pictures = self.pictures()
-        found = different_dots(*pictures) if pictures and pictures[0].size == pictures[1].size else None
-        if pictures is None or found is None:
-            return ""
-        picture, other = pictures
-        colours = f"{picture.dot(found.x, found.y)}, not {other.dot(found.x, found.y)}"
-        count = picture.width * picture.height
-        return f"{found.count} of {count} dots differ, the first is dot {found.x} of row {found.y}: {colours}"
+        return told_dots(*pictures) if pictures and pictures[0].size == pictures[1].size else ""
 
     def text(self) -> str:
         """What the first report has in the place of what the other has, as one line."""
@@ -84,6 +80,16 @@ class Difference(NamedTuple):
         if lines[0] != lines[1] == lines[0].upper():
             text += ": digits are upper case in a report"
         return Told(self.number, answer, other, f"{self.place}: {text}")
+
+
+def told_dots(picture: Picture, other: Picture) -> str:
+    """How two pictures of one size differ; empty where they don't."""
+    found = different_dots(picture, other)
+    if found is None:
+        return ""
+    colours = f"{picture.dot(found.x, found.y)}, not {other.dot(found.x, found.y)}"
+    count = picture.width * picture.height
+    return f"{found.count} of {count} dots differ, the first is dot {found.x} of row {found.y}: {colours}"
 
 
 def _first_line(step: Optional[Answer]) -> str:
@@ -139,7 +145,9 @@ class Comparison:
             self.steps += 1
             self.pictures += step.picture is not None
             is_alike = _are_alike(step, other)
-            if is_left or self._is_left_out(step, other) or not (is_alike or self._must_agree(other)):
+            # In the place of a refusal any answer will do to a bus that refuses nothing.
+            may_be_any = not self._has_refusals and other.kind == REFUSAL
+            if is_left or SKIPPED in (step.answer, other.answer) or may_be_any and not is_alike:
                 self.skipped += 1
                 continue
             self.answers += other.answer != DONE
@@ -147,23 +155,10 @@ class Comparison:
                 self.differing += 1
                 yield Difference(step, other)
 
-    @staticmethod
-    def _is_left_out(step: Answer, other: Answer) -> bool:
-        """Whether one of two reports has no answer of a step."""
-        return SKIPPED in (step.answer, other.answer)
-
-    def _must_agree(self, other: Answer) -> bool:
-        """Whether not just any answer will do in the place of the other's."""
-        return self._has_refusals or other.kind != REFUSAL
-
     def text(self) -> str:
         """What was seen."""
-        counted = [_counted(self.steps, "step"), _counted(self.pictures, "picture")]
-        return ", ".join(counted + ([f"{self.skipped} skipped"] if self.skipped else []))
-
-
-def _counted(count: int, what: str) -> str:
-    return f"{count} {what}" if count == 1 else f"{count} {what}s"
+        seen = [counted(self.steps, "step"), counted(self.pictures, "picture")]
+        return ", ".join(seen + ([f"{self.skipped} skipped"] if self.skipped else []))
 
 
 def _are_alike(step: Answer, other: Answer) -> bool:

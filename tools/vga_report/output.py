@@ -27,6 +27,11 @@ def write_name(path: str | os.PathLike[str]) -> None:
     sys.stdout.buffer.write(os.fsencode(path) + b"\n")
 
 
+def counted(count: int, what: str) -> str:
+    """How many there are, as `1 step` and `2 steps`."""
+    return f"{count} {what}{'s' * (count != 1)}"
+
+
 def say(text: str) -> None:
     """Says something on standard error. What a terminal can't show of a file's name is escaped."""
     sys.stderr.write(f"vga-report: {text}\n")

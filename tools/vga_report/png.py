@@ -1,4 +1,4 @@
-"""Pictures as PNG, truecolour of eight bits."""
+"""Pictures as PNG of eight bits, still and moving; and as blocks of colour in a terminal."""
 
 from __future__ import annotations
 
@@ -19,6 +19,11 @@ MARK = b"\xff\x20\x20"
 DARKENED = bytes(value // 3 for value in range(256))
 SIGNATURE = b"\x89PNG\r\n\x1a\n"
 COMPRESSION = 6
+# The delay of a frame is a fraction of two numbers below this.
+MOST_NUMBER = 0xFFFF
+SHORT, LONG = 50_000, 100
+# Blocks show a picture as if it had this shape.
+UPPER_HALF, MONITOR = "\u2580", 4 / 3
 # An enlarged picture has at most so many dots.
 MOST_DOTS = 100_000_000
 
@@ -48,13 +53,17 @@ def chunk(kind: bytes, data: bytes) -> bytes:
     return struct.pack(">I", len(data)) + kind + data + struct.pack(">I", zlib.crc32(kind + data))
 
 
-def _write(stream: BinaryIO, width: int, height: int, rows: Iterable[bytes]) -> None:
-    """Writes rows of eight bits a component; of these the six high ones were given."""
-    stream.write(SIGNATURE)
-    stream.write(chunk(b"IHDR", struct.pack(">IIBBBBB", width, height, 8, 2, 0, 0, 0)))
-    stream.write(chunk(b"sBIT", bytes([6, 6, 6])))
+def _head(width: int, height: int) -> bytes:
+    """What a PNG of eight bits a component begins with: of these the six high ones were given."""
+    head = chunk(b"IHDR", struct.pack(">IIBBBBB", width, height, 8, 2, 0, 0, 0))
+    return SIGNATURE + head + chunk(b"sBIT", bytes([6, 6, 6]))
+
+
+def _write(stream: BinaryIO, size: tuple[int, int], rows: Iterable[bytes], shape: Shape) -> None:
+    """Writes rows of this size in a shape."""
+    stream.write(_head(*shape.size(*size)))
     packer = zlib.compressobj(COMPRESSION)
-    for row in rows:
+    for row in _shaped(rows, size, shape):
         packed = packer.compress(b"\0" + row)
         if packed:
             stream.write(chunk(b"IDAT", packed))
@@ -76,22 +85,20 @@ def _stretched(rows: Iterable[bytes], size: tuple[int, int], new: tuple[int, int
             yield stretched
 
 
-def _write_shaped(stream: BinaryIO, size: tuple[int, int], rows: Iterable[bytes], shape: Shape) -> None:
+def _shaped(rows: Iterable[bytes], size: tuple[int, int], shape: Shape) -> Iterable[bytes]:
+    """Rows of this size in a shape."""
     new = shape.size(*size)
-    _write(stream, *new, rows if new == size else _stretched(rows, size, new))
-
-
-def shaped_rows(picture: Picture, shape: Shape) -> Iterator[bytes]:
-    """The rows of a picture in its shape, eight bits a component."""
-    size = (picture.width, picture.height)
-    new = shape.size(*size)
-    rows = (picture.row(y).translate(WIDENED) for y in range(picture.height))
     return rows if new == size else _stretched(rows, size, new)
+
+
+def _rows(picture: Picture) -> Iterator[bytes]:
+    """The rows of a picture, eight bits a component."""
+    return (picture.row(y).translate(WIDENED) for y in range(picture.height))
 
 
 def write_png(stream: BinaryIO, picture: Picture, shape: Shape) -> None:
     """Writes a picture."""
-    _write(stream, *shape.size(picture.width, picture.height), shaped_rows(picture, shape))
+    _write(stream, (picture.width, picture.height), _rows(picture), shape)
 
 
 def _marked_row(picture: Picture, other: Picture, width: int, y: int) -> bytes:
@@ -111,4 +118,72 @@ def write_marked_png(stream: BinaryIO, picture: Picture, other: Picture, shape: 
     """Writes a picture darkened, with the dots marked in which another differs."""
     width, height = max(picture.width, other.width), max(picture.height, other.height)
     rows = (_marked_row(picture, other, width, y) for y in range(height))
-    _write_shaped(stream, (width, height), rows, shape)
+    _write(stream, (width, height), rows, shape)
+
+
+class Animation:
+    """Frames of one size."""
+
+    def __init__(self, shape: Shape) -> None:
+        self._shape = shape
+        self._size = (0, 0)
+        self._first = ""
+        self.seconds = 0.0
+        # Each frame's packed rows, and how long it lasts as a fraction.
+        self.frames: list[tuple[bytes, int, int]] = []
+
+    def add(self, picture: Picture, seconds: float, name: str) -> None:
+        """Adds a frame, which is to have the size of the first."""
+        size = self._shape.size(picture.width, picture.height)
+        if self.frames and size != self._size:
+            raise Trouble(f"{name} has a picture of another size than {self._first}: --step picks those of one size")
+        self._size, self._first = size, self._first or name
+        packer = zlib.compressobj(COMPRESSION)
+        rows = _shaped(_rows(picture), (picture.width, picture.height), self._shape)
+        packed = [packer.compress(b"\0" + row) for row in rows]
+        part = SHORT if seconds < 1 else LONG
+        self.frames.append((b"".join(packed) + packer.flush(), min(MOST_NUMBER, round(seconds * part)), part))
+        self.seconds += seconds
+
+    def write(self, stream: BinaryIO) -> None:
+        """Writes all frames; they begin anew without an end."""
+        width, height = self._size
+        stream.write(_head(width, height) + chunk(b"acTL", struct.pack(">II", len(self.frames), 0)))
+        sequence = 0
+        for at, (packed, time, part) in enumerate(self.frames):
+            stream.write(chunk(b"fcTL", struct.pack(">IIIIIHHBB", sequence, width, height, 0, 0, time, part, 0, 0)))
+            sequence += 1
+            if at == 0:
+                stream.write(chunk(b"IDAT", packed))
+            else:
+                stream.write(chunk(b"fdAT", struct.pack(">I", sequence) + packed))
+                sequence += 1
+        stream.write(chunk(b"IEND", b""))
+
+
+def _shrunk_row(picture: Picture, top: int, bottom: int, columns: int) -> list[tuple[int, int, int]]:
+    """The mean colours of a row of blocks, which cover these rows of dots."""
+    rows = [picture.row(y).translate(WIDENED) for y in range(top, max(top + 1, bottom))]
+    colours = []
+    for column in range(columns):
+        left = column * picture.width // columns
+        right = max(left + 1, (column + 1) * picture.width // columns)
+        count = len(rows) * (right - left)
+        red, green, blue = (
+            sum(sum(row[3 * left + part:3 * right:3]) for row in rows) // count for part in range(3)
+        )
+        colours.append((red, green, blue))
+    return colours
+
+
+def block_lines(picture: Picture, columns: int) -> Iterator[str]:
+    """The lines that show a picture, so many characters wide."""
+    columns = max(2, min(columns, picture.width))
+    rows = max(2, round(columns / MONITOR) // 2 * 2)
+    edges = [y * picture.height // rows for y in range(rows + 1)]
+    for y in range(0, rows, 2):
+        upper = _shrunk_row(picture, edges[y], edges[y + 1], columns)
+        lower = _shrunk_row(picture, edges[y + 1], edges[y + 2], columns)
+        yield "".join(
+            f"\x1b[38;2;{a[0]};{a[1]};{a[2]};48;2;{b[0]};{b[1]};{b[2]}m{UPPER_HALF}" for a, b in zip(upper, lower)
+        ) + "\x1b[0m"

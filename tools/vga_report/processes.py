@@ -11,12 +11,16 @@ import sys
 import tempfile
 import threading
 import time
+from concurrent.futures import ThreadPoolExecutor
 from contextlib import contextmanager, suppress
 from pathlib import Path
 from threading import Event, Thread
-from typing import Any, BinaryIO, Callable, Iterator, Mapping, NamedTuple, Optional, Sequence, Union
+from typing import (
+    Any, BinaryIO, Callable, Iterable, Iterator, Mapping, NamedTuple, Optional, Sequence, TypeVar,
+    Union,
+)
 
-from .trouble import Trouble
+from .trouble import Trouble, Wrong
 
 IS_POSIX, IS_LINUX = os.name == "posix", sys.platform.startswith("linux")
 # Seconds between two looks whether a command has ended: the first of them, and the longest.
@@ -31,15 +35,21 @@ MEBIBYTE = 1 << 20
 MOST_MESSAGE = 1 << 20
 # So much of what a program says at last is told, and so much of each of its streams is kept.
 MOST_SAID, MOST_KEPT = 2000, 1 << 24
-# The package of Debian for each program that may be lacking.
+# Where each program comes from that may be lacking: the toolchain's, and those of Debian's
+# packages.
 PACKAGES = {
     "ld": "binutils", "objcopy": "binutils", "ar": "binutils", "nm": "binutils", "cc": "gcc", "node": "nodejs",
     **{f"aarch64-linux-gnu-{name}": "binutils-aarch64-linux-gnu" for name in ("ld", "objcopy", "ar")},
     "aarch64-linux-gnu-gcc": "gcc-aarch64-linux-gnu",
 }
+SOURCES = {
+    "rt": "it is the command of the Rattle toolchain, which README.md tells of under \"Run it\"",
+    **{name: f"install the package {package}" for name, package in PACKAGES.items()},
+}
 # Linux' prctl: the signal that a process gets when the one that has started it ends.
 SET_PARENT_DEATH_SIGNAL = 1
 Words = Sequence[Union[str, Path]]
+Item, Made = TypeVar("Item"), TypeVar("Made")
 # What is told the last whole line that a program has said, again and again while it works.
 Hearer = Callable[[str], None]
 
@@ -226,6 +236,20 @@ def run_command(words: Words, output: Path, messages: Path, limits: Limits, is_e
     return Outcome(None if reason else outcome.status, reason)
 
 
+@contextmanager
+def in_parallel(
+    work: Callable[[Item], Made], items: Iterable[Item], jobs: int, is_ended: Event
+) -> Iterator[Iterator[Made]]:
+    """What comes of items in their order, so many at a time. The event tells the work to end."""
+    with ThreadPoolExecutor(jobs) as pool:
+        try:
+            yield pool.map(work, items)
+        except BaseException:
+            is_ended.set()
+            pool.shutdown(wait=False, cancel_futures=True)
+            raise
+
+
 def _has_ended(process: subprocess.Popen[bytes]) -> bool:
     """Whether a command has ended. Its number stays taken, so that its group can still be named."""
     if not hasattr(os, "waitid"):
@@ -247,6 +271,13 @@ class Done(NamedTuple):
     def said(self) -> str:
         """What it wrote and said at last, for messages."""
         return (self.output + self.errors).decode("utf-8", "replace")[-MOST_SAID:]
+
+
+def check_program(name: str, instead: str = "") -> None:
+    """Ends the work where a program is lacking: its source is told, and what works instead."""
+    if shutil.which(name) is None:
+        source = SOURCES.get(name)
+        raise Trouble("it is not in the path" + (f": {source}" if source else "") + instead, name)
 
 
 def captured(
@@ -282,37 +313,28 @@ def captured(
 
 def run(words: Words, folder: Optional[Path] = None, heard: Optional[Hearer] = None, **given: Any) -> str:
     """Runs a program as `captured` does, and answers what it writes; a Failed tells how one ended badly."""
-    return run_both(words, folder, heard, **given)[0]
+    return ended_well(words, folder, heard, **given).output.decode("utf-8", "replace")
 
 
-def run_both(
+def ended_well(
     words: Words, folder: Optional[Path] = None, heard: Optional[Hearer] = None, **given: Any
-) -> tuple[str, str]:
-    """The same, with what it says on standard error."""
-    done = _ended_well(words, folder, heard, **given)
-    return done.output.decode("utf-8", "replace"), done.errors.decode("utf-8", "replace")
-
-
-def output_of(words: Words, folder: Optional[Path] = None) -> bytes:
-    """What a program writes that ends well, as bytes."""
-    return _ended_well(words, folder, None).output
-
-
-def want(name: str) -> None:
-    """A program that isn't there is a Trouble, which names its package."""
-    if shutil.which(name) is None:
-        package = PACKAGES.get(name)
-        raise Trouble("it is not in the path" + (f": install the package {package}" if package else ""), name)
-
-
-def _ended_well(words: Words, folder: Optional[Path], heard: Optional[Hearer], **given: Any) -> Done:
+) -> Done:
+    """The same, with its bytes, and with what it says on standard error."""
     name = str(words[0])
-    want(name)
+    check_program(name)
     done = captured(words, folder, heard, **given)
     if done.status:
         line = " ".join(str(word) for word in words)
         raise Failed(f"it ended with status {done.status}\n  {line}\n{done.said()}", name)
     return done
+
+
+def tested(words: Words, folder: Optional[Path] = None, **given: Any) -> Done:
+    """The same of a program that is tested: one that ends badly is a Wrong."""
+    try:
+        return ended_well(words, folder, **given)
+    except Failed as failed:
+        raise Wrong(str(failed)) from failed
 
 
 def said_last(path: Path, most: int = 600) -> str:

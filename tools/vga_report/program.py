@@ -7,7 +7,6 @@ import os
 import shutil
 import subprocess
 import tempfile
-import time
 from contextlib import contextmanager
 from pathlib import Path
 from typing import Any, BinaryIO, Iterator, Optional, Sequence, cast
@@ -15,7 +14,8 @@ from typing import Any, BinaryIO, Iterator, Optional, Sequence, cast
 from zaklimot.format import FAULT
 
 from . import TOP
-from .processes import ENDING, run, started
+from .crates import phases
+from .processes import ENDING, check_program, run, started
 from .progress import Progress
 from .streams import to_read
 from .trouble import Trouble
@@ -29,6 +29,10 @@ CHUNK = 1 << 16
 # So much of what the program says is looked at.
 MOST_SAID = 1 << 16
 NO_SOURCES = "the program's sources in Rattle are not here: they lie in the repository, and not in a release"
+WITHOUT_RT = (
+    ". Without it --vga runs a program that is built already, and --debug FILE writes a page that "
+    "runs the script in a browser"
+)
 NO_PROGRAM = (
     "there is no program vga: --build proves and builds it, --vga names another, and --try runs it without its proofs"
 )
@@ -81,9 +85,10 @@ def _running(words: Sequence[str], asking: float = 0, **given: Any) -> Iterator[
 
 
 def _crate() -> Path:
-    """The folder of the program's crate; a Trouble where its sources are lacking, as in a release."""
+    """The folder of the program's crate; a Trouble where its sources or `rt` are lacking."""
     if not (CRATE / "src").is_dir():
         raise Trouble(NO_SOURCES)
+    check_program("rt", WITHOUT_RT)
     return CRATE
 
 
@@ -91,15 +96,11 @@ def build_program(progress: Progress) -> None:
     """Proves and builds the program where it is lacking, and tells how far that is: it may take hours at first."""
     if os.access(PROGRAM, os.X_OK):
         return
-    begun = time.monotonic()
-
-    def hear(line: str) -> None:
-        if progress.is_due():
-            seconds = int(time.monotonic() - begun)
-            progress.tell(f"{seconds // 60}:{seconds % 60:02} proving and building the program{line and ': '}{line}")
-
     try:
-        run(["rt", "run", "--", "--help"], _crate(), hear)
+        run(
+            ["rt", "run", "--", "--help"], _crate(),
+            phases(progress, "vga")("proving and building the program"),
+        )
     finally:
         progress.clear()
 

@@ -11,7 +11,7 @@ from typing import Callable, NamedTuple, Optional
 
 from zaklimot.format import MOST_ADVANCE, REGISTERS, Step, parse_line
 
-from .timing import MODES
+from .timing import MODES, bytes_written
 
 WINDOWS = ((0xA0000, 0xBFFFF), (0xA0000, 0xAFFFF), (0xB0000, 0xB7FFF), (0xB8000, 0xBFFFF))
 READ_ALONE, CRT_PORTS = (0x3C1, 0x3CA, 0x3CC), (0x3B4, 0x3B5, 0x3BA, 0x3D4, 0x3D5, 0x3DA)
@@ -41,14 +41,10 @@ class State:
 
     def take(self, step: Step) -> None:
         """Takes a step that was done."""
+        for port, value in bytes_written(step):
+            self.out(port, value)
         if step.name == "int":
             self._set_mode(step.numbers[0])
-        elif step.name == "out":
-            self.out(*step.numbers)
-        elif step.name == "outw":
-            port, value = step.numbers
-            self.out(port, value & 0xFF)
-            self.out(port + 1, value >> 8)
         elif step.name in ("in", "inw"):
             last = step.numbers[0] + (step.name == "inw")
             self._is_data = self._is_data and self.base + 6 not in (step.numbers[0], last)

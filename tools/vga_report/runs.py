@@ -14,12 +14,11 @@ from typing import BinaryIO, Iterator, Optional, Union, cast
 from zaklimot.format import Picture
 
 from .blessing import Blessing
-from .blocks import block_lines
 from .debugging import debug_page, link_to
 from .listing import Choice, Row, Script, heading, listed
-from .output import AGREED, DIFFERED, name_of, write
+from .output import AGREED, DIFFERED, counted, name_of, write
 from .page import run_page
-from .png import Shape, write_png
+from .png import Shape, block_lines, write_png
 from .program import FONTS, Built, Tried, build_program, found_program
 from .progress import Progress
 from .script import read_script
@@ -267,8 +266,8 @@ def _bless(words: argparse.Namespace, script: Script, blessing: Optional[Blessin
         write(f"{path}:{number}: {before or 'nothing'} -> {after}\n")
     if not words.dry_run and changes:
         write_over(path, blessing.text().encode("utf-8", "surrogateescape"))
-    count = f"{len(changes)} answer{'s' * (len(changes) != 1)}"
-    write(f"{path}: {count} {'would be written' if words.dry_run else 'written'}\n")
+    done = "would be written" if words.dry_run else "written"
+    write(f"{path}: {counted(len(changes), 'answer')} {done}\n")
     return AGREED
 
 

@@ -8,15 +8,14 @@ import shutil
 import sys
 import tempfile
 import time
-from concurrent.futures import ThreadPoolExecutor
 from pathlib import Path
 from threading import Event
 from typing import Callable, Iterator, NamedTuple, Optional
-from xml.sax.saxutils import escape, quoteattr
+from xml.etree.ElementTree import Element, SubElement, indent, tostring
 
 from . import TOP
-from .output import AGREED, DIFFERED, name_of, write
-from .processes import captured
+from .output import AGREED, DIFFERED, counted, name_of, write
+from .processes import captured, in_parallel
 from .progress import Progress
 from .streams import STANDARD, write_file, writing
 from .trouble import TROUBLE, Trouble
@@ -74,16 +73,11 @@ def _runs(words: argparse.Namespace, paths: list[Path], folder: Path, progress: 
         texts = (part.decode("utf-8", "replace") for part in (done.output, done.errors))
         return Ran(paths[number], done.status, *texts, time.monotonic() - begun, told)  # type: ignore[call-arg]
 
-    with ThreadPoolExecutor(words.jobs) as pool:
-        try:
-            for count, ran in enumerate(pool.map(run_one, range(len(paths))), 1):
-                if progress.is_due():
-                    progress.tell(f"{count} of {len(paths)} scripts: {ran.script}")
-                yield ran
-        except BaseException:
-            is_ended.set()
-            pool.shutdown(wait=False, cancel_futures=True)
-            raise
+    with in_parallel(run_one, range(len(paths)), words.jobs, is_ended) as found:
+        for count, ran in enumerate(found, 1):
+            if progress.is_due():
+                progress.tell(f"{count} of {len(paths)} scripts: {ran.script}")
+            yield ran
 
 
 def run_several(words: argparse.Namespace, progress: Progress) -> int:
@@ -105,7 +99,7 @@ def run_several(words: argparse.Namespace, progress: Progress) -> int:
             _write_json(words.json, ran)
     if words.junit is not None:
         write_file(words.junit, junit_text(name_of(words.script), ran).encode("utf-8", "xmlcharrefreplace"))
-    parts = [f"{len(ran)} script{'s' * (len(ran) != 1)}", f"{differ} differ{'s' * (differ == 1)}"]
+    parts = [counted(len(ran), "script"), f"{differ} differ{'s' * (differ == 1)}"]
     tell(", ".join(parts + ([f"{failed} can't be run"] if failed else [])) + "\n")
     return TROUBLE if failed else DIFFERED if differ else AGREED
 
@@ -125,19 +119,25 @@ def _write_json(path: str, ran: list[Ran]) -> None:
 
 def junit_text(name: str, ran: list[Ran]) -> str:
     """The results as JUnit's XML: a case for each script, whose failure has the answers that differ."""
-    counts = {word: sum(one.status == status for one in ran) for word, status in (("failures", 1), ("errors", 2))}
-    attributes = " ".join(f'{word}="{count}"' for word, count in counts.items())
-    total = sum(one.seconds for one in ran)
-    lines = ['<?xml version="1.0" encoding="UTF-8"?>']
-    lines.append(f'<testsuite name={quoteattr(name)} tests="{len(ran)}" {attributes} time="{total:.3f}">')
+    kinds = {DIFFERED: "failure", TROUBLE: "error"}
+    counts = {
+        f"{kind}s": str(sum(one.status == status for one in ran)) for status, kind in kinds.items()
+    }
+    time_of_all = f"{sum(one.seconds for one in ran):.3f}"
+    suite = Element(
+        "testsuite", name=_printable(name), tests=str(len(ran)), **counts, time=time_of_all
+    )
     for one in ran:
-        head = f'<testcase classname={quoteattr(name)} name={quoteattr(str(one.script))} time="{one.seconds:.3f}"'
-        text = one.output if one.status == DIFFERED else one.said
-        kind = "failure" if one.status == DIFFERED else "error"
-        first = text.split("\n")[0]
-        body = f"<{kind} message={quoteattr(_printable(first))}>{escape(_printable(text))}</{kind}>"
-        lines.append(f"  {head}/>" if one.status == AGREED else f"  {head}>{body}</testcase>")
-    return "\n".join([*lines, "</testsuite>", ""])
+        names = {
+            "classname": _printable(name), "name": _printable(str(one.script)),
+            "time": f"{one.seconds:.3f}",
+        }
+        case = SubElement(suite, "testcase", names)
+        if one.status in kinds:
+            text = _printable(one.output if one.status == DIFFERED else one.said)
+            SubElement(case, kinds[one.status], message=text.split("\n")[0]).text = text
+    indent(suite)
+    return '<?xml version="1.0" encoding="UTF-8"?>\n' + tostring(suite, "unicode") + "\n"
 
 
 def _printable(text: str) -> str:

@@ -4,6 +4,7 @@ from __future__ import annotations
 
 import io
 import os
+import re
 import stat
 import sys
 import tempfile
@@ -15,6 +16,8 @@ from .trouble import Trouble
 
 STANDARD = "-"
 NO_NAME = "the name of a file is empty"
+# Where a file that is filled in has a part.
+PLACE = re.compile("@([A-Z_]+)@")
 # So many bytes are dropped at a time.
 DRAINED = 1 << 16
 # The files that are read: where each is found, and what messages call it.
@@ -179,6 +182,11 @@ def write_over(path: str, data: bytes) -> None:
     """Writes a file anew that was read, where the user has asked for that."""
     _were_read.pop(path, None)
     write_file(path, data)
+
+
+def filled(path: Path, **parts: str) -> str:
+    """The text of a file, with these parts in the places that have their names, as `@NAME@`."""
+    return PLACE.sub(lambda place: parts[place[1]], path.read_text("ascii"))
 
 
 def length_of(stream: BinaryIO) -> int:

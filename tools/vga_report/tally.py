@@ -8,6 +8,7 @@ from typing import Any, BinaryIO, Iterator, Optional
 
 from .expecting import answer_of
 from .listing import Row
+from .output import counted
 
 # So many bytes of answers that differ stay in memory.
 MOST_TOLD = 1 << 20
@@ -42,8 +43,10 @@ class Tally:
 
     def text(self) -> str:
         """What was seen, as a line."""
-        parts = [_counted(self.steps, "step"), *([f"{self.refused} refused"] if self.refused else [])]
-        parts.append(_counted(self.pictures, "picture"))
+        parts = [
+            counted(self.steps, "step"), *([f"{self.refused} refused"] if self.refused else [])
+        ]
+        parts.append(counted(self.pictures, "picture"))
         if self.expected:
             parts.append(f"{self.met} of {self.expected} answers as expected")
         return ", ".join(parts)
@@ -52,10 +55,6 @@ class Tally:
         """The counts, for machines."""
         names = ("steps", "refused", "pictures", "expected", "met", "wrong")
         return {name: getattr(self, name) for name in names}
-
-
-def _counted(count: int, what: str) -> str:
-    return f"{count} {what}{'s' * (count != 1)}"
 
 
 class Told:

@@ -18,6 +18,14 @@ MODES = {
 PORTS = {0x3C4: "seq", 0x3D4: "crtc", 0x3B4: "crtc"}
 
 
+def bytes_written(step: Step) -> tuple[tuple[int, int], ...]:
+    """The ports that a step writes, each with its byte."""
+    if step.name not in ("out", "outw"):
+        return ()
+    port, value = step.numbers
+    return ((port, value),) if step.name == "out" else ((port, value & 0xFF), (port + 1, value >> 8))
+
+
 class Timing:
     """The registers that say how long a frame lasts, as the steps of a script write them."""
 
@@ -29,13 +37,9 @@ class Timing:
 
     def take(self, step: Step) -> None:
         """Takes a step."""
-        if step.name == "out":
-            self.out(*step.numbers)
-        elif step.name == "outw":
-            port, value = step.numbers
-            self.out(port, value & 0xFF)
-            self.out(port + 1, value >> 8)
-        elif step.name == "int" and step.numbers[0] >> 8 == 0 and step.numbers[0] & 0x7F in MODES:
+        for port, value in bytes_written(step):
+            self.out(port, value)
+        if step.name == "int" and step.numbers[0] >> 8 == 0 and step.numbers[0] & 0x7F in MODES:
             self._misc, *dots = MODES[step.numbers[0] & 0x7F]
             self._set_dots = (dots[0], bool(dots[1]))
 

@@ -1,4 +1,4 @@
-"""The number of the release, which is that of the library's interface: it stands in the header alone."""
+"""The library's header: the names of its calls, and its number, which is the release's."""
 
 from __future__ import annotations
 
@@ -10,6 +10,8 @@ from .trouble import Trouble
 
 HEADER = TOP / "include" / "zaklimot.h"
 COMMENT = re.compile(r"/\*.*?\*/", re.S)
+# A call: what it answers, its name, and the parenthesis of its parameters.
+CALL = re.compile(r"^(?:zak_status|uint32_t) (zak_\w+)\(", re.M)
 NUMBER = re.compile(r"^#define ZAK_API_(MAJOR|MINOR) (\d+)$", re.M)
 
 
@@ -26,6 +28,11 @@ class Version(NamedTuple):
 def without_comments(text: str) -> str:
     """The header's text, with a blank in the place of each comment."""
     return COMMENT.sub(" ", text)
+
+
+def calls_of(text: str) -> list[str]:
+    """The names of a header's calls, in its order."""
+    return CALL.findall(without_comments(text))
 
 
 def version_of(text: str) -> Version:

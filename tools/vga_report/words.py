@@ -9,7 +9,7 @@ from typing import Callable
 from . import TOP, cli
 from .progress import Progress
 from .reports import check, compare, pictures, text
-from .shots import compare_picture
+from .reports import compare_picture
 from .runs import DEFAULT_FONTS, run
 from .streams import to_read
 from .suite import scripts, suite
@@ -167,3 +167,7 @@ def parser() -> argparse.ArgumentParser:
     _add_cases(adding)
     _add_machine(adding)
     return made
+
+
+# Runs a command line, and answers its exit status.
+main = cli.runner(parser)

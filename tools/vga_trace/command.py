@@ -17,7 +17,7 @@ from vga_report.words import number_to, seconds
 
 from .checking import check
 from .converting import END, FLIP, Form, Frames, Listing, Wanted, convert
-from .kinds import count
+from .checking import count
 from .trace import Trace, opened
 
 KEEP, FIRST = "keep", "first"
@@ -141,6 +141,5 @@ def _kinds(words: argparse.Namespace, _: Progress) -> int:
     return AGREED
 
 
-def main(words: Optional[Sequence[str]] = None) -> int:
-    """Runs a command line, and answers its exit status."""
-    return cli.main(_parser, words)
+# Runs a command line, and answers its exit status.
+main = cli.runner(_parser)

@@ -9,7 +9,7 @@ from typing import BinaryIO, Iterable, Iterator, Optional, Union
 from vga_report.trouble import Trouble
 from zaklimot.format import FIRST_LINE, HEADERS, MOST_BYTES, MOST_STEPS
 
-from .cycle import Cycle
+from .trace import Cycle
 from .folding import Coded, Row, alone, folded
 from .passing import Flips, Pauses, with_frames_every
 from .rebuilding import rebuilt

@@ -4,9 +4,9 @@ from __future__ import annotations
 
 from typing import Iterator
 
-from .beam import TAKEN
-from .memory import PLANE_BYTES, PLANES
-from .registers import PROTECT
+from .state import TAKEN
+from .state import PLANE_BYTES, PLANES
+from .state import PROTECT
 from .state import ATTRIBUTE, DAC_DATA, DAC_WRITE, ENABLE_MEMORY, GRAPHICS, MASK, MISC, SEQUENCER, STATUS, State
 from .step import ADVANCE, GET, IN, OUT, OUTW, PUT, PUTW, READS, Step
 

@@ -2,11 +2,8 @@
 
 from __future__ import annotations
 
-from typing import Optional, Sequence
+from typing import Mapping, NamedTuple, Optional, Sequence
 
-from .beam import Beam, Shape
-from .memory import Memory
-from .registers import Attributes, Bank, Controller, Dac
 from .step import ADVANCE, FRAME, GET, GETW, IN, INW, OUT, OUTW, PUT, PUTW, Step
 
 ATTRIBUTE, ATTRIBUTE_READ, MISC, SEQUENCER, MASK = 0x3C0, 0x3C1, 0x3C2, 0x3C4, 0x3C6
@@ -18,6 +15,21 @@ STATUS = 6
 IS_COLOUR, ENABLE_MEMORY, MISC_KEPT = 0x01, 0x02, 0xEF
 # First address and bytes of the window, by the memory map.
 WINDOWS = ((0xA0000, 0x20000), (0xA0000, 0x10000), (0xB0000, 0x8000), (0xB8000, 0x8000))
+PLANE_BYTES, PLANES = 1 << 16, 4
+# A byte in each of the four bytes of a word, and words of which the bytes of some planes are FF.
+EACH = 0x01010101
+SPREAD = tuple(sum(0xFF << 8 * plane for plane in range(PLANES) if planes >> plane & 1) for planes in range(16))
+EVEN, ODD = 0b0101, 0b1010
+AND, OR, XOR = 1, 2, 3
+COMPONENTS, ENTRIES = 3, 256
+# The index of the attribute controller: the palette address source; and how many registers are the palette.
+SOURCE, PALETTE = 0x20, 0x10
+# Bits of the end of vertical retrace and of overflow: what protects registers 0 to 7, and what is never protected.
+PROTECT, COMPARE_8 = 0x80, 0x10
+# Frames are counted modulo so many: the cursor and blinking text go by this number.
+FRAMES = 32
+# The CRT controller's registers that are taken at a frame's first dot: preset row scan, start address.
+TAKEN = (0x08, 0x0C, 0x0D)
 
 
 class State:
@@ -160,3 +172,285 @@ class State:
         if port == ATTRIBUTE_READ:
             return self.attr.read()
         return {ATTRIBUTE: self.attr.index, MASK: self.dac.mask, DAC_WRITE: self.dac.index, MISC_READ: self.misc}[port]
+
+
+class Memory:
+    """The planes. A word has the four bytes of an offset, that of plane 0 lowest; so have the latches.
+
+    `place` is an address less the first of its window; `seq` and `gfx` are the registers of the sequencer and of the
+    graphics controller, as they can be held.
+    """
+
+    def __init__(self) -> None:
+        self.words = [0] * PLANE_BYTES
+        self.latches = 0
+
+    def put(self, place: int, value: int, seq: Sequence[int], gfx: Sequence[int]) -> None:
+        """Writes a byte. The latches stay."""
+        reached = SPREAD[self._reached(place, seq)]
+        offset = self._offset(place, seq, gfx)
+        stored = self.latches if gfx[5] & 3 == 1 else self._stored(value, gfx)
+        self.words[offset] = self.words[offset] & ~reached | stored & reached
+
+    def get(self, place: int, seq: Sequence[int], gfx: Sequence[int]) -> int:
+        """Reads a byte, which loads the latches."""
+        self.latches = self.words[self._offset(place, seq, gfx)]
+        if gfx[5] & 8:
+            return self._compared(gfx)
+        if seq[4] & 8:
+            plane = place & 3
+        else:
+            plane = gfx[4] & 2 | place & 1 if gfx[5] & 0x10 else gfx[4]
+        return self.latches >> 8 * plane & 0xFF
+
+    def _offset(self, place: int, seq: Sequence[int], gfx: Sequence[int]) -> int:
+        """The offset in the planes: by chain 4, by chain odd/even, or the place itself."""
+        if seq[4] & 8:
+            return place & 0xFFFC
+        return place & 0xFFFE if gfx[6] & 2 else place
+
+    def _reached(self, place: int, seq: Sequence[int]) -> int:
+        """The planes that a write reaches."""
+        if seq[4] & 8:
+            return seq[2] & 1 << (place & 3)
+        if seq[4] & 4:
+            return seq[2]
+        return seq[2] & (ODD if place & 1 else EVEN)
+
+    def _stored(self, value: int, gfx: Sequence[int]) -> int:
+        """What write modes 0, 2 and 3 store in all planes."""
+        mode, mask, latches = gfx[5] & 3, gfx[8], self.latches
+        rotated = (value << 8 | value) >> (gfx[3] & 7) & 0xFF
+        if mode == 0:
+            set_planes = SPREAD[gfx[1]]
+            data = rotated * EACH & ~set_planes | SPREAD[gfx[0]] & set_planes
+        elif mode == 2:
+            data = SPREAD[value & 0xF]
+        else:
+            data, mask = SPREAD[gfx[0]], mask & rotated
+        function = gfx[3] >> 3
+        if function == AND:
+            data &= latches
+        elif function == OR:
+            data |= latches
+        elif function == XOR:
+            data ^= latches
+        mask *= EACH
+        return data & mask | latches & ~mask
+
+    def _compared(self, gfx: Sequence[int]) -> int:
+        """Read mode 1: a 1 where each plane that counts has the bit of colour compare."""
+        differing = (self.latches ^ SPREAD[gfx[2]]) & SPREAD[gfx[7]]
+        differing |= differing >> 16
+        return ~(differing | differing >> 8) & 0xFF
+
+
+class Bank:
+    """Registers behind an index.
+
+    `kept` has the bits that each register keeps, `index_kept` those of the index. `wanted` has, of some registers, bits
+    and the value that these must have, or a write is refused.
+    """
+
+    def __init__(self, kept: str, index_kept: int, wanted: Mapping[int, tuple[int, int]]) -> None:
+        self._kept = bytes.fromhex(kept)
+        self._index_kept = index_kept
+        self._wanted = wanted
+        self.registers = [0] * len(self._kept)
+        self.index = 0
+
+    @property
+    def number(self) -> int:
+        """The number of the register that the index names."""
+        return self.index & 0x1F
+
+    @property
+    def has_register(self) -> bool:
+        """Whether there is such a register."""
+        return self.number < len(self.registers)
+
+    def choose(self, index: int) -> None:
+        """Writes the index."""
+        self.index = index & self._index_kept
+
+    def takes(self, value: int) -> bool:
+        """Whether the register of the index takes a value."""
+        bits, value_wanted = self._wanted.get(self.number, (0, 0))
+        return self.has_register and value & bits == value_wanted
+
+    def read(self) -> int:
+        """The register of the index."""
+        return self.registers[self.number]
+
+    def write(self, value: int) -> None:
+        """Writes the register of the index, which is there."""
+        self.registers[self.number] = value & self._kept[self.number]
+
+
+class Controller(Bank):
+    """The CRT controller, whose first eight registers may be protected."""
+
+    def __init__(self) -> None:
+        kept = "FF" * 8 + "7FFF3F7F" + "FF" * 8 + "7FFFFFEFFF"
+        super().__init__(kept, 0x1F, {0x14: (0x20, 0), 0x17: (0x0F, 0x03)})
+        self.registers[0x17] = 0x03
+
+    def write(self, value: int) -> None:
+        """Writes the register of the index; of one that is protected, the bit of line compare alone."""
+        if not (self.registers[0x11] & PROTECT and self.number < 8):
+            super().write(value)
+        elif self.number == 7:
+            self.registers[7] = self.registers[7] & ~COMPARE_8 | value & COMPARE_8
+
+
+class Attributes(Bank):
+    """The attribute controller, which takes an index and data in turn."""
+
+    def __init__(self) -> None:
+        super().__init__("3F" * PALETTE + "EFFF3F0F0F", 0x3F, {})
+        self.is_data = False
+
+    def takes_next(self) -> bool:
+        """Whether what is written next is taken."""
+        return not self.is_data or self.has_register
+
+    def write_next(self, value: int) -> None:
+        """Writes the index or the data, whichever is next. While the palette is looked at, it isn't written."""
+        if not self.is_data:
+            self.choose(value)
+        elif not (self.index & SOURCE and self.number < PALETTE):
+            self.write(value)
+        self.is_data = not self.is_data
+
+
+class Dac:
+    """The DAC: 256 entries of three components, one index, and red and green that wait for blue."""
+
+    def __init__(self) -> None:
+        self.components = [0] * (COMPONENTS * ENTRIES)
+        self.mask, self.index, self.next = 0xFF, 0, 0
+        self.waiting = [0, 0]
+
+    def choose(self, index: int) -> None:
+        """Writes the index; red is next."""
+        self.index, self.next = index, 0
+
+    def write(self, value: int) -> None:
+        """Writes the next component."""
+        if self.next < len(self.waiting):
+            self.waiting[self.next] = value & 0x3F
+        else:
+            at = COMPONENTS * self.index
+            self.components[at:at + COMPONENTS] = [*self.waiting, value & 0x3F]
+        self._go_on()
+
+    def read(self) -> int:
+        """Reads the next component."""
+        value = self.components[COMPONENTS * self.index + self.next]
+        self._go_on()
+        return value
+
+    def _go_on(self) -> None:
+        self.next = (self.next + 1) % COMPONENTS
+        if self.next == 0:
+            self.index = (self.index + 1) % ENTRIES
+
+
+class Shape(NamedTuple):
+    """The dots of a character, the characters of a line, and the lines of a frame."""
+
+    dots: int
+    characters: int
+    lines: int
+
+    @classmethod
+    def of(cls, seq: Sequence[int], crtc: Sequence[int]) -> Shape:
+        """The shape that registers choose."""
+        lines = crtc[6] + ((crtc[7] & 1) << 8) + ((crtc[7] >> 5 & 1) << 9) + 2
+        return cls(8 if seq[1] & 1 else 9, crtc[0] + 5, lines)
+
+    @property
+    def line(self) -> int:
+        """The dots of a line."""
+        return self.dots * self.characters
+
+    @property
+    def frame(self) -> int:
+        """The dots of a frame."""
+        return self.line * self.lines
+
+
+class Beam:
+    """Where the next dot is: frame, line, character and dot of it.
+
+    A place that registers have since left outside is as good as the last one: what it is in ends with the next dot.
+    """
+
+    def __init__(self) -> None:
+        self.frame = self.line = self.character = self.dot = 0
+        # What was taken of the registers at the first dot of the frame under way.
+        self.taken = dict.fromkeys(TAKEN, 0)
+
+    @property
+    def is_at_begin(self) -> bool:
+        """Whether the next dot is a frame's first."""
+        return not (self.line or self.character or self.dot)
+
+    def drawn(self, shape: Shape) -> int:
+        """The dots of the frame under way that are drawn; of a place that is outside, those up to the last one inside."""
+        line, character = min(self.line, shape.lines - 1), min(self.character, shape.characters - 1)
+        return line * shape.line + character * shape.dots + min(self.dot, shape.dots - 1)
+
+    def advance(self, dots: int, shape: Shape, crtc: Sequence[int]) -> None:
+        """Goes on by so many dots."""
+        frame, was_at_begin = self.frame, self.is_at_begin
+        left = self._end_line(self._end_character(dots, shape), shape)
+        if left:
+            frames, rest = divmod(self.line * shape.line + left, shape.frame)
+            self.frame += frames
+            self.line, rest = divmod(rest, shape.line)
+            self.character, self.dot = divmod(rest, shape.dots)
+        if (was_at_begin or self.frame != frame) and not self.is_at_begin:
+            self.taken = {index: crtc[index] for index in TAKEN}
+        self.frame %= FRAMES
+
+    def end_frame(self) -> None:
+        """Goes on to the end of the frame."""
+        self.frame = (self.frame + 1) % FRAMES
+        self.line = self.character = self.dot = 0
+
+    def _end_character(self, dots: int, shape: Shape) -> int:
+        """Goes on to the end of the character, or by so many dots; the dots that are left."""
+        to_end = max(shape.dots - self.dot, 1) if self.dot else 0
+        if dots < to_end:
+            self.dot += dots
+            return 0
+        if to_end:
+            self.dot = 0
+            self.character += 1
+            self._wrap(shape)
+        return dots - to_end
+
+    def _end_line(self, dots: int, shape: Shape) -> int:
+        """From a character's first dot, goes on to the end of the line, or by so many dots; the dots that are left."""
+        is_amid = self.character > 0 or self.line >= shape.lines
+        to_end = max(shape.characters - self.character, 1) * shape.dots if is_amid else 0
+        if dots == 0:
+            return 0
+        if dots < to_end:
+            passed, self.dot = divmod(dots, shape.dots)
+            self.character += passed
+            return 0
+        if to_end:
+            self.character = shape.characters
+            self._wrap(shape)
+        return dots - to_end
+
+    def _wrap(self, shape: Shape) -> None:
+        """Ends the line where its last character is behind, and with the last line the frame."""
+        if self.character >= shape.characters:
+            self.character = 0
+            self.line += 1
+            if self.line >= shape.lines:
+                self.line = 0
+                self.frame += 1

@@ -7,7 +7,7 @@ from typing import Iterable, Iterator, NamedTuple, Optional
 from vga_report import format
 from zaklimot.format import FORMS
 
-from .cycle import PORT, VBE, Cycle
+from .trace import PORT, VBE, Cycle
 
 # The steps that cycles become, and those between them, by their opcodes.
 NAMES = {FORMS[name].opcode: name for name in ("out", "outw", "in", "inw", "put", "putw", "get", "getw", "advance", "frame")}
@@ -35,11 +35,6 @@ class Step(NamedTuple):
     def is_port(self) -> bool:
         """Whether the step is a cycle of a port."""
         return self.opcode in PORTS
-
-    @property
-    def is_memory(self) -> bool:
-        """Whether the step is a cycle of display memory."""
-        return PUT <= self.opcode <= GETW
 
     @property
     def is_status(self) -> bool:

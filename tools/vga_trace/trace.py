@@ -1,4 +1,4 @@
-"""A trace, cycle by cycle: qemu's log, or lines of the plain form."""
+"""A trace, cycle by cycle: what software did to the VGA, by qemu's log or in the plain form."""
 
 from __future__ import annotations
 
@@ -7,14 +7,17 @@ import io
 import re
 import zlib
 from contextlib import contextmanager
-from typing import BinaryIO, Iterator, Optional
+from typing import BinaryIO, Iterator, NamedTuple, Optional
 
 from vga_report.output import name_of
 from vga_report.streams import reading
 from vga_report.trouble import Trouble
 
-from .cycle import MEMORY, PORT, VBE, Cycle
-
+# Where a cycle goes: a port, display memory, or a port of the Bochs VBE extensions, which is none of a VGA's.
+PORT, MEMORY, VBE = "port", "memory", "vbe"
+SIZES = (1, 2, 4, 8)
+# Addresses above these are none.
+MOST_PORT, MOST_ADDRESS = 0xFFFF, 0xFFFFFFFF
 # Longer lines are none of a trace's, and no trace has more before its first cycle.
 MOST_LINE, MOST_BEFORE = 1 << 16, 1 << 26
 GZIP = b"\x1f\x8b"
@@ -35,6 +38,26 @@ PLAIN = re.compile(
 )
 # A line of the plain form without a cycle: blanks, and a comment.
 PASSED = re.compile(rb"\s*(?:;.*)?", re.DOTALL)
+
+class Cycle(NamedTuple):
+    """A cycle of 1, 2, 4 or 8 bytes. The value is what was written or read; the time is in microseconds, if known."""
+
+    is_write: bool
+    space: str
+    address: int
+    value: int
+    size: int
+    time: Optional[int]
+
+    def fault(self) -> Optional[str]:
+        """Why there can't be such a cycle, if there can't."""
+        if self.size not in SIZES:
+            return f"a cycle has 1, 2, 4 or 8 bytes, and not {self.size}"
+        if self.value >> 8 * self.size:
+            return f"the value {self.value:X} has more than {self.size} bytes"
+        if self.address + self.size - 1 > (MOST_ADDRESS if self.space == MEMORY else MOST_PORT):
+            return f"there is no {self.space} of address {self.address:X}"
+        return None
 
 
 class Trace:

@@ -5,7 +5,7 @@ from __future__ import annotations
 from itertools import islice
 from typing import Iterator, Optional
 
-from .cycle import MEMORY, VBE, Cycle
+from .trace import MEMORY, VBE, Cycle
 from .trace import Trace
 
 MISCELLANEOUS_OUTPUT = 0x3C2

@@ -1,0 +1,219 @@
+"""What all tools refuse: words that mean nothing, endless files, and to write what is read."""
+
+from __future__ import annotations
+
+import os
+import resource
+import sys
+import unittest
+from pathlib import Path
+
+from vga_floppy.image import image_for
+from zaklimot.format import parse_text
+
+from .floppy import Adapter, Machine
+from .making import BLACK, ppm, report
+from .tools import Folder, run_tool
+
+# Each tool may take so much memory, in bytes.
+MEMORY = 1 << 30
+# Where a completion lies below the folder of a manual.
+FISH = "share/fish/vendor_completions.d/vga.fish"
+PICTURE, OTHER = ppm(9, 1, BLACK * 9), ppm(9, 1, b"\x3f\0\0" * 9)
+# A floppy's image with what a run has left.
+IMAGE = Machine(image_for({"": parse_text("frame\n")}, "s"), Adapter()).run()
+# What stands in the place of a program: it answers each script with the picture of the report `r`.
+PROGRAM = "#!/bin/sh\n[ \"$1\" = go ] && exec cat \"${0%/*}/r\"\nexit 0\n"
+FILES: dict[str, str | bytes] = {
+    "r": report(PICTURE), "r2": report(OTHER), "i": PICTURE, "s.vga": "frame\n", "m": IMAGE,
+    "t": "- w p 3C4 02 1\n", "empty/notes": "", "made/share": "", f"full/{FISH}/file": "",
+}
+# The words of tools, and what is said of them. {o} is a file that is not there, {d} the folder.
+REFUSED = {
+    # Files without an end.
+    "report run /dev/zero --vga /bin/true":
+        "/dev/zero: F6 TooLong: a script has at most 16,777,216 bytes\n",
+    "report run {s} --fonts /dev/zero --debug {o}": "/dev/zero: it has more than 16,777,216 bytes",
+    "report text /dev/zero": "/dev/zero:1: the line is longer than any answer",
+    "report pictures {r} --apng {o} --script /dev/zero": "F6 TooLong: ",
+    "report compare-picture {r} 1 /dev/zero": "/dev/zero: it has more than 67,108,864 bytes",
+    "report check {r} /dev/zero": "/dev/zero:1: ",
+    "report suite true{{script}} --list /dev/zero": "/dev/zero: it has more than 16,777,216 bytes",
+    "picture script /dev/zero {o} --mode 13": "/dev/zero: it has more than 67,108,864 bytes",
+    "picture script {i} {o} --mode 3 --scale --fonts /dev/zero": "/dev/zero: it has more than 16,777,216 bytes",
+    "trace convert /dev/zero {o}": "/dev/zero:1: the line is longer than any of a trace",
+    "floppy make /dev/zero {o}": "F6 TooLong: ",
+    "floppy table /dev/full {r}": "/dev/full: it has more than 16,777,216 bytes",
+    "floppy table {s} /dev/zero": "it lacks the marks",
+    "page make {o} --module /dev/zero": "",
+    # What is wrong with folders and files is said before any work.
+    "library make {s}": "s.vga: it is not a folder",
+    "library make {s}/kit": "s.vga: it is not a folder",
+    "library make {o} --archive /dev/zero": "/dev/zero: there is no such file",
+    "library make {o} --archive no-such-file": "vga-library: no-such-file: there is no such file\n",
+    "library install --prefix usr": "vga-library: usr: a prefix begins with a slash\n",
+    "library install --prefix /usr --libdir /lib":
+        "vga-library: /lib: the folder of libraries is named from the prefix",
+    "release {s}": "s.vga: it is not a folder",
+    "release {o} --program /dev/zero": "/dev/zero: there is no such file",
+    "page make {s}/page": "there is no such folder",
+    "report run {s} --pictures {r} --try": "r: it is not a folder",
+    "report run {s} --pictures {s}": "it is not a folder",
+    "report run {s} --html {s}/page --try": "there is no such folder",
+    "report run {d}/empty": "it has no script: their names end with .vga or .bin",
+    "report pictures {r} {r}": "vga-report: {r}: it is not a folder\n",
+    "manual make {s} --vga {p}": "vga-manual: {s}: it is not a folder\n",
+    "manual make {d}/made --vga {p}": "vga-manual: {d}/made/share: it is not a folder\n",
+    "manual make {d}/full --vga {p}": f"vga-manual: {{d}}/full/{FISH}: it is a folder\n",
+    "manual make {o} --vga /bin/true":
+        "vga-manual: /bin/true --help:1: its usage does not begin with `vga`\n",
+    "manual make  --vga {p}": "vga-manual: the name of a file is empty\n",
+    "report text ": "vga-report: the name of a file is empty\n",
+    "report run  --vga {p}": "vga-report: the name of a file is empty\n",
+    "trace convert {t} ": "the name of a file is empty",
+    # Files that are not there.
+    "report text {o}": "vga-report: {o}: No such file or directory\n",
+    "report run {s} --vga {o}": "vga-report: {o}: No such file or directory\n",
+    "trace kinds {o}": "vga-trace: {o}: No such file or directory\n",
+    "picture script {o} - --mode 13": "vga-picture: {o}: No such file or directory\n",
+    "floppy make {o} {d}/image": "vga-floppy: {o}: No such file or directory\n",
+    "floppy make {d} {o}": "vga-floppy: {d}: Is a directory\n",
+    "fuzz {o}": "it is no program",
+    "fuzz {d}": "it is no program",
+    "fuzz /bin/true": "vga asm: status 0, and it has written no script",
+    # Disks that are full.
+    "picture script {i} {o} --mode 13 --scale --picture /dev/full": "/dev/full: No space left on device",
+    "picture script {i} /dev/full --mode 13 --scale":
+        "vga-picture: /dev/full: No space left on device\n",
+    "trace convert {t} /dev/full": "vga-trace: /dev/full: No space left on device\n",
+    "floppy make {s} /dev/full": "vga-floppy: /dev/full: No space left on device\n",
+    "floppy read {m} /dev/full": "vga-floppy: /dev/full: No space left on device\n",
+    # Standard input can be read once.
+    "report compare - -": "vga-report: standard input can be read once\n",
+    "picture script - - --mode 3 --fonts -": "vga-picture: standard input can be read once\n",
+    "trace check - -": "vga-trace: standard input can be read once\n",
+    # Words that contradict one another, or lack something.
+    "report run {d} --vga {p} --bless": "a folder of scripts, and --junit, want none of --bless",
+    "report run {s} --vga {p} --dry-run": "--dry-run tells what --bless would write",
+    "report run - --vga {p} --bless": "--bless writes into the script, whole: it wants a file",
+    "report run - --vga {p} --watch": "--watch wants a file that changes",
+    "report run - --vga {p} --junit {o}": "--junit wants a file or a folder",
+    "report run {s} --html - --show": "--html writes a page that has the pictures",
+    "report pictures {r}": "the pictures want a folder, or --apng a file",
+    "report pictures {r} {o} --apng {o}": "--apng writes one file, with neither a folder nor --ppm",
+    "report pictures {r} {o} --ppm --aspect": "--ppm gives the bytes as they are",
+    "report scripts -": "vga-report: the files want a folder\n",
+    "trace": "usage: vga-trace",
+    "trace convert {t}": "usage: vga-trace",
+    "trace convert {t} {o} --frames 0": "'0' is no number of seconds",
+    "trace kinds {t} --to 0": "argument --to: '0' is no number",
+    "trace kinds {t} --from 300 --to 100": "--from 300 is behind --to 100: no cycle is both",
+    "trace convert {t} - --from 300 --to 100": "--from 300 is behind --to 100: no cycle is both",
+    "picture script - -": "usage: vga-picture",
+    "picture script - - --mode 7": "usage: vga-picture",
+    "picture script - - --mode 13 --scale --fit": "usage: vga-picture",
+    "picture script - - --mode 13 --nearest --dither floyd": "usage: vga-picture",
+    "picture script - - --mode 13 --dither none": "usage: vga-picture",
+    "picture script - - --mode 13 --dither refused": "usage: vga-picture",
+    # Numbers have ranges.
+    "report run {s} --until -1 --vga {p}": "'-1' is no number from 0 to 4294967295\n",
+    **{
+        f"{words} {option} {number}": f"argument {option}: '{number}' is no number"
+        for words, option, numbers in (
+            (
+                "report suite x{{script}}", "--timeout", "-1 0 nan inf"
+            ), ("report suite x{{script}}", "--jobs", "0 1000"),
+            ("report suite x{{script}}", "--output", "-1"), (
+                "report pictures r f", "--scale", "0 1001 +1"
+            ),
+            (
+                "report pictures r f", "--step", "-1"
+            ), ("report run {s}", "--until", "-1"), ("fuzz", "--timeout", "0"),
+            ("fuzz", "--memory", "0 -1"), ("fuzz", "--output", "0"), ("fuzz", "--seconds", "0 nan"),
+        )
+        for number in numbers.split()
+    },
+}
+# Words of the tools, in which the file {in} is read, what it has, and the other name of it in the
+# folder, which would
+# be written.
+READ_AND_WRITTEN = [
+    ("report run {s} --vga {p} --fonts {in} --html {out}", "font", "out"),
+    ("report run {in} --vga {p} --json {out}", "frame\n", "out"),
+    ("report run {in} --vga {p} --junit {out}", "frame\n", "out"),
+    ("report run {in} --vga {p} --pictures {d}", "frame\n", "0001.png"),
+    ("report run {s} --vga {in} --html {out}", PROGRAM, "out"),
+    ("report run {s} --vga {in} --debug {out} --html {o}", PROGRAM, "out"),
+    ("report run {in} --vga {p} --html {out}", "frame\n", "out"),
+    ("report pictures {r} --apng {out} --script {in}", "frame\n", "out"),
+    ("report pictures {in} --apng {out}", report(PICTURE), "out"),
+    ("report pictures {in} {d} --ppm", report(PICTURE), "0001.ppm"),
+    ("report pictures {in} {d}", report(PICTURE), "0001.png"),
+    ("report compare {in} {r2} --picture {out}", report(PICTURE), "out"),
+    ("report compare {r2} {in} --picture {out}", report(PICTURE), "out"),
+    ("report compare {r2} {in} --html {out}", report(PICTURE), "out"),
+    ("report compare-picture {r2} 1 {in} --picture {out}", PICTURE, "out"),
+    ("picture script {in} {out} --mode 13 --scale", PICTURE, "out"),
+    ("picture script {i} {o} --mode 13 --scale --picture {out} --fonts {in}", "font", "out"),
+    ("trace convert {in} {out}", "- w p 3C4 02 1\n", "out"),
+    ("floppy make {in} {out}", "frame\n", "out"),
+    ("floppy read {in} {out}", IMAGE, "out"),
+    ("page make {out} --module {in}", "module", "out"),
+    ("manual make {d} --vga {in}", PROGRAM, FISH),
+]
+
+
+@unittest.skipUnless(sys.platform == "linux", "the limits are those of Linux")
+class Refused(Folder):
+    def setUp(self) -> None:
+        super().setUp()
+        for name, content in FILES.items():
+            self.write(name, content)
+        self.places = {
+            name.removesuffix(".vga"): str(self.folder / name) for name in (*FILES, "o", "in")
+        }
+        self.places.update(p=self.program("p", PROGRAM), d=str(self.folder))
+
+    def files(self) -> list[Path]:
+        """All that is in the folder."""
+        return sorted(self.folder.rglob("*"))
+
+    def said(self, words: str) -> tuple[bytes, str]:
+        """What a tool writes and says that is to do nothing, with little memory and no input."""
+        tool, *rest = words.split(" ")
+        status, output, said = run_tool(
+            f"vga-{tool}", *(word.format(**self.places) for word in rest),
+            preexec_fn=lambda: resource.setrlimit(resource.RLIMIT_AS, (MEMORY, MEMORY)),
+        )
+        self.assertEqual(status, 2, said)
+        self.assertNotIn("Traceback", said)
+        return output, said
+
+    def test_each_is_told_and_nothing_is_written(self) -> None:
+        before = self.files()
+        for words, told in REFUSED.items():
+            with self.subTest(words):
+                output, said = self.said(words)
+                self.assertEqual(output, b"")
+                wanted = told.format(**self.places)
+                is_whole = told.startswith("vga-") and told.endswith("\n")
+                self.assertTrue(said == wanted if is_whole else wanted in said, said)
+                self.assertEqual(self.files(), before)
+
+    def test_what_is_read_is_not_written_under_whatever_name(self) -> None:
+        for words, content, name in READ_AND_WRITTEN:
+            for link in (os.link, os.symlink):
+                with self.subTest(words, link=link.__name__):
+                    (self.folder / "in").unlink(missing_ok=True)
+                    write = self.program if content == PROGRAM else self.write
+                    path = Path(write("in", content))
+                    other = self.folder / name
+                    other.parent.mkdir(parents=True, exist_ok=True)
+                    link(path, other)
+                    self.places["out"] = str(other)
+                    before = path.read_bytes(), self.files()
+                    _, said = self.said(words)
+                    self.assertIn(f"{other}: it is read as {path}, so it isn't written\n", said)
+                    self.assertEqual((path.read_bytes(), self.files()), before)
+                    self.assertEqual(other.read_bytes(), before[0])
+                    other.unlink()

@@ -1,0 +1,117 @@
+"""How tests run the tools: in folders of their own, with fake programs, and ended by signals."""
+
+from __future__ import annotations
+
+import contextlib
+import io
+import os
+import signal
+import subprocess
+import sys
+import tempfile
+import time
+import unittest
+from pathlib import Path
+from typing import Any, Callable, Optional
+
+from .making import report
+
+TOOLS = Path(__file__).resolve().parents[1]
+TOP = TOOLS.parent
+EXAMPLES = TOP / "examples"
+# The signals that end a tool, and its exit status then.
+SIGNALS = ((signal.SIGTERM, 143), (signal.SIGHUP, 129), (signal.SIGINT, 130))
+# A child that is to be there is waited for this many seconds.
+WAITING = 60
+
+
+def run_tool(
+    name: str, *words: str | Path, given: bytes = b"", **options: Any
+) -> tuple[int, bytes, str]:
+    """Exit status, output and standard error of a tool; `options` go to `subprocess.run`."""
+    words_of_all = [sys.executable, TOOLS / name, *words]
+    done = subprocess.run(words_of_all, input=given, capture_output=True, timeout=200, **options)
+    return done.returncode, done.stdout, done.stderr.decode()
+
+
+def call(main: Callable[[list[str]], int], *words: str | Path) -> tuple[int, str, str]:
+    """The same of a tool's `main`, which is called here."""
+    output, errors = io.StringIO(), io.StringIO()
+    with contextlib.redirect_stdout(output), contextlib.redirect_stderr(errors):
+        status = main([str(word) for word in words])
+    return status, output.getvalue(), errors.getvalue()
+
+
+def _heed_signals() -> None:
+    # What runs in the background of a shell ignores some of them, and so would a tool.
+    for number, _ in SIGNALS:
+        signal.signal(number, signal.SIG_DFL)
+
+
+def begin(name: str, *words: str | Path, **options: Any) -> subprocess.Popen[bytes]:
+    """A tool that has begun, with pipes for its streams; `options` go to `subprocess.Popen`."""
+    given = {
+        "stdout": subprocess.PIPE, "stderr": subprocess.PIPE, "preexec_fn": _heed_signals, **options
+    }
+    return subprocess.Popen([sys.executable, TOOLS / name, *words], **given)
+
+
+def is_running(number: int) -> bool:
+    """Whether a process runs. One that has ended and that nobody has asked for is none."""
+    try:
+        state = Path(f"/proc/{number}/stat").read_text().rpartition(")")[2].split()[0]
+    except OSError:
+        return False
+    return state not in ("Z", "X")
+
+
+class Folder(unittest.TestCase):
+    """A test with files of its own."""
+
+    def setUp(self) -> None:
+        folder = tempfile.TemporaryDirectory()
+        self.addCleanup(folder.cleanup)
+        self.folder = Path(folder.name)
+
+    def write(self, name: str, text: str | bytes) -> str:
+        """Writes a file, and answers its path."""
+        path = self.folder / name
+        path.parent.mkdir(parents=True, exist_ok=True)
+        path.write_bytes(text.encode() if isinstance(text, str) else text)
+        return str(path)
+
+    def program(self, name: str, text: str) -> str:
+        """Writes a program: of the shell, or of Python, where it has no line that names another."""
+        path = self.write(name, text if text.startswith("#!") else f"#!{sys.executable}\n{text}")
+        os.chmod(path, 0o755)
+        return path
+
+    def report(self, name: str, *answers: str | bytes) -> str:
+        """A report as a file."""
+        return self.write(name, report(*answers))
+
+    def names(self) -> list[str]:
+        """The names of all that is in the folder."""
+        return sorted(path.name for path in self.folder.iterdir())
+
+    def patch(self, *patches: Any) -> None:
+        """Begins patches of `mock`, which end with the test."""
+        for patch in patches:
+            patch.start()
+            self.addCleanup(patch.stop)
+
+    def wait_for(self, path: Path, process: Optional[subprocess.Popen[bytes]] = None) -> str:
+        """Waits until a file has a whole line, as long as a process runs; what it has."""
+        until = time.monotonic() + WAITING
+        while not (path.exists() and path.read_text().endswith("\n")):
+            self.assertLess(time.monotonic(), until, f"{path} is not written")
+            self.assertTrue(process is None or process.poll() is None)
+            time.sleep(0.01)
+        return path.read_text()
+
+    def assert_ended(self, *numbers: int) -> None:
+        """That processes end soon."""
+        until = time.monotonic() + 10
+        while any(map(is_running, numbers)) and time.monotonic() < until:
+            time.sleep(0.01)
+        self.assertEqual([number for number in numbers if is_running(number)], [])
