@@ -189,9 +189,12 @@ class Pages(Fakes):
         sections = dict(re.findall(r"^\.SH (.*)\n((?:(?!\.SH ).*\n)+)", page, re.M))
         self.assertEqual(list(sections), [
             "NAME", "SYNOPSIS", "DESCRIPTION", "OPTIONS", "COMMANDS", "EXAMPLES", "EXIT STATUS",
-            "SEE ALSO",
+            "VERSION", "SEE ALSO",
         ])
+        # The program's number is that of the library's header, and stands nowhere else.
         self.assertIn(f'.TH VGA 1 "" "Zaklimot {version()}" ', page)
+        told = f"vga {version()}"
+        self.assertEqual((sections["VERSION"], page.count(told)), (f"{told}\n", 1))
         name = "vga \\- a VGA display adapter that is driven by a script\n"
         status = "The status is 0 for success, 1 for a fault, and 2 for words that name no job.\n"
         self.assertEqual((sections["NAME"], sections["EXIT STATUS"]), (name, status))
@@ -334,6 +337,8 @@ BAD = (
     ("vga", "Options:", "Commands:", "--help:12: `Commands:` stands in it twice"),
     ("vga", "  dis ", "  Dis ", f"--help:7: {FORM} a command"),
     ("vga", "The status is", "It is", "--help: it says nothing of the exit status"),
+    ("vga", f"\nvga {version()}", "\nvga one",
+     "--help: it has not one line that tells the version, as `vga 1.0`"),
     ("vga", "of steps", "of\x1b", "--help:21: it has a character that is not printable"),
     ("asm", "asm <", "dis <", "asm --help:3: its usage does not begin with `vga asm`"),
     ("asm", "> <BIN>\n", "> <X>\n", "asm --help: its usage has X, which it does not explain"),

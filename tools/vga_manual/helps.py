@@ -30,8 +30,8 @@ FORMS = {
 ENTRY = r"({})({})(?:\s{{2,}}(\S.*))?"
 # A value in a usage, and how a usage spells that it takes options.
 IN_USAGE, ANY_OPTIONS = re.compile(rf"[<\[]({VALUE})[>\]]"), "OPTIONS"
-# A sentence on the exit status.
-STATUS = re.compile(r"\bstatus is\b")
+# A sentence on the exit status, and the line that tells the version.
+STATUS, VERSION = re.compile(r"\bstatus is\b"), re.compile(rf"^{NAME} (\d+\.\d+)$")
 # A line with its number from 1, and lines between blank ones.
 Line = tuple[int, str]
 Block = list[Line]
@@ -198,4 +198,6 @@ def read_helps(program: str) -> Helps:
         helps[command] = told
     if not whole.saying(STATUS):
         raise Trouble("it says nothing of the exit status", whole_name)
+    if len(whole.saying(VERSION)) != 1:
+        raise Trouble(f"it has not one line that tells the version, as `{NAME} 1.0`", whole_name)
     return helps

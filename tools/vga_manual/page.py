@@ -5,9 +5,7 @@ from __future__ import annotations
 import re
 from typing import Iterator, Sequence
 
-from vga_report.version import version
-
-from .helps import NAME, STATUS, VALUE, Entry, Help, Helps, Paragraph, prose_of
+from .helps import NAME, STATUS, VALUE, VERSION, Entry, Help, Helps, Paragraph, prose_of
 
 COMMENT = '.\\" Made by vga-manual from the help of the program.'
 # No date stands in the title: the same program and the same release give the same bytes.
@@ -115,9 +113,10 @@ def _see_also(helps: Helps, about: Sequence[Paragraph]) -> list[str]:
 
 def manual_page(helps: Helps) -> str:
     """The page of a program, as roff with the macros of man."""
-    whole, statuses = helps[""], helps[""].saying(STATUS)
+    whole, statuses, versions = helps[""], helps[""].saying(STATUS), helps[""].saying(VERSION)
     about = [told for told in whole.saying(PAGE) if told not in statuses]
-    described = [told for told in whole.paragraphs if told not in [*statuses, *about]]
+    elsewhere = [*statuses, *versions, *about]
+    described = [told for told in whole.paragraphs if told not in elsewhere]
     usages = [line for told in helps.values() for line in (_in_fonts(told.usage, SPELT), ".br")]
     commands = [_command(made, helps[made.names[0]]) for made in whole.commands]
     # A section begins with a paragraph anyway.
@@ -129,9 +128,11 @@ def manual_page(helps: Helps) -> str:
         "COMMANDS": [line for command in commands for line in command],
         "EXAMPLES": [*_examples(helps)][1:],
         "EXIT STATUS": [*_paragraphs(statuses)][1:],
+        "VERSION": [*_paragraphs(versions)][1:],
         "SEE ALSO": _see_also(helps, about),
     }
-    lines = [COMMENT, TITLE.format(name=NAME.upper(), version=version()), UNBROKEN]
+    number = VERSION.sub(r"\1", prose_of(versions[0]))
+    lines = [COMMENT, TITLE.format(name=NAME.upper(), version=number), UNBROKEN]
     for title, section in sections.items():
         lines += [f".SH {title}", *section] if section else []
     return "\n".join(lines) + "\n"
