@@ -348,8 +348,8 @@ class Examples(unittest.TestCase):
     """Each example answers what its comments expect."""
 
     def test_each_example(self) -> None:
-        texts = {path.stem: path.read_bytes() for path in sorted(EXAMPLES.glob("*.vga"))}
-        self.assertGreater(len(texts), 12)
+        texts = {path.stem: path.read_bytes() for path in sorted(EXAMPLES.rglob("*.vga"))}
+        self.assertGreater(len(texts), 22)
         for name, ran in run_texts(texts).items():
             self.assertEqual((ran.status, ran.said), (0, ""), name)
             lines = list(steps_in(io.BytesIO(texts[name])))

@@ -1,0 +1,141 @@
+"""The tutorial: its scripts and its program are the files, its pictures are theirs, and its words of Python are theirs too."""
+
+from __future__ import annotations
+
+import os
+import re
+import struct
+import subprocess
+import sys
+import unittest
+import zlib
+from pathlib import Path
+from typing import Iterator
+
+from vga_page.page import examples
+from vga_report.program import FONTS
+from zaklimot import SEQ, Script, format
+
+from .program import run_program, want_program
+from .tools import EXAMPLES, TOP, Folder, run_tool
+
+PAGE = TOP / "docs" / "TUTORIAL.md"
+TEXT = PAGE.read_text("utf-8")
+SCRIPTS = EXAMPLES / "tutorial"
+CIRCLE = EXAMPLES / "python" / "circle.py"
+# What the page has whole, in its order. The circle's script is too long for it.
+SHOWN = [SCRIPTS / "hello.vga", SCRIPTS / "eight-pixels.vga", CIRCLE, SCRIPTS / "going-round.vga", SCRIPTS / "three-bands.vga"]
+BLOCK = re.compile(r"^```\w*\n(.*?)^```$", re.M | re.S)
+# The commands of examples/README.md that make the pictures: script, stop, words of `pictures`, file.
+MAKING = re.compile(
+    r"vga go (examples/tutorial/\S+)( --until \d+)? --fonts fonts/zaklimot\.fnt \|\n"
+    r" +tools/vga-report pictures (.*?) ?>? (docs/pictures/\S+)$", re.M,
+)
+# The page stays small.
+MOST_BYTES, MOST_MOVING_BYTES, MOST_LINES, MOST_COLUMNS = 40_000, 100_000, 250, 100
+
+
+def steps_of(text: str) -> str:
+    """A script's lines without its comments, and without those that have no word."""
+    lines = (line.partition(";")[0].rstrip() for line in text.splitlines())
+    return "".join(f"{line}\n" for line in lines if line)
+
+
+def unpacked(png: bytes) -> list[bytes]:
+    """The header of a PNG, and the dots of each of its frames, however they are packed."""
+    header, packed, at = b"", [b""], 8
+    while at < len(png):
+        length, kind = struct.unpack_from(">I4s", png, at)
+        data = png[at + 8:at + 8 + length]
+        at += 12 + length
+        if kind == b"IHDR":
+            header = data
+        elif kind == b"fcTL" and packed[-1]:
+            packed.append(b"")
+        elif kind in (b"IDAT", b"fdAT"):
+            packed[-1] += data if kind == b"IDAT" else data[4:]
+    return [header, *map(zlib.decompress, packed)]
+
+
+class Texts(unittest.TestCase):
+    def test_each_block_is_a_file(self) -> None:
+        self.assertEqual(BLOCK.findall(TEXT), [path.read_text("utf-8") for path in SHOWN])
+
+    def test_each_script_has_its_command(self) -> None:
+        told = re.findall(r"In a terminal: `tools/vga-report run (\S+) (?:--only pictures )?--show`\.$", TEXT, re.M)
+        self.assertEqual(sorted(told), sorted(str(path.relative_to(TOP)) for path in SCRIPTS.iterdir()))
+
+    def test_it_is_short(self) -> None:
+        lines = TEXT.splitlines()
+        self.assertLessEqual(len(lines), MOST_LINES)
+        self.assertEqual([line for line in lines if len(line) > MOST_COLUMNS], [])
+
+    def test_the_page_has_them_not_in_its_list(self) -> None:
+        self.assertFalse({path.stem for path in SCRIPTS.iterdir()} & {one["name"] for one in examples()})
+
+
+class Words(unittest.TestCase):
+    """What stands beside a part in Python writes a step of the part's script."""
+
+    def lines(self) -> Iterator[str]:
+        colours = bytes.fromhex("00001010002A3F00303F20003F3F10")
+        for words in re.findall(r"In Python: `script\.(.+)`", TEXT):
+            script = Script()
+            # They are the page's own, and write a step each.
+            exec(f"script.{words}", {"script": script, "colours": colours, "zaklimot": sys.modules["zaklimot"]})
+            yield script.text().rstrip("\n")
+
+    def test_each_is_a_step_of_a_script(self) -> None:
+        steps = "".join(format.print_text(format.parse_text(path.read_bytes())) for path in SCRIPTS.iterdir()).splitlines()
+        written = [format.print_text(format.parse_text(line)).rstrip("\n") for line in self.lines()]
+        self.assertEqual(len(written), 4)
+        self.assertEqual([line for line in written if line not in steps], [])
+        self.assertEqual(SEQ.MAP_MASK.word, 2)
+
+
+class Circle(unittest.TestCase):
+    def test_the_program_writes_the_script(self) -> None:
+        environment = {**os.environ, "PYTHONPATH": str(TOP / "bindings" / "python" / "src")}
+        done = subprocess.run([sys.executable, "-B", CIRCLE], env=environment, capture_output=True, text=True, timeout=60)
+        self.assertEqual((done.returncode, done.stderr), (0, ""))
+        script = (SCRIPTS / "circle.vga").read_text("ascii")
+        self.assertTrue(done.stdout == steps_of(script), "another script")
+
+    def test_what_the_page_counts(self) -> None:
+        steps = steps_of((SCRIPTS / "circle.vga").read_text("ascii")).splitlines()
+        puts = sum(step.startswith("put ") for step in steps)
+        self.assertIn(f"There are {len(steps):,}, of which {puts:,} are `put`.", TEXT)
+
+
+class Pictures(Folder):
+    """The pictures are what the commands of examples/README.md make."""
+
+    def test_they_are_small(self) -> None:
+        names = re.findall(r"\]\((pictures/\S+)\)", TEXT)
+        self.assertEqual(len(names), len(set(names)))
+        self.assertEqual({f"pictures/{path.name}" for path in PAGE.parent.glob("pictures/tutorial-*")}, set(names))
+        for name in names:
+            moves = name.endswith("going-round.png")
+            self.assertLess((PAGE.parent / name).stat().st_size, MOST_MOVING_BYTES if moves else MOST_BYTES, name)
+
+    def test_each_is_its_scripts(self) -> None:
+        want_program()
+        commands = MAKING.findall((EXAMPLES / "README.md").read_text("utf-8"))
+        self.assertEqual(len(commands), 4)
+        for script, stop, words, picture in commands:
+            with self.subTest(picture):
+                ran = run_program("go", TOP / script, *stop.split(), "--fonts", FONTS)
+                self.assertEqual((ran.status, ran.said), (0, ""))
+                made = self.made(words.split(), ran.report)
+                self.assertTrue(unpacked(made) == unpacked((TOP / picture).read_bytes()), "another picture")
+
+    def made(self, words: list[str], report: bytes) -> bytes:
+        """What `vga-report pictures` makes of a report."""
+        moves, path = "--apng" in words, self.folder / "picture.png"
+        status, output, said = run_tool("vga-report", "pictures", *words, *[path] * moves, given=report)
+        self.assertEqual(status, 0, said)
+        return path.read_bytes() if moves else output
+
+
+if __name__ == "__main__":
+    unittest.main()
