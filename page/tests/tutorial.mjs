@@ -1,24 +1,24 @@
-// The tutorial as its reader does it, in Chromium: each script of docs/TUTORIAL.md is pasted into the page as built,
-// keys are pressed as it says, and the page shows what it says.
-// node page/tests/tutorial.mjs [FOLDER]: writes the tutorial's two pictures of the page into the folder.
+// The tutorial as its reader does it, in Chromium: each script of docs/TUTORIAL.md is pasted into
+// the page as built, keys are pressed as it says, and the page shows what it says.
+// node page/tests/tutorial.mjs [FOLDER]: writes its pictures of the page into the folder.
 import assert from "node:assert/strict";
 import { mkdirSync, readFileSync, writeFileSync } from "node:fs";
 import { resolve } from "node:path";
 import { pathToFileURL } from "node:url";
-import { crc32, deflateSync } from "node:zlib";
 import { Browser } from "./driving.mjs";
 import { IDLE } from "./jumps.mjs";
 import { PAGE, TOP } from "./loading.mjs";
+import { smallShot } from "./shots.mjs";
 
 const SHOTS = process.argv[2], WINDOW = { width: 1060, height: 700 };
-// A picture of the page keeps so many levels of a component, so that its colours fit into a palette.
-const LEVELS = 15, PALETTE = 256;
 const tutorial = readFileSync(`${TOP}docs/TUTORIAL.md`, "utf-8");
 // Its scripts; the program in it is told to be of Python.
-const blocks = [...tutorial.matchAll(/^```(\w*)\n([^]*?)^```$/gm)].filter(found => !found[1]).map(found => found[2]);
+const blocks = [...tutorial.matchAll(/^```(\w*)\n([^]*?)^```$/gm)]
+  .filter(([, language]) => !language).map(([, , script]) => script);
 const browser = await Browser.started(), seen = [];
 
 const text = id => browser.value(`document.getElementById("${id}").innerText`);
+const wrong = () => browser.value("document.querySelector('.answer.wrong').textContent");
 const ready = () => browser.until(IDLE);
 const pause = () => browser.value("new Promise(done => setTimeout(done, 60))");
 
@@ -31,14 +31,15 @@ async function press(key, times = 1, more = {}) {
 
 async function stepIs(step, count) {
   const told = `After step ${step.toLocaleString("en")} of ${count.toLocaleString("en")},`;
-  await browser.until(`document.getElementById("laststep").innerText.startsWith("${told}")`);
+  await browser.until(
+    `document.getElementById("laststep").innerText.startsWith("${told}")`);
 }
 
 /** Pastes a script of the tutorial over the one in the page, and shows its last step. */
 async function paste(number, count, told) {
   await browser.click("#text");
-  await browser.send("Input.dispatchKeyEvent", { type: "rawKeyDown", key: "a", code: "KeyA", modifiers: 2,
-    windowsVirtualKeyCode: 65, commands: ["selectAll"] });
+  await browser.send("Input.dispatchKeyEvent", { type: "rawKeyDown", key: "a", code: "KeyA",
+    modifiers: 2, windowsVirtualKeyCode: 65, commands: ["selectAll"] });
   await browser.type(blocks[number]);
   assert.equal(await browser.value("document.getElementById('text').value"), blocks[number]);
   await atTheEnd(count, told);
@@ -54,8 +55,11 @@ async function atTheEnd(count, told) {
 
 /** Changes a word of the script, as a hand would. */
 async function change(old, word) {
-  await browser.value(`(() => { const area = document.getElementById("text"), at = area.value.indexOf("${old}");
-    area.focus(); area.setSelectionRange(at, at + ${old.length}); })()`);
+  await browser.value(`(() => {
+    const area = document.getElementById("text"), at = area.value.indexOf("${old}");
+    area.focus();
+    area.setSelectionRange(at, at + ${old.length});
+  })()`);
   await browser.type(word);
   await ready();
   await press("Escape");
@@ -64,66 +68,27 @@ async function change(old, word) {
 
 /** Where a dot of the picture is seen. */
 async function placeOf(x, y) {
-  return browser.value(`(() => { const seen = document.getElementById("picture"), box = seen.getBoundingClientRect();
-    return [box.left + (${x} + 0.5) * box.width / seen.width, box.top + (${y} + 0.5) * box.height / seen.height]; })()`);
+  return browser.value(`(() => {
+    const seen = document.getElementById("picture"), box = seen.getBoundingClientRect();
+    const [across, down] = [box.width / seen.width, box.height / seen.height];
+    return [box.left + (${x} + 0.5) * across, box.top + (${y} + 0.5) * down];
+  })()`);
 }
 
 /** What the page tells of the dot under the pointer: its colour. */
 async function colourAt(x, y) {
   const [left, top] = await placeOf(x, y);
   await browser.send("Input.dispatchMouseEvent", { type: "mouseMoved", x: left, y: top });
-  await browser.until(`document.getElementById("dot").innerText.includes("dot ${x} of line ${y}:")`);
+  await browser.until(
+    `document.getElementById("dot").innerText.includes("dot ${x} of line ${y}:")`);
   return (await text("dot")).match(/: (\w\w \w\w \w\w)/)[1];
-}
-
-/** The dots of an image in PNG, as the browser reads it: red, green, blue and a fourth, row by row. */
-async function dotsOf(png) {
-  const dots = await browser.value(`(async () => {
-    const bytes = Uint8Array.from(atob("${png.toString("base64")}"), letter => letter.charCodeAt(0));
-    const { width, height } = await createImageBitmap(new Blob([bytes])).then(image => globalThis.shot = image);
-    const brush = Object.assign(document.createElement("canvas"), { width, height }).getContext("2d");
-    brush.drawImage(shot, 0, 0);
-    const { data } = brush.getImageData(0, 0, width, height);
-    let letters = "";
-    for (let at = 0; at < data.length; at += 8192) letters += String.fromCharCode(...data.subarray(at, at + 8192));
-    return { width, height, data: btoa(letters) };
-  })()`);
-  return { ...dots, data: Buffer.from(dots.data, "base64") };
-}
-
-/** A small PNG of such dots: a palette of the colours, each component of fewer levels. */
-function withPalette({ width, height, data }) {
-  const palette = new Map(), rows = Buffer.alloc((width + 1) * height);
-  for (let dot = 0; dot < width * height; dot++) {
-    const colour = [0, 1, 2].map(part => Math.round(Math.round(data[4 * dot + part] * LEVELS / 255) * 255 / LEVELS));
-    const name = colour.join();
-    if (!palette.has(name)) palette.set(name, { entry: palette.size, colour });
-    rows[dot + Math.floor(dot / width) + 1] = palette.get(name).entry;
-  }
-  assert.ok(palette.size <= PALETTE, `${palette.size} colours`);
-  const colours = [...palette.values()].flatMap(({ colour }) => colour), head = Buffer.alloc(13);
-  head.writeUInt32BE(width, 0);
-  head.writeUInt32BE(height, 4);
-  head.set([8, 3, 0, 0, 0], 8);
-  const chunk = (kind, given) => {
-    const named = Buffer.concat([Buffer.from(kind), Buffer.from(given)]), whole = Buffer.alloc(named.length + 8);
-    whole.writeUInt32BE(given.length, 0);
-    whole.set(named, 4);
-    whole.writeUInt32BE(crc32(named), named.length + 4);
-    return whole;
-  };
-  return Buffer.concat([Buffer.from("\x89PNG\r\n\x1a\n", "latin1"), chunk("IHDR", head), chunk("PLTE", colours),
-    chunk("IDAT", deflateSync(rows, { level: 9 })), chunk("IEND", [])]);
 }
 
 /** Writes what is seen of an element, or of the page. */
 async function shot(name, selector) {
   if (!SHOTS) return;
   mkdirSync(SHOTS, { recursive: true });
-  const clip = selector && await browser.value(`(() => { const { left: x, top: y, width, height } =
-    document.querySelector("${selector}").getBoundingClientRect(); return { x, y, width, height, scale: 1 }; })()`);
-  const { data } = await browser.send("Page.captureScreenshot", { format: "png", ...clip && { clip } });
-  writeFileSync(`${SHOTS}/tutorial-${name}.png`, withPalette(await dotsOf(Buffer.from(data, "base64"))));
+  writeFileSync(`${SHOTS}/tutorial-${name}.png`, await smallShot(browser, selector));
 }
 
 const PARTS = {
@@ -138,29 +103,43 @@ const PARTS = {
     await stepIs(4, 6);
     assert.equal(await text("changes"), "Changed: plane 0 07CA: 48 → 4A.");
     await change("= 4A", "= 4B");
-    assert.equal(await browser.value("document.querySelector('.answer.wrong').textContent"), "✗ 4A");
+    assert.equal(await wrong(), "✗ 4A");
     await change("bx=1E", "bx=4E");
     assert.equal(await colourAt(333, 194), "2A 00 00");
   },
 
-  async circle() {
+  async eightPixels() {
     await paste(1, 8, "8 steps, 1 picture, 2 of 2 answers as expected");
-    assert.deepEqual([await colourAt(327, 240), await colourAt(320, 241), await colourAt(323, 240)],
+    assert.deepEqual(
+      [await colourAt(327, 240), await colourAt(320, 241), await colourAt(323, 240)],
       ["15 3F 3F", "2A 00 00", "3F 3F 3F"]);
     await shot("glass", "#glass");
     await press("Home");
-    for (const [step, x, y, colour] of [[2, 327, 240, "3F 3F 3F"], [4, 327, 241, "2A 00 00"], [7, 327, 240, "15 3F 3F"]]) {
-      while (!(await text("laststep")).startsWith(`After step ${step} `)) await press("ArrowRight");
-      assert.equal(await colourAt(x, y), colour, `step ${step}`);
+    for (const [steps, y, colour] of [[2, 240, "3F 3F 3F"], [2, 241, "2A 00 00"],
+      [3, 240, "15 3F 3F"]]) {
+      await press("ArrowRight", steps);
+      assert.equal(await colourAt(327, y), colour);
     }
-    const { root } = await browser.send("DOM.getDocument"), { nodeId } = await browser.send("DOM.querySelector",
-      { nodeId: root.nodeId, selector: "#file" });
-    await browser.send("DOM.setFileInputFiles", { nodeId, files: [`${TOP}examples/tutorial/circle.vga`] });
+  },
+
+  async circle() {
+    const file = `${TOP}examples/tutorial/circle.vga`;
+    const { root: { nodeId: top } } = await browser.send("DOM.getDocument");
+    const found = await browser.send("DOM.querySelector", { nodeId: top, selector: "#file" });
+    await browser.send("DOM.setFileInputFiles", { ...found, files: [file] });
     await browser.until("document.getElementById('about').textContent === 'circle.vga'");
     await atTheEnd(1213, "1,213 steps, 1 picture, 1 of 1 answers as expected");
-    assert.equal(await colourAt(320, 40), "3F 3F 15");
+    const ends = async () => [await colourAt(320, 40), await colourAt(320, 440)];
+    assert.deepEqual(await ends(), ["3F 3F 15", "3F 3F 15"]);
+    await browser.value(`(() => {
+      const slider = document.getElementById("slider");
+      slider.value = 600;
+      slider.dispatchEvent(new Event("input"));
+    })()`);
+    await stepIs(600, 1213);
+    assert.deepEqual(await ends(), ["3F 3F 15", "00 00 00"]);
     await change("0E02", "0402");
-    assert.equal(await colourAt(320, 40), "2A 00 00");
+    assert.deepEqual(await ends(), ["2A 00 00", "2A 00 00"]);
   },
 
   async palette() {
@@ -170,9 +149,7 @@ const PARTS = {
     await browser.until("document.getElementById('play').textContent === 'play'");
     await stepIs(91, 91);
     const last = await colourAt(320, 200);
-    await press("ArrowLeft", 1, { shift: true });
-    await press("ArrowLeft", 1, { shift: true });
-    await press("ArrowLeft", 1, { shift: true });
+    await press("ArrowLeft", 3, { shift: true });
     assert.notEqual(await colourAt(320, 200), last);
   },
 
@@ -189,8 +166,9 @@ const PARTS = {
     await browser.clickAt(...await placeOf(100, 150));
     await stepIs(13, 18);
     await change("80000", "80320");
-    assert.deepEqual([await colourAt(319, 100), await colourAt(320, 100)], ["08 00 18", "3F 18 08"]);
-    assert.match(await browser.value("document.querySelector('.answer.wrong').textContent"), /^✗ beam frame 0/);
+    assert.deepEqual([await colourAt(319, 100), await colourAt(320, 100)],
+      ["08 00 18", "3F 18 08"]);
+    assert.match(await wrong(), /^✗ beam frame 0/);
   },
 };
 

@@ -15,7 +15,8 @@ from vga_report.trouble import Trouble, Wrong
 from .node import run_node
 
 TESTS = PAGE.parent / "tests"
-BROWSER = TESTS / "browser.mjs"
+# What is done with the page in a browser: by each control of it, and as the tutorial says.
+BROWSER, TUTORIAL = (TESTS / f"{name}.mjs" for name in ("browser", "tutorial"))
 HEAP, OWN = (Path(__file__).resolve().parent / name for name in ("heap.mjs", "own.mjs"))
 # How a file tells that it has tests.
 IS_TEST = 'from "node:test"'
@@ -99,9 +100,11 @@ def check_heap(modules: Modules) -> str:
 
 
 def check_browser() -> str:
-    """The page as built in Chromium; what was seen is told."""
-    if not BROWSER.exists():
-        raise Trouble("it is not there", str(BROWSER))
+    """The page as built in Chromium, and the tutorial in it; what was seen is told."""
+    for file in (BROWSER, TUTORIAL):
+        if not file.exists():
+            raise Trouble("it is not there", str(file))
     if not any(map(shutil.which, CHROMIUM)):
         raise Trouble(f"it is not in the path: install the package {CHROMIUM[0]}", CHROMIUM[0])
-    return run_node([BROWSER], {BUILT: str(PAGE)}, BROWSER_SECONDS).strip().replace("\n", "; ")
+    told = [run_node([file], {BUILT: str(PAGE)}, BROWSER_SECONDS) for file in (BROWSER, TUTORIAL)]
+    return "".join(told).strip().replace("\n", "; ")

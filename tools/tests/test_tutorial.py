@@ -1,4 +1,4 @@
-"""The tutorial: its scripts and its program are the files, its pictures are theirs, and its words of Python are theirs too."""
+"""The tutorial: its scripts, program, pictures and lines of Python are those of the files."""
 
 from __future__ import annotations
 
@@ -11,10 +11,12 @@ import unittest
 import zlib
 from pathlib import Path
 from typing import Iterator
+from unittest import mock
 
+from page_tests import scripts
 from vga_page.page import examples
 from vga_report.program import FONTS
-from zaklimot import SEQ, Script, format
+from zaklimot import Script, format
 
 from .program import run_program, want_program
 from .tools import EXAMPLES, TOP, Folder, run_tool
@@ -24,9 +26,12 @@ TEXT = PAGE.read_text("utf-8")
 SCRIPTS = EXAMPLES / "tutorial"
 CIRCLE = EXAMPLES / "python" / "circle.py"
 # What the page has whole, in its order. The circle's script is too long for it.
-SHOWN = [SCRIPTS / "hello.vga", SCRIPTS / "eight-pixels.vga", CIRCLE, SCRIPTS / "going-round.vga", SCRIPTS / "three-bands.vga"]
+SHOWN = [
+    SCRIPTS / "hello.vga", SCRIPTS / "eight-pixels.vga", CIRCLE, SCRIPTS / "going-round.vga",
+    SCRIPTS / "three-bands.vga",
+]
 BLOCK = re.compile(r"^```\w*\n(.*?)^```$", re.M | re.S)
-# The commands of examples/README.md that make the pictures: script, stop, words of `pictures`, file.
+# The commands of examples/README.md that make pictures: script, stop, words of `pictures`, file.
 MAKING = re.compile(
     r"vga go (examples/tutorial/\S+)( --until \d+)? --fonts fonts/zaklimot\.fnt \|\n"
     r" +tools/vga-report pictures (.*?) ?>? (docs/pictures/\S+)$", re.M,
@@ -39,6 +44,11 @@ def steps_of(text: str) -> str:
     """A script's lines without its comments, and without those that have no word."""
     lines = (line.partition(";")[0].rstrip() for line in text.splitlines())
     return "".join(f"{line}\n" for line in lines if line)
+
+
+def printed(text: str | bytes) -> list[str]:
+    """A script's lines, as `vga dis` prints them."""
+    return format.print_text(format.parse_text(text)).splitlines()
 
 
 def unpacked(png: bytes) -> list[bytes]:
@@ -62,8 +72,9 @@ class Texts(unittest.TestCase):
         self.assertEqual(BLOCK.findall(TEXT), [path.read_text("utf-8") for path in SHOWN])
 
     def test_each_script_has_its_command(self) -> None:
-        told = re.findall(r"In a terminal: `tools/vga-report run (\S+) (?:--only pictures )?--show`\.$", TEXT, re.M)
-        self.assertEqual(sorted(told), sorted(str(path.relative_to(TOP)) for path in SCRIPTS.iterdir()))
+        command = r"In a terminal: `tools/vga-report run (\S+) (?:--only pictures )?--show`\.$"
+        names = sorted(str(path.relative_to(TOP)) for path in SCRIPTS.iterdir())
+        self.assertEqual(sorted(re.findall(command, TEXT, re.M)), names)
 
     def test_it_is_short(self) -> None:
         lines = TEXT.splitlines()
@@ -71,7 +82,14 @@ class Texts(unittest.TestCase):
         self.assertEqual([line for line in lines if len(line) > MOST_COLUMNS], [])
 
     def test_the_page_has_them_not_in_its_list(self) -> None:
-        self.assertFalse({path.stem for path in SCRIPTS.iterdir()} & {one["name"] for one in examples()})
+        listed = {one["name"] for one in examples()}
+        self.assertEqual({path.stem for path in SCRIPTS.iterdir()} & listed, set())
+
+
+    def test_the_check_in_a_browser_does_what_it_says(self) -> None:
+        fakes = {"run_node": lambda words, *_: f"{words[0].name}\n", "CHROMIUM": [sys.executable]}
+        with mock.patch.multiple(scripts, **fakes):
+            self.assertEqual(scripts.check_browser(), "browser.mjs; tutorial.mjs")
 
 
 class Words(unittest.TestCase):
@@ -79,24 +97,25 @@ class Words(unittest.TestCase):
 
     def lines(self) -> Iterator[str]:
         colours = bytes.fromhex("00001010002A3F00303F20003F3F10")
+        known = {"zaklimot": sys.modules["zaklimot"], "colours": colours}
         for words in re.findall(r"In Python: `script\.(.+)`", TEXT):
             script = Script()
             # They are the page's own, and write a step each.
-            exec(f"script.{words}", {"script": script, "colours": colours, "zaklimot": sys.modules["zaklimot"]})
+            exec(f"script.{words}", {"script": script, **known})
             yield script.text().rstrip("\n")
 
     def test_each_is_a_step_of_a_script(self) -> None:
-        steps = "".join(format.print_text(format.parse_text(path.read_bytes())) for path in SCRIPTS.iterdir()).splitlines()
-        written = [format.print_text(format.parse_text(line)).rstrip("\n") for line in self.lines()]
+        steps = {step for path in SCRIPTS.iterdir() for step in printed(path.read_bytes())}
+        written = [step for line in self.lines() for step in printed(line)]
         self.assertEqual(len(written), 4)
         self.assertEqual([line for line in written if line not in steps], [])
-        self.assertEqual(SEQ.MAP_MASK.word, 2)
 
 
 class Circle(unittest.TestCase):
     def test_the_program_writes_the_script(self) -> None:
         environment = {**os.environ, "PYTHONPATH": str(TOP / "bindings" / "python" / "src")}
-        done = subprocess.run([sys.executable, "-B", CIRCLE], env=environment, capture_output=True, text=True, timeout=60)
+        words = [sys.executable, "-B", CIRCLE]
+        done = subprocess.run(words, env=environment, capture_output=True, text=True, timeout=60)
         self.assertEqual((done.returncode, done.stderr), (0, ""))
         script = (SCRIPTS / "circle.vga").read_text("ascii")
         self.assertTrue(done.stdout == steps_of(script), "another script")
@@ -113,10 +132,12 @@ class Pictures(Folder):
     def test_they_are_small(self) -> None:
         names = re.findall(r"\]\((pictures/\S+)\)", TEXT)
         self.assertEqual(len(names), len(set(names)))
-        self.assertEqual({f"pictures/{path.name}" for path in PAGE.parent.glob("pictures/tutorial-*")}, set(names))
+        there = {f"pictures/{path.name}" for path in PAGE.parent.glob("pictures/tutorial-*")}
+        self.assertEqual(there, set(names))
         for name in names:
             moves = name.endswith("going-round.png")
-            self.assertLess((PAGE.parent / name).stat().st_size, MOST_MOVING_BYTES if moves else MOST_BYTES, name)
+            most = MOST_MOVING_BYTES if moves else MOST_BYTES
+            self.assertLess((PAGE.parent / name).stat().st_size, most, name)
 
     def test_each_is_its_scripts(self) -> None:
         want_program()
@@ -126,13 +147,14 @@ class Pictures(Folder):
             with self.subTest(picture):
                 ran = run_program("go", TOP / script, *stop.split(), "--fonts", FONTS)
                 self.assertEqual((ran.status, ran.said), (0, ""))
-                made = self.made(words.split(), ran.report)
-                self.assertTrue(unpacked(made) == unpacked((TOP / picture).read_bytes()), "another picture")
+                made, shown = self.made(words.split(), ran.report), (TOP / picture).read_bytes()
+                self.assertTrue(unpacked(made) == unpacked(shown), "another picture")
 
     def made(self, words: list[str], report: bytes) -> bytes:
         """What `vga-report pictures` makes of a report."""
         moves, path = "--apng" in words, self.folder / "picture.png"
-        status, output, said = run_tool("vga-report", "pictures", *words, *[path] * moves, given=report)
+        words = [*words, str(path)] if moves else words
+        status, output, said = run_tool("vga-report", "pictures", *words, given=report)
         self.assertEqual(status, 0, said)
         return path.read_bytes() if moves else output
 

@@ -1,0 +1,66 @@
+// Pictures of a page in the browser, as small PNGs: a palette, and fewer levels of a component.
+import assert from "node:assert/strict";
+import { crc32, deflateSync } from "node:zlib";
+
+// So many levels a component keeps, and so many colours a palette has at most.
+const LEVELS = 16, MOST_COLOURS = 256;
+const SIGNATURE = Buffer.from("\x89PNG\r\n\x1a\n", "latin1");
+
+/** In the page: the dots of a PNG, four bytes each, row by row. */
+const READ = `async png => {
+  const bytes = Uint8Array.from(atob(png), letter => letter.charCodeAt(0));
+  const image = await createImageBitmap(new Blob([bytes])), { width, height } = image;
+  const canvas = Object.assign(document.createElement("canvas"), { width, height });
+  const brush = canvas.getContext("2d");
+  brush.drawImage(image, 0, 0);
+  const { data } = brush.getImageData(0, 0, width, height), parts = [];
+  for (let at = 0; at < data.length; at += 8192) {
+    parts.push(String.fromCharCode(...data.subarray(at, at + 8192)));
+  }
+  return { width, height, dots: btoa(parts.join("")) };
+}`;
+/** In the page: where an element stands. */
+const PLACE = `selector => {
+  const { x, y, width, height } = document.querySelector(selector).getBoundingClientRect();
+  return { x, y, width, height, scale: 1 };
+}`;
+
+function chunk(kind, given) {
+  const named = Buffer.concat([Buffer.from(kind), Buffer.from(given)]);
+  const whole = Buffer.alloc(named.length + 8);
+  whole.writeUInt32BE(given.length, 0);
+  whole.set(named, 4);
+  whole.writeUInt32BE(crc32(named), named.length + 4);
+  return whole;
+}
+
+/** A byte at the nearest level. */
+function levelled(byte) {
+  const steps = LEVELS - 1;
+  return Math.round(Math.round(byte * steps / 255) * 255 / steps);
+}
+
+/** The PNG of dots with a palette. */
+function withPalette({ width, height, dots }) {
+  const palette = new Map(), rows = Buffer.alloc((width + 1) * height), head = Buffer.alloc(13);
+  for (let dot = 0; dot < width * height; dot++) {
+    const colour = [...dots.subarray(4 * dot, 4 * dot + 3)].map(levelled), name = colour.join();
+    if (!palette.has(name)) palette.set(name, { entry: palette.size, colour });
+    rows[dot + Math.floor(dot / width) + 1] = palette.get(name).entry;
+  }
+  assert.ok(palette.size <= MOST_COLOURS, `${palette.size} colours`);
+  head.writeUInt32BE(width, 0);
+  head.writeUInt32BE(height, 4);
+  head.set([8, 3, 0, 0, 0], 8);
+  const colours = [...palette.values()].flatMap(({ colour }) => colour);
+  return Buffer.concat([SIGNATURE, chunk("IHDR", head), chunk("PLTE", colours),
+    chunk("IDAT", deflateSync(rows, { level: 9 })), chunk("IEND", [])]);
+}
+
+/** A small PNG of what is seen of the page, or of an element of it. */
+export async function smallShot(browser, selector) {
+  const clip = selector ? { clip: await browser.value(`(${PLACE})("${selector}")`) } : {};
+  const { data } = await browser.send("Page.captureScreenshot", { format: "png", ...clip });
+  const read = await browser.value(`(${READ})("${data}")`);
+  return withPalette({ ...read, dots: Buffer.from(read.dots, "base64") });
+}
