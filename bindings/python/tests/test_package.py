@@ -155,7 +155,7 @@ class Pages(unittest.TestCase):
 
     def test_programs_of_the_page_run(self) -> None:
         blocks = re.findall(r"^```python\n(.*?)^```$", PAGE.read_text("utf-8"), re.M | re.S)
-        self.assertEqual(len(blocks), 4)
+        self.assertEqual(len(blocks), 5)
         with tempfile.TemporaryDirectory() as name:
             for block in blocks:
                 told = run(sys.executable, "-B", "-c", f"import os; os.chdir({name!r})\n{block}").splitlines()
