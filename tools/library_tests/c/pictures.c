@@ -153,6 +153,17 @@ static zak_picture compare_frames(void)
     return picture;
 }
 
+/* Each dot of the screen is that of its pixel, of which `pixels` has each once. */
+static void compare_dots(zak_picture picture)
+{
+    size_t width = picture.width * picture.across;
+    for (size_t y = 0; y < picture.height * picture.down; y++)
+        for (size_t x = 0; x < width; x++)
+            require(pixels[picture.width * (y / picture.down) + x / picture.across] ==
+                        word_of(width * y + x, 0),
+                    "a dot is not its pixel's");
+}
+
 static void compare_mode(const struct known *mode)
 {
     zak_picture picture;
@@ -160,6 +171,9 @@ static void compare_mode(const struct known *mode)
     fill_memory();
     picture = compare_frames();
     require(memcmp(&picture, &mode->picture, sizeof picture) == 0, "a mode's picture");
+    require(zak_frame_words(&other, ZAK_ONCE, &picture, pixels, MOST_WORDS, picture.width) == ZAK_OK,
+            "the next frame");
+    compare_dots(picture);
 }
 
 int main(int argc, char **argv)
