@@ -8,6 +8,7 @@ pub mod Services
 pub mod Blocks
 pub mod Forms
 pub mod Frames
+pub mod ScanLines
 pub mod Dumps
 pub mod State
 pub mod Screens

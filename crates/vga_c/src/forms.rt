@@ -58,7 +58,14 @@ fn dot_word(bytes: &[u8], i: usize) -> u32
 /// Writes a word of every so many dots of a picture, from dot `first` on, to the caller's, from
 /// `at` on.
 #[inline(always)]
-fn write_row(bytes: &[u8], first: usize, form: Form, count: usize, pixels: &mut [u32], at: usize)
+pub(crate) fn write_row(
+    bytes: &[u8],
+    first: usize,
+    form: Form,
+    count: usize,
+    pixels: &mut [u32],
+    at: usize,
+)
     requires dots { (x : ℕ) → x < count → 3 * (first + form.across * x) + 2 < length bytes.now }
     requires room { at + count ≤ length pixels.old }
     ensures words { (x : ℕ) → x < count → slice_index pixels.new (at + x)

@@ -20,6 +20,7 @@ mod outcome;
 mod parts;
 mod runs;
 mod saved;
+mod scan_lines;
 mod screens;
 mod sealed;
 mod services;

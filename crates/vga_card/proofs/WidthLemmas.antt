@@ -4,9 +4,12 @@ use Rattle.std.proofs.Common.{List, [], ◌∷◌, ◌++◌, length}
 use Rattle.std.proofs.Common.{replicate}
 use Rattle.std.specs.Prelude.{◌==◌}
 use Rattle.std.proofs.lemmas.Bool.Decides.{nat_tests}
-use Rattle.std.proofs.lemmas.List.Sums.{sum_by-append}
+use Rattle.std.proofs.lemmas.List.Sums.{count_by-le-length, sum_by-append}
+use Rattle.std.proofs.lemmas.List.{length-map}
+use Rattle.std.specs.Prelude.{slice_index, ◌≤◌}
+use Rattle.std.proofs.Common.{subst}
 use Rattle.vga_bits.specs.Bytes.{zeros}
-use Rattle.vga_card.specs.Picture.{lines_from}
+use Rattle.vga_card.specs.Picture.{Dot, line_of, lines_from, lines_of}
 use Rattle.vga_card.specs.Canvas.{stored_dots}
 use Rattle.vga_card.specs.Lines.{count_on, counts_from, line_widths}
 use Rattle.vga_card.proofs.CanvasLemmas.{lines-dots_from}
@@ -65,3 +68,14 @@ pub widths_are : (ws buffer : List ℕ) → length ws ≡ 1024 → line_widths (
 unfolding line_widths
 widths_are ws buffer lines =
     ap (λ (l : List ℕ). counts_from l 0 1024) (lines-dots_from (lines_from 0 ws) buffer) ∙ ap (counts_from (lines_from 0 ws) 0) (sym lines) ∙ counts_are 0 ws
+
+-- no line has more dots than there are
+counts_few : (lines : List ℕ) (v n j : ℕ) → slice_index (counts_from lines v n) j ≤ length lines
+unfolding counts_from
+counts_few lines v zero j = omega arith
+counts_few lines v (suc n) zero = count_by-le-length (λ x. x == v) lines
+counts_few lines v (suc n) (suc j) = counts_few lines (v + 1) n j
+
+pub width_few : (dots : List Dot) (j : ℕ) → slice_index (line_widths dots) j ≤ length dots
+unfolding line_widths
+width_few dots j = subst (λ (n : ℕ). slice_index (counts_from (lines_of dots) 0 1024) j ≤ n) (length-map dots line_of) (counts_few (lines_of dots) 0 1024 j)

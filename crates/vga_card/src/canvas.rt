@@ -325,6 +325,7 @@ impl Canvas {
     pub(crate) fn lines(&self) -> Lines<'_>
         ensures lines { IsLinesOf self.now.dots result }
         ensures count { length result.widths.now ≡ highest }
+        ensures len { length result.bytes.now ≡ 3 * length self.now.dots }
     {
         Lines {
             widths: self.widths(),

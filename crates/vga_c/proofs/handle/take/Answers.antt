@@ -1,4 +1,4 @@
-use Rattle.std.proofs.Common.{◌≡◌, ◌∙◌, ap, sym, arith}
+use Rattle.std.proofs.Common.{◌∙◌, ap, sym, arith}
 use Rattle.vga_c.specs.Handle.{HandleState, machine_of}
 use Rattle.vga_c.proofs.HandleLemmas.{settled}
 use Rattle.vga_c.proofs.handle.take.Goals as goal

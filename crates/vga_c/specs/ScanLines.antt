@@ -1,0 +1,46 @@
+-- A scan line of the frame under way, as the caller has it at the line's end.
+use Rattle.std.specs.Prelude.{◌≡◌, ◌+◌, ◌-◌, ◌<◌, ◌≤◌, ℕ, true, List, length, slice_index, bit_or}
+use Rattle.std.specs.Prelude.{if◌then◌else◌}
+use Rattle.vga_card.specs.Card.{CardState}
+use Rattle.vga_card.specs.Frames.{is_at_frame_start, line}
+use Rattle.vga_card.specs.Lines.{line_widths}
+use Rattle.vga_card.specs.Picture.{bytes_of}
+use Rattle.vga_run.specs.declared.machine.Machine.{Machine}
+use Rattle.vga_c.specs.declared.scan_lines.ScanLine.{ScanLine}
+use Rattle.vga_c.specs.Forms.{AreInRows, dot_word, is_opaque}
+use Rattle.vga_c.specs.Handle.{HandleState, machine_of}
+use Rattle.vga_c.specs.Status.{bad_argument}
+
+-- how many dots the line under way has at its end
+abbrev pub width_of : CardState → ℕ
+width_of c = slice_index (line_widths (line c).drawn) c.crtc.beam.line
+
+-- the line's number, how many dots it has, and whether the frame ends with it
+abbrev pub scan_line_of : CardState → ScanLine
+scan_line_of c = record {
+  number = c.crtc.beam.line;
+  width = width_of c;
+  ends_frame = is_at_frame_start (line c);
+}
+
+-- the word of dot x of the line, whose dots are the last that are drawn at its end
+abbrev pub line_word : ℕ → CardState → ℕ → ℕ → ℕ
+line_word flags c x y = bit_or (if is_opaque flags then 0xFF00_0000 else 0)
+    (dot_word (bytes_of (line c).drawn) (length (line c).drawn - width_of c + x))
+
+-- Flags that there are: a machine comes to the end of the line under way, of which the caller is
+-- told, and has its words, where they have room. With other flags nothing changes.
+abbrev pub DrawsLine : ℕ → Machine → Machine → ScanLine → ScanLine → List ℕ → List ℕ → ℕ → Type 0
+DrawsLine flags old_machine new_machine told_old told old new status =
+    (flags < 2 → (new_machine ≡ record old_machine { card = line old_machine.card })
+    × ((told ≡ scan_line_of old_machine.card)
+    × AreInRows told.width 1 told.width (line_word flags old_machine.card) old new status))
+    × (2 ≤ flags → (new_machine ≡ old_machine) × ((told ≡ told_old) × ((new ≡ old)
+    × (status ≡ bad_argument))))
+
+-- that is so of an open card
+abbrev pub DrawsLineOf : ℕ → HandleState → HandleState → ScanLine → ScanLine → List ℕ → List ℕ →
+    ℕ → Type 0
+DrawsLineOf flags card_old card told_old told old new status = card_old.is_open ≡ true →
+    (card.is_open ≡ true) × DrawsLine flags (machine_of card_old) (machine_of card) told_old told
+    old new status
