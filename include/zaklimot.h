@@ -183,6 +183,19 @@ typedef struct zak_picture {
 zak_status zak_frame_words(zak_card *card, uint32_t flags, zak_picture *picture, uint32_t *pixels,
                            size_t pixels_len, size_t pitch);
 
+/* To the end of the line under way, at least one dot, for a core that shows each line as it ends.
+ * pixels[x] is the word of the line's dot x, as zak_frame_xrgb has it, or with ZAK_OPAQUE in flags
+ * FFRRGGBB. ZAK_NO_ROOM, where pixels_len is below the width: the line has passed all the same, and
+ * *line is written. ZAK_BAD_ARGUMENT: flags are above 1, and no dot has passed. */
+typedef struct zak_scan_line {
+    uint32_t number; /* of the frame, from 0; lines without a dot are counted too */
+    uint32_t width;  /* dots, at most ZAK_WIDEST; 0 for a line with none */
+    bool ends_frame; /* whether the frame ends with this line */
+} zak_scan_line;
+
+zak_status zak_line(zak_card *card, uint32_t flags, zak_scan_line *line, uint32_t *pixels,
+                    size_t pixels_len);
+
 /* To the end of the frame under way too, and its dots line by line, also where it is ragged.
  * widths[y], of ZAK_HIGHEST, is how many dots line y has, at most ZAK_WIDEST, and 0 for a line with
  * none. rgb has three bytes a dot, those of line 0 from the left, then those of line 1, and so on;

@@ -146,6 +146,14 @@ public:
         return picture;
     }
 
+    /* The line under way, to its end: ZAK_OPAQUE or 0. */
+    zak_scan_line line(span<std::uint32_t> pixels, std::uint32_t flags = 0)
+    {
+        zak_scan_line line;
+        check(zak_line(&raw_, flags, &line, pixels.data(), pixels.size()));
+        return line;
+    }
+
     /* What int10 reads of the caller's memory with these registers. */
     zak_source block(const zak_regs &regs) { return read<zak_source>(zak_block, &regs); }
 

@@ -22,7 +22,7 @@ from .examples import check_examples, check_scripts
 from .header import check_header, check_names
 from .installing import check_installing
 from .pc import check_pc
-from .programs import check_advances, check_blocks, check_clock, check_memory, check_misuse, check_pictures, check_state
+from .programs import check_advances, check_blocks, check_clock, check_lines, check_memory, check_misuse, check_pictures, check_state
 from .programs import check_threads, check_transfers
 from .suite import check_joined, check_restored, check_sliced, check_suite
 
@@ -39,6 +39,7 @@ EACH: dict[str, Check] = {
     "advances": check_advances,
     "transfers": check_transfers,
     "pictures": check_pictures,
+    "lines": check_lines,
     "blocks": check_blocks,
     "misuse": check_misuse,
     "memory": check_memory,

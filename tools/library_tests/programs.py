@@ -18,8 +18,8 @@ CALL = re.compile(r"^(?:zak_\w+|restore_with|assemble|print|take)\(", re.M)
 SETTINGS, TRANSFERS = 100_000, 20_000
 # How many settings of registers have their pictures compared, and how many calls of interrupt 10 their blocks.
 PICTURES, BLOCKS = 200, 20_011
-# How many rounds of advances are compared.
-ADVANCES = 400
+# How many rounds of advances are compared, and how many frames go line by line.
+ADVANCES, FRAMES = 400, 100
 WRAPPED = "-Wl,--wrap=malloc,--wrap=realloc,--wrap=free"
 
 
@@ -71,6 +71,14 @@ def check_advances(built: Built, folder: Path) -> str:
     build(built.compilers[0].c, built, [SOURCES / "advances.c"], made, *SANITIZED)
     count = int(run([*built.runner, made, fonts_file(), str(ADVANCES)]))
     return f"{count} advances, each the same with a look behind it"
+
+
+def check_lines(built: Built, folder: Path) -> str:
+    """Lines as they end are those of the whole frame, over pseudo-random registers."""
+    made = folder / "lines"
+    build(built.compilers[0].c, built, [SOURCES / "lines.c"], made, *SANITIZED)
+    count = int(run([*built.runner, made, fonts_file(), str(FRAMES)]))
+    return f"{count} lines as they end, each that of its frame"
 
 
 def check_pictures(built: Built, folder: Path) -> str:

@@ -332,6 +332,15 @@ class Frames(unittest.TestCase):
             with self.assertRaises(zaklimot.NoRoom):
                 self.card.frame_words(into=buffer, pitch=pitch)
 
+    def test_lines_as_they_end(self) -> None:
+        whole = self.card.frame_xrgb()
+        known = [[whole[x, y] for x in range(640)] for y in range(400)]
+        for number in range(449):
+            line = self.card.line()
+            self.assertEqual((line.number, line.ends_frame), (number, number == 448))
+            self.assertEqual(list(line.words), known[number] if number < 400 else [])
+        self.assertEqual(self.card.line(opaque=True).words[0], 0xFF00_0000 + known[0][0])
+
     def test_lines(self) -> None:
         whole = bytes(self.card.frame().data)
         lines = self.card.lines()

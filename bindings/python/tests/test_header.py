@@ -81,7 +81,7 @@ class Header(unittest.TestCase):
 
     def test_the_reader_sees_the_header(self) -> None:
         self.assertGreater(len(header.calls()), 40)
-        self.assertEqual(len(header.structs()), 14)
+        self.assertEqual(len(header.structs()), 15)
         self.assertEqual(header.structs()["zak_registers"][2], header.Field("seq", "uint8_t", 5))
         self.assertEqual(header.calls()["in"], ["zak_card *", "uint16_t", "uint8_t *"])
         self.assertEqual(header.calls()["fill_bytes"][3:], ["size_t", "bool", "size_t *"])

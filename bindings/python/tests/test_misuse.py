@@ -22,7 +22,7 @@ CALLS: dict[str, tuple[Any, ...]] = {
     "out": (0x3C4, 2), "out_word": (0x3C4, 2), "inp": (0x3CC,), "inp_word": (0x3C4,), "put": (0xA0000, 1),
     "put_word": (0xA0000, 1), "get": (0xA0000,), "get_word": (0xA0000,), "put_bytes": (0xA0000, b"ab"),
     "fill": (0xA0000, 1, 2), "get_bytes": (0xA0000, 2), "move": (0xA0000, 0xA0002, 2), "advance": (1,), "clock": (),
-    "frame": (), "frame_xrgb": (), "frame_words": (), "lines": (), "block": (0x1301,), "int10": (0x13,), "registers": (), "beam": (), "colour": (0,),
+    "frame": (), "frame_xrgb": (), "frame_words": (), "line": (), "lines": (), "block": (0x1301,), "int10": (0x13,), "registers": (), "beam": (), "colour": (0,),
     "palette": (), "latches": (), "plane": (0,), "bios_data": (), "screen": (), "cell": (0, 0), "pixel": (0, 0), "cursor": (),
     "cells": (), "text": (), "show_regs": (), "show_beam": (), "show_latches": (), "show_bda": (),
     "show_cells": (), "show_dac": (0,), "show_plane": (0, 0, 1), "save": (), "save_size": (), "restore": (b"",),

@@ -24,6 +24,10 @@ LIES(zak_picture, height, 4);
 LIES(zak_picture, across, 8);
 LIES(zak_picture, down, 12);
 
+TAKES(zak_scan_line, 12);
+LIES(zak_scan_line, width, 4);
+LIES(zak_scan_line, ends_frame, 8);
+
 TAKES(zak_source, 16);
 LIES(zak_source, is_at_dx, 8);
 

@@ -327,6 +327,7 @@ static zak_status other_calls(void)
     zak_bda bda;
     zak_timing timing;
     zak_picture picture;
+    zak_scan_line line;
     zak_source source;
     zak_regs regs = {0x1300, 0, 5, 0};
     zak_status status = zak_out(&card, 0x3C4, 2) | zak_out_word(&card, 0x3C4, 0x0F02);
@@ -341,6 +342,7 @@ static zak_status other_calls(void)
     status |= zak_advance(&card, 100) | zak_frame(&card, &size, rgb, sizeof rgb);
     status |= zak_frame_xrgb(&card, &size, pixels, sizeof pixels / 4, 640);
     status |= zak_frame_words(&card, ZAK_ONCE, &picture, pixels, sizeof pixels / 4, 640);
+    status |= zak_line(&card, 0, &line, pixels, sizeof pixels / 4);
     status |= zak_frame_lines(&card, widths, rgb, sizeof rgb, &len);
     status |= zak_save_size(&card, &len) | zak_save(&card, rgb, sizeof rgb, &len);
     status |= zak_restore(&card, rgb, len);

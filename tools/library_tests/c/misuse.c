@@ -71,6 +71,7 @@ static void calls_of_closed(void)
 {
     zak_size size = {7, 7};
     zak_picture picture = {7, 7, 7, 7};
+    zak_scan_line line = {7, 7, true};
     zak_regs regs = {3, 0, 0, 0};
     zak_source source = {7, true};
     uint32_t pixel = 7, widths[ZAK_HIGHEST] = {7};
@@ -80,6 +81,7 @@ static void calls_of_closed(void)
     SHOW(zak_frame(&card, &size, bytes, 1));
     SHOW(zak_frame_xrgb(&card, &size, &pixel, 1, 1));
     SHOW(zak_frame_words(&card, ZAK_ONCE, &picture, &pixel, 1, 1));
+    SHOW(zak_line(&card, 0, &line, &pixel, 1));
     SHOW(zak_frame_lines(&card, widths, bytes, 1, &len));
     SHOW(zak_int10(&card, &regs, none, 0, bytes, 1, &len));
     SHOW(zak_block(&card, &regs, &source));
@@ -97,6 +99,7 @@ static void calls_of_closed(void)
     SHOW(size.width == 7 && pixel == 7 && len == 999 && *bytes == UNTOUCHED);
     SHOW(widths[0] == 7 && widths[1] == 0);
     SHOW(picture.width == 7 && picture.down == 7 && source.len == 7 && source.is_at_dx);
+    SHOW(line.number == 7 && line.width == 7 && line.ends_frame);
     free(bytes);
 }
 
@@ -272,6 +275,26 @@ static void pixels_once(void)
     SHOW(picture.width == 320 && picture.height == 200 && picture.across == 2 && picture.down == 2);
     SHOW(pixels[0] == 0xFF000000 && pixels[319] == 0xFF000000 && pixels[320] == 0xEEEEEEEE);
     SHOW(pixels[321] == 0xFF000000 && pixels[room - 1] == 0xEEEEEEEE);
+    free(pixels);
+}
+
+static void little_lines(void)
+{
+    zak_scan_line line = {7, 7, true};
+    zak_beam beam;
+    uint32_t *pixels = malloc(4 * 641);
+    if (!pixels)
+        exit(2);
+    memset(pixels, UNTOUCHED, 4 * 641);
+    SHOW(zak_line(&card, 2, &line, pixels, 641));
+    SHOW(zak_line(&card, 0xFFFFFFFF, &line, pixels, 641));
+    SHOW(line.number == 7 && line.width == 7 && line.ends_frame && pixels[0] == 0xEEEEEEEE);
+    SHOW(zak_line(&card, ZAK_OPAQUE, &line, pixels, 639));
+    SHOW(line.number == 0 && line.width == 640 && !line.ends_frame && pixels[0] == 0xEEEEEEEE);
+    SHOW(zak_line(&card, ZAK_OPAQUE, &line, pixels, 640));
+    zak_read_beam(&card, &beam);
+    SHOW(line.number == 1 && beam.line == 2 && beam.character == 0 && beam.dot == 0);
+    SHOW(pixels[0] == 0xFF000000 && pixels[639] == 0xFF000000 && pixels[640] == 0xEEEEEEEE);
     free(pixels);
 }
 
@@ -656,6 +679,7 @@ int main(int argc, char **argv)
     little_pictures();
     little_pixels();
     pixels_once();
+    little_lines();
     little_texts();
     reads_out_of_range();
     pixels_out_of_range();

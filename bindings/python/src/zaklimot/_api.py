@@ -11,7 +11,7 @@ from ._errors import (
 )
 from ._library import default_fonts, library
 from ._names import CRTC, GFX, SEQ, Indexed
-from ._pictures import Colour, Lines, Picture, XrgbPicture
+from ._pictures import Colour, Lines, Picture, ScanLine, XrgbPicture
 from ._report import Report, Step
 from ._script import Script
 from ._scripts import AnyScript, assemble, disassemble, run_script
@@ -51,7 +51,7 @@ __all__ = [
     "Closed", "Colour", "CountPast", "Error", "FONTS_SIZE", "FontSize", "GFX", "HIGHEST", "Indexed",
     "LibraryMissing", "Lines", "MOST_DOTS", "NoMode", "NoRoom", "NoScreen", "NotDecoded", "NotInProfile",
     "OpenAlready", "OutOfMemory", "Outside", "Picture", "Position", "Ragged", "ReadBytes", "Refusal",
-    "Registers", "Report", "SEQ", "Screen", "Script", "ScriptError", "Source", "StateError", "StateLength", "StateMagic",
+    "Registers", "Report", "SEQ", "ScanLine", "Screen", "Script", "ScriptError", "Source", "StateError", "StateLength", "StateMagic",
     "StatePart", "StateVersion", "Step", "Timing", "TooFar", "TooLong", "TooMany", "Truncated", "WIDEST",
     "WrongKind", "XrgbPicture",
     "assemble", "default_fonts", "disassemble", "library_path", "run", "version",

@@ -49,6 +49,7 @@ CALLS: dict[str, tuple[Any, ...]] = {
     "frame": (CARD, _to(s.zak_size), BYTES, SIZE),
     "frame_xrgb": (CARD, _to(s.zak_size), _to(U32), SIZE, SIZE),
     "frame_words": (CARD, U32, _to(s.zak_picture), _to(U32), SIZE, SIZE),
+    "line": (CARD, U32, _to(s.zak_scan_line), _to(U32), SIZE),
     "frame_lines": (CARD, _to(U32), BYTES, SIZE, COUNT),
     "int10": (CARD, _to(s.zak_regs), In, SIZE, *ROOM),
     "block": (CARD, _to(s.zak_regs), _to(s.zak_source)),

@@ -16,7 +16,7 @@ from ._errors import BadArgument, Closed, error_of
 from ._library import default_fonts, library, read_fonts
 from ._memory import Room
 from ._numbers import BYTE, LONG, WORD, in_range
-from ._pictures import Colour, Lines, Picture, XrgbPicture
+from ._pictures import Colour, Lines, Picture, ScanLine, XrgbPicture
 from ._report import Report
 from ._scripts import script_bytes
 from ._state import Answer, Beam, BiosData, Cell, Position, ReadBytes, Registers, Screen, Source, Timing
@@ -402,6 +402,21 @@ class Card:
         self._call("frame_words", flags, _byref(told), pointer, room // 4, pitch)
         words = view[:room // 4 * 4].cast("I")
         return XrgbPicture(told.width, told.height, pitch, words, told.across, told.down)
+
+    def line(self, *, opaque: bool = False) -> ScanLine:
+        """Lets the clock run to the end of the line under way, and gives its dots as words.
+
+            while not (line := card.line()).ends_frame:
+                show(line.number, line.words)             # 32-bit numbers 00RRGGBB
+
+        With `opaque` they are FFRRGGBB. They lie in memory that the card keeps, until its next
+        `line`, `frame_xrgb` or `frame_words`.
+        """
+        told, room = s.zak_scan_line(), self._room(4 * s.WIDEST * s.HIGHEST, "xrgb")
+        pointer = ctypes.cast(room.pointer, ctypes.POINTER(s.U32))
+        self._call("line", s.OPAQUE * bool(opaque), _byref(told), pointer, s.WIDEST)
+        words = room.view[:4 * told.width].cast("I")
+        return ScanLine(told.number, told.ends_frame, words)
 
     def lines(self) -> Lines:
         """Lets the clock run to the end of the frame, and gives its dots line by line.

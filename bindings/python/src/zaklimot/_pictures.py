@@ -131,6 +131,17 @@ class XrgbPicture:
         return f"<XrgbPicture of {self.width} by {self.height} dots>"
 
 
+class ScanLine(NamedTuple):
+    """A line of a frame, as it ends."""
+
+    number: int
+    """of the frame, from 0; lines without a dot are counted too"""
+    ends_frame: bool
+    """whether the frame ends with it"""
+    words: memoryview
+    """a word 00RRGGBB or FFRRGGBB for each dot, from the left"""
+
+
 class Lines:
     """The dots of a frame line by line, also of one whose lines differ in width.
 

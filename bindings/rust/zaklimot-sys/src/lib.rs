@@ -44,6 +44,15 @@ pub struct zak_picture {
     pub down: u32,
 }
 
+/// `zak_scan_line` of the header.
+#[repr(C)]
+#[derive(Clone, Copy, Debug, Default, PartialEq, Eq)]
+pub struct zak_scan_line {
+    pub number: u32,
+    pub width: u32,
+    pub ends_frame: bool,
+}
+
 /// `zak_source` of the header.
 #[repr(C)]
 #[derive(Clone, Copy, Debug, Default, PartialEq, Eq)]
@@ -283,6 +292,13 @@ extern "C" {
         pixels: *mut u32,
         pixels_len: usize,
         pitch: usize,
+    ) -> zak_status;
+    pub fn zak_line(
+        card: *mut zak_card,
+        flags: u32,
+        line: *mut zak_scan_line,
+        pixels: *mut u32,
+        pixels_len: usize,
     ) -> zak_status;
     pub fn zak_frame_lines(
         card: *mut zak_card,

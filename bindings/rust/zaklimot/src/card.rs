@@ -7,7 +7,7 @@ use std::ptr::null_mut;
 use zaklimot_sys as sys;
 
 use crate::error::{done, done_at, Error};
-use crate::picture::{Form, Lines, Picture, Size, WordSize, XrgbPicture};
+use crate::picture::{Form, Lines, Picture, ScanLine, Size, WordSize, XrgbPicture};
 use crate::state::{
     Answer, Beam, BiosData, Cell, Colour, Direction, Latches, Position, Registers, Regs, Screen,
     Source, Timing,
@@ -391,6 +391,37 @@ impl Card {
         pitch: usize,
     ) -> Result<WordSize, Error> {
         frame_words_into(&mut self.raw, form, pixels, pitch)
+    }
+
+    /// Lets the clock run to the end of the line under way, and writes a word of each of its dots
+    /// to the front of the caller's: `FFRRGGBB` if `opaque` is true, and else `00RRGGBB`.
+    ///
+    /// ```
+    /// use zaklimot::{Card, Regs, WIDEST};
+    ///
+    /// let (mut card, mut words) = (Card::new()?, [0; WIDEST]);
+    /// card.int10(Regs::ax(0x0013), &[])?;
+    /// loop {
+    ///     let line = card.line(false, &mut words)?;
+    ///     assert_eq!(line.width, if line.number < 400 { 640 } else { 0 });
+    ///     if line.ends_frame {
+    ///         break;
+    ///     }
+    /// }
+    /// # Ok::<(), zaklimot::Error>(())
+    /// ```
+    ///
+    /// # Errors
+    ///
+    /// [`Error::NoRoom`] where there are fewer words than dots; the line has passed.
+    pub fn line(&mut self, opaque: bool, words: &mut [u32]) -> Result<ScanLine, Error> {
+        let mut line = sys::zak_scan_line::default();
+        let flags = if opaque { sys::ZAK_OPAQUE } else { 0 };
+        let (to, len) = (words.as_mut_ptr(), words.len());
+        // SAFETY: there are as many words as is said.
+        done(unsafe { sys::zak_line(&mut self.raw, flags, &mut line, to, len) })?;
+        let sys::zak_scan_line { number, width, ends_frame } = line;
+        Ok(ScanLine { number, width: width as usize, ends_frame })
     }
 
     /// Lets the clock run to the end of the frame under way, and lends its dots line by line, also

@@ -138,6 +138,17 @@ impl<'a> XrgbPicture<'a> {
     }
 }
 
+/// A line of a frame, as it ends.
+#[derive(Clone, Copy, Debug, Default, PartialEq, Eq)]
+pub struct ScanLine {
+    /// Of the frame, from 0; lines without a dot are counted too.
+    pub number: u32,
+    /// Dots, at most [`WIDEST`]; 0 for a line with none.
+    pub width: usize,
+    /// Whether the frame ends with this line.
+    pub ends_frame: bool,
+}
+
 /// The dots of a frame line by line, also of one whose lines differ in width.
 #[derive(Clone, Copy, Debug, PartialEq, Eq)]
 pub struct Lines<'a> {
