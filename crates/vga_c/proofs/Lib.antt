@@ -5,5 +5,6 @@ pub mod FrameLemmas
 pub mod RowLemmas
 pub mod OutcomeLemmas
 pub mod SavedLemmas
+pub mod FixedLemmas
 pub mod ScreenLemmas
 pub mod CardsMove

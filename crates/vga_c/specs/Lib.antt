@@ -13,6 +13,7 @@ pub mod Dumps
 pub mod State
 pub mod Screens
 pub mod Saved
+pub mod Fixed
 pub mod Outcome
 pub mod Runs
 pub mod Texts

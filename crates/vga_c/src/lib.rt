@@ -12,6 +12,7 @@ mod buffer;
 mod clock;
 mod cycles;
 mod dumps;
+mod fixed;
 mod forms;
 mod frames;
 mod handle;

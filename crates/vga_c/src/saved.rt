@@ -71,7 +71,7 @@ fn state_status(why: StateFault) -> u32
 
 /// Restores a machine from its state as bytes.
 #[tactic(auto, using(crate::proofs::SavedLemmas::restored, crate::proofs::SavedLemmas::left))]
-fn restore(machine: &mut Machine, bytes: &[u8]) -> u32
+pub(crate) fn restore(machine: &mut Machine, bytes: &[u8]) -> u32
     ensures { IsRestored machine.old machine.new bytes.now result }
 {
     match machine.restore(bytes) {

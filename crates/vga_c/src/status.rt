@@ -35,6 +35,9 @@ pub(crate) const BAD_CARD: u32 = 27;
 /// The adapter shows no plain screen.
 pub(crate) const NO_SCREEN: u32 = 28;
 
+/// The checksum of a state of a fixed length is wrong.
+pub(crate) const STATE_CHECKSUM: u32 = 34;
+
 /// The number of a refusal.
 pub(crate) fn refusal_status(refusal: Refusal) -> u32
     ensures { result ≡ refusal_status_of refusal }

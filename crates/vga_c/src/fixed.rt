@@ -1,0 +1,123 @@
+//! States of a fixed length, with a checksum.
+ghost use Rattle.std.specs.Prelude.{◌≡◌, ◌+◌, ◌≤◌, length};
+ghost use Rattle.vga_bits.specs.Bytes.{zeros};
+ghost use Rattle.vga_run.specs.Saved.{long_at as long_of, long_bytes, saved_machine};
+ghost use Rattle.vga_c.specs.Cards.{Keeps, LeavesClosed, Spares};
+ghost use Rattle.vga_c.specs.Fixed.{adler_32, IsRestoredFixed, IsSavedFixed, RestoresFixed};
+ghost use Rattle.vga_c.specs.Fixed.{SavesFixed, state_in as state_of};
+ghost use Rattle.vga_c.specs.Saved.{IsRestored};
+
+use crate::handle::{Handle, on_open_card};
+use crate::saved::restore;
+use crate::status::{DONE, NO_ROOM, STATE_CHECKSUM};
+use std::alloc::Global;
+use vga_bits::{put_word, word_at};
+use vga_run::machine::Machine;
+
+/// The largest prime below 65,536.
+const PRIME: u32 = 65_521;
+
+/// How many bytes the checksum has.
+const SUM_LEN: usize = 4;
+
+/// Adler-32 of some bytes.
+fn checksum(bytes: &[u8]) -> u32
+    ensures { result ≡ adler_32 bytes.now }
+{
+    let mut sum = 1;
+    let mut sums = 0;
+    for i in 0..bytes.len() {
+        sum = (sum + bytes[i] as u32) % PRIME;
+        sums = (sums + sum) % PRIME;
+    }
+    65_536 * sums + sum
+}
+
+/// The number in four bytes from a place on, the lowest first.
+fn long_at(bytes: &[u8], at: usize) -> u32
+    requires { at + 4 ≤ length bytes.now }
+    ensures { result ≡ long_of bytes.now at }
+{
+    word_at(bytes, at) as u32 + 65_536 * word_at(bytes, at + 2) as u32
+}
+
+/// Writes the checksum of some bytes into four others.
+fn write_sum(body: &[u8], tail: &mut [u8])
+    requires { length tail.old ≡ 4 }
+    ensures { tail.new ≡ long_bytes (adler_32 body.now) }
+{
+    let sum = checksum(body);
+    put_word(tail, 0, (sum % 65_536) as u16);
+    put_word(tail, 2, (sum / 65_536) as u16);
+}
+
+/// Makes all bytes 0.
+fn clear(bytes: &mut [u8])
+    ensures { bytes.new ≡ zeros (length bytes.old) }
+{
+    for i in 0..bytes.len() {
+        bytes[i] = 0;
+    }
+}
+
+/// Saves a machine to all of the caller's bytes, if they are enough.
+fn save_fixed(machine: &Machine, bytes: &mut [u8]) -> u32
+    ensures { IsSavedFixed (saved_machine machine.now) bytes.old bytes.new result }
+{
+    let size = machine.saved_len();
+    if bytes.len() < SUM_LEN + size {
+        return NO_ROOM;
+    }
+    let (body, tail) = bytes.split_at_mut(bytes.len() - SUM_LEN);
+    let (state, rest) = body.split_at_mut(size);
+    machine.save(state);
+    clear(rest);
+    write_sum(body, tail);
+    DONE
+}
+
+/// The state among the bytes before the checksum.
+fn state_in(body: &[u8]) -> &[u8]
+    ensures { result.now ≡ state_of body.now }
+{
+    if body.len() < 9 {
+        return body;
+    }
+    let len = long_at(body, 5) as usize;
+    &body[..len.min(body.len())]
+}
+
+/// Restores a machine from a state of a fixed length, if its checksum is right.
+fn restore_fixed(machine: &mut Machine, bytes: &[u8]) -> u32
+    ensures { IsRestoredFixed machine.old machine.new bytes.now result }
+{
+    if bytes.len() < SUM_LEN {
+        return STATE_CHECKSUM;
+    }
+    let end = bytes.len() - SUM_LEN;
+    let body = &bytes[..end];
+    if long_at(bytes, end) != checksum(body) {
+        return STATE_CHECKSUM;
+    }
+    restore(machine, state_in(body))
+}
+
+/// Writes the state to all of the caller's bytes, with zeros after it and a checksum at the end.
+#[unsafe(no_mangle)]
+pub extern "C" fn zak_save_fixed(alloc: Global, card: &mut Handle, bytes: &mut [u8]) -> u32
+    ensures card { Keeps card.old card.new }
+    ensures bytes { SavesFixed card.old bytes.old bytes.new result }
+    ensures closed { LeavesClosed card.old card.new result }
+    ensures spared { Spares card.old bytes.old bytes.new }
+{
+    on_open_card!(alloc, card, machine => save_fixed(machine, bytes))
+}
+
+/// Goes on from a state of a fixed length. The fonts stay.
+#[unsafe(no_mangle)]
+pub extern "C" fn zak_restore_fixed(alloc: Global, card: &mut Handle, bytes: &[u8]) -> u32
+    ensures card { RestoresFixed card.old card.new bytes.now result }
+    ensures closed { LeavesClosed card.old card.new result }
+{
+    on_open_card!(alloc, card, machine => restore_fixed(machine, bytes))
+}
