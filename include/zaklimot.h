@@ -63,6 +63,7 @@ enum {
     ZAK_STATE_VERSION = 31,  /* one of another version of the format */
     ZAK_STATE_LENGTH = 32,   /* one that is cut off or goes on */
     ZAK_STATE_PART = 33,     /* one with a part out of its bounds */
+    ZAK_STATE_CHECKSUM = 34, /* of zak_restore_fixed: the checksum is wrong */
     ZAK_BAD_MAGIC = 102,
     ZAK_BAD_VERSION = 103,
     ZAK_BAD_STEP = 104,
@@ -314,6 +315,15 @@ zak_status zak_screen_cursor(zak_card *card, uint8_t page, zak_place *place);
 zak_status zak_save_size(zak_card *card, size_t *len);
 zak_status zak_save(zak_card *card, uint8_t *bytes, size_t bytes_cap, size_t *len);
 zak_status zak_restore(zak_card *card, const uint8_t *bytes, size_t bytes_len);
+
+/* The state in bytes of a length that you choose, for a core whose states have one size: the bytes
+ * of zak_save, then zeros, and in the last four bytes the Adler-32 checksum of all before them, the
+ * lowest byte first. ZAK_MOST_STATE + 4 bytes are always enough; with fewer than the state takes
+ * and four more the call answers ZAK_NO_ROOM. zak_restore_fixed takes all of these bytes back. It
+ * answers ZAK_STATE_CHECKSUM where the checksum is wrong, and else what zak_restore answers of the
+ * state. */
+zak_status zak_save_fixed(zak_card *card, uint8_t *bytes, size_t bytes_len);
+zak_status zak_restore_fixed(zak_card *card, const uint8_t *bytes, size_t bytes_len);
 
 /* A whole run with no card: the bytes of a script in (docs/SCRIPT.md), its report out
  * (docs/REPORT.md). ZAK_NO_ROOM: *report_len tells how many bytes it takes. ZAK_BAD_STEP,

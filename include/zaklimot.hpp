@@ -195,6 +195,9 @@ public:
         return state;
     }
     void restore(bytes state) { check(zak_restore(&raw_, state.data(), state.size())); }
+    /* All of the bytes are the state, with zeros and a checksum after it. */
+    void save_fixed(span<std::uint8_t> into) { check(zak_save_fixed(&raw_, into.data(), into.size())); }
+    void restore_fixed(bytes state) { check(zak_restore_fixed(&raw_, state.data(), state.size())); }
 
     /* For the calls that this header lacks. */
     zak_card *raw() noexcept { return &raw_; }

@@ -530,6 +530,28 @@ class Snapshots(unittest.TestCase):
             self.assertEqual(other.frame().copy(), self.card.frame())
             self.assertEqual(len(other.save()), 265_086)
 
+    def test_states_of_one_size(self) -> None:
+        self.card.put(0xA0000, 0x0F)
+        states = []
+        for dots in (0, 12_345, 100_000):
+            self.card.advance(dots)
+            states.append((self.card.save(), self.card.save_fixed(1_100_000)))
+        with Card() as other:
+            for state, fixed in states:
+                self.assertEqual((len(fixed), fixed[:len(state)]), (1_100_000, state))
+                self.assertEqual(zlib.adler32(fixed[:-4]), int.from_bytes(fixed[-4:], "little"))
+                other.restore_fixed(bytearray(fixed))
+                self.assertEqual(other.save(), state)
+            for at in (0, 40, 1_099_995, 1_099_999):
+                damaged = bytearray(fixed)
+                damaged[at] ^= 4
+                with self.assertRaises(zaklimot.StateChecksum) as caught:
+                    other.restore_fixed(damaged)
+                self.assertEqual((caught.exception.number, other.save()), (34, state))
+        with self.assertRaises(zaklimot.NoRoom):
+            self.card.save_fixed(len(self.card.save()) + 3)
+        self.assertEqual(len(self.card.save_fixed(len(self.card.save()) + 4)), len(self.card.save()) + 4)
+
     def test_other_bytes_are_refused(self) -> None:
         state = self.card.save()
 

@@ -25,7 +25,7 @@ CALLS: dict[str, tuple[Any, ...]] = {
     "frame": (), "frame_xrgb": (), "frame_words": (), "line": (), "lines": (), "block": (0x1301,), "int10": (0x13,), "registers": (), "beam": (), "colour": (0,),
     "palette": (), "latches": (), "plane": (0,), "bios_data": (), "screen": (), "cell": (0, 0), "pixel": (0, 0), "cursor": (),
     "cells": (), "text": (), "show_regs": (), "show_beam": (), "show_latches": (), "show_bda": (),
-    "show_cells": (), "show_dac": (0,), "show_plane": (0, 0, 1), "save": (), "save_size": (), "restore": (b"",),
+    "show_cells": (), "show_dac": (0,), "show_plane": (0, 0, 1), "save": (), "save_size": (), "restore": (b"",), "save_fixed": (1,), "restore_fixed": (b"",),
     "run_on": ("frame",), "close": (),
 }
 # The most that each number may be; one more is out of range. What a page, a row, a column, x or y may be, the

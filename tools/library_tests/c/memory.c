@@ -346,6 +346,7 @@ static zak_status other_calls(void)
     status |= zak_frame_lines(&card, widths, rgb, sizeof rgb, &len);
     status |= zak_save_size(&card, &len) | zak_save(&card, rgb, sizeof rgb, &len);
     status |= zak_restore(&card, rgb, len);
+    status |= zak_save_fixed(&card, rgb, sizeof rgb) | zak_restore_fixed(&card, rgb, sizeof rgb);
     status |= zak_read_registers(&card, &registers) | zak_read_colour(&card, 1, &colour);
     status |= zak_read_beam(&card, &beam) | zak_read_latches(&card, &latches);
     status |= zak_read_bda(&card, &bda) | zak_read_plane(&card, 0, 0, rgb, 65536);

@@ -88,6 +88,8 @@ static void calls_of_closed(void)
     SHOW(zak_save_size(&card, &len));
     SHOW(zak_save(&card, bytes, 1, &len));
     SHOW(zak_restore(&card, bytes, 1));
+    SHOW(zak_save_fixed(&card, bytes, 1));
+    SHOW(zak_restore_fixed(&card, bytes, 1));
     SHOW(zak_show_regs(&card, bytes, 1, &len));
     SHOW(zak_show_beam(&card, bytes, 1, &len));
     SHOW(zak_show_latches(&card, bytes, 1, &len));
@@ -434,6 +436,39 @@ static void foreign_states(uint8_t *state, size_t len)
     SHOW(restore_with(state, len, len - 1, 0xFF));
 }
 
+/* States of a fixed length that are too short, damaged, or have no state. The card stays. */
+static void fixed_states(size_t len)
+{
+    size_t room = len + 9;
+    uint8_t *state = buffer(room), *again = buffer(len), *zeros = buffer(13);
+    size_t used;
+    SHOW(zak_save_fixed(&card, state, len + 3));
+    SHOW(zak_save_fixed(&card, state, 3));
+    SHOW(zak_save_fixed(&card, state, 0));
+    SHOW(state[0] == UNTOUCHED && state[len + 2] == UNTOUCHED);
+    SHOW(zak_save_fixed(&card, state, len + 4));
+    SHOW(zak_restore_fixed(&card, state, len + 4));
+    SHOW(zak_save_fixed(&card, state, room));
+    SHOW(zak_save(&card, again, len, &used));
+    SHOW(memcmp(state, again, len) == 0 && state[len] == 0 && state[room - 5] == 0);
+    SHOW(zak_restore_fixed(&card, state, room));
+    SHOW(zak_restore_fixed(&card, state, room - 1));
+    SHOW(zak_restore_fixed(&card, state, 3));
+    SHOW(zak_restore_fixed(&card, state, 0));
+    state[5]++;
+    SHOW(zak_restore_fixed(&card, state, room));
+    /* Nine zeros, and their checksum. */
+    memset(zeros, 0, 13);
+    zeros[9] = 1;
+    zeros[11] = 9;
+    SHOW(zak_restore_fixed(&card, zeros, 13));
+    SHOW(zak_save(&card, state, len, &used));
+    SHOW(memcmp(state, again, len) == 0);
+    free(state);
+    free(again);
+    free(zeros);
+}
+
 /* What is saved is restored, also where there was too little room before, and over another state. */
 static void states(void)
 {
@@ -444,6 +479,7 @@ static void states(void)
     SHOW(zak_save(&card, little, len - 1, &again));
     SHOW(again == len && little[0] == UNTOUCHED && little[len - 2] == UNTOUCHED);
     foreign_states(state, len);
+    fixed_states(len);
     uint8_t *after = state_of(&again);
     /* The last of them, of which a dot has another colour, is a state. */
     SHOW(again == len && memcmp(state, after, len - 1) == 0 && after[len - 1] == 0xFF);

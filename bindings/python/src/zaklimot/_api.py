@@ -6,8 +6,8 @@ from ._card import Card, Fonts, font_bytes
 from ._errors import (
     BadArgument, BadBlock, BadCard, BadFunction, BadHeight, BadLine, BadMagic, BadMode, BadPage, BadRegister,
     BadStep, BadVersion, Closed, CountPast, Error, FontSize, LibraryMissing, NoMode, NoRoom, NoScreen, NotDecoded,
-    NotInProfile, OpenAlready, OutOfMemory, Outside, Ragged, Refusal, ScriptError, StateError, StateLength,
-    StateMagic, StatePart, StateVersion, TooFar, TooLong, TooMany, Truncated, WrongKind,
+    NotInProfile, OpenAlready, OutOfMemory, Outside, Ragged, Refusal, ScriptError, StateChecksum, StateError,
+    StateLength, StateMagic, StatePart, StateVersion, TooFar, TooLong, TooMany, Truncated, WrongKind,
 )
 from ._library import default_fonts, library
 from ._names import CRTC, GFX, SEQ, Indexed
@@ -51,7 +51,8 @@ __all__ = [
     "Closed", "Colour", "CountPast", "Error", "FONTS_SIZE", "FontSize", "GFX", "HIGHEST", "Indexed",
     "LibraryMissing", "Lines", "MOST_DOTS", "NoMode", "NoRoom", "NoScreen", "NotDecoded", "NotInProfile",
     "OpenAlready", "OutOfMemory", "Outside", "Picture", "Position", "Ragged", "ReadBytes", "Refusal",
-    "Registers", "Report", "SEQ", "ScanLine", "Screen", "Script", "ScriptError", "Source", "StateError", "StateLength", "StateMagic",
+    "Registers", "Report", "SEQ", "ScanLine", "Screen", "Script", "ScriptError", "Source",
+    "StateChecksum", "StateError", "StateLength", "StateMagic",
     "StatePart", "StateVersion", "Step", "Timing", "TooFar", "TooLong", "TooMany", "Truncated", "WIDEST",
     "WrongKind", "XrgbPicture",
     "assemble", "default_fonts", "disassemble", "library_path", "run", "version",

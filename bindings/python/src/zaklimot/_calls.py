@@ -73,6 +73,8 @@ CALLS: dict[str, tuple[Any, ...]] = {
     "save_size": (CARD, COUNT),
     "save": (CARD, *ROOM),
     "restore": (CARD, In, SIZE),
+    "save_fixed": (CARD, BYTES, SIZE),
+    "restore_fixed": (CARD, In, SIZE),
     "run": (In, SIZE, In, SIZE, *ROOM, COUNT),
     "run_on": (CARD, In, SIZE, U32, U32, *ROOM, COUNT, COUNT),
     "assemble": (In, SIZE, *ROOM, COUNT),

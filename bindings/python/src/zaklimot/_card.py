@@ -608,6 +608,20 @@ class Card:
         given = bytes(memoryview(state))
         self._call("restore", given, len(given))
 
+    def save_fixed(self, length: int) -> bytes:
+        """The state in `length` bytes, with zeros and a checksum after it: always of one size.
+
+        Raises NoRoom where they are too few; 7,342,978 are always enough.
+        """
+        into = (s.U8 * max(1, in_range("length", length, LONG)))()
+        self._call("save_fixed", into, length)
+        return bytes(into)[:length]
+
+    def restore_fixed(self, state: Bytes) -> None:
+        """Goes on from what `save_fixed` gave. Raises StateChecksum, or another StateError, and stays as it was."""
+        given = bytes(memoryview(state))
+        self._call("restore_fixed", given, len(given))
+
     def run_on(self, script: Any, first: int = 0, most: int = LONG) -> Report:
         """Takes at most `most` steps of a script, after the first `first`, which are passed over.
 

@@ -188,6 +188,12 @@ class StatePart(StateError):
     number = 33
 
 
+class StateChecksum(StateError):
+    """A state of a fixed length whose checksum is wrong."""
+
+    number = 34
+
+
 class ScriptError(Error, ValueError):
     """The bytes or the text are no script. `place` is the offset of the bad step, or the bad line's number."""
 

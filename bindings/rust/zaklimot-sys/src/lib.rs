@@ -204,6 +204,7 @@ pub const ZAK_STATE_MAGIC: zak_status = 30;
 pub const ZAK_STATE_VERSION: zak_status = 31;
 pub const ZAK_STATE_LENGTH: zak_status = 32;
 pub const ZAK_STATE_PART: zak_status = 33;
+pub const ZAK_STATE_CHECKSUM: zak_status = 34;
 pub const ZAK_BAD_MAGIC: zak_status = 102;
 pub const ZAK_BAD_VERSION: zak_status = 103;
 pub const ZAK_BAD_STEP: zak_status = 104;
@@ -403,6 +404,12 @@ extern "C" {
         len: *mut usize,
     ) -> zak_status;
     pub fn zak_restore(card: *mut zak_card, bytes: *const u8, bytes_len: usize) -> zak_status;
+    pub fn zak_save_fixed(card: *mut zak_card, bytes: *mut u8, bytes_len: usize) -> zak_status;
+    pub fn zak_restore_fixed(
+        card: *mut zak_card,
+        bytes: *const u8,
+        bytes_len: usize,
+    ) -> zak_status;
     pub fn zak_run(
         script: *const u8,
         script_len: usize,

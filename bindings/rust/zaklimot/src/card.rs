@@ -669,6 +669,37 @@ impl Card {
         done(unsafe { sys::zak_restore(&mut self.raw, state.as_ptr(), state.len()) })
     }
 
+    /// The state in all of the caller's bytes, with zeros and a checksum after it: always of one
+    /// size.
+    ///
+    /// ```
+    /// use zaklimot::{Card, Error, Regs};
+    ///
+    /// let (mut card, mut state) = (Card::new()?, vec![0; 1_100_000]);
+    /// card.int10(Regs::ax(0x0013), &[])?;
+    /// card.save_fixed(&mut state)?;
+    /// card.restore_fixed(&state)?;
+    /// state[100] ^= 1;
+    /// assert_eq!(card.restore_fixed(&state), Err(Error::StateChecksum));
+    /// # Ok::<(), Error>(())
+    /// ```
+    ///
+    /// # Errors
+    ///
+    /// [`Error::NoRoom`] where they are too few.
+    pub fn save_fixed(&mut self, state: &mut [u8]) -> Result<(), Error> {
+        done(unsafe { sys::zak_save_fixed(&mut self.raw, state.as_mut_ptr(), state.len()) })
+    }
+
+    /// Goes on from what [`save_fixed`](Card::save_fixed) wrote.
+    ///
+    /// # Errors
+    ///
+    /// [`Error::StateChecksum`], and those of [`restore`](Card::restore); the card is as it was.
+    pub fn restore_fixed(&mut self, state: &[u8]) -> Result<(), Error> {
+        done(unsafe { sys::zak_restore_fixed(&mut self.raw, state.as_ptr(), state.len()) })
+    }
+
     /// Takes at most `most` steps of a script's bytes, after the first `first`, which are passed
     /// over. Fewer are taken only where the script ends.
     ///

@@ -61,6 +61,8 @@ pub enum Error {
     StateLength,
     /// A saved state with a part out of its bounds.
     StatePart,
+    /// A state of a fixed length whose checksum is wrong.
+    StateChecksum,
     /// The bytes are no script: they don't begin with `VGAS`.
     BadMagic,
     /// A script of another version.
@@ -114,7 +116,8 @@ statuses! {
     ZAK_FONT_SIZE FontSize, ZAK_OUT_OF_MEMORY OutOfMemory, ZAK_RAGGED Ragged,
     ZAK_NO_ROOM NoRoom, ZAK_BAD_ARGUMENT BadArgument, ZAK_BAD_CARD BadCard,
     ZAK_NO_SCREEN NoScreen, ZAK_STATE_MAGIC StateMagic, ZAK_STATE_VERSION StateVersion,
-    ZAK_STATE_LENGTH StateLength, ZAK_STATE_PART StatePart, ZAK_BAD_MAGIC BadMagic,
+    ZAK_STATE_LENGTH StateLength, ZAK_STATE_PART StatePart,
+    ZAK_STATE_CHECKSUM StateChecksum, ZAK_BAD_MAGIC BadMagic,
     ZAK_BAD_VERSION BadVersion, ZAK_BAD_STEP BadStep(place), ZAK_TRUNCATED Truncated(place),
     ZAK_TOO_LONG TooLong, ZAK_BAD_LINE BadLine(place), ZAK_TOO_MANY TooMany(place),
 }
