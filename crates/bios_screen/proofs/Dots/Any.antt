@@ -1,25 +1,22 @@
 -- What every screen that is shown says of its frames, in text and in graphics.
-use Rattle.std.proofs.Common.{◌≡◌, ℕ, ◌+◌, ◌*◌, ◌<◌, refl, sym, ap, subst, ◌∙◌, arith, Bool, true, false}
+use Rattle.std.proofs.Common.{◌≡◌, ℕ, ◌+◌, ◌*◌, ◌<◌, refl, sym, ap, subst, ◌∙◌, arith}
 use Rattle.std.specs.Prelude.{if◌then◌else◌, Some}
 use Rattle.vga_crtc.specs.Beam.{first_counter}
 use Rattle.vga_card.specs.Bounds.{IsCard}
 use Rattle.vga_card.specs.Card.{CardState}
+use Rattle.bios_modes.specs.declared.modes.ModeRow.{ModeRow}
+use Rattle.bios_modes.specs.Modes.{bytes_320_by_200}
 use Rattle.bios_modes.specs.Bda.{BiosData}
-use Rattle.bios_modes.specs.Kinds.{is_text}
 use Rattle.bios_services.specs.Cursor.{start_address}
 use Rattle.bios_screen.specs.Screen.{Screen}
 use Rattle.bios_screen.specs.Shown.{pixel_screen, shown}
-use Rattle.bios_screen.specs.Picture.{text_dot, pixel_dot, dot_at, pixel_width, pixel_height, picture_width, picture_height}
+use Rattle.bios_screen.specs.Picture.{text_dot, pixel_dot, dot_at, pixel_width, picture_width, picture_height}
 use Rattle.bios_screen.specs.Raster.{Raster, HasRaster, Draws, width, line_dots as dots_of_line}
 use Rattle.bios_screen.specs.Drawing.{dots_a_line, lines_a_frame, columns_of}
 use Rattle.bios_screen.proofs.Modes.TextModes.{Display, number_of as text_number}
 use Rattle.bios_screen.proofs.Modes.TextModes.Display.{Colour, Monochrome}
-use Rattle.bios_screen.proofs.Modes.PixelModes.{Graphics, row_in, number_in, raster_in}
-use Rattle.bios_screen.proofs.Modes.AnyModes.{graphics_row}
-use Rattle.bios_screen.proofs.Modes.PixelModes.Planes.{Low, Middle, High}
-use Rattle.bios_screen.proofs.Modes.PixelModes.Graphics.{Sixteen, Many}
-use Rattle.bios_screen.proofs.Shows.Screens.{IsShown, screen_shown, shown_is, all_of, data_is, AllTests}
-use Rattle.bios_screen.proofs.Shows.Pixels.{pixels_of_shown}
+use Rattle.bios_screen.proofs.Shows.Screens.{IsShown, screen_shown, all_of}
+use Rattle.bios_screen.proofs.Shows.Kinds.{by_modes}
 use Rattle.bios_screen.proofs.Dots.Frames as frames
 use Rattle.bios_screen.proofs.Dots.TextRows.{text_raster, frame_of}
 use Rattle.bios_screen.proofs.Dots.TextPictures as text
@@ -65,64 +62,27 @@ text_frames c d h z =
 
 -- ---- graphics
 
-line_by : (k : Graphics) → dots_of_line (raster_in k) ≡ dots_a_line (number_in k)
-line_by (Sixteen Low) = refl
-line_by (Sixteen Middle) = refl
-line_by (Sixteen High) = refl
-line_by Many = refl
-
-lines_by : (k : Graphics) → (raster_in k).lines ≡ lines_a_frame (number_in k)
-lines_by (Sixteen Low) = refl
-lines_by (Sixteen Middle) = refl
-lines_by (Sixteen High) = refl
-lines_by Many = refl
-
-wide_by : (k : Graphics) → width (raster_in k) ≡ pixel_width (number_in k) * (8 * (row_in k).columns)
-wide_by (Sixteen Low) = refl
-wide_by (Sixteen Middle) = refl
-wide_by (Sixteen High) = refl
-wide_by Many = refl
-
-high_by : (k : Graphics) → (raster_in k).height ≡ pixel_height (number_in k) * ((row_in k).height * ((row_in k).last_row + 1))
-high_by (Sixteen Low) = refl
-high_by (Sixteen Middle) = refl
-high_by (Sixteen High) = refl
-high_by Many = refl
-
-draws_by : (k : Graphics) (c : CardState) (d : BiosData) → IsGraphics k c d → IsCard c → (g : ℕ) → g < (row_in k).pages →
-    Draws (raster_in k) c ((row_in k).size * g) (pixel_dot (pixel_screen (row_in k) c d) g)
-draws_by (Sixteen m) c d t z g lg = planar.draws m c d t z g lg
-draws_by Many c d t z g lg = packed.draws c d t z g lg
-
-pixel_frames : (k : Graphics) (c : CardState) (d : BiosData) → IsGraphics k c d → IsCard c → HasFrames c d (pixel_screen (row_in k) c d)
-pixel_frames k c d t z =
-    let s = pixel_screen (row_in k) c d in
-    let m = raster_in k in
-    let off = pixels.text_off k c d t in
+pixel_frames : (row : ModeRow) (c : CardState) (d : BiosData) (t : IsGraphics row c d) →
+    ((g : ℕ) → g < row.pages → Draws t.raster c (row.size * g) (pixel_dot (pixel_screen row c d) g)) → HasFrames c d (pixel_screen row c d)
+pixel_frames row c d t draws =
+    let s = pixel_screen row c d in
+    let m = t.raster in
     record {
       raster = m;
-      has = pixels.has_raster k c d t;
-      line = line_by k ∙ sym (ap dots_a_line t.number);
-      lines = lines_by k ∙ sym (ap lines_a_frame t.number);
-      wide = rw (off, t.number, t.has.columns) (wide_by k);
-      high = rw (off, t.number, t.has.height, t.has.last_row) (high_by k);
+      has = pixels.has_raster row c d t;
+      line = t.picture.line;
+      lines = t.picture.lines;
+      wide = rw (t.text, t.has.columns) t.picture.wide;
+      high = rw (t.text, t.has.height, t.has.last_row) t.picture.high;
       page = t.has.page;
-      draws = λ g lg. subst (λ a. Draws m c a (dot_at s g)) (sym (pixels.start_is k c d t g)) (λ v x i lv lx li.
-          draws_by k c d t z g lg v x i lv lx li
-          ∙ sym (ap (λ b. if b then text_dot s g (x * m.dots + i) v else pixel_dot s g (x * m.dots + i) v) off));
-      first = pixels.first_is k c d t;
+      draws = λ g lg. subst (λ a. Draws m c a (dot_at s g)) (sym (pixels.start_is row c d t g)) (λ v x i lv lx li.
+          draws g lg v x i lv lx li
+          ∙ sym (ap (λ b. if b then text_dot s g (x * m.dots + i) v else pixel_dot s g (x * m.dots + i) v) t.text));
+      first = pixels.first_is row c d t;
     }
 
 -- ---- any mode
 
 pub frames_of : (c : CardState) (d : BiosData) (s : Screen) → IsCard c → shown c d ≡ Some s → HasFrames c d s
-frames_of c d s z e = by_kind (is_text d.mode) refl
-  where
-    by_kind : (b : Bool) → is_text d.mode ≡ b → HasFrames c d s
-    by_kind true t = let x = shown_is c d s t e in subst (HasFrames c d) x.screen (text_frames c d x.is z)
-    by_kind false t =
-        let x = pixels_of_shown c d s t e in
-        let g = graphics_row d.mode d.height x.is.row t x.is.mode in
-        let tests = subst (λ r. AllTests r c d) (sym g.row_is) x.is.tests in
-        let there : IsGraphics g.kind c d = record { number = g.number; tests = tests; has = data_is (row_in g.kind) d tests.data_test } in
-        subst (HasFrames c d) x.screen (subst (λ r. HasFrames c d (pixel_screen r c d)) g.row_is (pixel_frames g.kind c d there z))
+frames_of c d s z e = by_modes c d (HasFrames c d) (λ h. text_frames c d h z) (λ row t. pixel_frames row c d t.graphics (planar.draws row c d t z)) (λ t.
+    pixel_frames bytes_320_by_200 c d t.graphics (packed.draws c d t z)) s e

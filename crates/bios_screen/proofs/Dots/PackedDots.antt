@@ -1,5 +1,5 @@
 -- The dot at a place of a frame of 256 colours is the screen's pixel.
-use Rattle.std.proofs.Common.{◌≡◌, ℕ, ◌+◌, ◌*◌, ◌/◌, ◌%◌, ◌<◌, sym, ap, ◌∙◌, arith, true, false}
+use Rattle.std.proofs.Common.{◌≡◌, ℕ, ◌+◌, ◌*◌, ◌/◌, ◌%◌, ◌<◌, sym, ap, ◌∙◌, subst, arith, true, false}
 use Rattle.std.specs.Prelude.{if◌then◌else◌, ◌&&◌, slice_index}
 use Rattle.vga_bits.specs.Bits.{is_set}
 use Rattle.vga_planes.specs.Planes.{byte_at}
@@ -11,23 +11,27 @@ use Rattle.vga_dots.specs.Colour.{colour_number, dot_colour}
 use Rattle.vga_card.specs.Bounds.{IsCard}
 use Rattle.vga_card.specs.Card.{CardState}
 use Rattle.bios_modes.specs.Modes.{bytes_320_by_200}
+use Rattle.bios_modes.specs.Kinds.{is_packed}
 use Rattle.bios_modes.specs.Bda.{BiosData}
-use Rattle.bios_screen.specs.Shown.{palette_in, pixel_screen}
-use Rattle.bios_screen.specs.Picture.{tint, pixel_dot}
+use Rattle.bios_screen.specs.Shown.{palette_in, planar_pixel, packed_pixel, pixel_screen}
+use Rattle.bios_screen.specs.Picture.{tint, shade, pixel_width, pixel_height, pixel_dot}
 use Rattle.bios_screen.specs.Raster.{Draws}
 use Rattle.bios_screen.proofs.Base.Tests.{lt_test, both_true}
 use Rattle.bios_screen.proofs.Base.Setting.{Setting, setting}
 use Rattle.bios_screen.proofs.Shows.Screens.{setting_by}
-use Rattle.bios_screen.proofs.Modes.PixelModes.{setting_in, raster_in, fetch_many}
-use Rattle.bios_screen.proofs.Modes.PixelModes.Graphics.{Many}
-use Rattle.bios_screen.proofs.Dots.PixelDots.{IsGraphics, placed, place, source_is, fetch_is, pixel, dot_is}
+use Rattle.bios_screen.proofs.Modes.PixelModes.{setting_of, fetch_many}
+use Rattle.bios_screen.proofs.Dots.PixelDots.{IsGraphics, placed, place, source_is, fetch_is, number_of_pixel, pixel, dot_is}
 
 -- the adapter and the data show a screen of 256 colours
-abbrev pub IsPacked : CardState → BiosData → Type 0
-IsPacked c d = IsGraphics Many c d
+pub record IsPacked (c : CardState) (d : BiosData) : Type 0 where
+  pub number : d.mode ≡ 0x13
+  pub graphics : IsGraphics bytes_320_by_200 c d
+  pub open graphics use *
+  pub wide : graphics.raster.columns ≡ 80
+  pub high : graphics.raster.height ≡ 400
 
 module _ (c : CardState) (d : BiosData) (t : IsPacked c d) (z : IsCard c) (g : ℕ) (lg : g < 1) where
-  set : setting c ≡ setting_in Many
+  set : setting c ≡ setting_of bytes_320_by_200
   set = setting_by bytes_320_by_200 c t.tests.memory
 
   screen_on : is_screen_off c.host ≡ false
@@ -40,23 +44,34 @@ module _ (c : CardState) (d : BiosData) (t : IsPacked c d) (z : IsCard c) (g : �
   shown = (both_true (is_palette_shown c.attr) _ t.tests.attribute).0
 
   -- the byte of the dot i of character x of line v is the pixel
-  byte_is : (v x i : ℕ) → v < 400 → x < 80 → i < 8 → (let at = placed Many c d t g v x i in packed_byte c.host at (source_dot c.host at c.attr))
-      ≡ pixel Many c d t g v x i
+  byte_is : (v x i : ℕ) → v < t.raster.height → x < t.raster.columns → i < t.raster.dots → i < 8 →
+      (let at = placed bytes_320_by_200 c d t.graphics g v x i in packed_byte c.host at (source_dot c.host at c.attr))
+      ≡ pixel bytes_320_by_200 c d t.graphics g v x i
   unfolding packed_byte
-  byte_is v x i lv lx li =
+  byte_is v x i lv lx li li8 =
       let m = c.host.memory in
-      let at = placed Many c d t g v x i in
-      let n = place Many c d t g v x in
-      let q = 0xFA00 * g + (8 * 40 * (v / 2) + (x * 8 + i) / 2) in
-      let plane : i / 2 ≡ q % 4 = omega arith in
-      let there : 4 * n ≡ q / 4 * 4 = omega arith in
-      ap (packed_byte c.host at) (source_is Many c d t z g v x i lg lv lx li)
-      ∙ ap (λ w. if w then byte_at m (i / 2) (fetch_address c.crtc.registers n) else 0) (lt_test i 8 li)
-      ∙ ap (byte_at m (i / 2)) (fetch_is Many c d t n ∙ fetch_many n (omega arith) ∙ there)
-      ∙ ap (λ p. byte_at m p (q / 4 * 4)) plane
+      let at = placed bytes_320_by_200 c d t.graphics g v x i in
+      let n = place bytes_320_by_200 c d t.graphics g v x in
+      let q = number_of_pixel bytes_320_by_200 c d t.graphics v x i in
+      let q_is : q ≡ 320 * (v / 2) + (x * 8 + i) / 2 = ap (λ j. 320 * (v / pixel_height j) + (x * 8 + i) / pixel_width j) t.number in
+      let n_is : n ≡ 0xFA00 * g + (80 * (v / 2) + x) = ap (λ j. 0xFA00 * g + (t.raster.columns * (v / pixel_height j) + x)) t.number
+      ∙ ap (λ w. 0xFA00 * g + (w * (v / 2) + x)) t.wide in
+      let high = t.high in
+      let wide = t.wide in
+      let plane : i / 2 ≡ (0xFA00 * g + q) % 4 = omega arith in
+      let there : 4 * n ≡ (0xFA00 * g + q) / 4 * 4 = omega arith in
+      ap (packed_byte c.host at) (source_is bytes_320_by_200 c d t.graphics z g v x i lg lv lx li)
+      ∙ ap (λ w. if w then byte_at m (i / 2) (fetch_address c.crtc.registers n) else 0) (lt_test i 8 li8)
+      ∙ ap (byte_at m (i / 2)) (fetch_is bytes_320_by_200 c d t.graphics n ∙ fetch_many n (omega arith) ∙ there)
+      ∙ ap (λ p. byte_at m p ((0xFA00 * g + q) / 4 * 4)) plane
+      ∙ sym (ap (λ j. if is_packed j then packed_pixel m (0xFA00 * g + q) else planar_pixel m (0xFA00 * g) q) t.number)
 
-  pub draws : Draws (raster_in Many) c (0xFA00 * g) (pixel_dot (pixel_screen bytes_320_by_200 c d) g)
+  pub draws : Draws t.raster c (0xFA00 * g) (pixel_dot (pixel_screen bytes_320_by_200 c d) g)
   unfolding dot_colour colour_number
   draws v x i lv lx li =
-      rw (screen_on, shown, many_colours) (ap (tint (palette_in c)) (byte_is v x i lv lx li))
-      ∙ sym (dot_is Many c d t g v x i lg lv lx li)
+      let s = pixel_screen bytes_320_by_200 c d in
+      let li8 : i < 8 = subst (λ n. i < n) t.picture.dots li in
+      let p = pixel bytes_320_by_200 c d t.graphics g v x i in
+      rw (screen_on, shown, many_colours) (ap (tint (palette_in c)) (byte_is v x i lv lx li li8))
+      ∙ sym (dot_is bytes_320_by_200 c d t.graphics g v x i lg lv lx li8 ∙ ap (λ j. if is_packed j then tint s.palette p else shade s.palette p) t.number)
+      ∙ ap (λ n. pixel_dot s g (x * n + i) v) (sym t.picture.dots)

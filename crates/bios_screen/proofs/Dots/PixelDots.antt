@@ -1,5 +1,5 @@
 -- The pixel at a place of a frame of graphics, whether it has sixteen colours or 256.
-use Rattle.std.proofs.Common.{◌≡◌, ℕ, ◌+◌, ◌*◌, ◌/◌, ◌%◌, ◌<◌, refl, sym, ap, subst, ◌∙◌, false, List, [], get_or}
+use Rattle.std.proofs.Common.{◌≡◌, ℕ, ◌+◌, ◌*◌, ◌/◌, ◌%◌, ◌<◌, refl, sym, ap, subst, ◌∙◌, List, [], get_or}
 use Rattle.std.specs.Prelude.{if◌then◌else◌, slice_index}
 use Rattle.vga_bits.specs.Four.{Four}
 use Rattle.vga_crtc.specs.Crtc.{CrtcState}
@@ -9,8 +9,9 @@ use Rattle.vga_dots.specs.declared.source_dot.SourceDot.{SourceDot}
 use Rattle.vga_dots.specs.SourceDot.{source_dot, fetch_address}
 use Rattle.vga_card.specs.Bounds.{IsCard}
 use Rattle.vga_card.specs.Card.{CardState}
+use Rattle.bios_modes.specs.declared.modes.ModeRow.{ModeRow}
 use Rattle.bios_modes.specs.Bda.{BiosData}
-use Rattle.bios_modes.specs.Kinds.{is_text, is_packed}
+use Rattle.bios_modes.specs.Kinds.{is_packed}
 use Rattle.bios_services.specs.Cursor.{start_address}
 use Rattle.bios_screen.specs.Screen.{Screen}
 use Rattle.bios_screen.specs.Shown.{pixel_in, pixels_in, pixel_pages, pixel_screen}
@@ -18,7 +19,7 @@ use Rattle.bios_screen.specs.Picture.{shade, tint, pixel_width, pixel_height, pi
 use Rattle.bios_screen.specs.Raster.{HasRaster}
 use Rattle.bios_screen.proofs.Base.Lists.{listed_at}
 use Rattle.bios_screen.proofs.Shows.Screens.{HasData, AllTests}
-use Rattle.bios_screen.proofs.Modes.PixelModes.{Graphics, row_in, number_in, text_in, raster_in, frame_in, start_small, counter_by, pixel_within}
+use Rattle.bios_screen.proofs.Modes.PixelModes.{IsGraphicsRow, pixels_of, page_begins}
 use Rattle.bios_screen.proofs.Dots.Frames as frames
 
 -- pixel k of page p
@@ -28,77 +29,68 @@ unfolding pixel_pages pixels_in
 pixel_at mode m size n pages p k lp lk =
     ap (λ l. slice_index l k) (listed_at (λ q. pixels_in mode m (size * q) n) pages p [] lp) ∙ listed_at (pixel_in mode m (size * p)) n k 0 lk
 
--- the adapter and the data show a screen of this mode of graphics
-pub record IsGraphics (k : Graphics) (c : CardState) (d : BiosData) : Type 0 where
-  pub number : d.mode ≡ number_in k
-  pub tests : AllTests (row_in k) c d
-  pub has : HasData (row_in k) d
+-- the adapter and the data show a screen of this row of graphics
+pub record IsGraphics (row : ModeRow) (c : CardState) (d : BiosData) : Type 0 where
+  pub says : IsGraphicsRow d.mode row
+  pub open says use *
+  pub tests : AllTests row c d
+  pub has : HasData row d
 
-module _ (k : Graphics) (c : CardState) (d : BiosData) (t : IsGraphics k c d) where
+module _ (row : ModeRow) (c : CardState) (d : BiosData) (t : IsGraphics row c d) where
   abbrev s : Screen
-  s = pixel_screen (row_in k) c d
-
-  abbrev size : ℕ
-  size = (row_in k).size
+  s = pixel_screen row c d
 
   abbrev columns : ℕ
-  columns = (row_in k).columns
+  columns = row.columns
 
   abbrev tall : ℕ
-  tall = pixel_height (number_in k)
+  tall = pixel_height d.mode
 
   -- ---- the frame
 
-  pub text_off : is_text d.mode ≡ false
-  text_off = ap is_text t.number ∙ text_in k
+  pub start_is : (g : ℕ) → start_address d g ≡ row.size * g
+  start_is g = ap (λ b. if b then d.size * g / 2 else d.size * g) t.text ∙ ap (λ n. n * g) t.has.size
 
-  pub start_is : (g : ℕ) → start_address d g ≡ size * g
-  start_is g = ap (λ b. if b then d.size * g / 2 else d.size * g) text_off ∙ ap (λ n. n * g) t.has.size
-
-  pub has_raster : HasRaster (raster_in k) c
-  has_raster = frames.has_raster (raster_in k) (row_in k) (frame_in k) c d t.tests
+  pub has_raster : HasRaster t.raster c
+  has_raster = frames.has_raster t.raster row t.frame c d t.tests
 
   pub first_is : first_counter c.crtc.registers ≡ start_address d d.page
-  first_is = frames.first_is (raster_in k) (row_in k) (frame_in k) c d t.tests
-      (subst (λ n. n < 65536) (sym (start_is d.page)) (start_small k d.page t.has.page))
+  first_is = frames.first_is t.raster row t.frame c d t.tests (subst (λ n. n < 65536) (sym (start_is d.page)) (page_begins row t.room d.page t.has.page))
 
   -- ---- the dot i of character x of line v of page g
 
   -- the CRT controller there, and the counter
   abbrev pub placed : ℕ → ℕ → ℕ → ℕ → CrtcState
-  placed g v x i = record c.crtc { beam = regular_beam c.crtc.registers (size * g) c.crtc.beam.frame v x i }
+  placed g v x i = record c.crtc { beam = regular_beam c.crtc.registers (row.size * g) c.crtc.beam.frame v x i }
 
   abbrev pub place : ℕ → ℕ → ℕ → ℕ
-  place g v x = size * g + ((raster_in k).columns * (v / tall) + x)
+  place g v x = row.size * g + (t.raster.columns * (v / tall) + x)
 
-  pub source_is : IsCard c → (g v x i : ℕ) → g < (row_in k).pages → v < (raster_in k).height → x < (raster_in k).columns → i < (raster_in k).dots →
+  pub source_is : IsCard c → (g v x i : ℕ) → g < row.pages → v < t.raster.height → x < t.raster.columns → i < t.raster.dots →
       source_dot c.host (placed g v x i) c.attr ≡ record { counter = place g v x; dot = i }
   source_is z g v x i lg lv lx li =
-      let a = size * g in
-      let beam = frames.beam_is (raster_in k) (row_in k) (frame_in k) c d t.tests a 0 v 0 0 in
-      frames.source_is (raster_in k) (row_in k) (frame_in k) c d t.tests z (regular_beam c.crtc.registers a c.crtc.beam.frame v x i) refl li
-      ∙ ap (λ n. let q : SourceDot = record { counter = n; dot = i } in q) (ap (λ b. (b.base + x) % 65536) beam ∙ counter_by k g v x lg lv lx)
+      let a = row.size * g in
+      let beam = frames.beam_is t.raster row t.frame c d t.tests a 0 v 0 0 in
+      frames.source_is t.raster row t.frame c d t.tests z (regular_beam c.crtc.registers a c.crtc.beam.frame v x i) refl li
+      ∙ ap (λ n. let q : SourceDot = record { counter = n; dot = i } in q) (ap (λ b. (b.base + x) % 65536) beam ∙ t.places.counter g v x lg lv lx)
 
-  pub fetch_is : (n : ℕ) → fetch_address c.crtc.registers n ≡ fetch_address (row_in k).crtc n
-  fetch_is = frames.fetch_is (raster_in k) (row_in k) (frame_in k) c d t.tests
+  pub fetch_is : (n : ℕ) → fetch_address c.crtc.registers n ≡ fetch_address row.crtc n
+  fetch_is = frames.fetch_is t.raster row t.frame c d t.tests
 
   -- the pixel of the place, which has as many dots and lines as the mode says
   abbrev pub number_of_pixel : ℕ → ℕ → ℕ → ℕ
-  number_of_pixel v x i = 8 * columns * (v / tall) + (x * 8 + i) / pixel_width (number_in k)
+  number_of_pixel v x i = 8 * columns * (v / tall) + (x * 8 + i) / pixel_width d.mode
 
   abbrev pub pixel : ℕ → ℕ → ℕ → ℕ → ℕ
-  pixel g v x i = pixel_in (number_in k) c.host.memory (size * g) (number_of_pixel v x i)
+  pixel g v x i = pixel_in d.mode c.host.memory (row.size * g) (number_of_pixel v x i)
 
-  pixel_is : (g v x i : ℕ) → g < (row_in k).pages → v < (raster_in k).height → x < (raster_in k).columns → i < 8 →
-      pixel_on s g ((x * 8 + i) / pixel_width (number_in k)) (v / tall) ≡ pixel g v x i
+  pixel_is : (g v x i : ℕ) → g < row.pages → v < t.raster.height → x < t.raster.columns → i < 8 →
+      pixel_on s g ((x * 8 + i) / pixel_width d.mode) (v / tall) ≡ pixel g v x i
   pixel_is g v x i lg lv lx li =
-      let row = row_in k in
-      rw (t.has.columns, t.has.height, t.has.last_row, t.has.size, t.number) (pixel_at (number_in k) c.host.memory size
-      (8 * columns * (row.height * (row.last_row + 1))) row.pages g (number_of_pixel v x i) lg (pixel_within k v x i lv lx li))
+      rw (t.has.columns, t.has.height, t.has.last_row, t.has.size) (pixel_at d.mode c.host.memory row.size
+      (pixels_of row) row.pages g (number_of_pixel v x i) lg (t.places.pixel v x i lv lx li))
 
-  pub dot_is : (g v x i : ℕ) → g < (row_in k).pages → v < (raster_in k).height → x < (raster_in k).columns → i < 8 →
-      pixel_dot s g (x * 8 + i) v ≡ (if is_packed (number_in k) then tint s.palette (pixel g v x i) else shade s.palette (pixel g v x i))
+  pub dot_is : (g v x i : ℕ) → g < row.pages → v < t.raster.height → x < t.raster.columns → i < 8 →
+      pixel_dot s g (x * 8 + i) v ≡ (if is_packed d.mode then tint s.palette (pixel g v x i) else shade s.palette (pixel g v x i))
   unfolding pixel_dot
-  dot_is g v x i lg lv lx li =
-      ap (λ n. let p = pixel_on s g ((x * 8 + i) / pixel_width n) (v / pixel_height n) in if is_packed n then tint s.palette p else shade s.palette p) t.number
-      ∙ ap (λ p. if is_packed (number_in k) then tint s.palette p else shade s.palette p) (pixel_is g v x i lg lv lx li)
+  dot_is g v x i lg lv lx li = ap (λ p. if is_packed d.mode then tint s.palette p else shade s.palette p) (pixel_is g v x i lg lv lx li)

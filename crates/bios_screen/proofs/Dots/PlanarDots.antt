@@ -1,5 +1,5 @@
 -- The dot at a place of a frame of sixteen colours is the screen's pixel.
-use Rattle.std.proofs.Common.{◌≡◌, ℕ, ◌+◌, ◌-◌, ◌*◌, ◌/◌, ◌%◌, ◌<◌, refl, sym, ap, subst, ◌∙◌, arith, true, List}
+use Rattle.std.proofs.Common.{◌≡◌, ℕ, ◌+◌, ◌-◌, ◌*◌, ◌/◌, ◌%◌, ◌<◌, refl, sym, ap, subst, ◌∙◌, arith, true}
 use Rattle.std.specs.Prelude.{if◌then◌else◌, slice_index}
 use Rattle.std.specs.Int.{bit_at}
 use Rattle.std.proofs.lemmas.Nat.{div-mul-add, mod-mul-add}
@@ -12,6 +12,7 @@ use Rattle.vga_dots.specs.Graphics.{plane_bits, planar_nibble}
 use Rattle.vga_dots.specs.Colour.{nibble}
 use Rattle.vga_card.specs.Bounds.{IsCard}
 use Rattle.vga_card.specs.Card.{CardState}
+use Rattle.bios_modes.specs.declared.modes.ModeRow.{ModeRow}
 use Rattle.bios_modes.specs.Bda.{BiosData}
 use Rattle.bios_screen.specs.Shown.{planar_pixel, pixel_screen}
 use Rattle.bios_screen.specs.Picture.{shade, tint, pixel_height, pixel_dot}
@@ -20,14 +21,17 @@ use Rattle.bios_screen.proofs.Base.Tests.{lt_test}
 use Rattle.bios_screen.proofs.Base.Setting.{Setting}
 use Rattle.bios_screen.proofs.Shows.Screens.{setting_by}
 use Rattle.bios_screen.proofs.Dots.Colours.{coloured, dot_shade}
-use Rattle.bios_screen.proofs.Modes.PixelModes.{Planes, Graphics, row_of, number_of, graphics_by, packed_by, shades_by, raster_in, frame_in}
-use Rattle.bios_screen.proofs.Modes.PixelModes.{dots_in, columns_by, fetch_by}
-use Rattle.bios_screen.proofs.Modes.PixelModes.Graphics.{Sixteen}
+use Rattle.bios_screen.proofs.Modes.Frames.{HasShades}
+use Rattle.bios_screen.proofs.Modes.PixelModes.{HasPlanes}
 use Rattle.bios_screen.proofs.Dots.PixelDots.{IsGraphics, placed, place, pixel, source_is, fetch_is, dot_is}
 
--- the adapter and the data show a screen of sixteen colours
-abbrev pub IsPlanar : Planes → CardState → BiosData → Type 0
-IsPlanar m c d = IsGraphics (Sixteen m) c d
+-- the adapter and the data show a screen of this row of sixteen colours
+pub record IsPlanar (row : ModeRow) (c : CardState) (d : BiosData) : Type 0 where
+  pub graphics : IsGraphics row c d
+  pub open graphics use *
+  pub planes : HasPlanes d.mode row graphics.raster
+  pub open planes use *
+  pub shades : HasShades row
 
 -- ---- pixels by their numbers
 
@@ -54,37 +58,32 @@ plane_bits_small h address i = bits_small (bit_at (byte_at h.memory 0 address) i
     (bit_at (byte_at h.memory 2 address) i) (bit_at (byte_at h.memory 3 address) i) (bit_at-lt (byte_at h.memory 0 address) i)
     (bit_at-lt (byte_at h.memory 1 address) i) (bit_at-lt (byte_at h.memory 2 address) i) (bit_at-lt (byte_at h.memory 3 address) i)
 
-module _ (m : Planes) (c : CardState) (d : BiosData) (t : IsPlanar m c d) (z : IsCard c) (g : ℕ) (lg : g < (row_of m).pages) where
-  abbrev k : Graphics
-  k = Sixteen m
-
+module _ (row : ModeRow) (c : CardState) (d : BiosData) (t : IsPlanar row c d) (z : IsCard c) (g : ℕ) (lg : g < row.pages) where
   graphics_on : is_graphics c.host ≡ true
-  graphics_on = ap (λ (s : Setting). is_set (slice_index s.gfx 6) 0) (setting_by (row_of m) c t.tests.memory)
-      ∙ ap (λ (l : List ℕ). is_set (slice_index l 6) 0) (graphics_by m)
+  graphics_on = ap (λ (s : Setting). is_set (slice_index s.gfx 6) 0) (setting_by row c t.tests.memory ∙ t.setting)
 
   -- the four bits of the dot i of character x of line v
   abbrev bits : ℕ → ℕ → ℕ → ℕ
-  bits v x i = plane_bits c.host (place k c d t g v x) (7 - i)
+  bits v x i = plane_bits c.host (place row c d t.graphics g v x) (7 - i)
 
-  dot_bits : (v x i : ℕ) → v < (raster_in k).height → x < (raster_in k).columns → i < (raster_in k).dots → i < 8 →
-      nibble c.host (placed k c d t g v x i) c.attr ≡ bits v x i
+  dot_bits : (v x i : ℕ) → v < t.raster.height → x < t.raster.columns → i < t.raster.dots → i < 8 →
+      nibble c.host (placed row c d t.graphics g v x i) c.attr ≡ bits v x i
   unfolding nibble planar_nibble
   dot_bits v x i lv lx li li8 =
-      let n = place k c d t g v x in
-      rw (graphics_on, source_is k c d t z g v x i lg lv lx li, lt_test i 8 li8, fetch_is k c d t n, fetch_by m n) refl
+      let n = place row c d t.graphics g v x in
+      rw (graphics_on, source_is row c d t.graphics z g v x i lg lv lx li, lt_test i 8 li8, fetch_is row c d t.graphics n, t.fetch n) refl
 
   -- are those of the pixel
-  pixel_bits : (v x i : ℕ) → i < 8 → pixel k c d t g v x i ≡ bits v x i
-  pixel_bits v x i li = rw (packed_by m, columns_by m)
-      (pixel_there c.host ((row_of m).size * g) (row_of m).columns (v / pixel_height (number_of m)) x i li)
+  pixel_bits : (v x i : ℕ) → i < 8 → pixel row c d t.graphics g v x i ≡ bits v x i
+  pixel_bits v x i li = rw (t.packed, t.columns) (pixel_there c.host (row.size * g) row.columns (v / pixel_height d.mode) x i li)
 
-  pub draws : Draws (raster_in k) c ((row_of m).size * g) (pixel_dot (pixel_screen (row_of m) c d) g)
+  pub draws : Draws t.raster c (row.size * g) (pixel_dot (pixel_screen row c d) g)
   draws v x i lv lx li =
-      let s = pixel_screen (row_of m) c d in
-      let li8 : i < 8 = subst (λ n. i < n) (dots_in k) li in
-      let p = pixel k c d t g v x i in
-      dot_shade c (coloured (row_of m) c d (shades_by m) (frame_in k).attributes t.tests z) z (placed k c d t g v x i) (bits v x i)
-      (dot_bits v x i lv lx li li8) (plane_bits_small c.host (place k c d t g v x) (7 - i))
+      let s = pixel_screen row c d in
+      let li8 : i < 8 = subst (λ n. i < n) t.picture.dots li in
+      let p = pixel row c d t.graphics g v x i in
+      dot_shade c (coloured row c d t.shades t.frame.attributes t.tests z) z (placed row c d t.graphics g v x i) (bits v x i)
+      (dot_bits v x i lv lx li li8) (plane_bits_small c.host (place row c d t.graphics g v x) (7 - i))
       ∙ ap (shade s.palette) (sym (pixel_bits v x i li8))
-      ∙ sym (dot_is k c d t g v x i lg lv lx li8 ∙ ap (λ b. if b then tint s.palette p else shade s.palette p) (packed_by m))
-      ∙ ap (λ n. pixel_dot s g (x * n + i) v) (sym (dots_in k))
+      ∙ sym (dot_is row c d t.graphics g v x i lg lv lx li8 ∙ ap (λ b. if b then tint s.palette p else shade s.palette p) t.packed)
+      ∙ ap (λ n. pixel_dot s g (x * n + i) v) (sym t.picture.dots)

@@ -1,6 +1,7 @@
 -- What the registers of a row of the mode table say of frames, whatever the data say of cursor and page, and of colours.
-use Rattle.std.proofs.Common.{◌≡◌, ℕ, ◌+◌, ◌*◌, ◌/◌, ◌%◌, ◌<◌, refl, ap, ◌∙◌, arith, false, List, length}
-use Rattle.std.specs.Prelude.{◌==◌, ◌&&◌, if◌then◌else◌, slice_index, bit_and}
+use Rattle.std.proofs.Common.{◌≡◌, ℕ, ◌+◌, ◌*◌, ◌/◌, ◌%◌, ◌<◌, refl, ap, ◌∙◌, arith, true, false, List, length}
+use Rattle.std.proofs.lemmas.Bool.Decides.{nat_tests}
+use Rattle.std.specs.Prelude.{◌==◌, ◌&&◌, if◌then◌else◌, nat_lt, nat_le, slice_index, bit_and, bit_or}
 use Rattle.vga_bits.specs.Bits.{is_set}
 use Rattle.vga_crtc.specs.Fields.{horizontal_total, horizontal_display_end, vertical_total, preset_row_scan, byte_panning, maximum_scan_line, is_double_scan}
 use Rattle.vga_crtc.specs.Fields.{start_address as address_of, vertical_display_end, offset, underline_location, is_double_word, is_address_wrap, is_byte_mode}
@@ -11,6 +12,7 @@ use Rattle.vga_dots.specs.SourceDot.{fetch_address}
 use Rattle.bios_modes.specs.declared.modes.ModeRow.{ModeRow}
 use Rattle.bios_screen.specs.Shown.{crtc_registers}
 use Rattle.bios_screen.specs.Raster.{Raster, IsRaster}
+use Rattle.bios_screen.proofs.Base.Tests.{le_is}
 
 -- the numbers of a frame from registers, where a character has w dots
 abbrev pub numbers_of : ℕ → List ℕ → Raster
@@ -41,6 +43,26 @@ pub record HasShades (row : ModeRow) : Type 0 where
   pub wide : is_set (bit_and (slice_index row.attribute 0x10) 0xF7) 7 ≡ false
   pub planes : slice_index row.attribute 0x12 ≡ 0x0F
   pub select : slice_index row.attribute 0x14 ≡ 0
+
+-- blinking is bit 3 of mode control, whose other bits are the row's
+abbrev pub Blinks : ModeRow → ℕ → Type 0
+Blinks row b =
+    let v = bit_and (slice_index row.attribute 0x10) 0xF7 in
+    (bit_and (bit_and (bit_or v (8 * b)) 0xEF) 0xF7 ≡ v) × (is_set (bit_and (bit_or v (8 * b)) 0xEF) 3 ≡ (b == 1))
+
+-- both by tests that are computed of a literal row
+pub fits : (m : Raster) →
+    (nat_lt 0 m.dots && (nat_lt 0 m.columns && (nat_lt 0 m.height && (nat_le m.columns m.characters && nat_le m.height m.lines)))) ≡ true → IsRaster m
+fits m e = record {
+  some_dots = grind (arith, nat_tests);
+  some_columns = grind (arith, nat_tests);
+  some_lines = grind (arith, nat_tests);
+  narrow = grind (arith, nat_tests);
+  low = grind (arith, nat_tests);
+}
+
+pub uncut : (l : List ℕ) → nat_le (lines l) (line_compare l + 1) ≡ true → preset_row_scan l ≡ 0 → IsRegular l
+uncut l e h = record { uncut = le_is (lines l) (line_compare l + 1) e; unscrolled = h }
 
 begins_at : (start : ℕ) → start < 65536 → (256 * (start / 256) + start % 256 + 0) % 65536 ≡ start
 begins_at start l = omega arith

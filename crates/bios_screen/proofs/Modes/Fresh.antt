@@ -9,6 +9,7 @@ use Rattle.vga_card.specs.Card.{CardState}
 use Rattle.vga_card.specs.Port.{port_of as reached_by}
 use Rattle.vga_card.specs.Cycles.{out_at}
 use Rattle.bios_modes.specs.declared.modes.ModeRow.{ModeRow}
+use Rattle.bios_modes.specs.Modes.{mode_row}
 use Rattle.bios_modes.specs.declared.palette.Palette.{Palette as DefaultPalette}
 use Rattle.bios_modes.specs.Palette.{palette_entry}
 use Rattle.bios_modes.specs.Fonts.{FontSet}
@@ -27,12 +28,7 @@ use Rattle.bios_screen.specs.Served.{SetsFresh}
 use Rattle.bios_screen.proofs.Base.Plans.{then_runs, then_answers}
 use Rattle.bios_screen.proofs.Base.Lists.{same_from_0, spelled}
 use Rattle.bios_services.proofs.CardLemmas.{plan_bounds, plan_beam}
-use Rattle.bios_screen.proofs.Modes.TextModes.Display.{Colour, Monochrome}
-use Rattle.bios_screen.proofs.Modes.PixelModes.Planes.{Low, Middle, High}
-use Rattle.bios_screen.proofs.Modes.PixelModes.Graphics.{Sixteen, Many}
-use Rattle.bios_screen.proofs.Modes.AnyModes.{Tabled, row_of, number_of}
-use Rattle.bios_screen.proofs.Modes.AnyModes.Tabled.{OfText, OfPixels}
-use Rattle.bios_screen.proofs.Modes.Registers.{in_mode, registers_set}
+use Rattle.bios_screen.proofs.Modes.Registers.{in_mode, IsSet, registers_set}
 use Rattle.bios_screen.proofs.Modes.Entries.{Colour as Entry, colour_of, entry_at, without_entries, before_entry, entries_written, keeps}
 
 -- ---- the DAC
@@ -79,12 +75,11 @@ pub record Prepared (row : ModeRow) (c : CardState) : Type 0 where
   pub runs : (rest : Plan (Unit {0})) → (run card_meaning (registers_plan row >> (palette_plan row.palette 256 >> rest)) c).0
       ≡ (run card_meaning rest (coloured row c dac)).0
 
-pub prepared : (k : Tabled) → (c : CardState) → IsCard c → Prepared (row_of k) c
-prepared k c z =
-    let row = row_of k in
+pub prepared : (mode : ℕ) (row : ModeRow) (c : CardState) → IsSet mode row → IsCard c → Prepared row c
+prepared mode row c is z =
     let entries = each (λ i. colour_plan (palette_entry row.palette i)) 256 0 in
     let y0 = in_mode row c in
-    let z0 : IsCard y0 = subst IsCard (registers_set k c z) (plan_bounds (registers_plan row) c z) in
+    let z0 : IsCard y0 = subst IsCard (registers_set mode row c is z) (plan_bounds (registers_plan row) c z) in
     let y1 = masked y0 in
     let z1 : IsCard y1 = record {
       host = z0.host;
@@ -111,7 +106,7 @@ prepared k c z =
       bounds = subst IsCard e (plan_bounds entries y1 z1);
       runs = λ rest.
           then_runs (registers_plan row) (palette_plan row.palette 256 >> rest) c
-          ∙ ap (λ x. (run card_meaning (palette_plan row.palette 256 >> rest) x).0) (registers_set k c z)
+          ∙ ap (λ x. (run card_meaning (palette_plan row.palette 256 >> rest) x).0) (registers_set mode row c is z)
           ∙ then_runs (palette_plan row.palette 256) rest y0
           ∙ ap (λ x. (run card_meaning rest x).0) (masked_is row.palette y0 256 ∙ e);
     }
@@ -119,32 +114,24 @@ prepared k c z =
 -- ---- the call
 
 -- its plan is the mode's
-call_is : (k : Tabled) (fonts : FontSet) (r : Regs) (block : List ℕ) (d : BiosData) (c : CardState) →
-    run card_meaning (call_plan (Some (SetMode (number_of k) false)) fonts d r block) c
-    ≡ run card_meaning (mode_set_plan (row_of k) false fonts >> (let q : Plan Answered =
-    Done (answer_of r (data_of_mode (number_of k) (row_of k))) in q)) c
+call_is : (mode : ℕ) (row : ModeRow) (fonts : FontSet) (r : Regs) (block : List ℕ) (d : BiosData) → mode_row mode ≡ Some row →
+    call_plan (Some (SetMode mode false)) fonts d r block
+    ≡ (mode_set_plan row false fonts >> (let q : Plan Answered = Done (answer_of r (data_of_mode mode row)) in q))
 unfolding set_mode_plan
-call_is (OfText Colour) fonts r block d c = refl
-call_is (OfText Monochrome) fonts r block d c = refl
-call_is (OfPixels (Sixteen Low)) fonts r block d c = refl
-call_is (OfPixels (Sixteen Middle)) fonts r block d c = refl
-call_is (OfPixels (Sixteen High)) fonts r block d c = refl
-call_is (OfPixels Many) fonts r block d c = refl
+call_is mode row fonts r block d e = ap (λ x. set_mode_plan x mode false fonts d r) e
 
 -- the plan shows the fresh screen
-abbrev pub ShowsFresh : Tabled → Type 0
-ShowsFresh k = (c : CardState) (fonts : FontSet) → IsCard c → AreBytes fonts.f16 →
-    shown (run card_meaning (mode_set_plan (row_of k) false fonts) c).0 (data_of_mode (number_of k) (row_of k))
-    ≡ Some (fresh_screen (number_of k) (row_of k) fonts.f16 c.crtc.beam.frame)
+abbrev pub ShowsFresh : ℕ → ModeRow → Type 0
+ShowsFresh mode row = (c : CardState) (fonts : FontSet) → IsCard c → AreBytes fonts.f16 →
+    shown (run card_meaning (mode_set_plan row false fonts) c).0 (data_of_mode mode row) ≡ Some (fresh_screen mode row fonts.f16 c.crtc.beam.frame)
 
-pub sets_fresh : (k : Tabled) → ShowsFresh k → SetsFresh (number_of k) (row_of k)
-sets_fresh k shows_fresh fonts r block c d z small e =
-    let mode = number_of k in
-    let row = row_of k in
+pub sets_fresh : (mode : ℕ) (row : ModeRow) → IsSet mode row → ShowsFresh mode row → SetsFresh mode row
+sets_fresh mode row is shows_fresh fonts r block c d z small e =
     let plan = mode_set_plan row false fonts in
     let done : Plan Answered = Done (answer_of r (data_of_mode mode row)) in
     let runs : run card_meaning (whole_service fonts d r block) c ≡ run card_meaning (plan >> done) c =
-    ap (λ (x : Option Call). run card_meaning (call_plan x fonts d r block) c) e ∙ call_is k fonts r block d c in
+    ap (λ (x : Option Call). run card_meaning (call_plan x fonts d r block) c) e
+    ∙ ap (λ p. run card_meaning p c) (call_is mode row fonts r block d is.table) in
     record {
       answer = ap (λ x. x.1.0) runs ∙ ap (λ (x : Answered). x.0) (then_answers plan done c);
       shows = ap (λ x. shown x.0 x.1.1) runs

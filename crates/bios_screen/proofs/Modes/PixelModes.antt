@@ -1,170 +1,230 @@
--- The rows of the mode table that are graphics: what their registers say of colours and of frames.
-use Rattle.std.proofs.Common.{◌≡◌, ℕ, ◌+◌, ◌*◌, ◌/◌, ◌%◌, ◌<◌, refl, arith, false, List, Some}
-use Rattle.std.specs.Prelude.{bit_and, slice_index}
+-- The rows of the mode table that are graphics. What a row says is certified here once, by computing; all other rooms take a row with what it says.
+use Rattle.std.proofs.Common.{◌≡◌, ℕ, ◌+◌, ◌*◌, ◌/◌, ◌%◌, ◌<◌, ◌≤◌, refl, arith, true, false, Some}
+use Rattle.std.specs.Prelude.{slice_index, IsTrue, ◌&&◌, nat_lt, nat_le}
+use Rattle.std.proofs.lemmas.Bool.Decides.{nat_tests}
+use Rattle.vga_bits.specs.Bits.{is_set}
+use Rattle.vga_crtc.specs.Ports.{after_out as after_crtc}
 use Rattle.vga_crtc.specs.Fields.{horizontal_total, horizontal_display_end, vertical_total, preset_row_scan, byte_panning, maximum_scan_line, is_double_scan}
-use Rattle.vga_crtc.specs.Fields.{vertical_display_end, offset, is_double_word, is_byte_mode, line_compare}
-use Rattle.vga_crtc.specs.Raster.{IsRegular, regular_beam}
+use Rattle.vga_crtc.specs.Fields.{vertical_display_end, offset, is_double_word, is_byte_mode, line_compare, is_protected, overflow}
+use Rattle.vga_crtc.specs.Raster.{regular_beam}
+use Rattle.vga_dac.specs.Dac.{DacState}
+use Rattle.vga_card.specs.Card.{CardState}
+use Rattle.vga_card.specs.Port.{crtc_port, port_of, crtc_port_of}
+use Rattle.vga_card.specs.Cycles.{out_at, inp_at}
 use Rattle.vga_dots.specs.SourceDot.{fetch_address}
 use Rattle.bios_modes.specs.declared.modes.ModeRow.{ModeRow}
+use Rattle.bios_modes.specs.declared.kind.Kind.TheVariants.{Planar}
+use Rattle.bios_modes.specs.Begin.{data_of_mode}
 use Rattle.bios_modes.specs.Heights.{row_at}
 use Rattle.bios_modes.specs.Modes.{planes_320_by_200, planes_640_by_350, planes_640_by_480, bytes_320_by_200}
-use Rattle.bios_modes.specs.Kinds.{is_text, is_packed}
+use Rattle.bios_modes.specs.Kinds.{is_text, is_packed, kind_of}
+use Rattle.bios_services.specs.Cells.{page_base}
+use Rattle.bios_services.specs.Cycles.{group, attribute_group}
+use Rattle.bios_services.specs.ModeSet.{registers_plan}
+use Rattle.bios_screen.specs.Shown.{shows}
 use Rattle.bios_screen.specs.Picture.{pixel_width, pixel_height}
-use Rattle.bios_screen.specs.Raster.{Raster, IsRaster}
+use Rattle.bios_screen.specs.Raster.{Raster, width, line_dots}
+use Rattle.bios_screen.specs.Drawing.{dots_a_line, lines_a_frame}
+use Rattle.bios_screen.proofs.Base.Places.{ends_before}
 use Rattle.bios_screen.proofs.Base.Setting.{Setting}
-use Rattle.bios_screen.proofs.Modes.Frames.{IsFrame, HasShades}
-
--- 320 by 200, 640 by 350, 640 by 480
-pub data Planes : Type 0 where
-  Low : Planes
-  Middle : Planes
-  High : Planes
-
-abbrev pub row_of : Planes → ModeRow
-row_of Low = planes_320_by_200
-row_of Middle = planes_640_by_350
-row_of High = planes_640_by_480
-
-abbrev pub number_of : Planes → ℕ
-number_of Low = 0x0D
-number_of Middle = 0x10
-number_of High = 0x12
-
--- the modes of graphics: these and that of 256 colours
-pub data Graphics : Type 0 where
-  Sixteen : Planes → Graphics
-  Many : Graphics
-
-abbrev pub row_in : Graphics → ModeRow
-row_in (Sixteen m) = row_of m
-row_in Many = bytes_320_by_200
-
-abbrev pub number_in : Graphics → ℕ
-number_in (Sixteen m) = number_of m
-number_in Many = 0x13
+use Rattle.bios_screen.proofs.Modes.Frames.{IsFrame, HasShades, Blinks, fits, uncut}
+use Rattle.bios_screen.proofs.Modes.Registers.{in_mode, IsSet}
+use Rattle.bios_screen.proofs.Planar.Settings.{drawing, at_rest}
 
 -- the registers that memory cycles look at
-abbrev pub setting_in : Graphics → Setting
-setting_in k = record { misc = (row_in k).misc; seq = (row_in k).sequencer; gfx = (row_in k).graphics }
+abbrev pub setting_of : ModeRow → Setting
+setting_of row = record { misc = row.misc; seq = row.sequencer; gfx = row.graphics }
 
--- whatever the height of characters is
-pub row_by : (k : Graphics) (height : ℕ) → row_at (number_in k) height ≡ Some (row_in k)
-row_by (Sixteen Low) height = refl
-row_by (Sixteen Middle) height = refl
-row_by (Sixteen High) height = refl
-row_by Many height = refl
+-- how many pixels a page of a row has
+abbrev pub pixels_of : ModeRow → ℕ
+pixels_of row = 8 * row.columns * (row.height * (row.last_row + 1))
 
--- ---- what is alike
+-- ---- what a row of graphics says
 
-abbrev pub planar_graphics : List ℕ
-planar_graphics = planes_640_by_480.graphics
+-- as a row of the table, and that the test finds its mode once that is set
+pub record IsListed (mode : ℕ) (row : ModeRow) : Type 0 where
+  pub there : (height : ℕ) → row_at mode height ≡ Some row
+  pub text : is_text mode ≡ false
+  pub port : row.crtc_address ≡ crtc_port row.misc
+  pub whole : IsTrue (is_packed mode) → pixels_of row ≤ row.size
+  pub steady : Blinks row 0
+  pub blinks : Blinks row 1
+  pub fresh : (c : CardState) (d : DacState) → shows row (record (in_mode row c) { dac = d }) (data_of_mode mode row) ≡ true
 
-pub graphics_by : (m : Planes) → (row_of m).graphics ≡ planar_graphics
-graphics_by Low = refl
-graphics_by Middle = refl
-graphics_by High = refl
+-- of its characters and pages
+pub record HasRoom (row : ModeRow) : Type 0 where
+  pub some_columns : 0 < row.columns
+  pub narrow : row.columns ≤ 80
+  pub some_lines : 0 < row.height
+  pub short : row.height ≤ 16
+  pub low : row.last_row < 255
+  pub few : row.pages ≤ 8
+  pub some : 0 < row.size
+  pub bytes : (pixels_of row + 7) / 8 ≤ row.size
+  pub memory : row.size * row.pages ≤ 65536
 
-pub text_by : (m : Planes) → is_text (number_of m) ≡ false
-text_by Low = refl
-text_by Middle = refl
-text_by High = refl
+-- by a test that is computed of a literal row
+roomy : (row : ModeRow) → (nat_lt 0 row.columns && (nat_le row.columns 80 && (nat_lt 0 row.height && (nat_le row.height 16 && (nat_lt row.last_row 255
+    && (nat_le row.pages 8 && (nat_lt 0 row.size && (nat_le ((pixels_of row + 7) / 8) row.size && nat_le (row.size * row.pages) 65536)))))))) ≡ true →
+    HasRoom row
+roomy row e = record {
+  some_columns = grind (arith, nat_tests);
+  narrow = grind (arith, nat_tests);
+  some_lines = grind (arith, nat_tests);
+  short = grind (arith, nat_tests);
+  low = grind (arith, nat_tests);
+  few = grind (arith, nat_tests);
+  some = grind (arith, nat_tests);
+  bytes = grind (arith, nat_tests);
+  memory = grind (arith, nat_tests);
+}
 
-pub text_in : (k : Graphics) → is_text (number_in k) ≡ false
-text_in (Sixteen m) = text_by m
-text_in Many = refl
+-- of its picture
+pub record IsPictured (mode : ℕ) (row : ModeRow) (m : Raster) : Type 0 where
+  pub dots : m.dots ≡ 8
+  pub line : line_dots m ≡ dots_a_line mode
+  pub lines : m.lines ≡ lines_a_frame mode
+  pub wide : width m ≡ pixel_width mode * (8 * row.columns)
+  pub high : m.height ≡ pixel_height mode * (row.height * (row.last_row + 1))
 
-pub packed_by : (m : Planes) → is_packed (number_of m) ≡ false
-packed_by Low = refl
-packed_by Middle = refl
-packed_by High = refl
+-- of the places of a frame: the counter at character x of line v of a page, and the pixel that dot i of it shows
+pub record HasPlaces (mode : ℕ) (row : ModeRow) (m : Raster) : Type 0 where
+  pub counter : (page v x : ℕ) → page < row.pages → v < m.height → x < m.columns → ((regular_beam row.crtc (row.size * page) 0 v 0 0).base + x) % 65536
+      ≡ row.size * page + (m.columns * (v / pixel_height mode) + x)
+  pub pixel : (v x i : ℕ) → v < m.height → x < m.columns → i < 8 → 8 * row.columns * (v / pixel_height mode) + (x * 8 + i) / pixel_width mode < pixels_of row
 
-pub control_by : (m : Planes) → bit_and (slice_index (row_of m).attribute 0x10) 0xF7 ≡ 0x01
-control_by Low = refl
-control_by Middle = refl
-control_by High = refl
+pub record IsGraphicsRow (mode : ℕ) (row : ModeRow) : Type 0 where
+  pub raster : Raster
+  pub frame : IsFrame raster row
+  pub set : IsSet mode row
+  pub listed : IsListed mode row
+  pub open listed use *
+  pub room : HasRoom row
+  pub picture : IsPictured mode row raster
+  pub places : HasPlaces mode row raster
 
-pub shades_by : (m : Planes) → HasShades (row_of m)
-shades_by Low = record { on = refl; many = refl; wide = refl; planes = refl; select = refl }
-shades_by Middle = record { on = refl; many = refl; wide = refl; planes = refl; select = refl }
-shades_by High = record { on = refl; many = refl; wide = refl; planes = refl; select = refl }
+-- and one of sixteen colours
+pub record HasPlanes (mode : ℕ) (row : ModeRow) (m : Raster) : Type 0 where
+  pub kind : kind_of mode ≡ Planar
+  pub packed : is_packed mode ≡ false
+  pub base : page_base mode ≡ 0xA0000
+  pub enabled : is_set row.misc 1 ≡ true
+  pub setting : setting_of row ≡ drawing row.misc (slice_index row.sequencer 1) at_rest
+  pub columns : m.columns ≡ row.columns
+  pub fetch : (n : ℕ) → fetch_address row.crtc n ≡ n
 
--- ---- frames
+pub record IsPlanarRow (mode : ℕ) (row : ModeRow) : Type 0 where
+  pub graphics : IsGraphicsRow mode row
+  pub planes : HasPlanes mode row graphics.raster
+  pub shades : HasShades row
 
-abbrev pub raster_in : Graphics → Raster
-raster_in (Sixteen Low) = record { dots = 8; columns = 40; height = 400; characters = 50; lines = 449 }
-raster_in (Sixteen Middle) = record { dots = 8; columns = 80; height = 350; characters = 100; lines = 449 }
-raster_in (Sixteen High) = record { dots = 8; columns = 80; height = 480; characters = 100; lines = 525 }
-raster_in Many = record { dots = 8; columns = 80; height = 400; characters = 100; lines = 449 }
+-- the one of 256 colours
+pub record IsPackedRow (mode : ℕ) (row : ModeRow) : Type 0 where
+  pub number : mode ≡ 0x13
+  pub literal : bytes_320_by_200 ≡ row
+  pub graphics : IsGraphicsRow mode row
+  pub columns : graphics.raster.columns ≡ 80
+  pub height : graphics.raster.height ≡ 400
 
-pub dots_in : (k : Graphics) → (raster_in k).dots ≡ 8
-dots_in (Sixteen Low) = refl
-dots_in (Sixteen Middle) = refl
-dots_in (Sixteen High) = refl
-dots_in Many = refl
+-- ---- what follows of pages
 
-is_raster : (k : Graphics) → IsRaster (raster_in k)
-is_raster (Sixteen Low) = record { some_dots = omega arith; some_columns = omega arith; some_lines = omega arith; narrow = omega arith; low = omega arith }
-is_raster (Sixteen Middle) = record { some_dots = omega arith; some_columns = omega arith; some_lines = omega arith; narrow = omega arith; low = omega arith }
-is_raster (Sixteen High) = record { some_dots = omega arith; some_columns = omega arith; some_lines = omega arith; narrow = omega arith; low = omega arith }
-is_raster Many = record { some_dots = omega arith; some_columns = omega arith; some_lines = omega arith; narrow = omega arith; low = omega arith }
+module _ (row : ModeRow) (is : HasRoom row) where
+  -- pages lie within memory
+  pub page_ends : (page : ℕ) → page < row.pages → row.size * page + row.size ≤ 65536
+  page_ends page l = let a = ends_before row.size page row.pages l in let b = is.memory in omega arith
 
-regular_by : (k : Graphics) → IsRegular (row_in k).crtc
-unfolding vertical_total line_compare preset_row_scan
-regular_by (Sixteen Low) = record { uncut = omega arith; unscrolled = refl }
-regular_by (Sixteen Middle) = record { uncut = omega arith; unscrolled = refl }
-regular_by (Sixteen High) = record { uncut = omega arith; unscrolled = refl }
-regular_by Many = record { uncut = omega arith; unscrolled = refl }
+  pub page_begins : (page : ℕ) → page < row.pages → row.size * page < 65536
+  page_begins page l = let a = page_ends page l in let b = is.some in omega arith
 
-pub frame_in : (k : Graphics) → IsFrame (raster_in k) (row_in k)
-unfolding horizontal_total horizontal_display_end vertical_total vertical_display_end byte_panning
-frame_in (Sixteen Low) =
-    let k = Sixteen Low in
-    record { raster = is_raster k; clock = refl; numbers = refl; regular = regular_by k; whole = refl; attributes = refl; still = refl }
-frame_in (Sixteen Middle) =
-    let k = Sixteen Middle in
-    record { raster = is_raster k; clock = refl; numbers = refl; regular = regular_by k; whole = refl; attributes = refl; still = refl }
-frame_in (Sixteen High) =
-    let k = Sixteen High in
-    record { raster = is_raster k; clock = refl; numbers = refl; regular = regular_by k; whole = refl; attributes = refl; still = refl }
-frame_in Many = record { raster = is_raster Many; clock = refl; numbers = refl; regular = regular_by Many; whole = refl; attributes = refl; still = refl }
+  -- a page has room for its pixels, eight of them a byte
+  pub page_room : (k : ℕ) → k < pixels_of row → k / 8 < row.size
+  page_room k l = let a = is.bytes in omega arith
 
-pub start_small : (k : Graphics) (page : ℕ) → page < (row_in k).pages → (row_in k).size * page < 65536
-start_small (Sixteen Low) page l = omega arith
-start_small (Sixteen Middle) page l = omega arith
-start_small (Sixteen High) page l = omega arith
-start_small Many page l = omega arith
+-- ---- the rows
 
--- the counter of character x of line v of a page
-pub counter_by : (k : Graphics) (page v x : ℕ) → page < (row_in k).pages → v < (raster_in k).height → x < (raster_in k).columns
-    → ((regular_beam (row_in k).crtc ((row_in k).size * page) 0 v 0 0).base + x) % 65536
-    ≡ (row_in k).size * page + ((raster_in k).columns * (v / pixel_height (number_in k)) + x)
-unfolding maximum_scan_line is_double_scan offset
-counter_by (Sixteen Low) page v x lp lv lx = omega arith
-counter_by (Sixteen Middle) page v x lp lv lx = omega arith
-counter_by (Sixteen High) page v x lp lv lx = omega arith
-counter_by Many page v x lp lv lx = omega arith
+-- what a literal row is computed through: the fields of its registers, the cycles of its mode set, and the test that finds its mode
+row_registers : Unit {0}
+unfolding
+    horizontal_total horizontal_display_end vertical_total vertical_display_end byte_panning line_compare preset_row_scan maximum_scan_line
+    is_double_scan offset registers_plan group attribute_group port_of crtc_port_of out_at inp_at after_crtc is_protected overflow shows
+row_registers = tt
 
--- the byte that a counter addresses
-pub fetch_by : (m : Planes) (n : ℕ) → fetch_address (row_of m).crtc n ≡ n
-unfolding fetch_address is_double_word is_byte_mode
-fetch_by Low n = refl
-fetch_by Middle n = refl
-fetch_by High n = refl
+pub graphics_0d : IsGraphicsRow 0x0D planes_320_by_200
+unfolding row_registers
+graphics_0d = record {
+  raster = record { dots = 8; columns = 40; height = 400; characters = 50; lines = 449 };
+  frame = record { raster = fits _ refl; clock = refl; numbers = refl; regular = uncut _ refl refl; whole = refl; attributes = refl; still = refl };
+  set = record { table = refl; literal = λ _. refl };
+  listed = record { there = λ _. refl; text = refl; whole = λ e. absurd (cc); port = refl; steady = (refl, refl); blinks = (refl, refl); fresh = λ _ _. refl };
+  room = roomy _ refl;
+  picture = record { dots = refl; line = refl; lines = refl; wide = refl; high = refl };
+  places = record { counter = λ page v x lp lv lx. omega arith; pixel = λ v x i lv lx li. omega arith };
+}
+
+pub planar_0d : IsPlanarRow 0x0D planes_320_by_200
+unfolding graphics_0d fetch_address is_double_word is_byte_mode
+planar_0d = record {
+  graphics = graphics_0d;
+  planes = record { kind = refl; packed = refl; base = refl; enabled = refl; setting = refl; columns = refl; fetch = λ _. refl };
+  shades = record { on = refl; many = refl; wide = refl; planes = refl; select = refl };
+}
+
+pub graphics_10 : IsGraphicsRow 0x10 planes_640_by_350
+unfolding row_registers
+graphics_10 = record {
+  raster = record { dots = 8; columns = 80; height = 350; characters = 100; lines = 449 };
+  frame = record { raster = fits _ refl; clock = refl; numbers = refl; regular = uncut _ refl refl; whole = refl; attributes = refl; still = refl };
+  set = record { table = refl; literal = λ _. refl };
+  listed = record { there = λ _. refl; text = refl; whole = λ e. absurd (cc); port = refl; steady = (refl, refl); blinks = (refl, refl); fresh = λ _ _. refl };
+  room = roomy _ refl;
+  picture = record { dots = refl; line = refl; lines = refl; wide = refl; high = refl };
+  places = record { counter = λ page v x lp lv lx. omega arith; pixel = λ v x i lv lx li. omega arith };
+}
+
+pub planar_10 : IsPlanarRow 0x10 planes_640_by_350
+unfolding graphics_10 fetch_address is_double_word is_byte_mode
+planar_10 = record {
+  graphics = graphics_10;
+  planes = record { kind = refl; packed = refl; base = refl; enabled = refl; setting = refl; columns = refl; fetch = λ _. refl };
+  shades = record { on = refl; many = refl; wide = refl; planes = refl; select = refl };
+}
+
+pub graphics_12 : IsGraphicsRow 0x12 planes_640_by_480
+unfolding row_registers
+graphics_12 = record {
+  raster = record { dots = 8; columns = 80; height = 480; characters = 100; lines = 525 };
+  frame = record { raster = fits _ refl; clock = refl; numbers = refl; regular = uncut _ refl refl; whole = refl; attributes = refl; still = refl };
+  set = record { table = refl; literal = λ _. refl };
+  listed = record { there = λ _. refl; text = refl; whole = λ e. absurd (cc); port = refl; steady = (refl, refl); blinks = (refl, refl); fresh = λ _ _. refl };
+  room = roomy _ refl;
+  picture = record { dots = refl; line = refl; lines = refl; wide = refl; high = refl };
+  places = record { counter = λ page v x lp lv lx. omega arith; pixel = λ v x i lv lx li. omega arith };
+}
+
+pub planar_12 : IsPlanarRow 0x12 planes_640_by_480
+unfolding graphics_12 fetch_address is_double_word is_byte_mode
+planar_12 = record {
+  graphics = graphics_12;
+  planes = record { kind = refl; packed = refl; base = refl; enabled = refl; setting = refl; columns = refl; fetch = λ _. refl };
+  shades = record { on = refl; many = refl; wide = refl; planes = refl; select = refl };
+}
+
+pub graphics_13 : IsGraphicsRow 0x13 bytes_320_by_200
+unfolding row_registers
+graphics_13 = record {
+  raster = record { dots = 8; columns = 80; height = 400; characters = 100; lines = 449 };
+  frame = record { raster = fits _ refl; clock = refl; numbers = refl; regular = uncut _ refl refl; whole = refl; attributes = refl; still = refl };
+  set = record { table = refl; literal = λ _. refl };
+  listed = record { there = λ _. refl; text = refl; whole = λ _. omega arith; port = refl; steady = (refl, refl); blinks = (refl, refl); fresh = λ _ _. refl };
+  room = roomy _ refl;
+  picture = record { dots = refl; line = refl; lines = refl; wide = refl; high = refl };
+  places = record { counter = λ page v x lp lv lx. omega arith; pixel = λ v x i lv lx li. omega arith };
+}
+
+pub packed_13 : IsPackedRow 0x13 bytes_320_by_200
+unfolding graphics_13
+packed_13 = record { number = refl; literal = refl; graphics = graphics_13; columns = refl; height = refl }
 
 pub fetch_many : (n : ℕ) → n < 16384 → fetch_address bytes_320_by_200.crtc n ≡ 4 * n
 unfolding fetch_address is_double_word
 fetch_many n l = omega arith
-
-pub columns_by : (m : Planes) → (raster_in (Sixteen m)).columns ≡ (row_of m).columns
-columns_by Low = refl
-columns_by Middle = refl
-columns_by High = refl
-
--- a dot of the picture shows a pixel of the page
-pub pixel_within : (k : Graphics) (v x i : ℕ) → v < (raster_in k).height → x < (raster_in k).columns → i < 8
-    → 8 * (row_in k).columns * (v / pixel_height (number_in k)) + (x * 8 + i) / pixel_width (number_in k)
-    < 8 * (row_in k).columns * ((row_in k).height * ((row_in k).last_row + 1))
-pixel_within (Sixteen Low) v x i lv lx li = omega arith
-pixel_within (Sixteen Middle) v x i lv lx li = omega arith
-pixel_within (Sixteen High) v x i lv lx li = omega arith
-pixel_within Many v x i lv lx li = omega arith

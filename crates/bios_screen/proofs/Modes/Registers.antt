@@ -1,24 +1,15 @@
 -- The registers of a mode set, from any state.
-use Rattle.std.proofs.Common.{◌≡◌, ℕ, refl, ap, ◌∙◌, List, false}
+use Rattle.std.proofs.Common.{◌≡◌, ℕ, ap, ◌∙◌, List, false, Some}
 use Rattle.std.specs.Prelude.{slice_index}
-use Rattle.vga_crtc.specs.Ports.{after_out as after_crtc}
-use Rattle.vga_crtc.specs.Fields.{is_protected, overflow}
 use Rattle.vga_card.specs.Bounds.{IsCard}
 use Rattle.vga_card.specs.Bus.{card_meaning}
 use Rattle.vga_card.specs.Card.{CardState}
-use Rattle.vga_card.specs.Port.{port_of, crtc_port_of}
-use Rattle.vga_card.specs.Cycles.{out_at, inp_at}
 use Rattle.bios_modes.specs.declared.modes.ModeRow.{ModeRow}
+use Rattle.bios_modes.specs.Modes.{mode_row}
 use Rattle.bios_services.specs.Plan.{run}
-use Rattle.bios_services.specs.Cycles.{group, attribute_group}
 use Rattle.bios_services.specs.ModeSet.{registers_plan}
 use Rattle.bios_screen.specs.Listing.{listing}
 use Rattle.bios_screen.proofs.Base.Lists.{spelled}
-use Rattle.bios_screen.proofs.Modes.TextModes.Display.{Colour, Monochrome}
-use Rattle.bios_screen.proofs.Modes.PixelModes.Planes.{Low, Middle, High}
-use Rattle.bios_screen.proofs.Modes.PixelModes.Graphics.{Sixteen, Many}
-use Rattle.bios_screen.proofs.Modes.AnyModes.{Tabled, row_of}
-use Rattle.bios_screen.proofs.Modes.AnyModes.Tabled.{OfText, OfPixels}
 
 abbrev with_registers : CardState → List ℕ → List ℕ → List ℕ → List ℕ → CardState
 with_registers c seq gfx crtc attr = record c {
@@ -27,7 +18,7 @@ with_registers c seq gfx crtc attr = record c {
   attr = record c.attr { registers = attr };
 }
 
-abbrev spelled_card : CardState → CardState
+abbrev pub spelled_card : CardState → CardState
 spelled_card c = with_registers c (listing (slice_index c.host.seq) 0 5) (listing (slice_index c.host.gfx) 0 9) (listing (slice_index c.crtc.registers) 0 25)
     (listing (slice_index c.attr.registers) 0 21)
 
@@ -49,14 +40,10 @@ in_mode row c = record c {
   misc = row.misc;
 }
 
-registers_by : (k : Tabled) (c : CardState) → (run card_meaning (registers_plan (row_of k)) (spelled_card c)).0 ≡ in_mode (row_of k) c
-unfolding registers_plan group attribute_group port_of crtc_port_of out_at inp_at after_crtc is_protected overflow
-registers_by (OfText Colour) c = refl
-registers_by (OfText Monochrome) c = refl
-registers_by (OfPixels (Sixteen Low)) c = refl
-registers_by (OfPixels (Sixteen Middle)) c = refl
-registers_by (OfPixels (Sixteen High)) c = refl
-registers_by (OfPixels Many) c = refl
+-- what a row says of its mode set: it is the mode's, and its registers are set, which is computed where they are literal
+pub record IsSet (mode : ℕ) (row : ModeRow) : Type 0 where
+  pub table : mode_row mode ≡ Some row
+  pub literal : (c : CardState) → (run card_meaning (registers_plan row) (spelled_card c)).0 ≡ in_mode row c
 
-pub registers_set : (k : Tabled) (c : CardState) → IsCard c → (run card_meaning (registers_plan (row_of k)) c).0 ≡ in_mode (row_of k) c
-registers_set k c z = ap (λ x. (run card_meaning (registers_plan (row_of k)) x).0) (card_spelled c z) ∙ registers_by k c
+pub registers_set : (mode : ℕ) (row : ModeRow) (c : CardState) → IsSet mode row → IsCard c → (run card_meaning (registers_plan row) c).0 ≡ in_mode row c
+registers_set mode row c is z = ap (λ x. (run card_meaning (registers_plan row) x).0) (card_spelled c z) ∙ is.literal c

@@ -2,19 +2,21 @@
 use Rattle.std.proofs.Common.{◌≡◌, ℕ, ◌+◌, ◌*◌, ◌/◌, ◌%◌, ◌<◌, ◌≤◌, refl, sym, ap, ◌∙◌, subst, arith, List, Some, None, true, false}
 use Rattle.std.specs.Prelude.{slice_index, if◌then◌else◌}
 use Rattle.std.proofs.lemmas.Bool.Decides.{nat_tests}
+use Rattle.vga_crtc.specs.Ports.{after_out as after_crtc}
+use Rattle.vga_crtc.specs.Fields.{is_protected, overflow}
 use Rattle.vga_dac.specs.Dac.{DacState}
 use Rattle.vga_card.specs.Bounds.{IsCard}
 use Rattle.vga_card.specs.Bus.{card_meaning}
 use Rattle.vga_card.specs.Card.{CardState}
-use Rattle.vga_card.specs.Port.{port_of as reached_by}
-use Rattle.vga_card.specs.Cycles.{out_at}
+use Rattle.vga_card.specs.Port.{port_of as reached_by, crtc_port_of}
+use Rattle.vga_card.specs.Cycles.{out_at, inp_at}
 use Rattle.bios_modes.specs.Heights.{row_at}
 use Rattle.bios_modes.specs.Fonts.{glyph_row}
 use Rattle.bios_modes.specs.Bounds.{AreBytes}
 use Rattle.bios_modes.specs.Begin.{data_of_mode}
 use Rattle.bios_services.specs.Plan.{Plan, run, put, ◌>>◌}
-use Rattle.bios_services.specs.Cycles.{sequencer, graphics}
-use Rattle.bios_services.specs.ModeSet.{glyphs_plan, font_plan, blank_byte, blank_plan, text_plan, memory_plan, mode_set_plan}
+use Rattle.bios_services.specs.Cycles.{sequencer, graphics, group, attribute_group}
+use Rattle.bios_services.specs.ModeSet.{registers_plan, glyphs_plan, font_plan, blank_byte, blank_plan, text_plan, memory_plan, mode_set_plan}
 use Rattle.bios_screen.specs.Screen.{Cell, Palette, Screen}
 use Rattle.bios_screen.specs.Shown.{cell_in, cells_in, glyph_byte, glyphs_in, shows, screen_with, screen_of, all_cells, shown, shown_by}
 use Rattle.bios_screen.specs.Fresh.{blank_cells, font_bytes, fresh_text, fresh_pixels}
@@ -31,7 +33,7 @@ use Rattle.bios_screen.proofs.Modes.TextModes.Display.{Colour, Monochrome}
 use Rattle.bios_screen.proofs.Text.Memory.{IsTextual, without_text, text_put}
 use Rattle.bios_screen.proofs.Text.Cells.{has_cells}
 use Rattle.bios_screen.proofs.Text.NewCells.{test_stays}
-use Rattle.bios_screen.proofs.Modes.AnyModes.Tabled.{OfText}
+use Rattle.bios_screen.proofs.Modes.Registers.{IsSet}
 use Rattle.bios_screen.proofs.Modes.Fresh.{palette_is, coloured, prepared, ShowsFresh, sets_fresh}
 use Rattle.bios_screen.proofs.Text.Glyphs.{glyph_setting, without_glyphs, IsLoading, glyphs_loaded}
 
@@ -199,14 +201,19 @@ fresh_memory disp c d font z2 small =
     } in
     subst (FreshMemory disp font y2) (sym whole) state
 
-shows_fresh : (disp : Display) → ShowsFresh (OfText disp)
+set_by : (disp : Display) → IsSet (number_of disp) (row_of disp)
+unfolding registers_plan group attribute_group reached_by crtc_port_of out_at inp_at after_crtc is_protected overflow
+set_by Colour = record { table = refl; literal = λ _. refl }
+set_by Monochrome = record { table = refl; literal = λ _. refl }
+
+shows_fresh : (disp : Display) → ShowsFresh (number_of disp) (row_of disp)
 unfolding mode_set_plan
 shows_fresh disp c fonts z small =
     let mode = number_of disp in
     let row = row_of disp in
     let font = fonts.f16 in
     let d = data_of_mode mode row in
-    let first = prepared (OfText disp) c z in
+    let first = prepared mode row c (set_by disp) z in
     let t = fresh_memory disp c first.dac font first.bounds small in
     let s = (run card_meaning (memory_plan row false font) (coloured row c first.dac)).0 in
     let y = in_text disp (with_glyphs (in_glyphs disp (coloured row c first.dac)) t.plane2) in
@@ -225,4 +232,4 @@ shows_fresh disp c fonts z small =
     ∙ sym (ap (λ b. let x : Screen = (if b then new else pixels) in Some x) (text_by disp))
 
 pub text_set_fresh : (disp : Display) → SetsFresh (number_of disp) (row_of disp)
-text_set_fresh disp = sets_fresh (OfText disp) (shows_fresh disp)
+text_set_fresh disp = sets_fresh (number_of disp) (row_of disp) (set_by disp) (shows_fresh disp)

@@ -9,6 +9,7 @@ use Rattle.bios_modes.specs.Modes.{colour_text, monochrome_text}
 use Rattle.bios_modes.specs.Kinds.{is_text}
 use Rattle.bios_services.specs.Cells.{page_base}
 use Rattle.bios_screen.proofs.Base.Setting.{Setting}
+use Rattle.bios_screen.proofs.Modes.Frames.{Blinks}
 use Rattle.bios_screen.proofs.Base.Tests.{none_some, some_same}
 
 pub data Display : Type 0 where
@@ -101,6 +102,10 @@ lines_of Monochrome Sixteen = twenty_five_rows 0x0F
 
 abbrev pub row_with : Display → Height → ModeRow
 row_with k height = with_text (row_of k) (lines_of k height)
+
+pub text_blinks : (k : Display) (height : Height) → Blinks (row_with k height) 0 × Blinks (row_with k height) 1
+text_blinks Colour _ = ((refl, refl), (refl, refl))
+text_blinks Monochrome _ = ((refl, refl), (refl, refl))
 
 -- which display a mode of text has, and which height
 pub record TextRow (mode : ℕ) (row : ModeRow) : Type 0 where

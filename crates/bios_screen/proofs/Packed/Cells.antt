@@ -1,12 +1,11 @@
 -- The character at the cursor of 256 colours is the first whose glyph its pixels are.
-use Rattle.std.proofs.Common.{◌≡◌, ℕ, zero, suc, ◌+◌, ◌-◌, ◌*◌, ◌%◌, ◌<◌, refl, sym, ap, ◌∙◌, subst, arith, Some, Bool, true, false}
+use Rattle.std.proofs.Common.{◌≡◌, ℕ, zero, suc, ◌+◌, ◌-◌, ◌*◌, ◌%◌, ◌<◌, refl, sym, ap, ◌∙◌, subst, arith, Bool, true, false}
 use Rattle.std.specs.Prelude.{◌==◌, if◌then◌else◌}
 use Rattle.vga_bits.specs.Bits.{byte_of}
 use Rattle.vga_card.specs.Bounds.{IsCard}
 use Rattle.vga_card.specs.Bus.{card_meaning}
 use Rattle.vga_card.specs.Card.{CardState}
 use Rattle.bios_modes.specs.Modes.{bytes_320_by_200}
-use Rattle.bios_modes.specs.Heights.{row_at}
 use Rattle.bios_modes.specs.Bda.{BiosData}
 use Rattle.bios_modes.specs.Fonts.{FontSet}
 use Rattle.bios_services.specs.declared.regs.Regs.{Regs}
@@ -85,7 +84,7 @@ module _ (rest : CardState) where
       let seen = dots_shifted a 8 0 0 c f (omega arith) t in
       record { still = seen.still; value = seen.value ∙ byte_shifted (λ j. f (a + j)) }
 
-module _ (c : CardState) (d : BiosData) (t : IsPacked c d) (e : row_at d.mode d.height ≡ Some bytes_320_by_200) (z : IsCard c) where
+module _ (c : CardState) (d : BiosData) (t : IsPacked c d) (z : IsCard c) where
   abbrev s : Screen
   s = pixel_screen bytes_320_by_200 c d
 
@@ -97,10 +96,10 @@ module _ (c : CardState) (d : BiosData) (t : IsPacked c d) (e : row_at d.mode d.
 
   line_is : (q r : ℕ) → q < cells_of d → r < d.height → byte_of (λ j. as_dot (old (place q r + (7 - j)))) ≡ cell_line s 0 q r
   line_is q r lq lr =
-      let l = writes.strip_small c d t e z q r lq lr in
-      let all = screens.all_pixels c d t e z in
+      let l = writes.strip_small c d t z q r lq lr in
+      let all = screens.all_pixels c d t z in
       byte_same (λ j. as_dot (old (place q r + (7 - j)))) (λ j. as_dot (pixel_of s 0 (place q r + (7 - j)))) (λ j lj.
-      ap as_dot (sym (screens.pixel_is c d t e z (place q r + (7 - j)) (omega arith))))
+      ap as_dot (sym (screens.pixel_is c d t z (place q r + (7 - j)) (omega arith))))
 
   pub cell_read : (fonts : FontSet) (r : Regs) (p : ℕ) → p < bytes_320_by_200.pages → cursor_cell d p < cells_of d → IsCellRead fonts r c d p s
   cell_read fonts r p lp lq =
@@ -110,9 +109,9 @@ module _ (c : CardState) (d : BiosData) (t : IsPacked c d) (e : row_at d.mode d.
       let rest = without_drawing c in
       let sum : (n : ℕ) → 0xA0000 + (n + 0) ≡ 0xA0000 + n = λ n. omega arith in
       subst (λ i. IsCellRead fonts r c d i s) (sym first)
-      (reads.cell_read bytes_320_by_200 c d fonts r 0 (screens.text c d t e z)
+      (reads.cell_read bytes_320_by_200 c d fonts r 0 t.text
       (reads.character_seen bytes_320_by_200 c d fonts 0 q Packed (λ r. 0xA0000 + place q r) (λ y. IsFlat rest y old)
-      (λ r y lr u. let seen = line_seen rest (place q r) y old (let k = writes.strip_small c d t e z q r l lr in omega arith) u in
+      (λ r y lr u. let seen = line_seen rest (place q r) y old (let k = writes.strip_small c d t z q r l lr in omega arith) u in
       record { still = seen.still; value = seen.value ∙ line_is q r l lr })
-      (ap kind_of t.number) refl (λ r. writes.address_is c d t e z q r 0 ∙ sum (place q r))
-      (screens.begins c d t e z) (λ y u. screens.stays c d t e z y u)))
+      (ap kind_of t.number) refl (λ r. writes.address_is c d t z q r 0 ∙ sum (place q r))
+      (screens.begins c d t z) (λ y u. screens.stays c d t z y u)))

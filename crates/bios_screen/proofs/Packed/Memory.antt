@@ -13,22 +13,22 @@ use Rattle.vga_host.specs.MemoryWrite.{written_bit, combined_bit, written_byte, 
 use Rattle.vga_host.specs.MemoryRead.{read_bit, read_byte}
 use Rattle.vga_card.specs.Bus.{card_meaning}
 use Rattle.vga_card.specs.Card.{CardState}
+use Rattle.bios_modes.specs.Modes.{bytes_320_by_200}
 use Rattle.bios_services.specs.Plan.{run, put}
 use Rattle.bios_screen.specs.Shown.{packed_pixel}
 use Rattle.bios_screen.proofs.Base.Flat.{set_cell, list_put}
 use Rattle.bios_screen.proofs.Base.Setting.{setting, host_at, with_memory, put_decoded}
-use Rattle.bios_screen.proofs.Modes.PixelModes.{setting_in}
-use Rattle.bios_screen.proofs.Modes.PixelModes.Graphics.{Many}
+use Rattle.bios_screen.proofs.Modes.PixelModes.{setting_of}
 
-pub decoded : (h : HostState) (n : ℕ) → n < 65536 → is_decoded (host_at h (setting_in Many)) 0x63 (0xA0000 + n) ≡ true
+pub decoded : (h : HostState) (n : ℕ) → n < 65536 → is_decoded (host_at h (setting_of bytes_320_by_200)) 0x63 (0xA0000 + n) ≡ true
 decoded h n l = grind (arith, nat_tests)
 
-window_is : (h : HostState) (n : ℕ) → n < 65536 → window_offset (host_at h (setting_in Many)) (0xA0000 + n) ≡ n
+window_is : (h : HostState) (n : ℕ) → n < 65536 → window_offset (host_at h (setting_of bytes_320_by_200)) (0xA0000 + n) ≡ n
 window_is h n l = omega arith
 
-written : (h : HostState) (b : ℕ) → b < 256 → (p : ℕ) → p < 4 → written_byte (host_at h (setting_in Many)) b p ≡ b
+written : (h : HostState) (b : ℕ) → b < 256 → (p : ℕ) → p < 4 → written_byte (host_at h (setting_of bytes_320_by_200)) b p ≡ b
 unfolding byte_of written_bit combined_bit
-written h b l = by_plane (λ p. written_byte (host_at h (setting_in Many)) b p ≡ b) (byte_bits b l) (byte_bits b l) (byte_bits b l) (byte_bits b l)
+written h b l = by_plane (λ p. written_byte (host_at h (setting_of bytes_320_by_200)) b p ≡ b) (byte_bits b l) (byte_bits b l) (byte_bits b l) (byte_bits b l)
 
 -- the planes, each of which may have a new byte
 abbrev four_packed : Four (List ℕ) → ℕ → ℕ → ℕ → ℕ → ℕ → Four (List ℕ)
@@ -42,19 +42,19 @@ four_packed m n x0 x1 x2 x3 = record {
 abbrev pub packed_memory : Four (List ℕ) → ℕ → ℕ → Four (List ℕ)
 packed_memory m n b = four_packed m n b b b b
 
-memory_is : (h : HostState) (n b : ℕ) → b < 256 → memory_after_put (host_at h (setting_in Many)) n b ≡ packed_memory h.memory n b
+memory_is : (h : HostState) (n b : ℕ) → b < 256 → memory_after_put (host_at h (setting_of bytes_320_by_200)) n b ≡ packed_memory h.memory n b
 memory_is h n b l =
-    let w = written_byte (host_at h (setting_in Many)) b in
+    let w = written_byte (host_at h (setting_of bytes_320_by_200)) b in
     ap (λ x. four_packed h.memory n x (w 1) (w 2) (w 3)) (written h b l 0 (omega arith))
     ∙ ap (λ x. four_packed h.memory n b x (w 2) (w 3)) (written h b l 1 (omega arith))
     ∙ ap (λ x. four_packed h.memory n b b x (w 3)) (written h b l 2 (omega arith))
     ∙ ap (λ x. four_packed h.memory n b b b x) (written h b l 3 (omega arith))
 
-pub put_is : (c : CardState) (n b : ℕ) → setting c ≡ setting_in Many → n < 65536 → b < 256 →
+pub put_is : (c : CardState) (n b : ℕ) → setting c ≡ setting_of bytes_320_by_200 → n < 65536 → b < 256 →
     (run card_meaning (put (0xA0000 + n) b) c).0 ≡ with_memory c (packed_memory c.host.memory n b)
 put_is c n b e l h =
-    put_decoded c (setting_in Many) (0xA0000 + n) b e (decoded c.host n l)
-    ∙ ap (λ o. with_memory c (memory_after_put (host_at c.host (setting_in Many)) o b)) (window_is c.host n l)
+    put_decoded c (setting_of bytes_320_by_200) (0xA0000 + n) b e (decoded c.host n l)
+    ∙ ap (λ o. with_memory c (memory_after_put (host_at c.host (setting_of bytes_320_by_200)) o b)) (window_is c.host n l)
     ∙ ap (with_memory c) (memory_is c.host n b h)
 
 plane_after : (m : Four (List ℕ)) (n b p : ℕ) → p < 4 → of_plane (packed_memory m n b) p
@@ -79,10 +79,10 @@ byte_of_plane : (m : Four (List ℕ)) (o p : ℕ) → p < 4 → of_plane (bytes_
 byte_of_plane m o = by_plane (λ p. of_plane (bytes_at m o) p ≡ slice_index (of_plane m p) o) refl refl refl refl
 
 pub byte_read : (h : HostState) (n : ℕ) → n < 65536 → packed_pixel h.memory n < 256 →
-    read_byte (host_at h (setting_in Many)) (0xA0000 + n) ≡ packed_pixel h.memory n
+    read_byte (host_at h (setting_of bytes_320_by_200)) (0xA0000 + n) ≡ packed_pixel h.memory n
 unfolding byte_of read_bit
 byte_read h n l b =
-    let w = window_offset (host_at h (setting_in Many)) (0xA0000 + n) in
+    let w = window_offset (host_at h (setting_of bytes_320_by_200)) (0xA0000 + n) in
     let p : w % 4 < 4 = omega arith in
     let e : of_plane (bytes_at h.memory (w / 4 * 4)) (w % 4) ≡ packed_pixel h.memory n = byte_of_plane h.memory (w / 4 * 4) (w % 4) p
     ∙ ap (packed_pixel h.memory) (window_is h n l) in

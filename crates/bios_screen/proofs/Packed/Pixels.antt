@@ -5,7 +5,6 @@ use Rattle.vga_card.specs.Bounds.{IsCard}
 use Rattle.vga_card.specs.Bus.{card_meaning}
 use Rattle.vga_card.specs.Card.{CardState}
 use Rattle.bios_modes.specs.Modes.{bytes_320_by_200}
-use Rattle.bios_modes.specs.Heights.{row_at}
 use Rattle.bios_modes.specs.Bda.{BiosData}
 use Rattle.bios_modes.specs.Kinds.{is_packed}
 use Rattle.bios_services.specs.Cells.{page_base}
@@ -22,7 +21,7 @@ use Rattle.bios_screen.proofs.Packed.Screens as screens
 use Rattle.bios_screen.proofs.Pixels.NewPixels.{There, number_within}
 use Rattle.bios_screen.proofs.Pixels.Reads.{IsSeen}
 
-module _ (c : CardState) (d : BiosData) (t : IsPacked c d) (e : row_at d.mode d.height ≡ Some bytes_320_by_200) (z : IsCard c) where
+module _ (c : CardState) (d : BiosData) (t : IsPacked c d) (z : IsCard c) where
   abbrev s : Screen
   s = pixel_screen bytes_320_by_200 c d
 
@@ -33,7 +32,7 @@ module _ (c : CardState) (d : BiosData) (t : IsPacked c d) (e : row_at d.mode d.
   number x y = 8 * d.columns * y + x
 
   number_small : (x y : ℕ) → There d x y → number x y < 64000
-  number_small x y h = let l = number_within d x y h in let all = screens.all_pixels c d t e z in omega arith
+  number_small x y h = let l = number_within d x y h in let all = screens.all_pixels c d t z in omega arith
 
   address_is : (x y : ℕ) → pixel_address d 0 x y ≡ 0xA0000 + number x y
   address_is x y =
@@ -65,11 +64,11 @@ module _ (c : CardState) (d : BiosData) (t : IsPacked c d) (e : row_at d.mode d.
       subst (λ i. shown (run card_meaning (write_pixel_plan d i x y colour) c).0 d
       ≡ Some (with_pixels s i (change_pixel n (colour_over d.mode colour)))) first
       (ap (λ q. shown (run card_meaning q c).0 d) (write_is x y colour)
-      ∙ screens.page_redrawn c d t e z (run card_meaning (put (0xA0000 + n) colour) c).0 (set_cell (packed_pixel m) n colour)
+      ∙ screens.page_redrawn c d t z (run card_meaning (put (0xA0000 + n) colour) c).0 (set_cell (packed_pixel m) n colour)
       (change_pixel n (colour_over d.mode colour))
-      (put_flat (without_drawing c) n colour c (packed_pixel m) (omega arith) lc (screens.begins c d t e z))
+      (put_flat (without_drawing c) n colour c (packed_pixel m) (omega arith) lc (screens.begins c d t z))
       (λ k lk. ap (λ v. if k == n then v else packed_pixel m k) (sym (ap (λ i. colour_over i colour (packed_pixel m k)) t.number))
-      ∙ ap (λ v. if k == n then colour_over d.mode colour v else v) (sym (screens.pixel_is c d t e z k lk))))
+      ∙ ap (λ v. if k == n then colour_over d.mode colour v else v) (sym (screens.pixel_is c d t z k lk))))
 
   -- ---- 0D
 
@@ -85,8 +84,8 @@ module _ (c : CardState) (d : BiosData) (t : IsPacked c d) (e : row_at d.mode d.
       let first : 0 ≡ p = omega arith in
       let n = number x y in
       let l = number_small x y h in
-      let got = get_flat (without_drawing c) n c (packed_pixel c.host.memory) (omega arith) (screens.begins c d t e z) in
+      let got = get_flat (without_drawing c) n c (packed_pixel c.host.memory) (omega arith) (screens.begins c d t z) in
       subst (λ i. IsSeen (λ y. shown y d ≡ Some s) (read_pixel_plan d i x y) (pixel_of s i n) c) first (record {
-        value = ap (λ i. (run card_meaning i c).1) (read_is x y) ∙ got.value ∙ sym (screens.pixel_is c d t e z n (number_within d x y h));
-        still = ap (λ i. shown (run card_meaning i c).0 d) (read_is x y) ∙ screens.stays c d t e z (run card_meaning (get (0xA0000 + n)) c).0 got.still;
+        value = ap (λ i. (run card_meaning i c).1) (read_is x y) ∙ got.value ∙ sym (screens.pixel_is c d t z n (number_within d x y h));
+        still = ap (λ i. shown (run card_meaning i c).0 d) (read_is x y) ∙ screens.stays c d t z (run card_meaning (get (0xA0000 + n)) c).0 got.still;
       })

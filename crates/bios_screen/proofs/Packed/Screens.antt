@@ -1,5 +1,5 @@
 -- Drawn memory of 256 colours as a flat list of pixels, and the screen that it shows.
-use Rattle.std.proofs.Common.{◌≡◌, ℕ, ◌+◌, ◌*◌, ◌/◌, ◌%◌, ◌<◌, refl, sym, ap, ◌∙◌, subst, arith, List, Some, false}
+use Rattle.std.proofs.Common.{◌≡◌, ℕ, ◌+◌, ◌*◌, ◌/◌, ◌%◌, ◌<◌, refl, sym, ap, ◌∙◌, subst, arith, List, Some}
 use Rattle.std.specs.Prelude.{◌==◌, if◌then◌else◌}
 use Rattle.vga_bits.specs.Four.{Four}
 use Rattle.vga_card.specs.Bounds.{IsCard}
@@ -7,8 +7,7 @@ use Rattle.vga_card.specs.Bus.{card_meaning}
 use Rattle.vga_card.specs.Card.{CardState}
 use Rattle.bios_modes.specs.Bda.{BiosData}
 use Rattle.bios_modes.specs.Modes.{bytes_320_by_200}
-use Rattle.bios_modes.specs.Heights.{row_at}
-use Rattle.bios_modes.specs.Kinds.{is_text, is_packed}
+use Rattle.bios_modes.specs.Kinds.{is_packed}
 use Rattle.bios_services.specs.Plan.{run, put, get}
 use Rattle.bios_screen.specs.Screen.{Screen}
 use Rattle.bios_screen.specs.Shown.{packed_pixel, planar_pixel, pixel_in, page_pixels, pixel_screen, shown}
@@ -16,8 +15,7 @@ use Rattle.bios_screen.specs.Step.{pixel_of, with_pixels}
 use Rattle.bios_screen.proofs.Base.Flat.{set_cell}
 use Rattle.bios_services.proofs.CardLemmas.{plan_bounds}
 use Rattle.bios_screen.proofs.Base.Setting.{setting, with_memory, get_decoded}
-use Rattle.bios_screen.proofs.Modes.PixelModes.{setting_in}
-use Rattle.bios_screen.proofs.Modes.PixelModes.Graphics.{Many}
+use Rattle.bios_screen.proofs.Modes.PixelModes.{setting_of}
 use Rattle.bios_screen.proofs.Pixels.NewPixels.{page_renewed, pixels_stay}
 use Rattle.bios_screen.proofs.Dots.PixelDots.{pixel_at}
 use Rattle.bios_screen.proofs.Shows.Screens.{setting_by}
@@ -27,7 +25,7 @@ use Rattle.bios_screen.proofs.Planar.Settings.{without_drawing}
 
 -- the adapter is in the setting of 256 colours, and its pixels are these
 pub record IsFlat (rest : CardState) (c : CardState) (f : ℕ → ℕ) : Type 0 where
-  pub mode : setting c ≡ setting_in Many
+  pub mode : setting c ≡ setting_of bytes_320_by_200
   pub bounds : IsCard c
   pub cell : (k : ℕ) → packed_pixel c.host.memory k ≡ f k
   pub others : without_drawing c ≡ rest
@@ -52,7 +50,7 @@ pub record IsGot (rest : CardState) (a : ℕ) (c : CardState) (f : ℕ → ℕ) 
 
 pub get_flat : (rest : CardState) (a : ℕ) (c : CardState) (f : ℕ → ℕ) → a < 65536 → IsFlat rest c f → IsGot rest a c f
 get_flat rest a c f la t =
-    let got = get_decoded c (setting_in Many) (0xA0000 + a) t.mode (decoded c.host a la) in
+    let got = get_decoded c (setting_of bytes_320_by_200) (0xA0000 + a) t.mode (decoded c.host a la) in
     let after = ap (λ r. r.0) got in
     record {
       still = subst (λ y. IsFlat rest y f) (sym after) (record {
@@ -64,14 +62,11 @@ get_flat rest a c f la t =
       value = ap (λ r. r.1) got ∙ byte_read c.host a la (t.bounds.host.memory.bytes (a % 4) (omega arith) (a / 4 * 4)) ∙ t.cell a;
     }
 
-module _ (c : CardState) (d : BiosData) (t : IsPacked c d) (e : row_at d.mode d.height ≡ Some bytes_320_by_200) (z : IsCard c) where
+module _ (c : CardState) (d : BiosData) (t : IsPacked c d) (z : IsCard c) where
   abbrev s : Screen
   s = pixel_screen bytes_320_by_200 c d
 
-  pub text : is_text d.mode ≡ false
-  text = ap is_text t.number
-
-  pub setting_is : setting c ≡ setting_in Many
+  pub setting_is : setting c ≡ setting_of bytes_320_by_200
   setting_is = setting_by bytes_320_by_200 c t.tests.memory
 
   pub begins : IsFlat (without_drawing c) c (packed_pixel c.host.memory)
@@ -94,12 +89,12 @@ module _ (c : CardState) (d : BiosData) (t : IsPacked c d) (e : row_at d.mode d.
   pub page_redrawn : (y : CardState) (f : ℕ → ℕ) (change : (ℕ → ℕ) → ℕ → ℕ) → IsFlat (without_drawing c) y f →
       ((k : ℕ) → k < page_pixels d → f k ≡ change (pixel_of s 0) k) → shown y d ≡ Some (with_pixels s 0 change)
   page_redrawn y f change h inside =
-      page_renewed bytes_320_by_200 c y d e text t.tests (h.mode ∙ sym setting_is) h.others 0 change (omega arith)
+      page_renewed bytes_320_by_200 c y d (t.there d.height) t.text t.tests (h.mode ∙ sym setting_is) h.others 0 change (omega arith)
       (λ k l. pixel_by y.host.memory k ∙ h.cell k ∙ inside k l) (λ g k lg w l. absurd (w (omega arith)))
 
   -- and where all pixels are as they were, the screen stays
   pub stays : (y : CardState) → IsFlat (without_drawing c) y (packed_pixel c.host.memory) → shown y d ≡ Some s
-  stays y h = pixels_stay bytes_320_by_200 c y d e text t.tests (h.mode ∙ sym setting_is) h.others (λ g k lg _.
+  stays y h = pixels_stay bytes_320_by_200 c y d (t.there d.height) t.text t.tests (h.mode ∙ sym setting_is) h.others (λ g k lg _.
       let first : g ≡ 0 = omega arith in
       ap (λ i. pixel_in d.mode y.host.memory (d.size * i) k) first ∙ pixel_by y.host.memory k ∙ h.cell k ∙ sym (pixel_by c.host.memory k)
       ∙ ap (λ i. pixel_in d.mode c.host.memory (d.size * i) k) (sym first))

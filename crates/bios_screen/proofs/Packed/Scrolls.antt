@@ -4,7 +4,6 @@ use Rattle.vga_card.specs.Bounds.{IsCard}
 use Rattle.vga_card.specs.Bus.{card_meaning}
 use Rattle.vga_card.specs.Card.{CardState}
 use Rattle.bios_modes.specs.Modes.{bytes_320_by_200}
-use Rattle.bios_modes.specs.Heights.{row_at}
 use Rattle.bios_modes.specs.Bda.{BiosData}
 use Rattle.bios_services.specs.declared.band.Band.{Band}
 use Rattle.bios_modes.specs.declared.kind.Kind.TheVariants.{Packed}
@@ -35,7 +34,7 @@ pixel_read rest i c f l t =
     let got = get_flat rest i c f l t in
     record { still = got.still; answer = got.value; small = subst (λ v. v < 256) (t.cell i) (t.bounds.host.memory.bytes (i % 4) (omega arith) (i / 4 * 4)) }
 
-module _ (c : CardState) (d : BiosData) (t : IsPacked c d) (e : row_at d.mode d.height ≡ Some bytes_320_by_200) (z : IsCard c) (p : ℕ)
+module _ (c : CardState) (d : BiosData) (t : IsPacked c d) (z : IsCard c) (p : ℕ)
     (lp : p < bytes_320_by_200.pages) (w : Window) (on : IsOnPage (d.last_row + 1) d.columns w) (direction : Direction) (n colour : ℕ) (lc : colour < 256) where
   abbrev s : Screen
   s = pixel_screen bytes_320_by_200 c d
@@ -50,7 +49,7 @@ module _ (c : CardState) (d : BiosData) (t : IsPacked c d) (e : row_at d.mode d.
   window = record {
     address = ap (λ x. x + d.size * p) (ap page_base t.number) ∙ ap (λ x. 0xA0000 + d.size * x) page_is
         ∙ (let none : d.size * 0 ≡ 0 = omega arith in ap (λ x. 0xA0000 + x) none);
-    memory = let a = screens.all_pixels c d t e z in omega arith;
+    memory = let a = screens.all_pixels c d t z in omega arith;
     below = on.below;
     behind = let a = on.behind in omega arith;
     left = refl;
@@ -70,7 +69,7 @@ module _ (c : CardState) (d : BiosData) (t : IsPacked c d) (e : row_at d.mode d.
   unfolding scroll_rows fill_plan
   scrolls some few = shifts.filled_once CardState card_meaning 0xA0000 65536 band 0 (d.last_row + 1) w window (IsFlat (without_drawing c))
       (pixel_read (without_drawing c)) (λ j v y f lj lv u. put_flat (without_drawing c) j v y f lj lv u) (plain colour) lc lc direction n c old
-      some few (screens.begins c d t e z)
+      some few (screens.begins c d t z)
 
   -- ---- the pixels
 
@@ -85,13 +84,13 @@ module _ (c : CardState) (d : BiosData) (t : IsPacked c d) (e : row_at d.mode d.
       by_both_tests (in_window w row column) (has_source direction w n row) (f k) (pixel_of s 0 far) (fill_pixel d.mode colour) (pixel_of s 0 k)
       (λ u m.
       ap f (sym (none k)) ∙ is.moved k u m ∙ ap old (none far)
-      ∙ sym (screens.pixel_is c d t e z far (shifts.source_within ℕ 0xA0000 65536 band 0 (d.last_row + 1) w window direction k n u m)))
+      ∙ sym (screens.pixel_is c d t z far (shifts.source_within ℕ 0xA0000 65536 band 0 (d.last_row + 1) w window direction k n u m)))
       (λ u m.
       ap f (sym (none k)) ∙ (is.filled k u m).is ∙ filled_plain colour (k % band.pitch - band.left)
       ∙ sym (ap (λ i. fill_pixel i colour) t.number))
       (λ u.
       is.outside k (λ b q. let same : k ≡ b = omega arith in subst (λ i. in_window w (pixel_row s i) (pixel_column s i) ≡ false) same u)
-      ∙ sym (screens.pixel_is c d t e z k lk))
+      ∙ sym (screens.pixel_is c d t z k lk))
 
   pub window_shown : 0 < n → n ≤ w.height → shown (run card_meaning (window_plan d p w direction n colour) c).0 d
       ≡ Some (scroll_window s p w direction n colour)
@@ -99,6 +98,6 @@ module _ (c : CardState) (d : BiosData) (t : IsPacked c d) (e : row_at d.mode d.
       let done = scrolls some few in
       let change = scroll_pixels s w direction n colour in
       ap (λ k. shown (run card_meaning (scroll_rows (band_by k d p w.left w.width) direction w.top w.height n colour) c).0 d) (ap kind_of t.number)
-      ∙ screens.page_redrawn c d t e z (run card_meaning (scroll_rows band direction w.top w.height n colour) c).0 done.cells change done.shown
+      ∙ screens.page_redrawn c d t z (run card_meaning (scroll_rows band direction w.top w.height n colour) c).0 done.cells change done.shown
       (pixels_scrolled done.cells done.fact)
       ∙ ap (λ i. Some (with_pixels s i change)) (sym page_is)

@@ -6,7 +6,6 @@ use Rattle.vga_card.specs.Bounds.{IsCard}
 use Rattle.vga_card.specs.Bus.{card_meaning}
 use Rattle.vga_card.specs.Card.{CardState}
 use Rattle.bios_modes.specs.Modes.{bytes_320_by_200}
-use Rattle.bios_modes.specs.Heights.{row_at}
 use Rattle.bios_modes.specs.Bda.{BiosData}
 use Rattle.bios_modes.specs.Fonts.{FontSet}
 use Rattle.bios_services.specs.declared.band.Band.{Band}
@@ -48,7 +47,7 @@ dot_small : (b : Bool) (colour : ℕ) → colour < 256 → (if b then colour els
 dot_small true colour l = l
 dot_small false colour l = omega arith
 
-module _ (c : CardState) (d : BiosData) (t : IsPacked c d) (e : row_at d.mode d.height ≡ Some bytes_320_by_200) (z : IsCard c) where
+module _ (c : CardState) (d : BiosData) (t : IsPacked c d) (z : IsCard c) where
   abbrev s : Screen
   s = pixel_screen bytes_320_by_200 c d
 
@@ -94,7 +93,7 @@ module _ (c : CardState) (d : BiosData) (t : IsPacked c d) (e : row_at d.mode d.
   strip_small q r lq lr =
       let l = strip_within w h (d.last_row + 1) q r wide lr lq in
       let same : 8 * w * (h * (d.last_row + 1)) ≡ 8 * (w * (h * (d.last_row + 1))) = omega arith in
-      let all = screens.all_pixels c d t e z in
+      let all = screens.all_pixels c d t z in
       omega arith
 
   within : (q r i : ℕ) → q < cells_of d → r < h → i < 8 → place q r i < 65536
@@ -146,9 +145,9 @@ module _ (c : CardState) (d : BiosData) (t : IsPacked c d) (e : row_at d.mode d.
       (λ x _. x) (packed_pixel c.host.memory) (IsFlat rest)
   canvas = record {
     apart = λ a b x y same. let lx = x.before in let ly = y.before in omega arith;
-    pixel = λ k lk. let whole : k ≡ 8 * (k / 8) + k % 8 = omega arith in screens.pixel_is c d t e z k lk ∙ ap (packed_pixel c.host.memory) whole;
-    begins = screens.begins c d t e z;
-    redrawn = λ y f change u inside _. screens.page_redrawn c d t e z y f change u (λ k lk. let whole : k ≡ 8 * (k / 8) + k % 8 = omega arith in
+    pixel = λ k lk. let whole : k ≡ 8 * (k / 8) + k % 8 = omega arith in screens.pixel_is c d t z k lk ∙ ap (packed_pixel c.host.memory) whole;
+    begins = screens.begins c d t z;
+    redrawn = λ y f change u inside _. screens.page_redrawn c d t z y f change u (λ k lk. let whole : k ≡ 8 * (k / 8) + k % 8 = omega arith in
         ap f whole ∙ inside k lk);
   }
 

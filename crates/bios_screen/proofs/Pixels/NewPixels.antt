@@ -45,7 +45,7 @@ module _ (row : ModeRow) (c y : CardState) (d : BiosData) (e : row_at d.mode d.h
   page m g = pixels_in d.mode m (d.size * g) n
 
   -- the screen around the pages that are then in memory
-  redrawn : shown y d ≡ Some (screen_by row c d 0 (Pixels (pixel_pages d.mode y.host.memory d.size n row.pages)) [])
+  pub redrawn : shown y d ≡ Some (screen_by row c d 0 (Pixels (pixel_pages d.mode y.host.memory d.size n row.pages)) [])
   redrawn =
       pixels_shown_of y d row e text (same_tests row c y d same (ap (λ (x : CardState). x.crtc.registers) others)
       (ap (λ (x : CardState). shows_attribute row x.attr) others ∙ t.attribute) t)

@@ -1,5 +1,5 @@
 -- The character at a cell of sixteen colours is read from planes, which the graphics controller compares with 0.
-use Rattle.std.proofs.Common.{◌≡◌, ℕ, ◌+◌, ◌-◌, ◌*◌, ◌/◌, ◌%◌, ◌<◌, refl, sym, ap, ◌∙◌, arith, Some, true}
+use Rattle.std.proofs.Common.{◌≡◌, ℕ, ◌+◌, ◌-◌, ◌*◌, ◌/◌, ◌%◌, ◌<◌, refl, sym, ap, ◌∙◌, arith, true}
 use Rattle.std.specs.Prelude.{slice_index, ◌==◌, ◌&&◌, if◌then◌else◌}
 use Rattle.std.specs.Int.{bit_at}
 use Rattle.std.proofs.lemmas.Bool.Decides.{nat_tests}
@@ -11,10 +11,9 @@ use Rattle.vga_host.specs.MemoryRead.{read_bit, read_byte}
 use Rattle.vga_card.specs.Bounds.{IsCard}
 use Rattle.vga_card.specs.Bus.{card_meaning}
 use Rattle.vga_card.specs.Card.{CardState}
-use Rattle.bios_modes.specs.Heights.{row_at}
+use Rattle.bios_modes.specs.declared.modes.ModeRow.{ModeRow}
 use Rattle.bios_modes.specs.Bda.{BiosData}
 use Rattle.bios_modes.specs.Fonts.{FontSet}
-use Rattle.bios_modes.specs.Kinds.{kind_of}
 use Rattle.bios_modes.specs.declared.kind.Kind.TheVariants.{Planar}
 use Rattle.bios_services.specs.declared.regs.Regs.{Regs}
 use Rattle.bios_services.specs.Cells.{cells_of}
@@ -27,16 +26,13 @@ use Rattle.bios_screen.specs.Shown.{page_pixels, pixel_screen}
 use Rattle.bios_screen.specs.Step.{pixel_of, cell_line}
 use Rattle.bios_screen.proofs.Base.CellPlaces.{strip_at, strip_within}
 use Rattle.bios_screen.proofs.Base.Setting.{host_at, reached, offset_is, get_decoded}
-use Rattle.bios_screen.proofs.Modes.PixelModes.{Planes, row_of}
 use Rattle.bios_screen.proofs.Text.Writes.{IsCellRead}
 use Rattle.bios_screen.proofs.Pixels.Reads as reads
 use Rattle.bios_screen.proofs.Pixels.Reads.{as_dot, byte_same, IsSeen}
 use Rattle.bios_screen.proofs.Dots.PlanarDots.{IsPlanar}
 use Rattle.bios_screen.proofs.Planar.Settings.{Hand, at_rest, drawing, without_drawing, get_loads, mode_set}
 use Rattle.bios_screen.proofs.Planar.Bits.{nibble_of}
-use Rattle.bios_screen.proofs.Planar.Reads.{enabled_by}
 use Rattle.bios_screen.proofs.Planar.Characters.{Drawn}
-use Rattle.bios_screen.proofs.Planar.Writes.{kind_by}
 use Rattle.bios_screen.proofs.Planar.Writes as writes
 use Rattle.bios_screen.proofs.Planar.Screens as screens
 
@@ -87,10 +83,9 @@ line_seen rest e d on a c f la t =
           ∙ complement (none_of (f a)) (λ i. if nibble (f a) i == 0 then 0 else 1) (either (f a)) ∙ dots_are (f a);
     }
 
-module _ (m : Planes) (c : CardState) (d : BiosData) (t : IsPlanar m c d) (e : row_at d.mode d.height ≡ Some (row_of m))
-    (z : IsCard c) where
+module _ (row : ModeRow) (c : CardState) (d : BiosData) (t : IsPlanar row c d) (z : IsCard c) where
   abbrev s : Screen
-  s = pixel_screen (row_of m) c d
+  s = pixel_screen row c d
 
   abbrev w : ℕ
   w = d.columns
@@ -105,33 +100,33 @@ module _ (m : Planes) (c : CardState) (d : BiosData) (t : IsPlanar m c d) (e : r
   old = bytes_at c.host.memory
 
   -- a line of a cell is its byte of each plane
-  line_is : (p q r : ℕ) → p < (row_of m).pages → q < cells_of d → r < h → dots_of (old (place p q r)) ≡ cell_line s p q r
+  line_is : (p q r : ℕ) → p < row.pages → q < cells_of d → r < h → dots_of (old (place p q r)) ≡ cell_line s p q r
   line_is p q r lp lq lr =
       let b = strip_at w h q r in
-      let l = strip_within w h (d.last_row + 1) q r (writes.wide m c d t e z) lr lq in
-      let small = (screens.strip_small m c d t e z b l).0 in
+      let l = strip_within w h (d.last_row + 1) q r (writes.wide row c d t z) lr lq in
+      let small = (screens.strip_small row c d t z b l).0 in
       let even : page_pixels d ≡ 8 * (w * (h * (d.last_row + 1))) = omega arith in
       byte_same (λ i. as_dot (nibble_of (old (d.size * p + b)) (7 - i))) (λ i. as_dot (pixel_of s p (8 * b + (7 - i)))) (λ i li.
       let k = 8 * b + (7 - i) in
       let strip : k / 8 ≡ b = omega arith in
       let dot : k % 8 ≡ 7 - i = omega arith in
       let less : k < page_pixels d = omega arith in
-      ap as_dot (sym (screens.pixel_is m c d t e z p k lp less ∙ ap (λ x. nibble_of (old (d.size * p + x)) (k % 8)) strip
+      ap as_dot (sym (screens.pixel_is row c d t z p k lp less ∙ ap (λ x. nibble_of (old (d.size * p + x)) (k % 8)) strip
       ∙ ap (nibble_of (old (d.size * p + b))) dot)))
 
-  pub cell_read : (fonts : FontSet) (r : Regs) (p : ℕ) → p < (row_of m).pages → cursor_cell d p < cells_of d → IsCellRead fonts r c d p s
+  pub cell_read : (fonts : FontSet) (r : Regs) (p : ℕ) → p < row.pages → cursor_cell d p < cells_of d → IsCellRead fonts r c d p s
   cell_read fonts r p lp lq =
       let q = cursor_cell d p in
-      let misc = (row_of m).misc in
-      let clocking = slice_index (row_of m).sequencer 1 in
+      let misc = row.misc in
+      let clocking = slice_index row.sequencer 1 in
       let rest = without_drawing c in
-      let text = screens.text m c d t e z in
+      let text = t.text in
       let R : CardState → Type 0 = λ y. Drawn rest misc clocking seeing y old in
-      reads.cell_read (row_of m) c d fonts r p text
-      (reads.character_seen (row_of m) c d fonts p q Planar (λ r. 0xA0000 + place p q r) R
-      (λ r y lr u. let seen = line_seen rest misc clocking (enabled_by m) (place p q r) y old (writes.within m c d t e z p q r lp lq lr).1 u in
+      reads.cell_read row c d fonts r p text
+      (reads.character_seen row c d fonts p q Planar (λ r. 0xA0000 + place p q r) R
+      (λ r y lr u. let seen = line_seen rest misc clocking t.enabled (place p q r) y old (writes.within row c d t z p q r lp lq lr).1 u in
       record { still = seen.still; value = seen.value ∙ line_is p q r lp lq lr })
-      (ap kind_of t.number ∙ kind_by m) refl (λ r. writes.address_is m c d t e z p q r)
-      (record { latches = c.host.latches; is = mode_set rest misc clocking 0x08 at_rest c.host.latches c old refl refl (screens.begins m c d t e z) })
-      (λ y u. screens.stays m c d t e z (run card_meaning (graphics 5 0x00) y).0 old u.latches
+      t.kind refl (λ r. writes.address_is row c d t z p q r)
+      (record { latches = c.host.latches; is = mode_set rest misc clocking 0x08 at_rest c.host.latches c old refl refl (screens.begins row c d t z) })
+      (λ y u. screens.stays row c d t z (run card_meaning (graphics 5 0x00) y).0 old u.latches
       (mode_set rest misc clocking 0x00 seeing u.latches y old refl refl u.is) (λ o. refl)))

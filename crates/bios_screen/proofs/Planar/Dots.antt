@@ -9,9 +9,8 @@ use Rattle.vga_planes.specs.Planes.{bytes_at}
 use Rattle.vga_card.specs.Bounds.{IsCard}
 use Rattle.vga_card.specs.Bus.{card_meaning}
 use Rattle.vga_card.specs.Card.{CardState}
-use Rattle.bios_modes.specs.Heights.{row_at}
+use Rattle.bios_modes.specs.declared.modes.ModeRow.{ModeRow}
 use Rattle.bios_modes.specs.Bda.{BiosData}
-use Rattle.bios_modes.specs.Kinds.{is_packed}
 use Rattle.bios_services.specs.Cycles.{graphics}
 use Rattle.bios_services.specs.Plan.{Plan, run, put, get, Done, ◌>>=◌, ◌>>◌}
 use Rattle.bios_services.specs.Pixels.{pixel_address, write_dot_plan, write_pixel_plan}
@@ -20,7 +19,6 @@ use Rattle.bios_screen.specs.Shown.{page_pixels, pixel_screen, shown}
 use Rattle.bios_screen.specs.Step.{pixel_of, pixel_number, with_pixels, colour_over, change_pixel}
 use Rattle.bios_screen.proofs.Base.Flat.{set_cell, set_same, set_other}
 use Rattle.bios_screen.proofs.Base.Plans.{then_runs}
-use Rattle.bios_screen.proofs.Modes.PixelModes.{Planes, row_of, packed_by}
 use Rattle.bios_screen.proofs.Dots.PlanarDots.{IsPlanar}
 use Rattle.bios_screen.proofs.Planar.Settings.{Hand, at_rest, drawing, stored, without_drawing, Loaded, put_draws, get_loads, function_set, mode_set, bits_set}
 use Rattle.bios_screen.proofs.Planar.Bits.{nibble_of, dot_hand, dot_over, pixel_dotted}
@@ -108,25 +106,24 @@ one_test k n e = grind (arith, nat_tests)
 no_test : (k n : ℕ) → k / 8 ≢ n / 8 → (k == n) ≡ false
 no_test k n w = grind (arith, nat_tests)
 
-module _ (m : Planes) (c : CardState) (d : BiosData) (t : IsPlanar m c d) (e : row_at d.mode d.height ≡ Some (row_of m))
-    (z : IsCard c) where
+module _ (row : ModeRow) (c : CardState) (d : BiosData) (t : IsPlanar row c d) (z : IsCard c) where
   abbrev s : Screen
-  s = pixel_screen (row_of m) c d
+  s = pixel_screen row c d
 
   abbrev old : ℕ → Four ℕ
   old = bytes_at c.host.memory
 
   -- the byte of each plane, where one of its pixels changes
-  dot_shown : (p n v : ℕ) (b : Bool) (y : CardState) → p < (row_of m).pages → n < page_pixels d →
-      IsDotted (without_drawing c) (row_of m).misc (slice_index (row_of m).sequencer 1) (d.size * p + n / 8) (n % 8) (dot_over b v) y old →
+  dot_shown : (p n v : ℕ) (b : Bool) (y : CardState) → p < row.pages → n < page_pixels d →
+      IsDotted (without_drawing c) row.misc (slice_index row.sequencer 1) (d.size * p + n / 8) (n % 8) (dot_over b v) y old →
       shown y d ≡ Some (with_pixels s p (change_pixel n (dot_over b v)))
   dot_shown p n v b y lp ln h =
       let a = d.size * p + n / 8 in
       let f = set_cell old a h.new in
-      let room = screens.room m c d t e z n ln in
-      screens.page_redrawn m c d t e z p y f (old a) (change_pixel n (dot_over b v)) lp h.still
+      let room = screens.room row c d t z n ln in
+      screens.page_redrawn row c d t z p y f (old a) (change_pixel n (dot_over b v)) lp h.still
       (λ k lk.
-      let was = screens.pixel_is m c d t e z p k lp lk in
+      let was = screens.pixel_is row c d t z p k lp lk in
       ⊎_elim
       (λ (w : k / 8 ≡ n / 8).
       let at : d.size * p + k / 8 ≡ a = ap (λ i. d.size * p + i) w in
@@ -145,24 +142,23 @@ module _ (m : Planes) (c : CardState) (d : BiosData) (t : IsPlanar m c d) (e : r
   write_is : (p x y v : ℕ) → write_pixel_plan d p x y v ≡ dot_plan (is_set v 7) (0xA0000 + (d.size * p + pixel_number s x y / 8)) (x % 8) v
   unfolding write_pixel_plan
   write_is p x y v =
-      ap (λ b. let q : Plan (Unit {0}) = (if b then put (pixel_address d p x y) v else write_dot_plan (pixel_address d p x y) x v) in q) (ap is_packed t.number
-      ∙ packed_by m)
-      ∙ ap (λ a. write_dot_plan a x v) (reads.address_is m c d t e z p x y)
+      ap (λ b. let q : Plan (Unit {0}) = (if b then put (pixel_address d p x y) v else write_dot_plan (pixel_address d p x y) x v) in q) t.packed
+      ∙ ap (λ a. write_dot_plan a x v) (reads.address_is row c d t z p x y)
       ∙ plan_is (0xA0000 + (d.size * p + pixel_number s x y / 8)) x v
 
   -- the colour by the mode
   colouring_is : (v : ℕ) → dot_over (is_set v 7) v ≡ colour_over d.mode v
-  colouring_is v = sym (ap (λ i o. let x : ℕ = if i then v else dot_over (is_set v 7) v o in x) (ap is_packed t.number ∙ packed_by m))
+  colouring_is v = sym (ap (λ i o. let x : ℕ = if i then v else dot_over (is_set v 7) v o in x) t.packed)
 
-  pub pixel_written : (p x y v : ℕ) → p < (row_of m).pages → There d x y → shown (run card_meaning (write_pixel_plan d p x y v) c).0 d
+  pub pixel_written : (p x y v : ℕ) → p < row.pages → There d x y → shown (run card_meaning (write_pixel_plan d p x y v) c).0 d
       ≡ Some (with_pixels s p (change_pixel (pixel_number s x y) (colour_over d.mode v)))
   pixel_written p x y v lp h =
       let n = pixel_number s x y in
-      let misc = (row_of m).misc in
-      let clocking = slice_index (row_of m).sequencer 1 in
+      let misc = row.misc in
+      let clocking = slice_index row.sequencer 1 in
       let plan = dot_plan (is_set v 7) (0xA0000 + (d.size * p + n / 8)) (x % 8) v in
-      let drawn = dot_drawn (without_drawing c) misc clocking (d.size * p + n / 8) (x % 8) v (is_set v 7) c.host.latches c old (reads.enabled_by m)
-      (reads.offset_small m c d t e z p x y lp h) (omega arith) (screens.begins m c d t e z) in
+      let drawn = dot_drawn (without_drawing c) misc clocking (d.size * p + n / 8) (x % 8) v (is_set v 7) c.host.latches c old t.enabled
+      (reads.offset_small row c d t z p x y lp h) (omega arith) (screens.begins row c d t z) in
       ap (λ i. shown (run card_meaning i c).0 d) (write_is p x y v)
       ∙ dot_shown p n v (is_set v 7) (run card_meaning plan c).0 lp (number_within d x y h)
       (subst (λ k. IsDotted (without_drawing c) misc clocking (d.size * p + n / 8) k (dot_over (is_set v 7) v) (run card_meaning plan c).0 old)

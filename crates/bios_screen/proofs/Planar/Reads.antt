@@ -14,10 +14,9 @@ use Rattle.vga_card.specs.Bus.{card_meaning}
 use Rattle.vga_card.specs.Card.{CardState}
 use Rattle.vga_card.specs.Port.{port_of}
 use Rattle.vga_card.specs.Cycles.{out_at}
-use Rattle.bios_modes.specs.Heights.{row_at}
+use Rattle.bios_modes.specs.declared.modes.ModeRow.{ModeRow}
 use Rattle.bios_modes.specs.Bda.{BiosData}
 use Rattle.bios_modes.specs.Kinds.{is_packed}
-use Rattle.bios_services.specs.Cells.{page_base}
 use Rattle.bios_services.specs.Cycles.{graphics}
 use Rattle.bios_services.specs.Plan.{Plan, run, get}
 use Rattle.bios_services.specs.Pixels.{pixel_address, read_dot_plan, read_pixel_plan}
@@ -25,8 +24,6 @@ use Rattle.bios_screen.specs.Screen.{Screen}
 use Rattle.bios_screen.specs.Shown.{pixel_in, pixel_screen, shown}
 use Rattle.bios_screen.specs.Step.{pixel_of}
 use Rattle.bios_screen.proofs.Base.Setting.{Setting, setting, host_at, reached, offset_is, get_decoded}
-use Rattle.bios_screen.proofs.Modes.PixelModes.{Planes, row_of, number_of, packed_by}
-use Rattle.bios_screen.proofs.Modes.PixelModes.Planes.{Low, Middle, High}
 use Rattle.bios_screen.proofs.Pixels.NewPixels.{There, number_within, pixels_stay}
 use Rattle.bios_screen.proofs.Planar.Settings.{without_drawing}
 use Rattle.bios_screen.proofs.Dots.PlanarDots.{IsPlanar}
@@ -113,16 +110,6 @@ dot_read rest e k a x c la on b t =
 
 -- ---- numbers of the modes
 
-pub enabled_by : (m : Planes) → is_set (row_of m).misc 1 ≡ true
-enabled_by Low = refl
-enabled_by Middle = refl
-enabled_by High = refl
-
-base_by : (m : Planes) (a b f : ℕ) → page_base (number_of m) + a + (if is_packed (number_of m) then b else f) ≡ 0xA0000 + a + f
-base_by Low a b f = refl
-base_by Middle a b f = refl
-base_by High a b f = refl
-
 sum_is : (a b : ℕ) → 0xA0000 + a + b ≡ 0xA0000 + (a + b)
 sum_is a b = omega arith
 
@@ -132,9 +119,9 @@ eighth w y x = let e : 8 * w * y ≡ 8 * (w * y) = omega arith in omega arith
 pub rest_of_8 : (w y x : ℕ) → x % 8 ≡ (8 * w * y + x) % 8
 rest_of_8 w y x = let e : 8 * w * y ≡ 8 * (w * y) = omega arith in omega arith
 
-module _ (m : Planes) (c : CardState) (d : BiosData) (t : IsPlanar m c d) (e : row_at d.mode d.height ≡ Some (row_of m)) (z : IsCard c) where
+module _ (row : ModeRow) (c : CardState) (d : BiosData) (t : IsPlanar row c d) (z : IsCard c) where
   abbrev s : Screen
-  s = pixel_screen (row_of m) c d
+  s = pixel_screen row c d
 
   abbrev number : ℕ → ℕ → ℕ
   number x y = 8 * d.columns * y + x
@@ -143,45 +130,45 @@ module _ (m : Planes) (c : CardState) (d : BiosData) (t : IsPlanar m c d) (e : r
   abbrev offset : ℕ → ℕ → ℕ → ℕ
   offset p x y = d.size * p + number x y / 8
 
-  pub offset_small : (p x y : ℕ) → p < (row_of m).pages → There d x y → offset p x y < 65536
-  offset_small p x y lp h = screens.in_memory m c d t e z p (number x y) lp (number_within d x y h)
+  pub offset_small : (p x y : ℕ) → p < row.pages → There d x y → offset p x y < 65536
+  offset_small p x y lp h = screens.in_memory row c d t z p (number x y) lp (number_within d x y h)
 
   pub address_is : (p x y : ℕ) → pixel_address d p x y ≡ 0xA0000 + offset p x y
   address_is p x y =
-      ap (λ i. page_base i + d.size * p + (if is_packed i then 8 * d.columns * y + x else d.columns * y + x / 8)) t.number
-      ∙ base_by m (d.size * p) (8 * d.columns * y + x) (d.columns * y + x / 8)
+      ap (λ i. i + d.size * p + (if is_packed d.mode then 8 * d.columns * y + x else d.columns * y + x / 8)) t.base
+      ∙ ap (λ b. 0xA0000 + d.size * p + (if b then 8 * d.columns * y + x else d.columns * y + x / 8)) t.packed
       ∙ sum_is (d.size * p) (d.columns * y + x / 8)
       ∙ ap (λ i. 0xA0000 + (d.size * p + i)) (eighth d.columns y x)
 
   read_is : (p x y : ℕ) → read_pixel_plan d p x y ≡ read_dot_plan (0xA0000 + offset p x y) x
   unfolding read_pixel_plan
   read_is p x y =
-      ap (λ b. let q : Plan ℕ = (if b then get (pixel_address d p x y) else read_dot_plan (pixel_address d p x y) x) in q) (ap is_packed t.number ∙ packed_by m)
+      ap (λ b. let q : Plan ℕ = (if b then get (pixel_address d p x y) else read_dot_plan (pixel_address d p x y) x) in q) t.packed
       ∙ ap (λ a. read_dot_plan a x) (address_is p x y)
 
-  begins : IsPicking (without_reads c) (row_of m).misc (slice_index (row_of m).sequencer 1) 0 c
-  begins = record { mode = screens.setting_is m c d t e z; others = refl }
+  begins : IsPicking (without_reads c) row.misc (slice_index row.sequencer 1) 0 c
+  begins = record { mode = screens.setting_is row c d t z; others = refl }
 
-  dot : (p x y : ℕ) → p < (row_of m).pages → There d x y →
-      IsDotRead (without_reads c) (row_of m).misc (slice_index (row_of m).sequencer 1) (offset p x y) x c
-  dot p x y lp h = dot_read (without_reads c) (row_of m).misc (slice_index (row_of m).sequencer 1) (offset p x y) x c (offset_small p x y lp h)
-      (enabled_by m) (λ q l. z.host.memory.bytes q l (offset p x y)) begins
+  dot : (p x y : ℕ) → p < row.pages → There d x y →
+      IsDotRead (without_reads c) row.misc (slice_index row.sequencer 1) (offset p x y) x c
+  dot p x y lp h = dot_read (without_reads c) row.misc (slice_index row.sequencer 1) (offset p x y) x c (offset_small p x y lp h)
+      t.enabled (λ q l. z.host.memory.bytes q l (offset p x y)) begins
 
-  pixel_is : (p x y : ℕ) → p < (row_of m).pages → There d x y → (run card_meaning (read_dot_plan (0xA0000 + offset p x y) x) c).1 ≡ pixel_of s p (number x y)
+  pixel_is : (p x y : ℕ) → p < row.pages → There d x y → (run card_meaning (read_dot_plan (0xA0000 + offset p x y) x) c).1 ≡ pixel_of s p (number x y)
   pixel_is p x y lp h =
       let n = number x y in
       let f = c.host.memory in
       (dot p x y lp h).value
       ∙ ap (λ i. bit_at (byte_at f 0 (offset p x y)) (7 - i) + 2 * bit_at (byte_at f 1 (offset p x y)) (7 - i) + 4 * bit_at (byte_at f 2 (offset p x y)) (7 - i)
       + 8 * bit_at (byte_at f 3 (offset p x y)) (7 - i)) (rest_of_8 d.columns y x)
-      ∙ sym (screens.pixel_is m c d t e z p n lp (number_within d x y h))
+      ∙ sym (screens.pixel_is row c d t z p n lp (number_within d x y h))
 
   -- the screen stays
-  stays : (y : CardState) → IsPicking (without_reads c) (row_of m).misc (slice_index (row_of m).sequencer 1) 0 y → shown y d ≡ Some s
-  stays y h = pixels_stay (row_of m) c y d e (screens.text m c d t e z) t.tests (h.mode ∙ sym begins.mode) (ap without_drawing h.others) (λ g k _ _.
+  stays : (y : CardState) → IsPicking (without_reads c) row.misc (slice_index row.sequencer 1) 0 y → shown y d ≡ Some s
+  stays y h = pixels_stay row c y d (t.there d.height) t.text t.tests (h.mode ∙ sym begins.mode) (ap without_drawing h.others) (λ g k _ _.
       ap (λ (x : CardState). pixel_in d.mode x.host.memory (d.size * g) k) h.others)
 
-  pub pixel_read : (p x y : ℕ) → p < (row_of m).pages → There d x y →
+  pub pixel_read : (p x y : ℕ) → p < row.pages → There d x y →
       IsSeen (λ y. shown y d ≡ Some s) (read_pixel_plan d p x y) (pixel_of s p (number x y)) c
   pixel_read p x y lp h = record {
     value = ap (λ i. (run card_meaning i c).1) (read_is p x y) ∙ pixel_is p x y lp h;

@@ -1,74 +1,54 @@
 -- From drawn memory of sixteen colours to the screen that it shows, in which one page is drawn anew.
 use Rattle.std.proofs.Common.{◌≡◌, ◌≢◌, ℕ, ◌+◌, ◌*◌, ◌/◌, ◌%◌, ◌<◌, ◌≤◌, ◌⊎◌, inl, inr, ⊎_elim, refl, sym, ap, ◌∙◌, subst, arith, List, Some}
-use Rattle.std.proofs.Common.{false}
 use Rattle.std.specs.Prelude.{slice_index, if◌then◌else◌}
 use Rattle.std.proofs.lemmas.Bool.{cases_lt}
 use Rattle.vga_bits.specs.Four.{Four}
 use Rattle.vga_planes.specs.Planes.{bytes_at}
 use Rattle.vga_card.specs.Bounds.{IsCard}
 use Rattle.vga_card.specs.Card.{CardState}
+use Rattle.bios_modes.specs.declared.modes.ModeRow.{ModeRow}
 use Rattle.bios_modes.specs.Bda.{BiosData}
-use Rattle.bios_modes.specs.Heights.{row_at}
-use Rattle.bios_modes.specs.Kinds.{is_text, is_packed}
 use Rattle.bios_screen.specs.Screen.{Screen}
 use Rattle.bios_screen.specs.Shown.{packed_pixel, planar_pixel, pixel_in, page_pixels, pixel_screen, shown}
 use Rattle.bios_screen.specs.Step.{pixel_of, with_pixels}
 use Rattle.bios_screen.proofs.Base.Places.{ends_before}
 use Rattle.bios_screen.proofs.Base.Setting.{setting}
-use Rattle.bios_screen.proofs.Modes.PixelModes.{Planes, row_of, setting_in, text_by, packed_by}
-use Rattle.bios_screen.proofs.Modes.PixelModes.Planes.{Low, Middle, High}
-use Rattle.bios_screen.proofs.Modes.PixelModes.Graphics.{Sixteen}
 use Rattle.bios_screen.proofs.Pixels.NewPixels.{page_renewed, pixels_stay}
 use Rattle.bios_screen.proofs.Shows.Screens.{setting_by}
 use Rattle.bios_screen.proofs.Dots.PixelDots.{pixel_at}
 use Rattle.bios_screen.proofs.Dots.PlanarDots.{IsPlanar}
-use Rattle.bios_screen.proofs.Modes.PixelFresh.{pixels_of, byte_within}
+use Rattle.bios_screen.proofs.Modes.PixelModes.{pixels_of, page_ends, page_room}
 use Rattle.bios_screen.proofs.Planar.Settings.{at_rest, drawing, without_drawing, Loaded}
 use Rattle.bios_screen.proofs.Planar.Bits.{nibble_of}
 
--- ---- numbers of the modes
-
-pub rest_by : (m : Planes) → setting_in (Sixteen m) ≡ drawing (row_of m).misc (slice_index (row_of m).sequencer 1) at_rest
-rest_by Low = refl
-rest_by Middle = refl
-rest_by High = refl
-
--- a page has room for its pixels, and pages for all that the mode has
-pub page_room : (m : Planes) (k : ℕ) → k < pixels_of (row_of m) → k / 8 < (row_of m).size
-page_room Low k l = omega arith
-page_room Middle k l = omega arith
-page_room High k l = omega arith
-
-module _ (m : Planes) (c : CardState) (d : BiosData) (t : IsPlanar m c d) (e : row_at d.mode d.height ≡ Some (row_of m)) (z : IsCard c) where
+module _ (row : ModeRow) (c : CardState) (d : BiosData) (t : IsPlanar row c d) (z : IsCard c) where
   abbrev s : Screen
-  s = pixel_screen (row_of m) c d
+  s = pixel_screen row c d
 
   abbrev misc : ℕ
-  misc = (row_of m).misc
+  misc = row.misc
 
   abbrev clocking : ℕ
-  clocking = slice_index (row_of m).sequencer 1
-
-  pub text : is_text d.mode ≡ false
-  text = ap is_text t.number ∙ text_by m
+  clocking = slice_index row.sequencer 1
 
   pub setting_is : setting c ≡ drawing misc clocking at_rest
-  setting_is = setting_by (row_of m) c t.tests.memory ∙ rest_by m
+  setting_is = setting_by row c t.tests.memory ∙ t.setting
 
   -- memory as cells of four bytes
   pub begins : Loaded (without_drawing c) misc clocking at_rest c (bytes_at c.host.memory) c.host.latches
   begins = record { mode = setting_is; bounds = z; cell = λ o. refl; others = refl; latch = refl }
 
-  pub all_pixels : page_pixels d ≡ pixels_of (row_of m)
-  all_pixels = ap (λ i. 8 * i * (d.height * (d.last_row + 1))) t.has.columns ∙ ap (λ i. 8 * (row_of m).columns * (i * (d.last_row + 1))) t.has.height
-      ∙ ap (λ i. 8 * (row_of m).columns * ((row_of m).height * (i + 1))) t.has.last_row
+  pub all_pixels : page_pixels d ≡ pixels_of row
+  all_pixels = ap (λ i. 8 * i * (d.height * (d.last_row + 1))) t.has.columns ∙ ap (λ i. 8 * row.columns * (i * (d.last_row + 1))) t.has.height
+      ∙ ap (λ i. 8 * row.columns * (row.height * (i + 1))) t.has.last_row
 
   pub room : (k : ℕ) → k < page_pixels d → k / 8 < d.size
-  room k l = subst (λ i. k / 8 < i) (sym t.has.size) (page_room m k (subst (λ i. k < i) all_pixels l))
+  room k l = subst (λ i. k / 8 < i) (sym t.has.size) (page_room row t.room k (subst (λ i. k < i) all_pixels l))
 
   -- the place of a pixel is in memory
-  pub in_memory : (p k : ℕ) → p < (row_of m).pages → k < page_pixels d → d.size * p + k / 8 < 65536
-  in_memory p k lp l = subst (λ i. i * p + k / 8 < 65536) (sym t.has.size) (byte_within m p k lp (subst (λ i. k < i) all_pixels l))
+  pub in_memory : (p k : ℕ) → p < row.pages → k < page_pixels d → d.size * p + k / 8 < 65536
+  in_memory p k lp l = subst (λ i. i * p + k / 8 < 65536) (sym t.has.size)
+      (let a = page_ends row t.room p lp in let b = page_room row t.room k (subst (λ i. k < i) all_pixels l) in omega arith)
 
   -- a strip of a page lies before all other pages
   pub strip_small : (b : ℕ) → b < d.columns * (d.height * (d.last_row + 1)) → (8 * b < page_pixels d) × (b < d.size)
@@ -80,10 +60,10 @@ module _ (m : Planes) (c : CardState) (d : BiosData) (t : IsPlanar m c d) (e : r
 
   -- a pixel of a page is one of its byte of each plane
   pixel_by : (f : Four (List ℕ)) (p k : ℕ) → pixel_in d.mode f (d.size * p) k ≡ nibble_of (bytes_at f (d.size * p + k / 8)) (k % 8)
-  pixel_by f p k = ap (λ b. if b then packed_pixel f (d.size * p + k) else planar_pixel f (d.size * p) k) (ap is_packed t.number ∙ packed_by m)
+  pixel_by f p k = ap (λ b. if b then packed_pixel f (d.size * p + k) else planar_pixel f (d.size * p) k) t.packed
 
-  pub pixel_is : (p k : ℕ) → p < (row_of m).pages → k < page_pixels d → pixel_of s p k ≡ nibble_of (bytes_at c.host.memory (d.size * p + k / 8)) (k % 8)
-  pixel_is p k lp l = pixel_at d.mode c.host.memory d.size (page_pixels d) (row_of m).pages p k lp l ∙ pixel_by c.host.memory p k
+  pub pixel_is : (p k : ℕ) → p < row.pages → k < page_pixels d → pixel_of s p k ≡ nibble_of (bytes_at c.host.memory (d.size * p + k / 8)) (k % 8)
+  pixel_is p k lp l = pixel_at d.mode c.host.memory d.size (page_pixels d) row.pages p k lp l ∙ pixel_by c.host.memory p k
 
   -- other pages lie apart
   apart : (p q k : ℕ) → p ≢ q → k < d.size → (d.size * q + k < d.size * p) ⊎ (d.size * p + d.size ≤ d.size * q + k)
@@ -96,13 +76,13 @@ module _ (m : Planes) (c : CardState) (d : BiosData) (t : IsPlanar m c d) (e : r
       (cases_lt p q)
 
   -- what the adapter shows at rest again, where one page has other pixels
-  pub page_redrawn : (p : ℕ) (y : CardState) (f : ℕ → Four ℕ) (q : Four ℕ) (change : (ℕ → ℕ) → ℕ → ℕ) → p < (row_of m).pages →
+  pub page_redrawn : (p : ℕ) (y : CardState) (f : ℕ → Four ℕ) (q : Four ℕ) (change : (ℕ → ℕ) → ℕ → ℕ) → p < row.pages →
       Loaded (without_drawing c) misc clocking at_rest y f q
       → ((k : ℕ) → k < page_pixels d → nibble_of (f (d.size * p + k / 8)) (k % 8) ≡ change (pixel_of s p) k)
       → ((o : ℕ) → (o < d.size * p) ⊎ (d.size * p + d.size ≤ o) → f o ≡ bytes_at c.host.memory o)
       → shown y d ≡ Some (with_pixels s p change)
   page_redrawn p y f q change lp h inside outside =
-      page_renewed (row_of m) c y d e text t.tests (h.mode ∙ sym setting_is) h.others p change lp
+      page_renewed row c y d (t.there d.height) t.text t.tests (h.mode ∙ sym setting_is) h.others p change lp
       (λ k l. pixel_by y.host.memory p k ∙ ap (λ (x : Four ℕ). nibble_of x (k % 8)) (h.cell (d.size * p + k / 8)) ∙ inside k l)
       (λ g k _ w l. pixel_by y.host.memory g k ∙ ap (λ (x : Four ℕ). nibble_of x (k % 8)) (h.cell (d.size * g + k / 8)
       ∙ outside (d.size * g + k / 8) (apart p g (k / 8) (λ v. w (sym v)) (room k l))) ∙ sym (pixel_by c.host.memory g k))
@@ -110,6 +90,6 @@ module _ (m : Planes) (c : CardState) (d : BiosData) (t : IsPlanar m c d) (e : r
   -- and where all its bytes are as they were, the screen stays
   pub stays : (y : CardState) (f : ℕ → Four ℕ) (q : Four ℕ) → Loaded (without_drawing c) misc clocking at_rest y f q →
       ((o : ℕ) → f o ≡ bytes_at c.host.memory o) → shown y d ≡ Some s
-  stays y f q h same = pixels_stay (row_of m) c y d e text t.tests (h.mode ∙ sym setting_is) h.others (λ g k _ _.
+  stays y f q h same = pixels_stay row c y d (t.there d.height) t.text t.tests (h.mode ∙ sym setting_is) h.others (λ g k _ _.
       pixel_by y.host.memory g k ∙ ap (λ (x : Four ℕ). nibble_of x (k % 8)) (h.cell (d.size * g + k / 8) ∙ same (d.size * g + k / 8))
       ∙ sym (pixel_by c.host.memory g k))

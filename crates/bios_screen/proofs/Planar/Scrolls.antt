@@ -7,7 +7,7 @@ use Rattle.vga_planes.specs.Planes.{bytes_at}
 use Rattle.vga_card.specs.Bounds.{IsCard}
 use Rattle.vga_card.specs.Bus.{card_meaning}
 use Rattle.vga_card.specs.Card.{CardState}
-use Rattle.bios_modes.specs.Heights.{row_at}
+use Rattle.bios_modes.specs.declared.modes.ModeRow.{ModeRow}
 use Rattle.bios_modes.specs.Bda.{BiosData}
 use Rattle.bios_services.specs.declared.band.Band.{Band}
 use Rattle.bios_modes.specs.declared.kind.Kind.TheVariants.{Planar}
@@ -15,8 +15,7 @@ use Rattle.bios_services.specs.declared.band.Direction.{Direction}
 use Rattle.bios_services.specs.declared.band.Direction.TheVariants.{Up, Down}
 use Rattle.bios_services.specs.declared.scroll.Window.{Window}
 use Rattle.bios_services.specs.Bands.{band_of, scroll_rows, band_by}
-use Rattle.bios_services.specs.Cells.{page_base, page_address}
-use Rattle.bios_modes.specs.Kinds.{kind_of, is_packed}
+use Rattle.bios_services.specs.Cells.{page_address}
 use Rattle.bios_services.specs.Plan.{run}
 use Rattle.bios_services.specs.Scroll.{IsOnPage, window_plan}
 use Rattle.bios_screen.specs.Screen.{Screen}
@@ -26,28 +25,20 @@ use Rattle.bios_screen.proofs.Base.Tests.{le_is}
 use Rattle.bios_screen.proofs.Base.Windows.{inside_of, by_both_tests}
 use Rattle.bios_screen.proofs.Base.Bands.{IsWindow}
 use Rattle.bios_screen.proofs.Base.Shifts as shifts
-use Rattle.bios_screen.proofs.Modes.PixelModes.{Planes, row_of, packed_by}
-use Rattle.bios_screen.proofs.Modes.PixelModes.Planes.{Low, Middle, High}
+use Rattle.bios_screen.proofs.Modes.PixelModes.{page_ends}
 use Rattle.bios_screen.proofs.Dots.PlanarDots.{IsPlanar}
 use Rattle.bios_screen.proofs.Base.CellPlaces.{line_by_8, column_by_8, within_rows, rows_above}
 use Rattle.bios_screen.proofs.Planar.Settings.{without_drawing}
 use Rattle.bios_screen.proofs.Planar.Bits.{nibble_of}
 use Rattle.bios_screen.proofs.Planar.Characters.{lined, dotted_by, pixel_lined}
-use Rattle.bios_screen.proofs.Planar.Reads.{enabled_by}
 use Rattle.bios_screen.proofs.Planar.Screens as screens
 use Rattle.bios_screen.proofs.Planar.Windows as windows
 use Rattle.bios_screen.proofs.Planar.Writes as writes
-use Rattle.bios_screen.proofs.Planar.Writes.{kind_by, base_by}
 
-fits_by : (m : Planes) (p : ℕ) → p < (row_of m).pages → (row_of m).size * p + (row_of m).columns * ((row_of m).height * ((row_of m).last_row + 1)) ≤ 65536
-fits_by Low p l = omega arith
-fits_by Middle p l = omega arith
-fits_by High p l = omega arith
-
-module _ (m : Planes) (c : CardState) (d : BiosData) (t : IsPlanar m c d) (e : row_at d.mode d.height ≡ Some (row_of m)) (z : IsCard c)
-    (p : ℕ) (lp : p < (row_of m).pages) (w : Window) (on : IsOnPage (d.last_row + 1) d.columns w) (direction : Direction) (n colour : ℕ) where
+module _ (row : ModeRow) (c : CardState) (d : BiosData) (t : IsPlanar row c d) (z : IsCard c)
+    (p : ℕ) (lp : p < row.pages) (w : Window) (on : IsOnPage (d.last_row + 1) d.columns w) (direction : Direction) (n colour : ℕ) where
   abbrev s : Screen
-  s = pixel_screen (row_of m) c d
+  s = pixel_screen row c d
 
   abbrev W : ℕ
   W = d.columns
@@ -70,23 +61,24 @@ module _ (m : Planes) (c : CardState) (d : BiosData) (t : IsPlanar m c d) (e : r
   band_is : band_of d p w.left w.width ≡ band
   band_is =
       let once : (x : ℕ) → 1 * x ≡ x = λ x. omega arith in
-      ap (λ k. band_by k d p w.left w.width) (ap kind_of t.number ∙ kind_by m) ∙ ap band_with (λ j x. once x j)
+      ap (λ k. band_by k d p w.left w.width) t.kind ∙ ap band_with (λ j x. once x j)
 
   abbrev window : IsWindow 0xA0000 65536 band start rows w
   window = record {
-    address = ap (λ x. x + d.size * p) (ap page_base t.number ∙ base_by m);
+    address = ap (λ x. x + d.size * p) t.base;
     memory =
-        let a : d.size * p ≡ (row_of m).size * p = ap (λ x. x * p) t.has.size in
-        let b : W * (H * rows) ≡ (row_of m).columns * ((row_of m).height * ((row_of m).last_row + 1)) = ap (λ i. i * (H * rows)) t.has.columns
-        ∙ ap (λ i. (row_of m).columns * (i * rows)) t.has.height ∙ ap (λ i. (row_of m).columns * ((row_of m).height * (i + 1))) t.has.last_row in
-        let f = fits_by m p lp in
+        let a : d.size * p ≡ row.size * p = ap (λ x. x * p) t.has.size in
+        let b : W * (H * rows) ≡ row.columns * (row.height * (row.last_row + 1)) = ap (λ i. i * (H * rows)) t.has.columns
+        ∙ ap (λ i. row.columns * (i * rows)) t.has.height ∙ ap (λ i. row.columns * (row.height * (i + 1))) t.has.last_row in
+        let f = page_ends row t.room p lp in
+        let g = t.room.bytes in
         omega arith;
     below = on.below;
     behind = on.behind;
     left = omega arith;
     width = omega arith;
-    wide = writes.wide m c d t e z;
-    high = writes.high m c d t e z;
+    wide = writes.wide row c d t z;
+    high = writes.high row c d t z;
   }
 
   abbrev old : ℕ → Four ℕ
@@ -114,7 +106,7 @@ module _ (m : Planes) (c : CardState) (d : BiosData) (t : IsPlanar m c d) (e : r
       by_test true u =
           let l = (inside_of w (b / W / H) (b % W / 1) u).below in
           let f = on.below in
-          let g = (screens.strip_small m c d t e z b (within_rows W H rows b window.wide window.high (omega arith))).1 in
+          let g = (screens.strip_small row c d t z b (within_rows W H rows b window.wide window.high (omega arith))).1 in
           ⊎_elim (λ (a : o < d.size * p). absurd (omega arith)) (λ (a : d.size * p + d.size ≤ o). absurd (omega arith)) out
 
   -- the strip of what a pixel takes
@@ -138,17 +130,17 @@ module _ (m : Planes) (c : CardState) (d : BiosData) (t : IsPlanar m c d) (e : r
       ap (λ (v : Four ℕ). nibble_of v j) is.is
       ∙ pixel_lined false mask 0xFF j is.under (omega arith) lj
       ∙ ap (λ v. dotted_by false mask (v == 1) (nibble_of is.under j)) (ones_byte (7 - j) (omega arith))
-      ∙ sym (ap (λ b. let v : ℕ = (if b then colour else mask) in v) (ap is_packed t.number ∙ packed_by m))
+      ∙ sym (ap (λ b. let v : ℕ = (if b then colour else mask) in v) t.packed)
 
   pixels_scrolled : (f : ℕ → Four ℕ) → IsScrolled f → (k : ℕ) → k < page_pixels d →
       nibble_of (f (d.size * p + k / 8)) (k % 8) ≡ scroll_pixels s w direction n colour (pixel_of s p) k
   pixels_scrolled f is k lk =
-      let row = pixel_row s k in
+      let line = pixel_row s k in
       let column = pixel_column s k in
       let j = k % 8 in
       let far = source direction k (row_pixels s n) in
       let tested = ap (has_source direction w n) (sym (strip_row k)) in
-      by_both_tests (in_window w row column) (has_source direction w n row) (nibble_of (f (start + k / 8)) j) (pixel_of s p far) (fill_pixel d.mode colour)
+      by_both_tests (in_window w line column) (has_source direction w n line) (nibble_of (f (start + k / 8)) j) (pixel_of s p far) (fill_pixel d.mode colour)
       (pixel_of s p k)
       (λ u v.
       let same = tested ∙ v in
@@ -158,19 +150,19 @@ module _ (m : Planes) (c : CardState) (d : BiosData) (t : IsPlanar m c d) (e : r
       let a = x.strip in
       let less : far < page_pixels d = omega arith in
       ap (λ (y : Four ℕ). nibble_of y j) (is.moved (k / 8) (strip_test k ∙ u) same)
-      ∙ sym (screens.pixel_is m c d t e z p far lp less ∙ ap (λ y. nibble_of (old (start + y)) (far % 8)) x.strip
+      ∙ sym (screens.pixel_is row c d t z p far lp less ∙ ap (λ y. nibble_of (old (start + y)) (far % 8)) x.strip
       ∙ ap (nibble_of (old (start + source direction (k / 8) (W * (H * n))))) x.dot))
       (λ u v. filled j (k / 8) (f (start + k / 8)) (omega arith) (is.filled (k / 8) (strip_test k ∙ u) (tested ∙ v)))
       (λ u.
       ap (λ (y : Four ℕ). nibble_of y j) (is.outside (start + k / 8) (λ b q. let same : k / 8 ≡ b = omega arith in
       subst (λ i. in_window w (i / W / H) (i % W / 1) ≡ false) same (strip_test k ∙ u)))
-      ∙ sym (screens.pixel_is m c d t e z p k lp lk))
+      ∙ sym (screens.pixel_is row c d t z p k lp lk))
 
   pub window_shown : 0 < n → n ≤ w.height → shown (run card_meaning (window_plan d p w direction n colour) c).0 d
       ≡ Some (scroll_window s p w direction n colour)
   window_shown some few =
-      let done = windows.scrolls (without_drawing c) (row_of m).misc (slice_index (row_of m).sequencer 1) (enabled_by m) (page_address d p) W H w.left
-      w.width start rows w window direction n colour c old some few (record { latches = c.host.latches; is = screens.begins m c d t e z }) in
+      let done = windows.scrolls (without_drawing c) row.misc (slice_index row.sequencer 1) t.enabled (page_address d p) W H w.left
+      w.width start rows w window direction n colour c old some few (record { latches = c.host.latches; is = screens.begins row c d t z }) in
       ap (λ b. shown (run card_meaning (scroll_rows b direction w.top w.height n colour) c).0 d) band_is
-      ∙ screens.page_redrawn m c d t e z p (run card_meaning (scroll_rows band direction w.top w.height n colour) c).0 done.cells done.shown.latches
+      ∙ screens.page_redrawn row c d t z p (run card_meaning (scroll_rows band direction w.top w.height n colour) c).0 done.cells done.shown.latches
       (scroll_pixels s w direction n colour) lp done.shown.is (pixels_scrolled done.cells done.fact) (λ o out. done.fact.outside o (no_other o out))

@@ -1,12 +1,10 @@
 -- The laws of the services.
-use Rattle.std.proofs.Common.{◌≡◌, ℕ, ◌<◌, subst, List, Some}
+use Rattle.std.proofs.Common.{ℕ, ◌<◌, subst, List}
 use Rattle.vga_card.specs.Bounds.{IsCard}
 use Rattle.vga_card.specs.Card.{CardState}
 use Rattle.bios_modes.specs.Bda.{BiosData}
 use Rattle.bios_modes.specs.Fonts.{FontSet}
 use Rattle.bios_modes.specs.Bounds.{IsBda}
-use Rattle.bios_modes.specs.Modes.{bytes_320_by_200}
-use Rattle.bios_modes.specs.Heights.{row_at}
 use Rattle.bios_services.specs.declared.regs.Regs.{Regs}
 use Rattle.bios_services.specs.declared.scroll.Scroll.{Scroll}
 use Rattle.bios_services.specs.declared.cell_run.CellRun.{CellRun}
@@ -15,14 +13,9 @@ use Rattle.bios_services.specs.declared.colours.ColourService.{ColourService}
 use Rattle.bios_services.specs.declared.call.Service.{Service}
 use Rattle.bios_services.specs.declared.call.Service.TheVariants.{SetCursorType, SetCursor, ReadCursor, SelectPage, ReadCell, WriteCells, ScrollUp, ScrollDown}
 use Rattle.bios_services.specs.declared.call.Service.TheVariants.{WritePixel, ReadPixel, Teletype, ReadMode, Colours, ReadAdapter, WriteString, ReadDisplay}
-use Rattle.bios_screen.specs.Shown.{pixel_screen}
 use Rattle.bios_screen.specs.Served.{FitsBytes, IsServed, Serves, ServesText}
 use Rattle.bios_modes.specs.Bounds.{AreBytes}
-use Rattle.bios_screen.proofs.Shows.Screens.{IsShown, screen_shown, text_shown}
-use Rattle.bios_screen.proofs.Dots.PackedDots.{IsPacked}
-use Rattle.bios_screen.proofs.Shows.Kinds.{by_modes}
-use Rattle.bios_screen.proofs.Dots.PlanarDots.{IsPlanar}
-use Rattle.bios_screen.proofs.Modes.PixelModes.{Planes, row_of}
+use Rattle.bios_screen.proofs.Shows.Screens.{text_shown}
 use Rattle.bios_screen.proofs.Shows.Any.{IsAny, any_screen, any_is}
 use Rattle.bios_screen.proofs.Services.AnyReaders as any
 use Rattle.bios_screen.proofs.Services.Cursors as cursors
@@ -50,18 +43,6 @@ read_adapter = serves_any ReadAdapter (λ fonts r block c d h bytes z bda. any.r
 
 pub read_display : Serves ReadDisplay
 read_display = serves_any ReadDisplay (λ fonts r block c d h bytes z bda. any.read_display fonts r block c d h)
-
--- in text, in 16 colours and in 256
-serves_each : (service : Service) → ((fonts : FontSet) (r : Regs) (block : List ℕ) (c : CardState) (d : BiosData) (h : IsShown c d) → IsCard c →
-    IsServed service fonts r block c d (screen_shown c d h))
-    → ((m : Planes) (fonts : FontSet) (r : Regs) (block : List ℕ) (c : CardState) (d : BiosData) → IsPlanar m c d → row_at d.mode d.height ≡ Some (row_of m) →
-    IsCard c → IsServed service fonts r block c d (pixel_screen (row_of m) c d))
-    → ((fonts : FontSet) (r : Regs) (block : List ℕ) (c : CardState) (d : BiosData) → IsPacked c d → row_at d.mode d.height ≡ Some bytes_320_by_200 → IsCard c →
-    IsServed service fonts r block c d (pixel_screen bytes_320_by_200 c d))
-    → Serves service
-serves_each service text planar packed fonts r block c d s bytes z bda e =
-    by_modes c d (IsServed service fonts r block c d) (λ h. text fonts r block c d h z) (λ m is row. planar m fonts r block c d is row z) (λ is row.
-    packed fonts r block c d is row z) s e
 
 pub write_pixel : (page x y colour : ℕ) → colour < 256 → Serves (WritePixel page x y colour)
 write_pixel page x y colour l = serves_any (WritePixel page x y colour) (λ fonts r block c d h bytes z bda.

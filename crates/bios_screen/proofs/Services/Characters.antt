@@ -26,7 +26,6 @@ use Rattle.bios_screen.specs.Served.{IsServed}
 use Rattle.bios_screen.proofs.Base.Plans.{run_bind}
 use Rattle.bios_services.proofs.CardLemmas.{plan_beam}
 use Rattle.bios_screen.proofs.Base.Reasons.{cell_allowed, cells_allowed}
-use Rattle.bios_screen.proofs.Modes.PixelModes.{row_of}
 use Rattle.bios_screen.proofs.Shows.Screens.{pages_are, page_in, page_of, named_page}
 use Rattle.bios_screen.proofs.Shows.Any.{IsAny, any_screen, still_any}
 use Rattle.bios_screen.proofs.Shows.Kinds.{by_modes}
@@ -44,8 +43,8 @@ pub characters_shown : (fonts : FontSet) (c : CardState) (d : BiosData) (s : Scr
 characters_shown fonts c d s p q n v colouring e z lp lq lv la =
     by_modes c d (λ w. shown (run card_meaning (characters_plan fonts d p q v colouring n) c).0 d ≡ Some (put_characters fonts w p q n v colouring))
     (λ h. text.characters_shown fonts c d h z p q n v colouring (page_in h.row d p h.mode lp) lq lv la)
-    (λ m t row. planar.characters_shown m c d t row z fonts p q n v colouring (page_in (row_of m) d p row lp) lq)
-    (λ t row. packed.characters_shown c d t row z fonts p q n v colouring (page_in bytes_320_by_200 d p row lp) lq la)
+    (λ row t. planar.characters_shown row c d t z fonts p q n v colouring (page_in row d p (t.there d.height) lp) lq)
+    (λ t. packed.characters_shown c d t z fonts p q n v colouring (page_in bytes_320_by_200 d p (t.there d.height) lp) lq la)
     s e
 
 -- the character at a cursor is answered, and the screen stays
@@ -53,8 +52,8 @@ cell_read : (fonts : FontSet) (r : Regs) (c : CardState) (d : BiosData) (s : Scr
     cursor_cell d p < cells_of d → IsCellRead fonts r c d p s
 cell_read fonts r c d s p e z lp lq = by_modes c d (IsCellRead fonts r c d p)
     (λ h. text.cell_read fonts r c d h p z (page_in h.row d p h.mode lp) lq)
-    (λ m t row. planar_cells.cell_read m c d t row z fonts r p (page_in (row_of m) d p row lp) lq)
-    (λ t row. packed_cells.cell_read c d t row z fonts r p (page_in bytes_320_by_200 d p row lp) lq)
+    (λ row t. planar_cells.cell_read row c d t z fonts r p (page_in row d p (t.there d.height) lp) lq)
+    (λ t. packed_cells.cell_read c d t z fonts r p (page_in bytes_320_by_200 d p (t.there d.height) lp) lq)
     s e
 
 module _ (fonts : FontSet) (r : Regs) (block : List ℕ) (c : CardState) (d : BiosData) (h : IsAny c d) (z : IsCard c) where

@@ -43,10 +43,7 @@ use Rattle.bios_screen.proofs.Base.Plans.{run_bind, then_runs, then_answers}
 use Rattle.bios_screen.proofs.Base.Lists.{same_from_0, spelled}
 use Rattle.bios_screen.proofs.Base.Tests.{both_true, same, lt_is, le_is}
 use Rattle.bios_services.proofs.CardLemmas.{plan_beam}
-use Rattle.bios_screen.proofs.Modes.TextModes.Display.{Colour, Monochrome}
-use Rattle.bios_screen.proofs.Modes.PixelModes.Graphics.{Sixteen, Many}
-use Rattle.bios_screen.proofs.Modes.AnyModes.{Tabled, control_of}
-use Rattle.bios_screen.proofs.Modes.AnyModes.Tabled.{OfText, OfPixels}
+use Rattle.bios_screen.proofs.Modes.Frames.{Blinks}
 use Rattle.bios_screen.proofs.Shows.Any.{IsAny, any_screen, any_shown, still_any, any_control}
 use Rattle.bios_screen.proofs.Services.Cursors.{and_255}
 use Rattle.bios_screen.proofs.Services.Attributes.{with_attr, with_blinking, with_palette, register_set, blinking_set, palette_set, index_shown, register_read}
@@ -162,18 +159,11 @@ module _ (c : CardState) (d : BiosData) (h : IsAny c d) where
       (same_from_0 (λ i. six_bits (slice_index block i)) (λ i. six_bits (slice_index values i)) 16 (λ k l. ap six_bits (get_or-take 16 block k 0 l)))
       (and_255 v (bytes 16)) refl
 
-  -- blinking is bit 3 of mode control, whose other bits are the mode's
-  blink_by : (k : Tabled) (b : ℕ) → b < 2 → (bit_and (bit_and (bit_or (control_of k) (8 * b)) 0xEF) 0xF7 ≡ control_of k)
-      × (is_set (bit_and (bit_or (control_of k) (8 * b)) 0xEF) 3 ≡ (b == 1))
-  blink_by (OfText Colour) zero l = (refl, refl)
-  blink_by (OfText Colour) (suc zero) l = (refl, refl)
-  blink_by (OfText Monochrome) zero l = (refl, refl)
-  blink_by (OfText Monochrome) (suc zero) l = (refl, refl)
-  blink_by (OfPixels (Sixteen m)) zero l = (refl, refl)
-  blink_by (OfPixels (Sixteen m)) (suc zero) l = (refl, refl)
-  blink_by (OfPixels Many) zero l = (refl, refl)
-  blink_by (OfPixels Many) (suc zero) l = (refl, refl)
-  blink_by k (suc (suc b)) l = absurd (omega arith)
+  -- blinking is bit 3 of mode control, whose other bits are the row's
+  blink_by : (b : ℕ) → b < 2 → Blinks h.row b
+  blink_by zero l = h.steady
+  blink_by (suc zero) l = h.blinks
+  blink_by (suc (suc b)) l = absurd (omega arith)
 
   blink_shown : (b : ℕ) → b < 2 → IsCard c → shown (run card_meaning (set_blinking_plan (crtc_port c.misc) b) c).0 d ≡ Some (record s { is_blink = b == 1 })
   blink_shown b l z =
@@ -181,9 +171,9 @@ module _ (c : CardState) (d : BiosData) (h : IsAny c d) where
       let v = bit_and (bit_or (bit_and (slice_index registers 0x10) 0xF7) (8 * b)) 0xEF in
       let new = with_blinking registers b in
       let at : slice_index new 0x10 ≡ v = get_or-set_same registers 0x10 v 0 (omega arith) in
-      let value : slice_index new 0x10 ≡ bit_and (bit_or (control_of h.kind) (8 * b)) 0xEF = at
+      let value : slice_index new 0x10 ≡ bit_and (bit_or (bit_and (slice_index h.row.attribute 0x10) 0xF7) (8 * b)) 0xEF = at
       ∙ ap (λ n. bit_and (bit_or n (8 * b)) 0xEF) (any_control c d h) in
-      let by = blink_by h.kind b l in
+      let by = blink_by b l in
       ap (λ y. shown y d) (blinking_set c b)
       ∙ attribute_shown new 0x20 refl (ap (λ n. bit_and n 0xF7) value ∙ by.0 ∙ sym (any_control c d h)) (drop-set-lt 0x12 registers 0x10 v (omega arith))
       s.palette.values s.overscan (b == 1) (take-set-le 16 registers 0x10 v (omega arith)) (get_or-set_other registers 0x10 0x11 v 0 (omega arith))

@@ -26,7 +26,6 @@ use Rattle.bios_screen.proofs.Base.Plans.{run_bind}
 use Rattle.bios_screen.proofs.Base.Tests.{both_true, lt_is}
 use Rattle.bios_screen.proofs.Base.Reasons.{neither, holds, page_allowed}
 use Rattle.bios_services.proofs.CardLemmas.{plan_beam}
-use Rattle.bios_screen.proofs.Modes.PixelModes.{row_of}
 use Rattle.bios_screen.proofs.Shows.Screens.{pages_are, page_in, page_of, named_page}
 use Rattle.bios_screen.proofs.Shows.Any.{IsAny, any_screen, still_any}
 use Rattle.bios_screen.proofs.Shows.Kinds.{by_colours}
@@ -121,15 +120,15 @@ module _ (c : CardState) (d : BiosData) (h : IsAny c d) (page x y : ℕ) (fonts 
   write_pixel colour l z = write_by c d h page x y colour fonts r block (λ f lp there.
       by_colours c d (λ w. shown (run card_meaning (write_pixel_plan d at x y colour) c).0 d
       ≡ Some (with_pixels w at (change_pixel (8 * d.columns * y + x) (colour_over d.mode colour))))
-      (λ m t row. planar.pixel_written m c d t row z at x y colour (page_in (row_of m) d at row lp) there)
-      (λ t row. packed.pixel_written c d t row z at x y colour (page_in bytes_320_by_200 d at row lp) there l)
+      (λ row t. planar.pixel_written row c d t z at x y colour (page_in row d at (t.there d.height) lp) there)
+      (λ t. packed.pixel_written c d t z at x y colour (page_in bytes_320_by_200 d at (t.there d.height) lp) there l)
       seen f (still_any c d h))
 
   pub read_pixel : IsCard c → IsServed (ReadPixel page x y) fonts r block c d seen
   read_pixel z = read_by c d h page x y fonts r block (λ f lp there.
       by_colours c d (λ w. IsSeen (λ y. shown y d ≡ Some w) (read_pixel_plan d at x y) (pixel_of w at (8 * d.columns * y + x)) c)
-      (λ m t row. planar_reads.pixel_read m c d t row z at x y (page_in (row_of m) d at row lp) there)
-      (λ t row. packed.pixel_read c d t row z at x y (page_in bytes_320_by_200 d at row lp) there)
+      (λ row t. planar_reads.pixel_read row c d t z at x y (page_in row d at (t.there d.height) lp) there)
+      (λ t. packed.pixel_read c d t z at x y (page_in bytes_320_by_200 d at (t.there d.height) lp) there)
       seen f (still_any c d h))
 
   pub write_refused : is_text d.mode ≡ true → (colour : ℕ) → IsServed (WritePixel page x y colour) fonts r block c d seen

@@ -23,7 +23,6 @@ use Rattle.bios_screen.specs.Step.{scroll_window, scroll_asked, scroll, page_up,
 use Rattle.bios_services.proofs.CardLemmas.{plan_beam}
 use Rattle.bios_screen.proofs.Base.Plans.{run_bind}
 use Rattle.bios_screen.proofs.Base.Windows.{cut_on_page, few_lines, some_lines}
-use Rattle.bios_screen.proofs.Modes.PixelModes.{row_of}
 use Rattle.bios_screen.proofs.Shows.Any.{IsCut, cut_is}
 use Rattle.bios_screen.proofs.Shows.Kinds.{by_modes}
 use Rattle.bios_screen.proofs.Shows.Screens.{page_in}
@@ -38,8 +37,8 @@ module _ (c : CardState) (d : BiosData) (s : Screen) (z : IsCard c) (e : shown c
   window_shown p lp w on direction n colour some few lc =
       by_modes c d (λ x. shown (run card_meaning (window_plan d p w direction n colour) c).0 d ≡ Some (scroll_window x p w direction n colour))
       (λ h. text.window_shown c d h p (page_in h.row d p h.mode lp) w on direction n colour z some few lc)
-      (λ m is row. planar.window_shown m c d is row z p (page_in (row_of m) d p row lp) w on direction n colour some few)
-      (λ is row. packed.window_shown c d is row z p (page_in bytes_320_by_200 d p row lp) w on direction n colour lc some few)
+      (λ row is. planar.window_shown row c d is z p (page_in row d p (is.there d.height) lp) w on direction n colour some few)
+      (λ is. packed.window_shown c d is z p (page_in bytes_320_by_200 d p (is.there d.height) lp) w on direction n colour lc some few)
       s e
 
   pub page_raised : (p colour : ℕ) → p < pages_of d → colour < 256 → shown (run card_meaning (page_up_plan d p colour) c).0 d

@@ -18,13 +18,11 @@ use Rattle.bios_screen.specs.Shown.{shown}
 use Rattle.bios_screen.proofs.Base.Tests.{both_true, same}
 use Rattle.bios_screen.proofs.Base.Places.{half_start, ends_before}
 use Rattle.bios_screen.proofs.Base.Setting.{Setting, setting}
-use Rattle.bios_screen.proofs.Modes.TextModes.{control_by as text_control_by, port_by as text_port_by}
+use Rattle.bios_screen.proofs.Modes.TextModes.{text_blinks, port_by as text_port_by}
 use Rattle.bios_screen.proofs.Shows.Screens.{AllTests, setting_by, shown_by_row, all_of, data_is, page_of, shown_is, screen_is_text}
-use Rattle.bios_screen.proofs.Modes.PixelModes.{Graphics, row_in, control_by, start_small}
-use Rattle.bios_screen.proofs.Modes.PixelModes.Graphics.{Sixteen, Many}
-use Rattle.bios_screen.proofs.Modes.PixelModes.Planes.{Low, Middle, High}
-use Rattle.bios_screen.proofs.Modes.AnyModes.{Tabled, control_of, graphics_row}
-use Rattle.bios_screen.proofs.Modes.AnyModes.Tabled.{OfText, OfPixels}
+use Rattle.bios_screen.proofs.Modes.Frames.{Blinks}
+use Rattle.bios_screen.proofs.Modes.PixelModes.{page_begins}
+use Rattle.bios_screen.proofs.Modes.AnyModes.{says_is}
 use Rattle.bios_screen.proofs.Shows.Pixels.{screen_is_pixels, pixels_of_shown}
 
 -- the data with other cursors, or another page
@@ -35,9 +33,9 @@ with_cursors d type places page start = record d { cursor_type = type; cursor_pl
 pub record IsAny (c : CardState) (d : BiosData) : Type 0 where
   pub row : ModeRow
   pub mode : row_at d.mode d.height ≡ Some row
-  pub kind : Tabled
   pub port : d.crtc_address ≡ crtc_port c.misc
-  pub control : bit_and (slice_index row.attribute 0x10) 0xF7 ≡ control_of kind
+  pub steady : Blinks row 0
+  pub blinks : Blinks row 1
   pub columns : row.columns ≤ 80
   pub last_row : row.last_row < 255
   pub pages : row.pages ≤ 8
@@ -72,34 +70,18 @@ any_shown c y d h s e a = shown_by_row y d h.row h.mode (same_tests h.row c y d 
 pub still_any : (c : CardState) (d : BiosData) (h : IsAny c d) → shown c d ≡ Some (any_screen c d h c)
 still_any c d h = any_shown c c d h refl refl h.tests.attribute
 
--- mode control, but for blinking, is the mode's
-pub any_control : (c : CardState) (d : BiosData) (h : IsAny c d) → bit_and (slice_index c.attr.registers 0x10) 0xF7 ≡ control_of h.kind
+-- mode control, but for blinking, is the row's
+pub any_control : (c : CardState) (d : BiosData) (h : IsAny c d) → bit_and (slice_index c.attr.registers 0x10) 0xF7
+    ≡ bit_and (slice_index h.row.attribute 0x10) 0xF7
 any_control c d h =
     let a = both_true (is_palette_shown c.attr) _ h.tests.attribute in
-    let b = both_true (bit_and (slice_index c.attr.registers 0x10) 0xF7 == bit_and (slice_index h.row.attribute 0x10) 0xF7) _ a.1 in
-    same b.0 ∙ h.control
+    same (both_true (bit_and (slice_index c.attr.registers 0x10) 0xF7 == bit_and (slice_index h.row.attribute 0x10) 0xF7) _ a.1).0
 
 -- ---- from a screen that is shown
 
 pub record ShowsAny (c : CardState) (d : BiosData) (s : Screen) : Type 0 where
   pub is : IsAny c d
   pub screen : any_screen c d is c ≡ s
-
-row_control : (k : Graphics) → bit_and (slice_index (row_in k).attribute 0x10) 0xF7 ≡ control_of (OfPixels k)
-row_control (Sixteen m) = control_by m
-row_control Many = refl
-
-row_port : (k : Graphics) → (row_in k).crtc_address ≡ crtc_port (row_in k).misc
-row_port (Sixteen Low) = refl
-row_port (Sixteen Middle) = refl
-row_port (Sixteen High) = refl
-row_port Many = refl
-
-row_fits : (k : Graphics) → ((row_in k).columns ≤ 80) × ((row_in k).last_row < 255) × ((row_in k).pages ≤ 8)
-row_fits (Sixteen Low) = (omega arith, omega arith, omega arith)
-row_fits (Sixteen Middle) = (omega arith, omega arith, omega arith)
-row_fits (Sixteen High) = (omega arith, omega arith, omega arith)
-row_fits Many = (omega arith, omega arith, omega arith)
 
 pub any_is : (c : CardState) (d : BiosData) (s : Screen) → shown c d ≡ Some s → ShowsAny c d s
 any_is c d s h = by_kind (is_text d.mode) refl
@@ -117,9 +99,9 @@ any_is c d s h = by_kind (is_text d.mode) refl
           is = record {
             row = y.row;
             mode = y.mode;
-            kind = OfText y.display;
             port = y.has.port ∙ y.text.port ∙ text_port_by y.display ∙ sym (ap (λ (x : Setting). crtc_port x.misc) y.setting);
-            control = ap (λ (r : ModeRow). bit_and (slice_index r.attribute 0x10) 0xF7) y.row_is ∙ text_control_by y.display;
+            steady = subst (λ r. Blinks r 0) (sym y.row_is) (text_blinks y.display y.height).0;
+            blinks = subst (λ r. Blinks r 1) (sym y.row_is) (text_blinks y.display y.height).1;
             columns = y.text.columns;
             last_row = y.text.last_row;
             pages = y.text.pages;
@@ -136,23 +118,19 @@ any_is c d s h = by_kind (is_text d.mode) refl
     by_kind false t =
         let x = pixels_of_shown c d s t h in
         let y = x.is in
-        let g = graphics_row d.mode d.height y.row t y.mode in
-        let fits = subst (λ (r : ModeRow). (r.columns ≤ 80) × (r.last_row < 255) × (r.pages ≤ 8)) g.row_is (row_fits g.kind) in
-        let set = setting_by y.row c y.tests.memory in
+        let says = says_is d.mode d.height y.row t y.mode in
         record {
           is = record {
             row = y.row;
             mode = y.mode;
-            kind = OfPixels g.kind;
-            port = y.has.port ∙ subst (λ (r : ModeRow). r.crtc_address ≡ crtc_port r.misc) g.row_is (row_port g.kind)
-                ∙ sym (ap (λ (q : Setting). crtc_port q.misc) set);
-            control = ap (λ (r : ModeRow). bit_and (slice_index r.attribute 0x10) 0xF7) (sym g.row_is) ∙ row_control g.kind;
-            columns = fits.0;
-            last_row = fits.1;
-            pages = fits.2;
+            port = y.has.port ∙ says.port ∙ sym (ap (λ (q : Setting). crtc_port q.misc) (setting_by y.row c y.tests.memory));
+            steady = says.steady;
+            blinks = says.blinks;
+            columns = says.room.narrow;
+            last_row = says.room.low;
+            pages = says.room.few;
             starts = λ page lp. subst (λ n. n < 65536)
-                (sym (ap (λ b. if b then d.size * page / 2 else d.size * page) t ∙ ap (λ n. n * page) y.has.size))
-                (subst (λ (r : ModeRow). page < r.pages → r.size * page < 65536) g.row_is (start_small g.kind page) lp);
+                (sym (ap (λ b. if b then d.size * page / 2 else d.size * page) t ∙ ap (λ n. n * page) y.has.size)) (page_begins y.row says.room page lp);
             few = λ u page lp. absurd (cc);
             tests = y.tests;
             distance = 0;

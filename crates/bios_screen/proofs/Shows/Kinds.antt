@@ -1,35 +1,39 @@
 -- A screen is of text or of pixels, and one of pixels has sixteen colours or 256.
-use Rattle.std.proofs.Common.{◌≡◌, refl, sym, ap, ◌∙◌, subst, Bool, true, false, Some}
+use Rattle.std.proofs.Common.{◌≡◌, refl, subst, Bool, true, false, Some}
 use Rattle.vga_card.specs.Card.{CardState}
 use Rattle.bios_modes.specs.declared.modes.ModeRow.{ModeRow}
 use Rattle.bios_modes.specs.Modes.{bytes_320_by_200}
-use Rattle.bios_modes.specs.Heights.{row_at}
 use Rattle.bios_modes.specs.Bda.{BiosData}
 use Rattle.bios_modes.specs.Kinds.{is_text}
 use Rattle.bios_screen.specs.Screen.{Screen}
 use Rattle.bios_screen.specs.Shown.{pixel_screen, shown}
 use Rattle.bios_screen.proofs.Shows.Screens.{AllTests, data_is, IsShown, screen_shown, shown_is}
 use Rattle.bios_screen.proofs.Shows.Pixels.{IsPixels, pixels_shown, pixels_of_shown}
-use Rattle.bios_screen.proofs.Modes.PixelModes.{Planes, Graphics, row_of, row_in, number_in}
-use Rattle.bios_screen.proofs.Modes.AnyModes.{graphics_row}
-use Rattle.bios_screen.proofs.Modes.PixelModes.Graphics.{Sixteen, Many}
+use Rattle.bios_screen.proofs.Modes.PixelModes.{IsPackedRow}
+use Rattle.bios_screen.proofs.Modes.AnyModes.{Colours, colours_is}
+use Rattle.bios_screen.proofs.Modes.AnyModes.Colours.{Sixteen, Many}
 use Rattle.bios_screen.proofs.Dots.PlanarDots.{IsPlanar}
 use Rattle.bios_screen.proofs.Dots.PackedDots.{IsPacked}
 
 -- what holds of every screen of sixteen colours, and of that of 256, holds of every screen of pixels that is shown
-pub by_colours : (c : CardState) (d : BiosData) (Q : Screen → Type 0)
-    → ((m : Planes) → IsPlanar m c d → row_at d.mode d.height ≡ Some (row_of m) → Q (pixel_screen (row_of m) c d))
-    → (IsPacked c d → row_at d.mode d.height ≡ Some bytes_320_by_200 → Q (pixel_screen bytes_320_by_200 c d))
-    → (s : Screen) → is_text d.mode ≡ false → shown c d ≡ Some s → Q s
+pub by_colours : (c : CardState) (d : BiosData) (Q : Screen → Type 0) → ((row : ModeRow) → IsPlanar row c d → Q (pixel_screen row c d)) →
+    (IsPacked c d → Q (pixel_screen bytes_320_by_200 c d)) → (s : Screen) → is_text d.mode ≡ false → shown c d ≡ Some s → Q s
 by_colours c d Q planar packed s t e =
     let x = pixels_of_shown c d s t e in
-    let g = graphics_row d.mode d.height x.is.row t x.is.mode in
-    let there = by_mode g.kind g.number (subst (λ q. AllTests q c d) (sym g.row_is) x.is.tests) (x.is.mode ∙ ap (λ (q : ModeRow). Some q) (sym g.row_is)) in
-    subst Q x.screen (subst (λ q. Q (pixel_screen q c d)) g.row_is there)
+    subst Q x.screen (by_row x.is.row (colours_is d.mode d.height x.is.row t x.is.mode) x.is.tests)
   where
-    by_mode : (k : Graphics) → d.mode ≡ number_in k → AllTests (row_in k) c d → row_at d.mode d.height ≡ Some (row_in k) → Q (pixel_screen (row_in k) c d)
-    by_mode (Sixteen m) n tests there = planar m (record { number = n; tests = tests; has = data_is (row_of m) d tests.data_test }) there
-    by_mode Many n tests there = packed (record { number = n; tests = tests; has = data_is bytes_320_by_200 d tests.data_test }) there
+    by_row : (row : ModeRow) → Colours d.mode row → AllTests row c d → Q (pixel_screen row c d)
+    by_row row (Sixteen is) tests = planar row (record {
+      graphics = record { says = is.graphics; tests = tests; has = data_is row d tests.data_test };
+      planes = is.planes;
+      shades = is.shades;
+    })
+    by_row row (Many is) tests = subst (λ r. IsPackedRow d.mode r → AllTests r c d → Q (pixel_screen r c d)) is.literal (λ p tests. packed (record {
+      number = p.number;
+      graphics = record { says = p.graphics; tests = tests; has = data_is bytes_320_by_200 d tests.data_test };
+      wide = p.columns;
+      high = p.height;
+    })) is tests
 
 -- what holds of every screen of text that is shown, and of every one of pixels, holds of every screen that is shown
 pub by_contents : (c : CardState) (d : BiosData) (Q : Screen → Type 0) → ((h : IsShown c d) → Q (screen_shown c d h)) →
@@ -42,8 +46,7 @@ by_contents c d Q text pixels s e = by_kind (is_text d.mode) refl
 
 -- in text, in sixteen colours and in 256
 pub by_modes : (c : CardState) (d : BiosData) (Q : Screen → Type 0) → ((h : IsShown c d) → Q (screen_shown c d h))
-    → ((m : Planes) → IsPlanar m c d → row_at d.mode d.height ≡ Some (row_of m) → Q (pixel_screen (row_of m) c d))
-    → (IsPacked c d → row_at d.mode d.height ≡ Some bytes_320_by_200 → Q (pixel_screen bytes_320_by_200 c d))
+    → ((row : ModeRow) → IsPlanar row c d → Q (pixel_screen row c d)) → (IsPacked c d → Q (pixel_screen bytes_320_by_200 c d))
     → (s : Screen) → shown c d ≡ Some s → Q s
 by_modes c d Q text planar packed s e = by_kind (is_text d.mode) refl
   where

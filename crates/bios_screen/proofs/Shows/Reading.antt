@@ -23,11 +23,9 @@ use Rattle.bios_screen.specs.Raster.{join}
 use Rattle.bios_screen.proofs.Base.Lists.{spelled, same_from_0, length_listing, listed_at}
 use Rattle.bios_screen.proofs.Base.Places.{ends_before}
 use Rattle.bios_screen.proofs.Base.Tests.{lt_test}
-use Rattle.bios_screen.proofs.Modes.AnyModes.{text_row_is, graphics_row}
+use Rattle.bios_screen.proofs.Modes.AnyModes.{text_row_is, says_is}
 use Rattle.bios_screen.proofs.Shows.Screens.{data_is, all_tests_of, tests_of}
-use Rattle.bios_screen.proofs.Modes.PixelModes.{Graphics, row_in, number_in}
-use Rattle.bios_screen.proofs.Modes.PixelModes.Graphics.{Sixteen, Many}
-use Rattle.bios_screen.proofs.Modes.PixelModes.Planes.{Low, Middle, High}
+use Rattle.bios_screen.proofs.Modes.PixelModes.{pixels_of}
 
 -- a listing has one element more
 listing_more : {Y : Type 0} (f : ℕ → Y) (i n : ℕ) → listing f i (n + 1) ≡ listing f i n ++ f (i + n) ∷ []
@@ -214,24 +212,13 @@ pub record PixelNumbers (row : ModeRow) (mode columns height size n : ℕ) : Typ
   pub page : (n + 7) / 8 ≤ size
   pub packed : IsTrue (is_packed mode) → n ≤ size
 
-abbrev pixels_of : ModeRow → ℕ
-pixels_of row = 8 * row.columns * (row.height * (row.last_row + 1))
-
-numbers_by : (k : Graphics) → PixelNumbers (row_in k) (number_in k) (row_in k).columns (row_in k).height (row_in k).size (pixels_of (row_in k))
-numbers_by (Sixteen Low) = record { columns_few = omega arith; height_few = omega arith; all = omega arith; page = omega arith; packed = λ e. absurd (cc) }
-numbers_by (Sixteen Middle) = record { columns_few = omega arith; height_few = omega arith; all = omega arith; page = omega arith; packed = λ e. absurd (cc) }
-numbers_by (Sixteen High) = record { columns_few = omega arith; height_few = omega arith; all = omega arith; page = omega arith; packed = λ e. absurd (cc) }
-numbers_by Many = record { columns_few = omega arith; height_few = omega arith; all = omega arith; page = omega arith; packed = λ e. omega arith }
-
 pub pixel_numbers : (row : ModeRow) (c : CardState) (d : BiosData) → row_at d.mode d.height ≡ Some row → is_text d.mode ≡ false → shows row c d ≡ true →
     PixelNumbers row d.mode d.columns d.height d.size (page_pixels d)
 pixel_numbers row c d e t h =
     let has = data_is row d (all_tests_of row c d h).data_test in
-    let g = graphics_row d.mode d.height row t e in
+    let says = says_is d.mode d.height row t e in
     let at : PixelNumbers row d.mode row.columns row.height row.size (pixels_of row) =
-    subst (λ r. PixelNumbers r d.mode r.columns r.height r.size (pixels_of r)) g.row_is
-    (subst (λ m. PixelNumbers (row_in g.kind) m (row_in g.kind).columns (row_in g.kind).height (row_in g.kind).size (pixels_of (row_in g.kind)))
-    (sym g.number) (numbers_by g.kind)) in
+    record { columns_few = says.room.narrow; height_few = says.room.short; all = says.room.memory; page = says.room.bytes; packed = says.whole } in
     let n : pixels_of row ≡ page_pixels d = sym (ap (λ i. 8 * i * (d.height * (d.last_row + 1))) has.columns
     ∙ ap (λ i. 8 * row.columns * (i * (d.last_row + 1))) has.height ∙ ap (λ i. 8 * row.columns * (row.height * (i + 1))) has.last_row) in
     subst (λ i. PixelNumbers row d.mode i d.height d.size (page_pixels d)) (sym has.columns)
