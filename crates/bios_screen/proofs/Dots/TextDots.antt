@@ -111,7 +111,7 @@ module _ (c : CardState) (d : BiosData) (h : IsShown c d) (z : IsCard c) (g : �
 
   -- a line is of a row of the page
   row_there : (v : ℕ) → v < height * rows → v / height < rows
-  row_there v l = let e : height * rows ≡ rows * height = omega arith in (div-lt_iff_lt-mul t.some_height).1 (subst (λ n. v < n) e l)
+  row_there v l = let e : height * rows ≡ rows * height = omega arith in (div-lt_iff_lt-mul t.some_lines).1 (subst (λ n. v < n) e l)
 
   place_there : (v x : ℕ) → v < height * rows → x < columns → columns * (v / height) + x < columns * rows
   place_there v x lv lx = let e = ends_before columns (v / height) rows (row_there v lv) in omega arith
@@ -121,7 +121,7 @@ module _ (c : CardState) (d : BiosData) (h : IsShown c d) (z : IsCard c) (g : �
   within q l = let a = h.text.fits in let b = ends_before half g h.row.pages lg in let m = h.text.memory in omega arith
 
   scan_small : (v : ℕ) → v % height < 16
-  scan_small v = let a = mod_below v height t.some_height in let b = t.few_lines in omega arith
+  scan_small v = let a = mod_below v height t.some_lines in let b = t.short in omega arith
 
   -- the beam at a place of the picture
   abbrev pub text_beam : ℕ → ℕ → ℕ → ℕ → Beam

@@ -1,5 +1,5 @@
 -- The rows of the mode table that are text: what their registers say of a frame, whatever the data say of cursor and page.
-use Rattle.std.proofs.Common.{◌≡◌, ℕ, ◌+◌, ◌-◌, ◌*◌, ◌/◌, ◌%◌, ◌<◌, ◌≤◌, refl, sym, subst, arith, Bool, true, false}
+use Rattle.std.proofs.Common.{◌≡◌, ℕ, ◌+◌, ◌-◌, ◌*◌, ◌/◌, ◌%◌, ◌<◌, ◌≤◌, refl, sym, subst, arith, Bool, false}
 use Rattle.std.specs.Prelude.{nat_le, not, ◌==◌, ◌&&◌, bit_and}
 use Rattle.std.specs.Int.{bit_at}
 use Rattle.vga_bits.specs.Bits.{is_set, field}
@@ -7,7 +7,7 @@ use Rattle.vga_crtc.specs.declared.beam.Beam.{Beam}
 use Rattle.vga_crtc.specs.Fields.{horizontal_total, horizontal_display_end, vertical_total, preset_row_scan, vertical_display_end, line_compare}
 use Rattle.vga_crtc.specs.Fields.{byte_panning, cursor_start, is_cursor_off, cursor_end, cursor_location, underline_location}
 use Rattle.vga_crtc.specs.Fields.{is_double_word, is_address_wrap, is_byte_mode, maximum_scan_line, is_double_scan, offset}
-use Rattle.vga_crtc.specs.Raster.{IsRegular, regular_beam}
+use Rattle.vga_crtc.specs.Raster.{regular_beam}
 use Rattle.vga_dots.specs.SourceDot.{fetch_address}
 use Rattle.vga_card.specs.Card.{CardState}
 use Rattle.bios_modes.specs.declared.modes.ModeRow.{ModeRow}
@@ -15,8 +15,8 @@ use Rattle.bios_modes.specs.Bda.{BiosData}
 use Rattle.bios_modes.specs.Palette.{is_monochrome_mode}
 use Rattle.bios_services.specs.Registers.{high, low}
 use Rattle.bios_screen.specs.Shown.{crtc_registers}
-use Rattle.bios_screen.specs.Raster.{Raster, IsRaster}
-use Rattle.bios_screen.proofs.Modes.Frames.{numbers_of, IsFrame, HasShades}
+use Rattle.bios_screen.specs.Raster.{Raster}
+use Rattle.bios_screen.proofs.Modes.Frames.{IsFrame, HasShades, fits, uncut}
 use Rattle.bios_screen.proofs.Modes.TextModes.{Display, Height, row_with, number_of}
 use Rattle.bios_screen.proofs.Modes.TextModes.Display.{Colour, Monochrome}
 use Rattle.bios_screen.proofs.Modes.TextModes.Height.{Eight, Fourteen, Sixteen}
@@ -39,16 +39,20 @@ beam_of row a frame v x k = record {
   split = false;
 }
 
--- a row of text: its frames and colours, and what its registers make of addresses and underline
-pub record IsTextFrame (mode : ℕ) (row : ModeRow) : Type 0 where
-  pub frame : IsFrame (text_raster row) row
-  pub shades : HasShades row
-  pub some_height : 0 < row.height
-  pub few_lines : row.height ≤ 16
+-- the lines of a row of text, and what its registers make of addresses and underline
+pub record HasTextLines (mode : ℕ) (row : ModeRow) : Type 0 where
+  pub some_lines : 0 < row.height
+  pub short : row.height ≤ 16
   pub beam : (a frame v x k : ℕ) → regular_beam row.crtc a frame v x k ≡ beam_of row a frame v x k
   pub fetch : (n : ℕ) → fetch_address row.crtc n ≡ 2 * n % 65536 + bit_at n 15
   pub underline : (v : Bool) (r : ℕ) → (is_monochrome_mode mode && v && r == underline_location row.crtc)
       ≡ (is_monochrome_mode mode && (v && (r == row.height - 1)))
+
+pub record IsTextFrame (mode : ℕ) (row : ModeRow) : Type 0 where
+  pub frame : IsFrame (text_raster row) row
+  pub shades : HasShades row
+  pub lines : HasTextLines mode row
+  pub open lines use *
 
 -- in any row the cursor is what the data say
 pub cursor_by : (row : ModeRow) (type start location k r : ℕ) (f : Bool) → (let l = crtc_registers row type start location in (k == cursor_location l)
@@ -60,105 +64,38 @@ cursor_by row type start location k r f = refl
 
 -- ---- each row of text is one
 
-fits_by : (disp : Display) (height : Height) → IsRaster (text_raster (row_with disp height))
-fits_by Colour Eight = record { some_dots = omega arith; some_columns = omega arith; some_lines = omega arith; narrow = omega arith; low = omega arith }
-fits_by Colour Fourteen = record { some_dots = omega arith; some_columns = omega arith; some_lines = omega arith; narrow = omega arith; low = omega arith }
-fits_by Colour Sixteen = record { some_dots = omega arith; some_columns = omega arith; some_lines = omega arith; narrow = omega arith; low = omega arith }
-fits_by Monochrome Eight = record { some_dots = omega arith; some_columns = omega arith; some_lines = omega arith; narrow = omega arith; low = omega arith }
-fits_by Monochrome Fourteen = record { some_dots = omega arith; some_columns = omega arith; some_lines = omega arith; narrow = omega arith; low = omega arith }
-fits_by Monochrome Sixteen = record { some_dots = omega arith; some_columns = omega arith; some_lines = omega arith; narrow = omega arith; low = omega arith }
-
-numbers_by : (disp : Display) (height : Height) → numbers_of 9 (row_with disp height).crtc ≡ text_raster (row_with disp height)
-unfolding horizontal_total horizontal_display_end vertical_total vertical_display_end
-numbers_by Colour Eight = refl
-numbers_by Colour Fourteen = refl
-numbers_by Colour Sixteen = refl
-numbers_by Monochrome Eight = refl
-numbers_by Monochrome Fourteen = refl
-numbers_by Monochrome Sixteen = refl
-
-regular_by : (disp : Display) (height : Height) → IsRegular (row_with disp height).crtc
-unfolding vertical_total line_compare preset_row_scan
-regular_by Colour Eight = record { uncut = omega arith; unscrolled = refl }
-regular_by Colour Fourteen = record { uncut = omega arith; unscrolled = refl }
-regular_by Colour Sixteen = record { uncut = omega arith; unscrolled = refl }
-regular_by Monochrome Eight = record { uncut = omega arith; unscrolled = refl }
-regular_by Monochrome Fourteen = record { uncut = omega arith; unscrolled = refl }
-regular_by Monochrome Sixteen = record { uncut = omega arith; unscrolled = refl }
-
 frame_by : (disp : Display) (height : Height) → IsFrame (text_raster (row_with disp height)) (row_with disp height)
-unfolding byte_panning
-frame_by Colour height = record {
-  raster = fits_by Colour height;
-  clock = refl;
-  numbers = numbers_by Colour height;
-  regular = regular_by Colour height;
-  whole = refl;
-  attributes = refl;
-  still = refl;
-}
-frame_by Monochrome height = record {
-  raster = fits_by Monochrome height;
-  clock = refl;
-  numbers = numbers_by Monochrome height;
-  regular = regular_by Monochrome height;
-  whole = refl;
-  attributes = refl;
-  still = refl;
-}
+unfolding horizontal_total horizontal_display_end vertical_total vertical_display_end line_compare preset_row_scan byte_panning
+frame_by Colour Eight =
+    record { raster = fits _ refl; clock = refl; numbers = refl; regular = uncut _ refl refl; whole = refl; attributes = refl; still = refl }
+frame_by Colour Fourteen =
+    record { raster = fits _ refl; clock = refl; numbers = refl; regular = uncut _ refl refl; whole = refl; attributes = refl; still = refl }
+frame_by Colour Sixteen =
+    record { raster = fits _ refl; clock = refl; numbers = refl; regular = uncut _ refl refl; whole = refl; attributes = refl; still = refl }
+frame_by Monochrome Eight =
+    record { raster = fits _ refl; clock = refl; numbers = refl; regular = uncut _ refl refl; whole = refl; attributes = refl; still = refl }
+frame_by Monochrome Fourteen =
+    record { raster = fits _ refl; clock = refl; numbers = refl; regular = uncut _ refl refl; whole = refl; attributes = refl; still = refl }
+frame_by Monochrome Sixteen =
+    record { raster = fits _ refl; clock = refl; numbers = refl; regular = uncut _ refl refl; whole = refl; attributes = refl; still = refl }
 
 shades_by : (disp : Display) (height : Height) → HasShades (row_with disp height)
 shades_by Colour _ = record { on = refl; many = refl; wide = refl; planes = refl; select = refl }
 shades_by Monochrome _ = record { on = refl; many = refl; wide = refl; planes = refl; select = refl }
 
-height_by : (disp : Display) (height : Height) → (0 < (row_with disp height).height) × ((row_with disp height).height ≤ 16)
-height_by Colour Eight = (omega arith, omega arith)
-height_by Colour Fourteen = (omega arith, omega arith)
-height_by Colour Sixteen = (omega arith, omega arith)
-height_by Monochrome Eight = (omega arith, omega arith)
-height_by Monochrome Fourteen = (omega arith, omega arith)
-height_by Monochrome Sixteen = (omega arith, omega arith)
-
-beam_by : (disp : Display) (height : Height) (a frame v x k : ℕ) →
-    regular_beam (row_with disp height).crtc a frame v x k ≡ beam_of (row_with disp height) a frame v x k
-unfolding maximum_scan_line is_double_scan offset
-beam_by Colour Eight a frame v x k = refl
-beam_by Colour Fourteen a frame v x k = refl
-beam_by Colour Sixteen a frame v x k = refl
-beam_by Monochrome Eight a frame v x k = refl
-beam_by Monochrome Fourteen a frame v x k = refl
-beam_by Monochrome Sixteen a frame v x k = refl
-
-fetch_by : (disp : Display) (height : Height) (n : ℕ) → fetch_address (row_with disp height).crtc n ≡ 2 * n % 65536 + bit_at n 15
-unfolding fetch_address is_double_word is_byte_mode is_address_wrap
-fetch_by Colour Eight n = refl
-fetch_by Colour Fourteen n = refl
-fetch_by Colour Sixteen n = refl
-fetch_by Monochrome Eight n = refl
-fetch_by Monochrome Fourteen n = refl
-fetch_by Monochrome Sixteen n = refl
-
-underline_by : (disp : Display) (height : Height) (v : Bool) (r : ℕ) →
-    (is_monochrome_mode (number_of disp) && v && r == underline_location (row_with disp height).crtc)
-    ≡ (is_monochrome_mode (number_of disp) && (v && (r == (row_with disp height).height - 1)))
-unfolding underline_location
-underline_by Colour _ v r = refl
-underline_by Monochrome Eight true r = refl
-underline_by Monochrome Fourteen true r = refl
-underline_by Monochrome Sixteen true r = refl
-underline_by Monochrome _ false r = refl
-
-text_frame_by : (disp : Display) (height : Height) → IsTextFrame (number_of disp) (row_with disp height)
-text_frame_by disp height = record {
-  frame = frame_by disp height;
-  shades = shades_by disp height;
-  some_height = (height_by disp height).0;
-  few_lines = (height_by disp height).1;
-  beam = beam_by disp height;
-  fetch = fetch_by disp height;
-  underline = underline_by disp height;
-}
+lines_by : (disp : Display) (height : Height) → HasTextLines (number_of disp) (row_with disp height)
+unfolding maximum_scan_line is_double_scan offset fetch_address is_double_word is_byte_mode is_address_wrap underline_location
+lines_by Colour Eight = record { some_lines = omega arith; short = omega arith; beam = λ _ _ _ _ _. refl; fetch = λ _. refl; underline = λ v r. refl }
+lines_by Colour Fourteen = record { some_lines = omega arith; short = omega arith; beam = λ _ _ _ _ _. refl; fetch = λ _. refl; underline = λ v r. refl }
+lines_by Colour Sixteen = record { some_lines = omega arith; short = omega arith; beam = λ _ _ _ _ _. refl; fetch = λ _. refl; underline = λ v r. refl }
+lines_by Monochrome Eight = record { some_lines = omega arith; short = omega arith; beam = λ _ _ _ _ _. refl; fetch = λ _. refl; underline = λ v r. refl }
+lines_by Monochrome Fourteen = record { some_lines = omega arith; short = omega arith; beam = λ _ _ _ _ _. refl; fetch = λ _. refl; underline = λ v r. refl }
+lines_by Monochrome Sixteen = record { some_lines = omega arith; short = omega arith; beam = λ _ _ _ _ _. refl; fetch = λ _. refl; underline = λ v r. refl }
 
 -- so is the row of a screen that is shown
 pub frame_of : (c : CardState) (d : BiosData) (h : IsShown c d) → IsTextFrame d.mode h.row
-frame_of c d h = subst (λ m. IsTextFrame m h.row) (sym h.number) (subst (IsTextFrame (number_of h.display)) (sym h.row_is) (text_frame_by h.display h.height))
+frame_of c d h = subst (λ m. IsTextFrame m h.row) (sym h.number) (subst (IsTextFrame (number_of h.display)) (sym h.row_is) (record {
+  frame = frame_by h.display h.height;
+  shades = shades_by h.display h.height;
+  lines = lines_by h.display h.height;
+}))

@@ -1,6 +1,7 @@
 -- The two text displays, and the rows of the mode table that are text.
 use Rattle.std.proofs.Common.{◌≡◌, ℕ, ◌+◌, ◌*◌, ◌<◌, ◌≤◌, refl, subst, arith, List, [], ◌∷◌, length, Bool, true, false, Some, None}
-use Rattle.std.specs.Prelude.{slice_index, bit_and, ◌==◌, if◌then◌else◌}
+use Rattle.std.specs.Prelude.{slice_index, bit_and, nat_le, nat_lt, ◌==◌, ◌&&◌, if◌then◌else◌}
+use Rattle.std.proofs.lemmas.Bool.Decides.{nat_tests}
 use Rattle.vga_card.specs.Port.{crtc_port}
 use Rattle.bios_modes.specs.declared.modes.ModeRow.{ModeRow}
 use Rattle.bios_modes.specs.declared.heights.TextRow.{TextRow as HeightRow}
@@ -46,22 +47,31 @@ text_graphics k = 0x00 ∷ 0x00 ∷ 0x00 ∷ 0x00 ∷ 0x00 ∷ 0x10 ∷ window_o
 abbrev pub text_setting : Display → Setting
 text_setting k = record { misc = misc_of k; seq = text_sequencer; gfx = text_graphics k }
 
--- a row of text: its registers of memory, its port, and how its pages lie in memory
-pub record IsTextRow (k : Display) (mode : ℕ) (row : ModeRow) : Type 0 where
+-- a row of text: the registers of its memory, and its port
+pub record IsOfDisplay (k : Display) (mode : ℕ) (row : ModeRow) : Type 0 where
   pub misc : row.misc ≡ misc_of k
   pub sequencer : row.sequencer ≡ text_sequencer
   pub graphics : row.graphics ≡ text_graphics k
   pub port : row.crtc_address ≡ port_of k
   pub base : page_base mode ≡ base_of k
   pub crtc : length row.crtc ≡ 25
-  pub columns : row.columns ≤ 80
-  pub some_columns : 0 < row.columns
+
+-- the numbers of its characters and pages; a page has this many cells
+pub record HasTextPages (row : ModeRow) : Type 0 where
   pub half : ℕ
+  pub some_columns : 0 < row.columns
+  pub columns : row.columns ≤ 80
   pub even : row.size ≡ 2 * half
   pub fits : row.columns * (row.last_row + 1) ≤ half
   pub memory : half * row.pages ≤ 16384
   pub pages : row.pages ≤ 8
   pub last_row : row.last_row < 255
+
+pub record IsTextRow (k : Display) (mode : ℕ) (row : ModeRow) : Type 0 where
+  pub of_display : IsOfDisplay k mode row
+  pub open of_display use *
+  pub has_pages : HasTextPages row
+  pub open has_pages use *
 
 -- the row of a display as a mode set leaves it, and its mode
 abbrev pub row_of : Display → ModeRow
@@ -116,48 +126,33 @@ pub record TextRow (mode : ℕ) (row : ModeRow) : Type 0 where
   pub number : mode ≡ number_of display
 
 -- each of their rows is one of text: by its display, and by how its pages lie in memory
-display_by : (k : Display) (height : Height) → (let row = row_with k height in (row.misc ≡ misc_of k) × (row.sequencer ≡ text_sequencer)
-    × (row.graphics ≡ text_graphics k) × (row.crtc_address ≡ port_of k) × (page_base (number_of k) ≡ base_of k) × (length row.crtc ≡ 25)
-    × (row.columns ≤ 80) × (0 < row.columns))
-display_by Colour _ = (refl, refl, refl, refl, refl, refl, omega arith, omega arith)
-display_by Monochrome _ = (refl, refl, refl, refl, refl, refl, omega arith, omega arith)
+display_by : (k : Display) (height : Height) → IsOfDisplay k (number_of k) (row_with k height)
+display_by Colour _ = record { misc = refl; sequencer = refl; graphics = refl; port = refl; base = refl; crtc = refl }
+display_by Monochrome _ = record { misc = refl; sequencer = refl; graphics = refl; port = refl; base = refl; crtc = refl }
 
-record HasPages (row : ModeRow) : Type 0 where
-  half : ℕ
-  even : row.size ≡ 2 * half
-  fits : row.columns * (row.last_row + 1) ≤ half
-  memory : half * row.pages ≤ 16384
-  pages : row.pages ≤ 8
-  last_row : row.last_row < 255
+paged : (row : ModeRow) (half : ℕ) → row.size ≡ 2 * half → (nat_lt 0 row.columns && (nat_le row.columns 80 && (nat_le (row.columns * (row.last_row + 1)) half
+    && (nat_le (half * row.pages) 16384 && (nat_le row.pages 8 && nat_lt row.last_row 255))))) ≡ true → HasTextPages row
+paged row half even e = record {
+  half = half;
+  even = even;
+  some_columns = grind (arith, nat_tests);
+  columns = grind (arith, nat_tests);
+  fits = grind (arith, nat_tests);
+  memory = grind (arith, nat_tests);
+  pages = grind (arith, nat_tests);
+  last_row = grind (arith, nat_tests);
+}
 
-pages_by : (k : Display) (height : Height) → HasPages (row_with k height)
-pages_by Colour Eight = record { half = 4096; even = refl; fits = omega arith; memory = omega arith; pages = omega arith; last_row = omega arith }
-pages_by Colour Fourteen = record { half = 4096; even = refl; fits = omega arith; memory = omega arith; pages = omega arith; last_row = omega arith }
-pages_by Colour Sixteen = record { half = 2048; even = refl; fits = omega arith; memory = omega arith; pages = omega arith; last_row = omega arith }
-pages_by Monochrome Eight = record { half = 4096; even = refl; fits = omega arith; memory = omega arith; pages = omega arith; last_row = omega arith }
-pages_by Monochrome Fourteen = record { half = 4096; even = refl; fits = omega arith; memory = omega arith; pages = omega arith; last_row = omega arith }
-pages_by Monochrome Sixteen = record { half = 2048; even = refl; fits = omega arith; memory = omega arith; pages = omega arith; last_row = omega arith }
+pages_by : (k : Display) (height : Height) → HasTextPages (row_with k height)
+pages_by Colour Eight = paged _ 4096 refl refl
+pages_by Colour Fourteen = paged _ 4096 refl refl
+pages_by Colour Sixteen = paged _ 2048 refl refl
+pages_by Monochrome Eight = paged _ 4096 refl refl
+pages_by Monochrome Fourteen = paged _ 4096 refl refl
+pages_by Monochrome Sixteen = paged _ 2048 refl refl
 
 row_by : (k : Display) (height : Height) → IsTextRow k (number_of k) (row_with k height)
-row_by k height =
-    let d = display_by k height in
-    let p = pages_by k height in
-    record {
-      misc = d.0;
-      sequencer = d.1;
-      graphics = d.2;
-      port = d.3;
-      base = d.4;
-      crtc = d.5;
-      columns = d.6;
-      some_columns = d.7;
-      half = p.half;
-      even = p.even;
-      fits = p.fits;
-      memory = p.memory;
-      pages = p.pages;
-      last_row = p.last_row;
-    }
+row_by k height = record { of_display = display_by k height; has_pages = pages_by k height }
 
 -- the height that the row of some data has
 record HasHeight (k : Display) (row : ModeRow) : Type 0 where

@@ -49,18 +49,6 @@ use Rattle.bios_screen.proofs.Modes.TextFresh.{but_glyphs, font_is, glyphs_on, g
 abbrev pub through : CardState → Setting → CardState
 through c s = record c { host = record c.host { seq = s.seq; gfx = s.gfx; seq_index = 4; gfx_index = 6 } }
 
-on_by : (disp : Display) (c : CardState) → (run card_meaning glyphs_on (card_at c (text_setting disp))).0
-    ≡ through (card_at c (text_setting disp)) (glyph_setting disp)
-unfolding reached_by out_at
-on_by Colour c = refl
-on_by Monochrome c = refl
-
-off_by : (disp : Display) (c : CardState) → (run card_meaning (glyphs_off (window_of disp)) (card_at c (glyph_setting disp))).0
-    ≡ through (card_at c (glyph_setting disp)) (text_setting disp)
-unfolding reached_by out_at
-off_by Colour c = refl
-off_by Monochrome c = refl
-
 -- the CRT controller gets what the height changes
 abbrev height_plan : ℕ → ModeRow → Plan (Unit {0})
 height_plan port row =
@@ -133,13 +121,19 @@ abbrev pub left : Display → CardState → List ℕ → List ℕ → CardState
 left disp c glyphs registers = with_crtc (through (record c { host = record c.host { memory = record c.host.memory { plane2 = glyphs } } }) (text_setting disp))
     registers 0x0F
 
-window_by : (disp : Display) → slice_index (row_of disp).graphics 6 ≡ window_of disp
-window_by Colour = refl
-window_by Monochrome = refl
+-- what the registers of a display do, computed: glyphs are reached and text again, by the window and the port of its row
+record ReachesGlyphs (disp : Display) : Type 0 where
+  on : (c : CardState) → (run card_meaning glyphs_on (card_at c (text_setting disp))).0 ≡ through (card_at c (text_setting disp)) (glyph_setting disp)
+  off : (c : CardState) → (run card_meaning (glyphs_off (window_of disp)) (card_at c (glyph_setting disp))).0
+      ≡ through (card_at c (glyph_setting disp)) (text_setting disp)
+  window : slice_index (row_of disp).graphics 6 ≡ window_of disp
+  port : (row_of disp).crtc_address ≡ port_of disp
+  memory : (let s = text_setting disp in let row = row_of disp in (s.misc == row.misc) && (bytes_eq s.seq row.sequencer && bytes_eq s.gfx row.graphics)) ≡ true
 
-port_by : (disp : Display) → (row_of disp).crtc_address ≡ port_of disp
-port_by Colour = refl
-port_by Monochrome = refl
+reaches_glyphs : (disp : Display) → ReachesGlyphs disp
+unfolding reached_by out_at
+reaches_glyphs Colour = record { on = λ c. refl; off = λ c. refl; window = refl; port = refl; memory = refl }
+reaches_glyphs Monochrome = record { on = λ c. refl; off = λ c. refl; window = refl; port = refl; memory = refl }
 
 -- the glyphs after a load, and the adapter
 pub record IsLoadedCard (fonts : FontSet) (load : GlyphLoad) (block : List ℕ) (disp : Display) (row : ModeRow) (c y : CardState) : Type 0 where
@@ -178,7 +172,9 @@ module _ (fonts : FontSet) (load : GlyphLoad) (block : List ℕ) (bytes : AreByt
       let window = slice_index row.graphics 6 in
       let c1 = through c (glyph_setting disp) in
       let e1 : (run card_meaning glyphs_on c).0 ≡ c1 =
-      ap (λ x. (run card_meaning glyphs_on (card_at c x)).0) h.setting ∙ on_by disp c ∙ ap (λ x. through (card_at c x) (glyph_setting disp)) (sym h.setting) in
+      ap (λ x. (run card_meaning glyphs_on (card_at c x)).0) h.setting
+      ∙ (reaches_glyphs disp).on c
+      ∙ ap (λ x. through (card_at c x) (glyph_setting disp)) (sym h.setting) in
       let z1 : IsCard c1 = subst IsCard e1 (plan_bounds glyphs_on c z) in
       let at1 : setting c1 ≡ glyph_setting disp = ap (λ (x : Setting). let q : Setting =
       record { misc = x.misc; seq = (glyph_setting disp).seq; gfx = (glyph_setting disp).gfx } in q) h.setting in
@@ -192,9 +188,9 @@ module _ (fonts : FontSet) (load : GlyphLoad) (block : List ℕ) (bytes : AreByt
       let e2 : s2 ≡ c2 = but_glyphs s2 c1 loaded.shown.others in
       let c3 = through c2 (text_setting disp) in
       let e3 : (run card_meaning (glyphs_off window) c2).0 ≡ c3 =
-      ap (λ w. (run card_meaning (glyphs_off w) c2).0) (window_by disp)
+      ap (λ w. (run card_meaning (glyphs_off w) c2).0) (reaches_glyphs disp).window
       ∙ ap (λ x. (run card_meaning (glyphs_off (window_of disp)) (card_at c2 x)).0) at1
-      ∙ off_by disp c2
+      ∙ (reaches_glyphs disp).off c2
       ∙ ap (λ x. through (card_at c2 x) (text_setting disp)) (sym at1) in
       let at3 : setting c3 ≡ text_setting disp = ap (λ (x : Setting). let q : Setting =
       record { misc = x.misc; seq = (text_setting disp).seq; gfx = (text_setting disp).gfx } in q) h.setting in
@@ -203,7 +199,7 @@ module _ (fonts : FontSet) (load : GlyphLoad) (block : List ℕ) (bytes : AreByt
       h.tests.crtc ∙ ap (λ r. crtc_registers r d.cursor_type (start_address d d.page) (cursor_address d d.page)) h.row_is in
       let plan = height_plan row.crtc_address row in
       let e4 : (run card_meaning plan c3).0 ≡ with_crtc c3 (crtc_registers row row.cursor_type 0 0) 0x0F =
-      ap (λ port. (run card_meaning (height_plan port row) c3).0) (port_by disp)
+      ap (λ port. (run card_meaning (height_plan port row) c3).0) (reaches_glyphs disp).port
       ∙ ap (λ x. (run card_meaning (height_plan (port_of disp) row) (card_at c3 x)).0) at3
       ∙ ap (λ x. (run card_meaning (height_plan (port_of disp) row) (card_at (with_crtc c3 x c3.crtc.index) (text_setting disp))).0) registers
       ∙ height_by disp new (lines_of disp h.height) c3 d.cursor_type (start_address d d.page) (cursor_address d d.page)
@@ -239,11 +235,6 @@ own_by Monochrome Eight = record { row_is = refl; data_test = λ _. refl; crtc =
 own_by Monochrome Fourteen = record { row_is = refl; data_test = λ _. refl; crtc = refl }
 own_by Monochrome Sixteen = record { row_is = refl; data_test = λ _. refl; crtc = refl }
 
-memory_by : (disp : Display) → (let s = text_setting disp in let row = row_of disp in (s.misc == row.misc)
-    && (bytes_eq s.seq row.sequencer && bytes_eq s.gfx row.graphics)) ≡ true
-memory_by Colour = refl
-memory_by Monochrome = refl
-
 -- the tests of attributes look at the row's attributes alone
 attribute_stays : (old new : ModeRow) (a : AttrState) → old.attribute ≡ new.attribute → shows_attribute old a ≡ true → shows_attribute new a ≡ true
 attribute_stays old new a e t =
@@ -268,7 +259,7 @@ load_shown fonts load block bytes are there c d h z new =
     let own : row_at d.mode row.height ≡ Some row = ap (λ m. row_at m row.height) h.number ∙ by.row_is in
     let tests : Tests row y after = record {
       is_text = h.tests.is_text;
-      memory = ap (λ (x : Setting). (x.misc == row.misc) && (bytes_eq x.seq row.sequencer && bytes_eq x.gfx row.graphics)) set ∙ memory_by disp;
+      memory = ap (λ (x : Setting). (x.misc == row.misc) && (bytes_eq x.seq row.sequencer && bytes_eq x.gfx row.graphics)) set ∙ (reaches_glyphs disp).memory;
       data_test = by.data_test d.mode;
       crtc = by.crtc ∙ sym (ap (λ m. text_crtc row (data_of_mode m row)) h.number);
       attribute = attribute_stays h.row row c.attr (ap (λ (r : ModeRow). r.attribute) h.row_is) h.tests.attribute;
