@@ -7,9 +7,10 @@ use Rattle.bios_modes.specs.Heights.{fifty_rows, twenty_eight_rows, twenty_five_
 use Rattle.bios_modes.specs.Heights.{row_at}
 use Rattle.bios_modes.specs.Modes.{mode_row, colour_text, monochrome_text, planes_320_by_200, planes_640_by_350, planes_640_by_480, bytes_320_by_200}
 use Rattle.bios_modes.specs.Bda.{BiosData}
+use Rattle.bios_modes.proofs.RowLemmas.{each_mode}
 use Rattle.bios_modes.specs.Begin.{data_of_mode}
 use Rattle.bios_modes.specs.Valid.{IsOf, Fits, IsValid}
-use Rattle.std.specs.Prelude.{◌+◌, nat_le}
+use Rattle.std.specs.Prelude.{◌+◌, ◌&&◌, nat_le, nat_lt}
 use Rattle.std.proofs.lemmas.Bool.Decides.{nat_tests}
 use Rattle.vga_bits.specs.declared.refusal.Refusal.TheVariants.{WrongKind, CountPast, BadBlock}
 use Rattle.bios_services.specs.declared.glyph_load.GlyphLoad.{GlyphLoad}
@@ -25,20 +26,13 @@ on_either : {A : Type 0} (P : A → Type 0) (b : Bool) {x y : A} → P x → P y
 on_either P true px py = px
 on_either P false px py = py
 
--- what holds of each row, and of none, holds of any mode's
-on_each_mode : (P : Option ModeRow → Type 0) (mode : ℕ) → P (Some colour_text) → P (Some monochrome_text) → P (Some planes_320_by_200) →
-    P (Some planes_640_by_350) → P (Some planes_640_by_480) → P (Some bytes_320_by_200) → P None → P (mode_row mode)
-on_each_mode P mode p3 p7 p0d p10 p12 p13 none =
-    on_either P (mode == 0x03) p3 (on_either P (mode == 0x07) p7 (on_either P (mode == 0x0D) p0d
-    (on_either P (mode == 0x10) p10 (on_either P (mode == 0x12) p12 (on_either P (mode == 0x13) p13 none)))))
-
 -- the row of a mode with characters of a height
 abbrev sized : Option ModeRow → ℕ → Option ModeRow
 sized x height = if_row x (λ row. at_height row height)
 
 -- the pages of each mode begin at one of three places
 pub base_small : (mode : ℕ) → page_base mode ≤ 0xB8000
-base_small mode = on_each_mode (λ x. base_in x ≤ 0xB8000) mode (omega arith) (omega arith) (omega arith) (omega arith) (omega arith) (omega arith) (omega arith)
+base_small = each_mode (λ _ x. base_in x ≤ 0xB8000) (omega arith) (omega arith) (omega arith) (omega arith) (omega arith) (omega arith) (λ _. omega arith)
 
 -- what holds of each row of mode 3, and of none, holds of that of any height
 on_colour : (P : Option ModeRow → Type 0) (height : ℕ) → P (Some (with_text colour_text (fifty_rows 0x1F))) →
@@ -55,16 +49,6 @@ on_monochrome : (P : Option ModeRow → Type 0) (height : ℕ) → P (Some (with
 on_monochrome P height p8 p14 p16 none =
     let Q : Option TextRow → Type 0 = λ text. P (with_height monochrome_text text) in
     on_either Q (height == 8) p8 (on_either Q (height == 14) p14 (on_either Q (height == 16) p16 none))
-
--- what holds of each row of text of any height, of each row of graphics, and of none, holds of that of any mode and height
-on_each_row : (P : Option ModeRow → Type 0) (mode height : ℕ)
-    → P (Some (with_text colour_text (fifty_rows 0x1F))) → P (Some (with_text colour_text (twenty_eight_rows 0x1F))) →
-    P (Some (with_text colour_text (twenty_five_rows 0x1F)))
-    → P (Some (with_text monochrome_text (fifty_rows 0x07))) → P (Some (with_text monochrome_text (twenty_eight_rows 0x0D))) →
-    P (Some (with_text monochrome_text (twenty_five_rows 0x0F)))
-    → P (Some planes_320_by_200) → P (Some planes_640_by_350) → P (Some planes_640_by_480) → P (Some bytes_320_by_200) → P None → P (row_at mode height)
-on_each_row P mode height c8 c14 c16 m8 m14 m16 p0d p10 p12 p13 none =
-    on_each_mode (λ x. P (sized x height)) mode (on_colour P height c8 c14 c16 none) (on_monochrome P height m8 m14 m16 none) p0d p10 p12 p13 none
 
 -- a row whose numbers are small enough
 record Small (row : ModeRow) : Type 0 where
@@ -106,114 +90,26 @@ of_row row d s f =
       memory = omega arith;
     }
 
-small_text : Small colour_text
-small_text = record {
-  some_columns = omega arith;
-  columns = omega arith;
-  rows = omega arith;
-  height = omega arith;
-  port = omega arith;
-  pages = omega arith;
-  memory = omega arith;
-}
-
-small_monochrome : Small monochrome_text
-small_monochrome = record {
-  some_columns = omega arith;
-  columns = omega arith;
-  rows = omega arith;
-  height = omega arith;
-  port = omega arith;
-  pages = omega arith;
-  memory = omega arith;
-}
-
-small_0d : Small planes_320_by_200
-small_0d = record {
-  some_columns = omega arith;
-  columns = omega arith;
-  rows = omega arith;
-  height = omega arith;
-  port = omega arith;
-  pages = omega arith;
-  memory = omega arith;
-}
-
-small_10 : Small planes_640_by_350
-small_10 = record {
-  some_columns = omega arith;
-  columns = omega arith;
-  rows = omega arith;
-  height = omega arith;
-  port = omega arith;
-  pages = omega arith;
-  memory = omega arith;
-}
-
-small_12 : Small planes_640_by_480
-small_12 = record {
-  some_columns = omega arith;
-  columns = omega arith;
-  rows = omega arith;
-  height = omega arith;
-  port = omega arith;
-  pages = omega arith;
-  memory = omega arith;
-}
-
-small_13 : Small bytes_320_by_200
-small_13 = record {
-  some_columns = omega arith;
-  columns = omega arith;
-  rows = omega arith;
-  height = omega arith;
-  port = omega arith;
-  pages = omega arith;
-  memory = omega arith;
-}
-
-small_fifty : (row : ModeRow) (underline : ℕ) → Small row → Small (with_text row (fifty_rows underline))
-small_fifty row underline s = record {
-  some_columns = s.some_columns;
-  columns = s.columns;
-  rows = omega arith;
-  height = omega arith;
-  port = s.port;
-  pages = omega arith;
-  memory = omega arith;
-}
-
-small_twenty_eight : (row : ModeRow) (underline : ℕ) → Small row → Small (with_text row (twenty_eight_rows underline))
-small_twenty_eight row underline s = record {
-  some_columns = s.some_columns;
-  columns = s.columns;
-  rows = omega arith;
-  height = omega arith;
-  port = s.port;
-  pages = omega arith;
-  memory = omega arith;
-}
-
-small_twenty_five : (row : ModeRow) (underline : ℕ) → Small row → Small (with_text row (twenty_five_rows underline))
-small_twenty_five row underline s = record {
-  some_columns = s.some_columns;
-  columns = s.columns;
-  rows = omega arith;
-  height = omega arith;
-  port = s.port;
-  pages = omega arith;
-  memory = omega arith;
+-- which is computed of a literal row
+small : (row : ModeRow) → (nat_lt 0 row.columns && (nat_le row.columns 80 && (nat_lt row.last_row 50 && (nat_le row.height 16
+    && (nat_lt row.crtc_address ports_end && (nat_le row.pages 8 && nat_le (row.size * row.pages) 65536)))))) ≡ true → Small row
+small row e = record {
+  some_columns = grind (arith, nat_tests);
+  columns = grind (arith, nat_tests);
+  rows = grind (arith, nat_tests);
+  height = grind (arith, nat_tests);
+  port = grind (arith, nat_tests);
+  pages = grind (arith, nat_tests);
+  memory = grind (arith, nat_tests);
 }
 
 -- what holds of small rows, and of none, holds of that of any mode and height
 on_small : (P : Option ModeRow → Type 0) (mode height : ℕ) → ((row : ModeRow) → Small row → P (Some row)) → P None → P (row_at mode height)
 on_small P mode height some none =
-    on_each_row P mode height
-    (some _ (small_fifty colour_text 0x1F small_text)) (some _ (small_twenty_eight colour_text 0x1F small_text))
-    (some _ (small_twenty_five colour_text 0x1F small_text))
-    (some _ (small_fifty monochrome_text 0x07 small_monochrome)) (some _ (small_twenty_eight monochrome_text 0x0D small_monochrome))
-    (some _ (small_twenty_five monochrome_text 0x0F small_monochrome))
-    (some _ small_0d) (some _ small_10) (some _ small_12) (some _ small_13) none
+    each_mode (λ _ x. P (sized x height))
+    (on_colour P height (some _ (small _ refl)) (some _ (small _ refl)) (some _ (small _ refl)) none)
+    (on_monochrome P height (some _ (small _ refl)) (some _ (small _ refl)) (some _ (small _ refl)) none)
+    (some _ (small _ refl)) (some _ (small _ refl)) (some _ (small _ refl)) (some _ (small _ refl)) (λ _. none) mode
 
 -- data that are those of their mode and height are small
 bounds_of : (d : BiosData) → Fits (row_at d.mode d.height) d → Bounds (row_at d.mode d.height) d
@@ -290,12 +186,12 @@ monochrome_begins height = on_monochrome (λ x. IfSome x (BeginsAt (λ h. with_h
 -- each row of a mode and a height begins it
 all_begin : (mode height : ℕ) → IfSome (row_at mode height) (BeginsAt (row_at mode))
 all_begin mode height =
-    on_each_mode (λ x. IfSome (sized x height) (BeginsAt (sized x))) mode (colour_begins height) (monochrome_begins height)
-    (omega arith, refl) (omega arith, refl) (omega arith, refl) (omega arith, refl) tt
+    each_mode (λ _ x. IfSome (sized x height) (BeginsAt (sized x))) (colour_begins height) (monochrome_begins height)
+    (omega arith, refl) (omega arith, refl) (omega arith, refl) (omega arith, refl) (λ _. tt) mode
 
 -- each row of a mode is that of its own height
 all_own : (mode : ℕ) → IfSome (mode_row mode) (λ row. row_at mode row.height ≡ Some row)
-all_own mode = on_each_mode (λ x. IfSome x (λ row. sized x row.height ≡ Some row)) mode refl refl refl refl refl refl tt
+all_own = each_mode (λ _ x. IfSome x (λ row. sized x row.height ≡ Some row)) refl refl refl refl refl refl (λ _. tt)
 
 -- the data that a mode begins with at a height are valid
 pub begins_valid_at : (mode height : ℕ) (row : ModeRow) → row_at mode height ≡ Some row → IsValid (data_of_mode mode row)
@@ -313,9 +209,9 @@ begins_valid mode row e =
 -- a small row of text is no higher than a map of glyphs has lines for, and has its height
 text_height : (mode height : ℕ) (row : ModeRow) → is_text mode ≡ true → row_at mode height ≡ Some row → height ≤ 16
 text_height mode height row =
-    on_each_mode (λ x. is_text_kind (kind_in x) ≡ true → sized x height ≡ Some row → height ≤ 16) mode
+    each_mode (λ _ x. is_text_kind (kind_in x) ≡ true → sized x height ≡ Some row → height ≤ 16)
     (λ _ e. grind (arith, nat_tests)) (λ _ e. grind (arith, nat_tests)) (λ t _. absurd (cc)) (λ t _. absurd (cc)) (λ t _. absurd (cc)) (λ t _. absurd (cc))
-    (λ t _. absurd (cc))
+    (λ _ t _. absurd (cc)) mode
 
 -- glyphs that are not refused, and whose height there is, are there
 pub there_of : (load : GlyphLoad) (mode len : ℕ) (row : ModeRow) → load_refusal load mode len ≡ None → row_at mode load.height ≡ Some row → AreThere load len

@@ -1,9 +1,8 @@
 -- Why the report of services and whole frames is the plain screen's.
-use Rattle.std.proofs.Common.{◌≡◌, ◌≢◌, ◌∙◌, inl, inr, ℕ, zero, suc, ◌+◌, ◌^◌, ◌<◌, ◌==◌, Bool, true, false, List, [], ◌∷◌, ◌++◌, take, drop, Option, Some}
+use Rattle.std.proofs.Common.{◌≡◌, ◌≢◌, ◌∙◌, inl, inr, ℕ, zero, suc, ◌+◌, ◌^◌, ◌<◌, Bool, true, false, List, [], ◌∷◌, ◌++◌, take, drop, Option, Some}
 use Rattle.std.proofs.Common.{None, Result, Err, if◌then◌else◌, arith, refl, sym, ap, subst}
 use Rattle.std.specs.Prelude.{slice_index}
 use Rattle.std.specs.List.{AllByRecursion}
-use Rattle.std.proofs.lemmas.Bool.Decides.{nat_tests}
 use Rattle.std.proofs.lemmas.List.{get_or-drop}
 use Rattle.vga_bits.specs.declared.refusal.Refusal.{Refusal}
 use Rattle.vga_bits.specs.declared.refusal.Refusal.TheVariants.{BadFunction, BadMode}
@@ -16,6 +15,7 @@ use Rattle.vga_card.specs.Frames.{frame, frame_count}
 use Rattle.vga_card.specs.Picture.{bytes_of}
 use Rattle.bios_modes.specs.declared.modes.ModeRow.{ModeRow}
 use Rattle.bios_modes.specs.Heights.{row_at}
+use Rattle.bios_modes.proofs.RowLemmas.{each_mode}
 use Rattle.bios_modes.specs.Modes.{mode_row, colour_text, monochrome_text, planes_320_by_200, planes_640_by_350, planes_640_by_480, bytes_320_by_200}
 use Rattle.bios_modes.specs.Bda.{BiosData, power_on_data}
 use Rattle.bios_modes.specs.Bounds.{IsBda, AreBytes, AreFonts}
@@ -84,29 +84,14 @@ pub record HasRow (mode : ℕ) : Type 0 where
   pub is : mode_row mode ≡ Some row
   pub fresh : SetsFresh mode row
 
-same_mode : (mode known : ℕ) → (mode == known) ≡ true → known ≡ mode
-same_mode mode known e = grind (arith, nat_tests)
-
 pub row_of_mode : Laws → (mode : ℕ) → mode_row mode ≢ None → HasRow mode
-row_of_mode law mode there = by_tests (mode == 0x03) (mode == 0x07) (mode == 0x0D) (mode == 0x10) (mode == 0x12) (mode == 0x13) refl refl refl refl refl refl
-    there
-  where
-    by_tests : (a b f g i j : Bool) → (mode == 0x03) ≡ a → (mode == 0x07) ≡ b → (mode == 0x0D) ≡ f → (mode == 0x10) ≡ g → (mode == 0x12) ≡ i →
-        (mode == 0x13) ≡ j
-        → (let x : Option ModeRow = (if a then Some colour_text else if b then Some monochrome_text else if f then Some planes_320_by_200 else if g
-        then Some planes_640_by_350 else if i then Some planes_640_by_480 else if j then Some bytes_320_by_200 else None) in x) ≢ None → HasRow mode
-    by_tests true b f g i j ea eb ef eg ei ej some = subst HasRow (same_mode mode 0x03 ea) (record { row = colour_text; is = refl; fresh = law.colour })
-    by_tests false true f g i j ea eb ef eg ei ej some = subst HasRow (same_mode mode 0x07 eb)
-        (record { row = monochrome_text; is = refl; fresh = law.monochrome })
-    by_tests false false true g i j ea eb ef eg ei ej some = subst HasRow (same_mode mode 0x0D ef)
-        (record { row = planes_320_by_200; is = refl; fresh = law.planes_320_by_200 })
-    by_tests false false false true i j ea eb ef eg ei ej some = subst HasRow (same_mode mode 0x10 eg)
-        (record { row = planes_640_by_350; is = refl; fresh = law.planes_640_by_350 })
-    by_tests false false false false true j ea eb ef eg ei ej some = subst HasRow (same_mode mode 0x12 ei)
-        (record { row = planes_640_by_480; is = refl; fresh = law.planes_640_by_480 })
-    by_tests false false false false false true ea eb ef eg ei ej some = subst HasRow (same_mode mode 0x13 ej)
-        (record { row = bytes_320_by_200; is = refl; fresh = law.bytes_320_by_200 })
-    by_tests false false false false false false ea eb ef eg ei ej some = absurd (some refl)
+row_of_mode law mode there = each_mode (λ m x. mode_row m ≡ x → x ≢ None → HasRow m)
+    (λ e _. record { row = colour_text; is = e; fresh = law.colour }) (λ e _. record { row = monochrome_text; is = e; fresh = law.monochrome })
+    (λ e _. record { row = planes_320_by_200; is = e; fresh = law.planes_320_by_200 })
+    (λ e _. record { row = planes_640_by_350; is = e; fresh = law.planes_640_by_350 })
+    (λ e _. record { row = planes_640_by_480; is = e; fresh = law.planes_640_by_480 })
+    (λ e _. record { row = bytes_320_by_200; is = e; fresh = law.bytes_320_by_200 })
+    (λ _ _ some. absurd (some refl)) mode refl there
 
 -- ---- numbers
 

@@ -1,5 +1,5 @@
 -- Why runs of services, dots and frames write the plain screen's report, and that whole frames are such.
-use Rattle.std.proofs.Common.{◌≡◌, inl, inr, ℕ, ◌*◌, ◌<◌, ◌==◌, Bool, true, false, List, [], ◌∷◌, length, Option, Some, None, if◌then◌else◌}
+use Rattle.std.proofs.Common.{◌≡◌, inl, inr, ℕ, ◌*◌, ◌<◌, ◌==◌, List, [], ◌∷◌, length, Option, Some, None, if◌then◌else◌}
 use Rattle.std.proofs.Common.{arith, refl}
 use Rattle.std.specs.List.{AllByRecursion}
 use Rattle.bios_modes.specs.Fonts.{FontSet}
@@ -13,7 +13,7 @@ use Rattle.bios_screen.specs.Drawing.{Drawing, dots_a_frame, take_frame, columns
 use Rattle.bios_screen.specs.Whole.{IsFrameTaken}
 use Rattle.vga_run.specs.DotReport.{drawing_after, power_on_drawing, StaysAt, AllOfDots, AreOfDots}
 use Rattle.bios_modes.specs.Kinds.{is_text_kind, is_packed_kind, kind_in}
-use Rattle.bios_modes.specs.Modes.{colour_text, monochrome_text, planes_320_by_200, planes_640_by_350, planes_640_by_480, bytes_320_by_200}
+use Rattle.bios_modes.proofs.RowLemmas.{each_mode}
 use Rattle.bios_modes.specs.declared.modes.ModeRow.{ModeRow}
 use Rattle.bios_screen.specs.Picture.{lines_in}
 
@@ -28,18 +28,7 @@ HasDots row =
 -- a frame has dots, whatever the mode
 some_dots : (mode : ℕ) → 0 < dots_a_frame mode
 unfolding dots_a_frame
-some_dots mode = by_tests (mode == 0x03) (mode == 0x07) (mode == 0x0D) (mode == 0x10) (mode == 0x12) (mode == 0x13)
-  where
-    by_tests : (a b f g i j : Bool)
-        → HasDots (if a then Some colour_text else if b then Some monochrome_text else if f then Some planes_320_by_200 else if g then Some planes_640_by_350
-        else if i then Some planes_640_by_480 else if j then Some bytes_320_by_200 else None)
-    by_tests true b f g i j = omega arith
-    by_tests false true f g i j = omega arith
-    by_tests false false true g i j = omega arith
-    by_tests false false false true i j = omega arith
-    by_tests false false false false true j = omega arith
-    by_tests false false false false false true = omega arith
-    by_tests false false false false false false = omega arith
+some_dots = each_mode (λ _ row. HasDots row) (omega arith) (omega arith) (omega arith) (omega arith) (omega arith) (omega arith) (λ _. omega arith)
 
 -- the law of plain frames
 abbrev pub FramesEnd : Type 0
