@@ -8,3 +8,4 @@ pub mod Entries
 pub mod Fresh
 pub mod TextFresh
 pub mod PixelFresh
+pub mod AnyFresh

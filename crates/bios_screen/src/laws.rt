@@ -25,8 +25,8 @@ ghost use Rattle.bios_services.specs.declared.call.Service.TheVariants.{WritePix
 ghost use Rattle.bios_services.specs.declared.call.Service.TheVariants.{Teletype, WriteString};
 ghost use Rattle.bios_services.specs.declared.call.Service.TheVariants.{Colours, ReadMode};
 ghost use Rattle.bios_services.specs.declared.call.Service.TheVariants.{ReadAdapter, ReadDisplay};
-ghost use Rattle.bios_modes.specs.Modes.{mode_row, colour_text, monochrome_text, planes_320_by_200};
-ghost use Rattle.bios_modes.specs.Modes.{planes_640_by_350, planes_640_by_480, bytes_320_by_200};
+ghost use Rattle.bios_modes.specs.declared.modes.ModeRow.{ModeRow};
+ghost use Rattle.bios_modes.specs.Modes.{mode_row};
 ghost use Rattle.bios_modes.specs.Bounds.{IsBda};
 ghost use Rattle.bios_screen.specs.Screen.{Screen};
 ghost use Rattle.bios_screen.specs.Shown.{shown};
@@ -35,15 +35,10 @@ ghost use Rattle.bios_modes.specs.Bounds.{AreBytes, AreFonts};
 ghost use Rattle.bios_screen.specs.Called.{AreWords, IsCalled, IsLoaded, IsRead, WantsMemory};
 ghost use Rattle.bios_screen.specs.Called.{IsLeft};
 
-/// Function 00, a mode set that clears the memory: from any state to one that shows the fresh
-/// screen.
+/// Function 00, a mode set that clears the memory, in every mode of the table: from any state to
+/// one that shows the fresh screen of the mode's row.
 pub fn mode_set_is_fresh()
-    ensures colour { SetsFresh 0x03 colour_text }
-    ensures monochrome { SetsFresh 0x07 monochrome_text }
-    ensures planes_320_by_200 { SetsFresh 0x0D planes_320_by_200 }
-    ensures planes_640_by_350 { SetsFresh 0x10 planes_640_by_350 }
-    ensures planes_640_by_480 { SetsFresh 0x12 planes_640_by_480 }
-    ensures bytes_320_by_200 { SetsFresh 0x13 bytes_320_by_200 }
+    ensures { (mode : ℕ) (row : ModeRow) → mode_row mode ≡ Some row → SetsFresh mode row }
 {}
 
 /// Functions 03, 0F, 12 and 1A: cursor, mode, adapter and display are answered.

@@ -7,7 +7,7 @@ use Rattle.bios_modes.specs.Heights.{fifty_rows, twenty_eight_rows, twenty_five_
 use Rattle.bios_modes.specs.Heights.{row_at}
 use Rattle.bios_modes.specs.Modes.{mode_row, colour_text, monochrome_text, planes_320_by_200, planes_640_by_350, planes_640_by_480, bytes_320_by_200}
 use Rattle.bios_modes.specs.Bda.{BiosData}
-use Rattle.bios_modes.proofs.RowLemmas.{each_mode}
+use Rattle.bios_modes.proofs.RowLemmas.{each_mode, own_row}
 use Rattle.bios_modes.specs.Begin.{data_of_mode}
 use Rattle.bios_modes.specs.Valid.{IsOf, Fits, IsValid}
 use Rattle.std.specs.Prelude.{◌+◌, ◌&&◌, nat_le, nat_lt}
@@ -189,10 +189,6 @@ all_begin mode height =
     each_mode (λ _ x. IfSome (sized x height) (BeginsAt (sized x))) (colour_begins height) (monochrome_begins height)
     (omega arith, refl) (omega arith, refl) (omega arith, refl) (omega arith, refl) (λ _. tt) mode
 
--- each row of a mode is that of its own height
-all_own : (mode : ℕ) → IfSome (mode_row mode) (λ row. row_at mode row.height ≡ Some row)
-all_own = each_mode (λ _ x. IfSome x (λ row. sized x row.height ≡ Some row)) refl refl refl refl refl refl (λ _. tt)
-
 -- the data that a mode begins with at a height are valid
 pub begins_valid_at : (mode height : ℕ) (row : ModeRow) → row_at mode height ≡ Some row → IsValid (data_of_mode mode row)
 begins_valid_at mode height row e =
@@ -201,8 +197,7 @@ begins_valid_at mode height row e =
 
 -- and those that it begins with at its own
 pub begins_valid : (mode : ℕ) (row : ModeRow) → mode_row mode ≡ Some row → IsValid (data_of_mode mode row)
-begins_valid mode row e =
-    begins_valid_at mode row.height row (subst (λ x. IfSome x (λ r. row_at mode r.height ≡ Some r)) e (all_own mode))
+begins_valid mode row e = begins_valid_at mode row.height row (own_row mode row e)
 
 -- ---- function 11
 

@@ -15,8 +15,7 @@ use Rattle.vga_card.specs.Frames.{frame, frame_count}
 use Rattle.vga_card.specs.Picture.{bytes_of}
 use Rattle.bios_modes.specs.declared.modes.ModeRow.{ModeRow}
 use Rattle.bios_modes.specs.Heights.{row_at}
-use Rattle.bios_modes.proofs.RowLemmas.{each_mode}
-use Rattle.bios_modes.specs.Modes.{mode_row, colour_text, monochrome_text, planes_320_by_200, planes_640_by_350, planes_640_by_480, bytes_320_by_200}
+use Rattle.bios_modes.specs.Modes.{mode_row}
 use Rattle.bios_modes.specs.Bda.{BiosData, power_on_data}
 use Rattle.bios_modes.specs.Bounds.{IsBda, AreBytes, AreFonts}
 use Rattle.bios_modes.specs.Fonts.{FontSet, font_len, fonts_of}
@@ -68,12 +67,7 @@ pub record Laws : Type 0 where
       after_call fonts r block c d ≡ (c, (Err BadFunction, d))
   pub no_mode : (mode : ℕ) (keeps : Bool) (fonts : FontSet) (r : Regs) (block : List ℕ) (c : CardState) (d : BiosData)
       → call_of r ≡ Some (SetMode mode keeps) → mode_row mode ≡ None → after_call fonts r block c d ≡ (c, (Err BadMode, d))
-  pub colour : SetsFresh 0x03 colour_text
-  pub monochrome : SetsFresh 0x07 monochrome_text
-  pub planes_320_by_200 : SetsFresh 0x0D planes_320_by_200
-  pub planes_640_by_350 : SetsFresh 0x10 planes_640_by_350
-  pub planes_640_by_480 : SetsFresh 0x12 planes_640_by_480
-  pub bytes_320_by_200 : SetsFresh 0x13 bytes_320_by_200
+  pub fresh : (mode : ℕ) (row : ModeRow) → mode_row mode ≡ Some row → SetsFresh mode row
   pub framed : (c : CardState) (d : BiosData) (s : Screen) → IsCard c → shown c d ≡ Some s → IsFrameStart c.crtc.beam → IsFramed c d s
 
 -- ---- modes
@@ -85,13 +79,11 @@ pub record HasRow (mode : ℕ) : Type 0 where
   pub fresh : SetsFresh mode row
 
 pub row_of_mode : Laws → (mode : ℕ) → mode_row mode ≢ None → HasRow mode
-row_of_mode law mode there = each_mode (λ m x. mode_row m ≡ x → x ≢ None → HasRow m)
-    (λ e _. record { row = colour_text; is = e; fresh = law.colour }) (λ e _. record { row = monochrome_text; is = e; fresh = law.monochrome })
-    (λ e _. record { row = planes_320_by_200; is = e; fresh = law.planes_320_by_200 })
-    (λ e _. record { row = planes_640_by_350; is = e; fresh = law.planes_640_by_350 })
-    (λ e _. record { row = planes_640_by_480; is = e; fresh = law.planes_640_by_480 })
-    (λ e _. record { row = bytes_320_by_200; is = e; fresh = law.bytes_320_by_200 })
-    (λ _ _ some. absurd (some refl)) mode refl there
+row_of_mode law mode there = by_row (mode_row mode) refl there
+  where
+    by_row : (x : Option ModeRow) → mode_row mode ≡ x → x ≢ None → HasRow mode
+    by_row None e some = absurd (some refl)
+    by_row (Some row) e some = record { row = row; is = e; fresh = law.fresh mode row e }
 
 -- ---- numbers
 

@@ -201,7 +201,7 @@ fresh_memory disp c d font z2 small =
     } in
     subst (FreshMemory disp font y2) (sym whole) state
 
-set_by : (disp : Display) → IsSet (number_of disp) (row_of disp)
+pub set_by : (disp : Display) → IsSet (number_of disp) (row_of disp)
 unfolding registers_plan group attribute_group reached_by crtc_port_of out_at inp_at after_crtc is_protected overflow
 set_by Colour = record { table = refl; literal = λ _. refl }
 set_by Monochrome = record { table = refl; literal = λ _. refl }

@@ -13,11 +13,6 @@ returns c = reports_screens (record {
   loaded = c.calls_lead_to_screens.ensures.loaded;
   unknown = c.calls_lead_to_screens.ensures.unknown;
   no_mode = c.calls_lead_to_screens.ensures.mode;
-  colour = c.mode_set_is_fresh.ensures.colour;
-  monochrome = c.mode_set_is_fresh.ensures.monochrome;
-  planes_320_by_200 = c.mode_set_is_fresh.ensures.planes_320_by_200;
-  planes_640_by_350 = c.mode_set_is_fresh.ensures.planes_640_by_350;
-  planes_640_by_480 = c.mode_set_is_fresh.ensures.planes_640_by_480;
-  bytes_320_by_200 = c.mode_set_is_fresh.ensures.bytes_320_by_200;
+  fresh = c.mode_set_is_fresh.ensures;
   framed = c.frame_draws_screen.ensures;
 })
