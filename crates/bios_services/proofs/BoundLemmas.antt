@@ -5,7 +5,7 @@ use Rattle.bios_modes.specs.declared.modes.ModeRow.{ModeRow}
 use Rattle.bios_modes.specs.declared.heights.TextRow.{TextRow}
 use Rattle.bios_modes.specs.Heights.{fifty_rows, twenty_eight_rows, twenty_five_rows, colour_rows, monochrome_rows, with_text, with_height, if_row, at_height}
 use Rattle.bios_modes.specs.Heights.{row_at}
-use Rattle.bios_modes.specs.Modes.{mode_row, colour_text, monochrome_text, planes_320_by_200, planes_640_by_350, planes_640_by_480, bytes_320_by_200}
+use Rattle.bios_modes.specs.Modes.{mode_row, colour_text, monochrome_text}
 use Rattle.bios_modes.specs.Bda.{BiosData}
 use Rattle.bios_modes.proofs.RowLemmas.{each_mode, own_row}
 use Rattle.bios_modes.specs.Begin.{data_of_mode}

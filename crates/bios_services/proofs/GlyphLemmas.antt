@@ -8,12 +8,6 @@ next_of_all test i e r h holds before =
     let n : e - i ≡ suc (e - (i + 1)) = omega arith in
     sym (ap (λ k. all_of test k i) n ∙ ap (λ b. b && all_of test (e - (i + 1)) (i + 1)) holds) ∙ before
 
--- and ends where it does not
-pub not_all : (test : ℕ → Bool) (i e : ℕ) (r : Bool) → i < e → test i ≡ false → all_of test (e - i) i ≡ r → false ≡ r
-not_all test i e r h fails before =
-    let n : e - i ≡ suc (e - (i + 1)) = omega arith in
-    sym (ap (λ k. all_of test k i) n ∙ ap (λ b. b && all_of test (e - (i + 1)) (i + 1)) fails) ∙ before
-
 -- a search goes on where the test fails
 pub next_first : (test : ℕ → Bool) (i e r : ℕ) → i < e → test i ≡ false → first_of test (e - i) i ≡ r → first_of test (e - (i + 1)) (i + 1) ≡ r
 next_first test i e r h fails before =

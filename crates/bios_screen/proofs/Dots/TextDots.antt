@@ -5,7 +5,7 @@ use Rattle.std.specs.Int.{bit_at}
 use Rattle.std.proofs.lemmas.Nat.{and_mask}
 use Rattle.vga_bits.specs.Bits.{is_set, field}
 use Rattle.vga_planes.specs.Planes.{byte_at}
-use Rattle.vga_host.specs.Fields.{character_map_a, character_map_b, is_graphics, is_256_colours}
+use Rattle.vga_host.specs.Fields.{character_map_a, character_map_b, is_graphics}
 use Rattle.vga_crtc.specs.declared.beam.Beam.{Beam}
 use Rattle.vga_crtc.specs.Crtc.{CrtcState}
 use Rattle.vga_crtc.specs.Fields.{cursor_start, is_cursor_off, cursor_end, cursor_location, underline_location}
@@ -140,9 +140,6 @@ module _ (c : CardState) (d : BiosData) (h : IsShown c d) (z : IsCard c) (g : �
 
   graphics_off : is_graphics c.host ≡ false
   graphics_off = ap (λ (t : Setting). is_set (slice_index t.gfx 6) 0) h.setting ∙ not_graphics disp
-
-  many_colours_off : is_256_colours c.host ≡ false
-  many_colours_off = ap (λ w. w && is_set (slice_index c.host.gfx 5) 6) graphics_off
 
   mono_is : is_monochrome c.attr ≡ is_monochrome_mode d.mode
   mono_is = control_bit (slice_index c.attr.registers 0x10) (control_of disp) 1 (control_is c d h) refl ∙ mono_by disp ∙ ap is_monochrome_mode (sym h.number)

@@ -1,12 +1,9 @@
 -- What a reading has found so far, and lists by their elements.
 use Rattle.std.proofs.Common.{◌≡◌, ℕ, zero, suc, ◌+◌, ◌*◌, ◌/◌, ◌%◌, ◌<◌, ◌≤◌, ⊎_elim, refl, sym, ap, subst, ◌∙◌, arith, List, [], ◌∷◌, ◌++◌, length}
 use Rattle.std.proofs.Common.{append_assoc, get_or, Bool, true, false, Some, None, IsTrue}
-use Rattle.std.specs.Prelude.{slice_index, slice_set, take, bit_and, nat_lt, ◌&&◌, if◌then◌else◌}
-use Rattle.std.specs.Str.{bytes_eq}
+use Rattle.std.specs.Prelude.{slice_index, slice_set, bit_and, nat_lt, ◌&&◌, if◌then◌else◌}
 use Rattle.std.proofs.lemmas.Bool.{cases_lt}
-use Rattle.std.proofs.lemmas.Grind.{same_number_lists}
-use Rattle.std.proofs.lemmas.List.{get_or_append_left, get_or-append-add, get_or_default, append-nil, length-append, get_or-take, length-take-le}
-use Rattle.std.proofs.lemmas.Slice.Eq.{bytes_eq-Decides}
+use Rattle.std.proofs.lemmas.List.{get_or_append_left, get_or-append-add, get_or_default, append-nil, length-append}
 use Rattle.vga_bits.specs.Four.{Four}
 use Rattle.vga_card.specs.Card.{CardState}
 use Rattle.bios_modes.specs.declared.modes.ModeRow.{ModeRow}
@@ -53,14 +50,6 @@ no_glyphs a = refl
 pub more_glyphs : (a : List ℕ) (n : ℕ) → glyphs_in a (n + 1) ≡ glyphs_in a n ++ slice_index a (32 * (n / 16) + n % 16) ∷ []
 unfolding glyphs_in
 more_glyphs a n = listed_more (glyph_byte a) n
-
--- where they are among the first of two lists
-pub same_bytes : (a b : List ℕ) → length a ≡ length b → ((k : ℕ) → k < length a → slice_index a k ≡ slice_index b k) → true ≡ bytes_eq a b
-same_bytes a b e h = sym ((bytes_eq-Decides a b).1 (same_number_lists a b e h))
-
-pub first_elements : (n : ℕ) (a b : List ℕ) → length a ≡ n → n ≤ length b → ((k : ℕ) → k < n → slice_index a k ≡ slice_index b k) → a ≡ take n b
-first_elements n a b e l h = same_number_lists a (take n b) (e ∙ sym (length-take-le n b l)) (λ k m. h k (omega arith)
-    ∙ sym (get_or-take n b k 0 (omega arith)))
 
 -- ---- the pixels of all pages in one list
 
