@@ -1,3 +1,4 @@
+mod Prelude
 pub mod Base
 pub mod Modes
 pub mod Shows

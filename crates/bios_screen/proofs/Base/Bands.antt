@@ -3,14 +3,11 @@ use Rattle.std.proofs.Common.{◌≡◌, ◌≢◌, ℕ, ◌+◌, ◌-◌, ◌*�
 use Rattle.std.specs.Prelude.{◌==◌, if◌then◌else◌}
 use Rattle.vga_card.specs.Bus.{Meaning}
 use Rattle.bios_modes.specs.declared.kind.Kind.{Kind}
-use Rattle.bios_modes.specs.declared.kind.Kind.TheVariants.{Text, Planar, Packed}
-use Rattle.bios_services.specs.declared.band.Band.{Band}
-use Rattle.bios_services.specs.declared.band.Direction.{Direction}
-use Rattle.bios_services.specs.declared.band.Direction.TheVariants.{Up, Down}
+use Rattle.bios_screen.proofs.Prelude.{Planar, Band, Direction, Up, Down, Window, run, put}
+use Rattle.bios_modes.specs.declared.kind.Kind.TheVariants.{Text, Packed}
 use Rattle.bios_services.specs.declared.filling.Filling.{Filling}
-use Rattle.bios_services.specs.declared.scroll.Window.{Window}
 use Rattle.bios_services.specs.Kinds.{column_bytes}
-use Rattle.bios_services.specs.Plan.{run, put, move}
+use Rattle.bios_services.specs.Plan.{move}
 use Rattle.bios_services.specs.Bands.{address_in, filling_byte, copy_line, copy_row, move_rows, fill_line, fill_row, fill_rows}
 use Rattle.bios_screen.specs.Step.{source}
 use Rattle.bios_screen.proofs.Base.Flat.{Edited, Moved, Turn, Leaves, set_cell}

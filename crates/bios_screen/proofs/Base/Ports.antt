@@ -1,12 +1,10 @@
 -- The ports of the CRT controller and of input status 1, at 3D4 and at 3B4 alike.
 use Rattle.std.proofs.Common.{◌≡◌, ℕ, ◌+◌, refl, ap, ◌∙◌, Bool, true, false, Some}
-use Rattle.vga_bits.specs.Bits.{is_set}
+use Rattle.bios_screen.proofs.Prelude.{is_set, card_meaning, CardState, crtc_port, Plan, run, ◌>>◌}
 use Rattle.vga_card.specs.declared.port.Port.TheVariants.{CrtcIndex, CrtcData, InputStatus1}
-use Rattle.vga_card.specs.Bus.{card_meaning}
-use Rattle.vga_card.specs.Card.{CardState}
-use Rattle.vga_card.specs.Port.{crtc_port, port_of, crtc_port_of}
+use Rattle.vga_card.specs.Port.{port_of, crtc_port_of}
 use Rattle.vga_card.specs.Cycles.{out_at, inp_at}
-use Rattle.bios_services.specs.Plan.{Plan, run, out, ◌>>◌}
+use Rattle.bios_services.specs.Plan.{out}
 use Rattle.bios_services.specs.Cycles.{crtc, expect_index}
 use Rattle.bios_screen.proofs.Base.Plans.{run_bind}
 

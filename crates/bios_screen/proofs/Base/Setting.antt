@@ -2,15 +2,12 @@
 use Rattle.std.proofs.Common.{◌≡◌, ℕ, ◌+◌, ◌-◌, ◌%◌, ◌<◌, List, Bool, true, sym, ap, ◌∙◌, arith}
 use Rattle.std.specs.Prelude.{◌&&◌, nat_le, nat_lt}
 use Rattle.std.proofs.lemmas.Bool.Decides.{nat_tests}
-use Rattle.vga_bits.specs.Four.{Four}
-use Rattle.vga_host.specs.Host.{HostState}
+use Rattle.bios_screen.proofs.Prelude.{Four, HostState, card_meaning, CardState, run, put, get}
 use Rattle.vga_host.specs.Address.{is_decoded, window_offset}
 use Rattle.vga_host.specs.MemoryWrite.{memory_after_put, after_put}
 use Rattle.vga_host.specs.MemoryRead.{loaded, read_byte, after_get}
-use Rattle.vga_card.specs.Bus.{card_meaning}
-use Rattle.vga_card.specs.Card.{CardState}
 use Rattle.vga_card.specs.Cycles.{written_where, answered_where}
-use Rattle.bios_services.specs.Plan.{run, put, get, byte_of}
+use Rattle.bios_services.specs.Plan.{byte_of}
 
 pub record Setting : Type 0 where
   pub misc : ℕ

@@ -2,14 +2,11 @@
 use Rattle.std.proofs.Common.{◌≡◌, ◌≢◌, ℕ, ◌+◌, ◌-◌, ◌*◌, ◌/◌, ◌%◌, ◌<◌, ◌≤◌, refl, sym, ap, ◌∙◌, subst, arith, Bool, true, false}
 use Rattle.std.proofs.Math.Nat.{mod-lt, div-lt_iff_lt-mul, le-div_iff_mul-le}
 use Rattle.vga_card.specs.Bus.{Meaning}
-use Rattle.bios_services.specs.declared.band.Band.{Band}
-use Rattle.bios_services.specs.declared.band.Direction.{Direction}
-use Rattle.bios_services.specs.declared.band.Direction.TheVariants.{Up, Down}
+use Rattle.bios_screen.proofs.Prelude.{Band, Direction, Up, Down, Window, run, put, get, ◌>>◌}
 use Rattle.bios_services.specs.declared.filling.Filling.{Filling}
-use Rattle.bios_services.specs.declared.scroll.Window.{Window}
 use Rattle.bios_services.specs.Bands.{filling_byte, move_rows, fill_rows}
 use Rattle.bios_services.specs.Kinds.{column_bytes}
-use Rattle.bios_services.specs.Plan.{run, put, get, move, ◌>>◌}
+use Rattle.bios_services.specs.Plan.{move}
 use Rattle.bios_screen.specs.Step.{in_window, has_source, source}
 use Rattle.bios_screen.proofs.Base.Flat.{Edited, Moved, Turn, Leaves, set_cell}
 use Rattle.bios_screen.proofs.Base.Plans.{run_bind}

@@ -2,11 +2,9 @@
 use Rattle.std.proofs.Common.{◌≡◌, ℕ, ◌+◌, ◌-◌, ◌<◌, ◌≤◌, refl, sym, ap, subst, arith, Bool, true, false}
 use Rattle.std.specs.Prelude.{◌==◌, nat_lt, if◌then◌else◌}
 use Rattle.std.proofs.lemmas.Bool.Decides.{nat_tests}
-use Rattle.bios_modes.specs.Fonts.{FontSet}
-use Rattle.bios_services.specs.declared.colouring.Colouring.{Colouring}
+use Rattle.bios_screen.proofs.Prelude.{FontSet, Colouring, Screen}
 use Rattle.bios_services.specs.Cursor.{row_of, column_of}
 use Rattle.bios_services.specs.Teletype.{line_start}
-use Rattle.bios_screen.specs.Screen.{Screen}
 use Rattle.bios_screen.specs.Step.{last_colour, page_up, line_feed, cursor_advance, put_character, type_character}
 use Rattle.bios_screen.proofs.Base.Tests.{lt_is}
 

@@ -1,17 +1,10 @@
 -- What every screen that is shown says of its frames, in text and in graphics.
 use Rattle.std.proofs.Common.{◌≡◌, ℕ, ◌+◌, ◌*◌, ◌<◌, refl, sym, ap, subst, ◌∙◌, arith}
 use Rattle.std.specs.Prelude.{if◌then◌else◌, Some}
-use Rattle.vga_crtc.specs.Beam.{first_counter}
-use Rattle.vga_card.specs.Bounds.{IsCard}
-use Rattle.vga_card.specs.Card.{CardState}
-use Rattle.bios_modes.specs.declared.modes.ModeRow.{ModeRow}
-use Rattle.bios_modes.specs.Modes.{bytes_320_by_200}
-use Rattle.bios_modes.specs.Bda.{BiosData}
-use Rattle.bios_services.specs.Cursor.{start_address}
-use Rattle.bios_screen.specs.Screen.{Screen}
-use Rattle.bios_screen.specs.Shown.{pixel_screen, shown}
+use Rattle.bios_screen.proofs.Prelude.{first_counter, IsCard, CardState, ModeRow, bytes_320_by_200, BiosData, start_address, Screen, pixel_screen, shown}
+use Rattle.bios_screen.proofs.Prelude.{Raster, Draws}
 use Rattle.bios_screen.specs.Picture.{text_dot, pixel_dot, dot_at, pixel_width, picture_width, picture_height}
-use Rattle.bios_screen.specs.Raster.{Raster, HasRaster, Draws, width, line_dots as dots_of_line}
+use Rattle.bios_screen.specs.Raster.{HasRaster, width, line_dots as dots_of_line}
 use Rattle.bios_screen.specs.Drawing.{dots_a_line, lines_a_frame, columns_of}
 use Rattle.bios_screen.proofs.Modes.TextModes.{Display, number_of as text_number}
 use Rattle.bios_screen.proofs.Modes.TextModes.Display.{Colour, Monochrome}

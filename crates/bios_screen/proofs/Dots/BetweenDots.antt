@@ -4,23 +4,16 @@ use Rattle.std.proofs.Common.{Some, None}
 use Rattle.std.specs.Prelude.{◌==◌, ◌*◌, if◌then◌else◌}
 use Rattle.std.proofs.Common.{arith}
 use Rattle.std.proofs.lemmas.Nat.{mul-le}
-use Rattle.vga_crtc.specs.declared.beam.Beam.{Beam}
+use Rattle.bios_screen.proofs.Prelude.{Beam, IsCard, CardState, Refusal, BiosData, FontSet, start_address, Screen, shown}
 use Rattle.vga_crtc.specs.Beam.{is_first_dot}
 use Rattle.vga_crtc.specs.Raster.{IsFrameStart, beam_at}
 use Rattle.vga_crtc.proofs.Moves.{first_dot_starts}
-use Rattle.vga_card.specs.Bounds.{IsCard}
-use Rattle.vga_card.specs.Card.{CardState}
 use Rattle.vga_card.specs.Dots.{character_width, fresh, fresh_dots}
 use Rattle.vga_card.specs.Picture.{lines_of, bytes_of}
-use Rattle.vga_bits.specs.declared.refusal.Refusal.{Refusal}
-use Rattle.bios_modes.specs.Bda.{BiosData}
-use Rattle.bios_modes.specs.Fonts.{FontSet}
 use Rattle.bios_services.specs.declared.glyph_load.GlyphLoad.{GlyphLoad}
-use Rattle.bios_services.specs.Cursor.{start_address}
 use Rattle.bios_screen.specs.Loaded.{load_refusal_on, load_glyphs}
 use Rattle.bios_screen.specs.Called.{screen_unless}
-use Rattle.bios_screen.specs.Screen.{Layout, Screen}
-use Rattle.bios_screen.specs.Shown.{shown}
+use Rattle.bios_screen.specs.Screen.{Layout}
 use Rattle.bios_screen.specs.Raster.{all_dots}
 use Rattle.bios_screen.specs.Drawing.{Drawing, dots_a_frame, is_of_picture, dots_a_line, MayLoad}
 use Rattle.bios_screen.specs.Follows.{BeamIsAt, lines_before, Follows}

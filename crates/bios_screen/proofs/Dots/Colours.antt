@@ -4,21 +4,16 @@ use Rattle.std.specs.Prelude.{◌==◌, ◌&&◌, if◌then◌else◌, slice_ind
 use Rattle.std.specs.Str.{bytes_eq}
 use Rattle.std.proofs.lemmas.Slice.Eq.{bytes_eq-Decides}
 use Rattle.std.proofs.lemmas.Nat.{and_mask}
-use Rattle.vga_bits.specs.Bits.{is_set, field}
+use Rattle.bios_screen.proofs.Prelude.{is_set, CrtcState, is_palette_shown, IsCard, CardState, ModeRow, BiosData, shows_attribute, shade}
+use Rattle.vga_bits.specs.Bits.{field}
 use Rattle.vga_bits.proofs.BitLemmas.{is_set_and}
 use Rattle.vga_host.specs.Fields.{is_screen_off, is_256_colours}
-use Rattle.vga_crtc.specs.Crtc.{CrtcState}
 use Rattle.vga_attr.specs.Attr.{AttrState, IsAttr}
-use Rattle.vga_attr.specs.Fields.{is_palette_shown, is_colour_select_wide}
+use Rattle.vga_attr.specs.Fields.{is_colour_select_wide}
 use Rattle.vga_attr.specs.Colour.{picked, colour_index}
 use Rattle.vga_dac.specs.Dac.{entry_of}
 use Rattle.vga_dots.specs.Colour.{nibble, colour_number, dot_colour}
-use Rattle.vga_card.specs.Bounds.{IsCard}
-use Rattle.vga_card.specs.Card.{CardState}
-use Rattle.bios_modes.specs.declared.modes.ModeRow.{ModeRow}
-use Rattle.bios_modes.specs.Bda.{BiosData}
-use Rattle.bios_screen.specs.Shown.{shows_attribute, palette_in}
-use Rattle.bios_screen.specs.Picture.{shade}
+use Rattle.bios_screen.specs.Shown.{palette_in}
 use Rattle.bios_screen.proofs.Base.Lists.{listed_at, spelled}
 use Rattle.bios_screen.proofs.Base.Tests.{both_true, same}
 use Rattle.bios_screen.proofs.Base.Setting.{Setting}

@@ -4,12 +4,11 @@ use Rattle.std.specs.Prelude.{nat_lt, nat_le, if◌then◌else◌, ◌&&◌}
 use Rattle.std.proofs.lemmas.Bool.{cases_lt}
 use Rattle.std.proofs.lemmas.Bool.Decides.{nat_tests}
 use Rattle.std.proofs.lemmas.Nat.{div-add-mod', div_below, mod_below, row_fits, mul-add-lt, mul-le}
-use Rattle.vga_crtc.specs.declared.beam.Beam.{Beam}
-use Rattle.vga_crtc.specs.Crtc.{CrtcState}
+use Rattle.bios_screen.proofs.Prelude.{Beam, CrtcState, first_counter, regular_beam, CardState, Raster, Draws}
 use Rattle.vga_crtc.specs.Fields.{horizontal_display_end, vertical_display_end}
-use Rattle.vga_crtc.specs.Beam.{characters, lines, first_counter, started, after_start, after_dots, dots as beam_dots}
+use Rattle.vga_crtc.specs.Beam.{characters, lines, started, after_start, after_dots, dots as beam_dots}
 use Rattle.vga_crtc.specs.Status.{is_display}
-use Rattle.vga_crtc.specs.Raster.{dots_in_frame, IsFrameStart, IsRegular, regular_beam, beam_at}
+use Rattle.vga_crtc.specs.Raster.{dots_in_frame, IsFrameStart, IsRegular, beam_at}
 use Rattle.vga_crtc.proofs.Counts.{frame_left as dots_left}
 use Rattle.vga_crtc.proofs.Dots.{dots_none}
 use Rattle.vga_crtc.proofs.Ends.{same_frame_count, frame_ends as frames_end}
@@ -17,11 +16,10 @@ use Rattle.vga_crtc.proofs.Frames.{at_dot, started_goes_on}
 use Rattle.vga_crtc.proofs.Moves.{first_dot_starts, started_place}
 use Rattle.vga_dots.specs.Colour.{dot_colour}
 use Rattle.vga_card.specs.Picture.{Dot, lines_of, bytes_of}
-use Rattle.vga_card.specs.Card.{CardState}
 use Rattle.vga_card.specs.Dots.{character_width, fresh, display_dot, dots}
 use Rattle.vga_card.specs.Frames.{frame_count, frame, collect, display_dot_at}
 use Rattle.vga_card.proofs.FrameLemmas.{dots_keep, frame_ends_first, dots_are_places, regular_shape}
-use Rattle.bios_screen.specs.Raster.{Raster, IsRaster, raster_of, HasRaster, Colours, width, line_dots, all_dots, colour_at, Draws, IsAtDot, picture_dot}
+use Rattle.bios_screen.specs.Raster.{IsRaster, raster_of, HasRaster, Colours, width, line_dots, all_dots, colour_at, IsAtDot, picture_dot}
 use Rattle.bios_screen.specs.Raster.{PlacesDrawn, GoesOn, FrameEnded, IsPictureOf, picture_bytes, FrameDrawn}
 use Rattle.bios_screen.proofs.Base.Tests.{both_true, lt_is, le_is, lt_test, le_test, not_lt, not_le}
 use Rattle.bios_screen.proofs.Base.DotLists.{same_collected, dot_there, one_dot, row_dots, whole_picture, picture_lines, picture_bytes_are}

@@ -1,22 +1,14 @@
 -- Frames of a screen that is shown, by the numbers of its row: where they begin, and where a dot comes from.
 use Rattle.std.proofs.Common.{◌≡◌, ℕ, ◌+◌, ◌-◌, ◌%◌, ◌<◌, sym, ap, subst, ◌∙◌, arith, false}
 use Rattle.std.specs.Prelude.{◌&&◌, if◌then◌else◌, slice_index}
-use Rattle.vga_bits.specs.Bits.{is_set}
+use Rattle.bios_screen.proofs.Prelude.{is_set, Beam, CrtcState, first_counter, regular_beam, IsCard, CardState, ModeRow, BiosData, start_address, Raster}
 use Rattle.vga_host.specs.Fields.{character_width as host_width}
-use Rattle.vga_crtc.specs.declared.beam.Beam.{Beam}
-use Rattle.vga_crtc.specs.Crtc.{CrtcState}
-use Rattle.vga_crtc.specs.Beam.{first_counter}
-use Rattle.vga_crtc.specs.Raster.{IsRegular, regular_beam}
+use Rattle.vga_crtc.specs.Raster.{IsRegular}
 use Rattle.vga_attr.specs.Fields.{is_panning_reset, panning}
 use Rattle.vga_dots.specs.declared.source_dot.SourceDot.{SourceDot}
 use Rattle.vga_dots.specs.SourceDot.{panned, counter_of, source_at, source_dot, fetch_address}
-use Rattle.vga_card.specs.Bounds.{IsCard}
-use Rattle.vga_card.specs.Card.{CardState}
-use Rattle.bios_modes.specs.declared.modes.ModeRow.{ModeRow}
-use Rattle.bios_modes.specs.Bda.{BiosData}
-use Rattle.bios_services.specs.Cursor.{start_address}
 use Rattle.bios_screen.specs.Shown.{location_shown}
-use Rattle.bios_screen.specs.Raster.{Raster, HasRaster}
+use Rattle.bios_screen.specs.Raster.{HasRaster}
 use Rattle.bios_screen.proofs.Base.Tests.{lt_test}
 use Rattle.bios_screen.proofs.Base.Setting.{Setting, setting}
 use Rattle.bios_screen.proofs.Modes.Frames.{numbers_of, panned_by, IsFrame, numbers_stay, regular_stays, beam_stays, fetch_stays, begins_with}

@@ -7,11 +7,10 @@ use Rattle.std.proofs.lemmas.Bool.Decides.{nat_tests}
 use Rattle.std.proofs.lemmas.List.{append-nil, map-append}
 use Rattle.std.proofs.lemmas.Nat.{mul-le}
 use Rattle.vga_crtc.specs.Crtc.{first_dot}
-use Rattle.vga_crtc.specs.Beam.{first_counter, is_first_dot, started, after_dot, dots as beam_dots}
+use Rattle.bios_screen.proofs.Prelude.{first_counter, IsCard, CardState, BiosData, start_address, Screen, shown, Raster}
+use Rattle.vga_crtc.specs.Beam.{is_first_dot, started, after_dot, dots as beam_dots}
 use Rattle.vga_crtc.specs.Raster.{IsFrameStart, beam_at}
 use Rattle.vga_card.specs.Picture.{Dot, line_of, lines_of, lines_from, bytes_of}
-use Rattle.vga_card.specs.Bounds.{IsCard}
-use Rattle.vga_card.specs.Card.{CardState}
 use Rattle.vga_card.specs.Dots.{character_width, fresh, dot, dots}
 use Rattle.vga_card.specs.Frames.{frame_count, frame, collect}
 use Rattle.vga_crtc.proofs.Ends.{frame_ends as frames_end}
@@ -20,12 +19,8 @@ use Rattle.vga_crtc.proofs.Moves.{first_dot_starts}
 use Rattle.vga_card.proofs.BoundLemmas.{dots_bounds}
 use Rattle.vga_card.proofs.DotLemmas.{dots_split}
 use Rattle.vga_card.proofs.FrameLemmas.{frame_ends_first, regular_shape}
-use Rattle.bios_modes.specs.Bda.{BiosData}
-use Rattle.bios_services.specs.Cursor.{start_address}
-use Rattle.bios_screen.specs.Screen.{Screen}
-use Rattle.bios_screen.specs.Shown.{shown}
 use Rattle.bios_screen.specs.Picture.{dot_at, picture_width, picture_height, next_frame}
-use Rattle.bios_screen.specs.Raster.{Raster, Colours, raster_of, HasRaster, width, line_dots as dots_of_line, all_dots, picture_dot, IsAtDot as AtDot}
+use Rattle.bios_screen.specs.Raster.{Colours, raster_of, HasRaster, width, line_dots as dots_of_line, all_dots, picture_dot, IsAtDot as AtDot}
 use Rattle.bios_screen.specs.Raster.{IsFurther, FrameEnded}
 use Rattle.bios_screen.proofs.Base.DotLists.{bytes_append, no_bytes, bytes_joined, same_joined, whole_picture, picture_lines}
 use Rattle.bios_screen.proofs.Dots.Drawing.{wide, dots_are_picture, dots_go_on, frame_is_ended, starts_at_0}

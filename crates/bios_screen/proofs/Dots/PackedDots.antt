@@ -1,21 +1,15 @@
 -- The dot at a place of a frame of 256 colours is the screen's pixel.
 use Rattle.std.proofs.Common.{◌≡◌, ℕ, ◌+◌, ◌*◌, ◌/◌, ◌%◌, ◌<◌, sym, ap, ◌∙◌, subst, arith, true, false}
 use Rattle.std.specs.Prelude.{if◌then◌else◌, ◌&&◌, slice_index}
-use Rattle.vga_bits.specs.Bits.{is_set}
+use Rattle.bios_screen.proofs.Prelude.{is_set, is_palette_shown, IsCard, CardState, bytes_320_by_200, is_packed, BiosData, planar_pixel, packed_pixel}
+use Rattle.bios_screen.proofs.Prelude.{pixel_screen, shade, Draws}
 use Rattle.vga_planes.specs.Planes.{byte_at}
 use Rattle.vga_host.specs.Fields.{is_screen_off, is_256_colours}
-use Rattle.vga_attr.specs.Fields.{is_palette_shown}
 use Rattle.vga_dots.specs.SourceDot.{source_dot, fetch_address}
 use Rattle.vga_dots.specs.Graphics.{packed_byte}
 use Rattle.vga_dots.specs.Colour.{colour_number, dot_colour}
-use Rattle.vga_card.specs.Bounds.{IsCard}
-use Rattle.vga_card.specs.Card.{CardState}
-use Rattle.bios_modes.specs.Modes.{bytes_320_by_200}
-use Rattle.bios_modes.specs.Kinds.{is_packed}
-use Rattle.bios_modes.specs.Bda.{BiosData}
-use Rattle.bios_screen.specs.Shown.{palette_in, planar_pixel, packed_pixel, pixel_screen}
-use Rattle.bios_screen.specs.Picture.{tint, shade, pixel_width, pixel_height, pixel_dot}
-use Rattle.bios_screen.specs.Raster.{Draws}
+use Rattle.bios_screen.specs.Shown.{palette_in}
+use Rattle.bios_screen.specs.Picture.{tint, pixel_width, pixel_height, pixel_dot}
 use Rattle.bios_screen.proofs.Base.Tests.{lt_test, both_true}
 use Rattle.bios_screen.proofs.Base.Setting.{Setting, setting}
 use Rattle.bios_screen.proofs.Shows.Screens.{setting_by}

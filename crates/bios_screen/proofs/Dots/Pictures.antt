@@ -3,14 +3,10 @@ use Rattle.std.proofs.Common.{◌≡◌, ◌+◌, ◌%◌, refl, sym, ap, subst,
 use Rattle.vga_crtc.specs.Crtc.{first_dot}
 use Rattle.vga_crtc.specs.Raster.{IsFrameStart}
 use Rattle.vga_card.specs.declared.shape.Shape.{Shape}
-use Rattle.vga_card.specs.Bounds.{IsCard}
-use Rattle.vga_card.specs.Card.{CardState}
+use Rattle.bios_screen.proofs.Prelude.{IsCard, CardState, BiosData, Screen, shown, Draws}
 use Rattle.vga_card.specs.Frames.{frame}
-use Rattle.bios_modes.specs.Bda.{BiosData}
-use Rattle.bios_screen.specs.Screen.{Screen}
-use Rattle.bios_screen.specs.Shown.{shown}
 use Rattle.bios_screen.specs.Picture.{dot_at, picture_width}
-use Rattle.bios_screen.specs.Raster.{Draws, picture_bytes}
+use Rattle.bios_screen.specs.Raster.{picture_bytes}
 use Rattle.bios_screen.specs.Framed.{IsFramed}
 use Rattle.bios_screen.proofs.Shows.Steady.{shown_moved, frame_shown}
 use Rattle.bios_screen.proofs.Dots.Drawing.{frame_is_picture}

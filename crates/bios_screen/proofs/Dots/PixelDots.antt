@@ -1,21 +1,12 @@
 -- The pixel at a place of a frame of graphics, whether it has sixteen colours or 256.
 use Rattle.std.proofs.Common.{◌≡◌, ℕ, ◌+◌, ◌*◌, ◌/◌, ◌%◌, ◌<◌, refl, sym, ap, subst, ◌∙◌, List, [], get_or}
 use Rattle.std.specs.Prelude.{if◌then◌else◌, slice_index}
-use Rattle.vga_bits.specs.Four.{Four}
-use Rattle.vga_crtc.specs.Crtc.{CrtcState}
-use Rattle.vga_crtc.specs.Beam.{first_counter}
-use Rattle.vga_crtc.specs.Raster.{regular_beam}
+use Rattle.bios_screen.proofs.Prelude.{Four, CrtcState, first_counter, regular_beam, IsCard, CardState, ModeRow, BiosData, is_packed, start_address, Screen}
+use Rattle.bios_screen.proofs.Prelude.{pixel_in, pixel_screen, shade}
 use Rattle.vga_dots.specs.declared.source_dot.SourceDot.{SourceDot}
 use Rattle.vga_dots.specs.SourceDot.{source_dot, fetch_address}
-use Rattle.vga_card.specs.Bounds.{IsCard}
-use Rattle.vga_card.specs.Card.{CardState}
-use Rattle.bios_modes.specs.declared.modes.ModeRow.{ModeRow}
-use Rattle.bios_modes.specs.Bda.{BiosData}
-use Rattle.bios_modes.specs.Kinds.{is_packed}
-use Rattle.bios_services.specs.Cursor.{start_address}
-use Rattle.bios_screen.specs.Screen.{Screen}
-use Rattle.bios_screen.specs.Shown.{pixel_in, pixels_in, pixel_pages, pixel_screen}
-use Rattle.bios_screen.specs.Picture.{shade, tint, pixel_width, pixel_height, pixel_on, pixel_dot}
+use Rattle.bios_screen.specs.Shown.{pixels_in, pixel_pages}
+use Rattle.bios_screen.specs.Picture.{tint, pixel_width, pixel_height, pixel_on, pixel_dot}
 use Rattle.bios_screen.specs.Raster.{HasRaster}
 use Rattle.bios_screen.proofs.Base.Lists.{listed_at}
 use Rattle.bios_screen.proofs.Shows.Screens.{HasData, AllTests}

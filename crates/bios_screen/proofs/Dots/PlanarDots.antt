@@ -4,19 +4,12 @@ use Rattle.std.specs.Prelude.{if◌then◌else◌, slice_index}
 use Rattle.std.specs.Int.{bit_at}
 use Rattle.std.proofs.lemmas.Nat.{div-mul-add, mod-mul-add}
 use Rattle.std.proofs.lemmas.Nat.Bits.{bit_at-lt}
-use Rattle.vga_bits.specs.Bits.{is_set}
+use Rattle.bios_screen.proofs.Prelude.{is_set, HostState, IsCard, CardState, ModeRow, BiosData, planar_pixel, pixel_screen, shade, Draws}
 use Rattle.vga_planes.specs.Planes.{byte_at}
-use Rattle.vga_host.specs.Host.{HostState}
 use Rattle.vga_host.specs.Fields.{is_graphics}
 use Rattle.vga_dots.specs.Graphics.{plane_bits, planar_nibble}
 use Rattle.vga_dots.specs.Colour.{nibble}
-use Rattle.vga_card.specs.Bounds.{IsCard}
-use Rattle.vga_card.specs.Card.{CardState}
-use Rattle.bios_modes.specs.declared.modes.ModeRow.{ModeRow}
-use Rattle.bios_modes.specs.Bda.{BiosData}
-use Rattle.bios_screen.specs.Shown.{planar_pixel, pixel_screen}
-use Rattle.bios_screen.specs.Picture.{shade, tint, pixel_height, pixel_dot}
-use Rattle.bios_screen.specs.Raster.{Draws}
+use Rattle.bios_screen.specs.Picture.{tint, pixel_height, pixel_dot}
 use Rattle.bios_screen.proofs.Base.Tests.{lt_test}
 use Rattle.bios_screen.proofs.Base.Setting.{Setting}
 use Rattle.bios_screen.proofs.Shows.Screens.{setting_by}

@@ -3,13 +3,12 @@ use Rattle.std.proofs.Common.{◌≡◌, ℕ, ◌+◌, ◌-◌, ◌*◌, ◌/◌
 use Rattle.std.specs.Prelude.{nat_lt, nat_le, not, if◌then◌else◌, ◌==◌, ◌&&◌, slice_index, bit_and}
 use Rattle.std.specs.Int.{bit_at}
 use Rattle.std.proofs.lemmas.Nat.{and_mask}
-use Rattle.vga_bits.specs.Bits.{is_set, field}
+use Rattle.bios_screen.proofs.Prelude.{is_set, Beam, CrtcState, regular_beam, IsCard, CardState, BiosData, start_address, Cell, Screen, cell_in, all_cells}
+use Rattle.bios_screen.proofs.Prelude.{shade}
+use Rattle.vga_bits.specs.Bits.{field}
 use Rattle.vga_planes.specs.Planes.{byte_at}
 use Rattle.vga_host.specs.Fields.{character_map_a, character_map_b, is_graphics}
-use Rattle.vga_crtc.specs.declared.beam.Beam.{Beam}
-use Rattle.vga_crtc.specs.Crtc.{CrtcState}
 use Rattle.vga_crtc.specs.Fields.{cursor_start, is_cursor_off, cursor_end, cursor_location, underline_location}
-use Rattle.vga_crtc.specs.Raster.{regular_beam}
 use Rattle.vga_attr.specs.Fields.{is_monochrome, is_line_graphics}
 use Rattle.vga_dots.specs.declared.source_dot.SourceDot.{SourceDot}
 use Rattle.vga_dots.specs.declared.text.Cell.{Cell as DotCell}
@@ -17,15 +16,12 @@ use Rattle.vga_dots.specs.SourceDot.{source_dot, fetch_address}
 use Rattle.vga_dots.specs.Text.{cell_at, map_start, glyph_row as row_of_glyph, is_glyph_dot as is_dot_of_glyph, is_underlined as is_cell_underlined}
 use Rattle.vga_dots.specs.Text.{is_blinked_away as is_cell_blinked, is_cursor_at, is_foreground as is_cell_foreground, text_nibble}
 use Rattle.vga_dots.specs.Colour.{nibble as dot_nibble, dot_colour}
-use Rattle.vga_card.specs.Bounds.{IsCard}
-use Rattle.vga_card.specs.Card.{CardState}
-use Rattle.bios_modes.specs.Bda.{BiosData}
 use Rattle.bios_services.specs.Registers.{high, low}
-use Rattle.bios_services.specs.Cursor.{cursor_address, start_address, cell_number, place_of}
-use Rattle.bios_screen.specs.Screen.{Cell, Screen, cursor_cell}
-use Rattle.bios_screen.specs.Shown.{cell_in, glyph_byte, glyphs_in, all_cells}
+use Rattle.bios_services.specs.Cursor.{cursor_address, cell_number, place_of}
+use Rattle.bios_screen.specs.Screen.{cursor_cell}
+use Rattle.bios_screen.specs.Shown.{glyph_byte, glyphs_in}
 use Rattle.bios_screen.specs.Step.{cell_on}
-use Rattle.bios_screen.specs.Picture.{glyph_row, is_glyph_dot, is_underlined, is_blinked_away, is_cursor, is_foreground, background, nibble, shade}
+use Rattle.bios_screen.specs.Picture.{glyph_row, is_glyph_dot, is_underlined, is_blinked_away, is_cursor, is_foreground, background, nibble}
 use Rattle.bios_screen.proofs.Base.Lists.{listed_at}
 use Rattle.bios_screen.proofs.Base.Setting.{Setting}
 use Rattle.std.proofs.lemmas.Nat.{mod_below}

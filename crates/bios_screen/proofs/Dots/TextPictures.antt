@@ -2,16 +2,10 @@
 use Rattle.std.proofs.Common.{◌≡◌, ℕ, ◌+◌, ◌*◌, ◌/◌, ◌%◌, ◌<◌, sym, ap, ◌∙◌, arith}
 use Rattle.std.specs.Prelude.{if◌then◌else◌}
 use Rattle.std.proofs.lemmas.Nat.{div-mul-add, mod-mul-add}
-use Rattle.vga_crtc.specs.declared.beam.Beam.{Beam}
-use Rattle.vga_crtc.specs.Beam.{first_counter}
+use Rattle.bios_screen.proofs.Prelude.{Beam, first_counter, IsCard, CardState, BiosData, start_address, Screen, shade, Draws}
 use Rattle.vga_dots.specs.Colour.{dot_colour}
-use Rattle.vga_card.specs.Bounds.{IsCard}
-use Rattle.vga_card.specs.Card.{CardState}
-use Rattle.bios_modes.specs.Bda.{BiosData}
-use Rattle.bios_services.specs.Cursor.{start_address}
-use Rattle.bios_screen.specs.Screen.{Screen, page_start}
-use Rattle.bios_screen.specs.Picture.{nibble, shade, text_dot, pixel_dot, dot_at}
-use Rattle.bios_screen.specs.Raster.{Draws}
+use Rattle.bios_screen.specs.Screen.{page_start}
+use Rattle.bios_screen.specs.Picture.{nibble, text_dot, pixel_dot, dot_at}
 use Rattle.bios_screen.proofs.Base.Places.{half_start, ends_before}
 use Rattle.bios_screen.proofs.Shows.Screens.{IsShown, screen_shown, all_of}
 use Rattle.bios_screen.proofs.Dots.Frames as frames

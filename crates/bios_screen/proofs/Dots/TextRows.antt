@@ -2,20 +2,14 @@
 use Rattle.std.proofs.Common.{◌≡◌, ℕ, ◌+◌, ◌-◌, ◌*◌, ◌/◌, ◌%◌, ◌<◌, ◌≤◌, refl, sym, subst, arith, Bool, false}
 use Rattle.std.specs.Prelude.{nat_le, not, ◌==◌, ◌&&◌, bit_and}
 use Rattle.std.specs.Int.{bit_at}
-use Rattle.vga_bits.specs.Bits.{is_set, field}
-use Rattle.vga_crtc.specs.declared.beam.Beam.{Beam}
+use Rattle.bios_screen.proofs.Prelude.{is_set, Beam, regular_beam, CardState, ModeRow, BiosData, crtc_registers, Raster}
+use Rattle.vga_bits.specs.Bits.{field}
 use Rattle.vga_crtc.specs.Fields.{horizontal_total, horizontal_display_end, vertical_total, preset_row_scan, vertical_display_end, line_compare}
 use Rattle.vga_crtc.specs.Fields.{byte_panning, cursor_start, is_cursor_off, cursor_end, cursor_location, underline_location}
 use Rattle.vga_crtc.specs.Fields.{is_double_word, is_address_wrap, is_byte_mode, maximum_scan_line, is_double_scan, offset}
-use Rattle.vga_crtc.specs.Raster.{regular_beam}
 use Rattle.vga_dots.specs.SourceDot.{fetch_address}
-use Rattle.vga_card.specs.Card.{CardState}
-use Rattle.bios_modes.specs.declared.modes.ModeRow.{ModeRow}
-use Rattle.bios_modes.specs.Bda.{BiosData}
 use Rattle.bios_modes.specs.Palette.{is_monochrome_mode}
 use Rattle.bios_services.specs.Registers.{high, low}
-use Rattle.bios_screen.specs.Shown.{crtc_registers}
-use Rattle.bios_screen.specs.Raster.{Raster}
 use Rattle.bios_screen.proofs.Modes.Frames.{IsFrame, HasShades, fits, uncut}
 use Rattle.bios_screen.proofs.Modes.TextModes.{Display, Height, row_with, number_of}
 use Rattle.bios_screen.proofs.Modes.TextModes.Display.{Colour, Monochrome}

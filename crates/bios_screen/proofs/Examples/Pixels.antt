@@ -1,17 +1,14 @@
 -- Pixels of small memories and of a screen of two lines of eight pixels, computed.
 use Rattle.std.proofs.Common.{◌≡◌, ℕ, refl, List, [], ◌∷◌, Some, None, true, false}
-use Rattle.vga_bits.specs.Four.{Four}
+use Rattle.bios_screen.proofs.Prelude.{Four, FontSet, listing, Screen, planar_pixel, packed_pixel}
 use Rattle.vga_bits.specs.declared.refusal.Refusal.TheVariants.{Outside}
-use Rattle.bios_modes.specs.Fonts.{FontSet}
 use Rattle.bios_services.specs.declared.scroll.Scroll.{Scroll}
 use Rattle.bios_services.specs.declared.cell_run.CellRun.{CellRun}
 use Rattle.bios_services.specs.declared.call.Service.TheVariants.{ScrollUp, ScrollDown, ReadCell, WriteCells, WritePixel, ReadPixel, Teletype, WriteString}
 use Rattle.vga_bits.specs.Bits.{byte_of}
 use Rattle.std.specs.Prelude.{◌==◌, if◌then◌else◌}
 use Rattle.bios_services.specs.Glyphs.{has_lines, first_character}
-use Rattle.bios_screen.specs.Listing.{listing}
-use Rattle.bios_screen.specs.Screen.{Pixels, Screen}
-use Rattle.bios_screen.specs.Shown.{planar_pixel, packed_pixel}
+use Rattle.bios_screen.specs.Screen.{Pixels}
 use Rattle.bios_screen.specs.Parts.{cell_at, pixel_at}
 use Rattle.bios_screen.specs.Step.{pages_on, refusal_on, next, answer_on, type_character}
 use Rattle.bios_screen.specs.Picture.{pixel_dot, dot_at, picture_width, picture_height}

@@ -1,8 +1,7 @@
 -- A clearing mode set to any mode of the table.
 use Rattle.std.proofs.Common.{◌≡◌, ℕ, refl, sym, ap, ◌∙◌, subst, Bool, true, false, Some}
-use Rattle.bios_modes.specs.declared.modes.ModeRow.{ModeRow}
+use Rattle.bios_screen.proofs.Prelude.{ModeRow, is_text}
 use Rattle.bios_modes.specs.Modes.{mode_row}
-use Rattle.bios_modes.specs.Kinds.{is_text}
 use Rattle.bios_modes.proofs.RowLemmas.{own_row}
 use Rattle.bios_screen.specs.Served.{SetsFresh}
 use Rattle.bios_screen.proofs.Base.Tests.{some_same}

@@ -1,9 +1,8 @@
 -- The rows of the mode table by their numbers: each is one of text or of graphics, with what such a row says.
 use Rattle.std.proofs.Common.{◌≡◌, ℕ, ap, subst, ◌∙◌, Bool, true, false, Some}
-use Rattle.bios_modes.specs.declared.modes.ModeRow.{ModeRow}
-use Rattle.bios_modes.specs.Heights.{if_row, at_height, row_at}
-use Rattle.bios_modes.specs.Modes.{planes_320_by_200, planes_640_by_350, planes_640_by_480, bytes_320_by_200}
-use Rattle.bios_modes.specs.Kinds.{is_text}
+use Rattle.bios_screen.proofs.Prelude.{ModeRow, row_at, bytes_320_by_200, is_text}
+use Rattle.bios_modes.specs.Heights.{if_row, at_height}
+use Rattle.bios_modes.specs.Modes.{planes_320_by_200, planes_640_by_350, planes_640_by_480}
 use Rattle.bios_modes.proofs.RowLemmas.{each_mode}
 use Rattle.bios_screen.proofs.Base.Tests.{none_some, some_same}
 use Rattle.bios_screen.proofs.Modes.TextModes.{Display, number_of, text_by, TextRow, row_of_text}

@@ -4,15 +4,13 @@ use Rattle.std.specs.Prelude.{◌==◌, ◌&&◌, slice_index, slice_set, bit_an
 use Rattle.std.proofs.lemmas.Bool.{cases_eq, agree_below, agree_below_at}
 use Rattle.std.proofs.lemmas.List.{get_or-set_same, get_or-set_other, length-set}
 use Rattle.vga_dac.specs.declared.component.Component.TheVariants.{Red}
-use Rattle.vga_dac.specs.Dac.{DacState, IsDac}
-use Rattle.vga_card.specs.Bus.{card_meaning}
-use Rattle.vga_card.specs.Card.{CardState}
+use Rattle.bios_screen.proofs.Prelude.{DacState, card_meaning, CardState, run, each}
+use Rattle.vga_dac.specs.Dac.{IsDac}
 use Rattle.vga_card.specs.Port.{port_of}
 use Rattle.vga_card.specs.Cycles.{out_at}
 use Rattle.bios_modes.specs.declared.palette.Palette.{Palette}
 use Rattle.bios_modes.specs.declared.palette.Palette.TheVariants.{Colours16, Colours64, Colours256, Monochrome}
 use Rattle.bios_modes.specs.Palette.{palette_entry}
-use Rattle.bios_services.specs.Plan.{run, each}
 use Rattle.bios_services.specs.ModeSet.{colour_plan}
 use Rattle.bios_screen.proofs.Base.Flat.{Edited, Turn, Leaves, set_cell, set_same, set_other}
 use Rattle.bios_screen.proofs.Base.Edits.{one_edit, edits}

@@ -2,16 +2,14 @@
 use Rattle.std.proofs.Common.{◌≡◌, ℕ, ◌+◌, ◌*◌, ◌/◌, ◌%◌, ◌<◌, refl, ap, ◌∙◌, arith, true, false, List, length}
 use Rattle.std.proofs.lemmas.Bool.Decides.{nat_tests}
 use Rattle.std.specs.Prelude.{◌==◌, ◌&&◌, if◌then◌else◌, nat_lt, nat_le, slice_index, bit_and, bit_or}
-use Rattle.vga_bits.specs.Bits.{is_set}
+use Rattle.bios_screen.proofs.Prelude.{is_set, first_counter, regular_beam, ModeRow, crtc_registers, Raster}
 use Rattle.vga_crtc.specs.Fields.{horizontal_total, horizontal_display_end, vertical_total, preset_row_scan, byte_panning, maximum_scan_line, is_double_scan}
 use Rattle.vga_crtc.specs.Fields.{start_address as address_of, vertical_display_end, offset, underline_location, is_double_word, is_address_wrap, is_byte_mode}
 use Rattle.vga_crtc.specs.Fields.{line_compare}
-use Rattle.vga_crtc.specs.Beam.{characters, lines, first_counter}
-use Rattle.vga_crtc.specs.Raster.{IsRegular, regular_beam}
+use Rattle.vga_crtc.specs.Beam.{characters, lines}
+use Rattle.vga_crtc.specs.Raster.{IsRegular}
 use Rattle.vga_dots.specs.SourceDot.{fetch_address}
-use Rattle.bios_modes.specs.declared.modes.ModeRow.{ModeRow}
-use Rattle.bios_screen.specs.Shown.{crtc_registers}
-use Rattle.bios_screen.specs.Raster.{Raster, IsRaster}
+use Rattle.bios_screen.specs.Raster.{IsRaster}
 use Rattle.bios_screen.proofs.Base.Tests.{le_is}
 
 -- the numbers of a frame from registers, where a character has w dots

@@ -2,27 +2,18 @@
 use Rattle.std.proofs.Common.{◌≡◌, ℕ, ◌+◌, ◌<◌, refl, ap, ◌∙◌, subst, arith, List, length, Option, Some, false}
 use Rattle.std.specs.Prelude.{slice_index}
 use Rattle.vga_dac.specs.declared.component.Component.TheVariants.{Red}
-use Rattle.vga_dac.specs.Dac.{DacState}
-use Rattle.vga_card.specs.Bounds.{IsCard}
-use Rattle.vga_card.specs.Bus.{card_meaning}
-use Rattle.vga_card.specs.Card.{CardState}
+use Rattle.bios_screen.proofs.Prelude.{DacState, IsCard, card_meaning, CardState, ModeRow, FontSet, data_of_mode, BiosData, AreBytes, Regs, Plan, Done, run}
+use Rattle.bios_screen.proofs.Prelude.{each, ◌>>◌, shown}
 use Rattle.vga_card.specs.Port.{port_of as reached_by}
 use Rattle.vga_card.specs.Cycles.{out_at}
-use Rattle.bios_modes.specs.declared.modes.ModeRow.{ModeRow}
 use Rattle.bios_modes.specs.Modes.{mode_row}
 use Rattle.bios_modes.specs.declared.palette.Palette.{Palette as DefaultPalette}
 use Rattle.bios_modes.specs.Palette.{palette_entry}
-use Rattle.bios_modes.specs.Fonts.{FontSet}
-use Rattle.bios_modes.specs.Begin.{data_of_mode}
-use Rattle.bios_modes.specs.Bda.{BiosData}
-use Rattle.bios_modes.specs.Bounds.{AreBytes}
-use Rattle.bios_services.specs.declared.regs.Regs.{Regs}
 use Rattle.bios_services.specs.declared.call.Call.{Call}
 use Rattle.bios_services.specs.declared.call.Call.TheVariants.{SetMode}
 use Rattle.bios_services.specs.Service.{call_plan, set_mode_plan, answer_of, Answered, service as whole_service}
-use Rattle.bios_services.specs.Plan.{Plan, Done, run, each, ◌>>◌}
 use Rattle.bios_services.specs.ModeSet.{registers_plan, colour_plan, palette_plan, mode_set_plan}
-use Rattle.bios_screen.specs.Shown.{palette_in, shown}
+use Rattle.bios_screen.specs.Shown.{palette_in}
 use Rattle.bios_screen.specs.Fresh.{default_component, fresh_palette, fresh_screen}
 use Rattle.bios_screen.specs.Served.{SetsFresh}
 use Rattle.bios_screen.proofs.Base.Plans.{then_runs, then_answers}

@@ -4,20 +4,14 @@ use Rattle.std.specs.Prelude.{slice_index, if◌then◌else◌}
 use Rattle.std.specs.Int.{bit_at}
 use Rattle.std.proofs.lemmas.Nat.Bits.{bit_at-zero}
 use Rattle.vga_bits.specs.Bits.{byte_of}
-use Rattle.vga_bits.specs.Four.{Four, four}
-use Rattle.vga_planes.specs.Planes.{bytes_at}
+use Rattle.bios_screen.proofs.Prelude.{Four, bytes_at, IsCard, card_meaning, CardState, ModeRow, data_of_mode, bytes_320_by_200, Plan, run, put, Screen}
+use Rattle.bios_screen.proofs.Prelude.{planar_pixel, packed_pixel, pixel_in, shown}
+use Rattle.vga_bits.specs.Four.{four}
 use Rattle.vga_host.specs.MemoryWrite.{written_bit, combined_bit}
-use Rattle.vga_card.specs.Bounds.{IsCard}
-use Rattle.vga_card.specs.Bus.{card_meaning}
-use Rattle.vga_card.specs.Card.{CardState}
-use Rattle.bios_modes.specs.declared.modes.ModeRow.{ModeRow}
-use Rattle.bios_modes.specs.Begin.{data_of_mode}
 use Rattle.bios_modes.specs.Kinds.{kind_in, is_text_kind}
-use Rattle.bios_modes.specs.Modes.{bytes_320_by_200}
-use Rattle.bios_services.specs.Plan.{Plan, run, put}
 use Rattle.bios_services.specs.ModeSet.{clear_plan, text_plan, memory_plan, mode_set_plan}
-use Rattle.bios_screen.specs.Screen.{Pixels, Palette, Screen}
-use Rattle.bios_screen.specs.Shown.{planar_pixel, packed_pixel, pixel_in, pixels_in, pixel_pages, screen_by, shown}
+use Rattle.bios_screen.specs.Screen.{Pixels, Palette}
+use Rattle.bios_screen.specs.Shown.{pixels_in, pixel_pages, screen_by}
 use Rattle.bios_screen.specs.Fresh.{blank_pixels, fresh_text, fresh_pixels}
 use Rattle.bios_screen.specs.Served.{SetsFresh}
 use Rattle.bios_screen.proofs.Base.Flat.{set_cell}

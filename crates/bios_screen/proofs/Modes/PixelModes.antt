@@ -2,28 +2,20 @@
 use Rattle.std.proofs.Common.{◌≡◌, ℕ, ◌+◌, ◌*◌, ◌/◌, ◌%◌, ◌<◌, ◌≤◌, refl, arith, true, false, Some}
 use Rattle.std.specs.Prelude.{slice_index, IsTrue, ◌&&◌, nat_lt, nat_le}
 use Rattle.std.proofs.lemmas.Bool.Decides.{nat_tests}
-use Rattle.vga_bits.specs.Bits.{is_set}
+use Rattle.bios_screen.proofs.Prelude.{is_set, regular_beam, DacState, CardState, crtc_port, ModeRow, Planar, data_of_mode, row_at, bytes_320_by_200, is_text}
+use Rattle.bios_screen.proofs.Prelude.{is_packed, kind_of, page_base, Raster}
 use Rattle.vga_crtc.specs.Ports.{after_out as after_crtc}
 use Rattle.vga_crtc.specs.Fields.{horizontal_total, horizontal_display_end, vertical_total, preset_row_scan, byte_panning, maximum_scan_line, is_double_scan}
 use Rattle.vga_crtc.specs.Fields.{vertical_display_end, offset, is_double_word, is_byte_mode, line_compare, is_protected, overflow}
-use Rattle.vga_crtc.specs.Raster.{regular_beam}
-use Rattle.vga_dac.specs.Dac.{DacState}
-use Rattle.vga_card.specs.Card.{CardState}
-use Rattle.vga_card.specs.Port.{crtc_port, port_of, crtc_port_of}
+use Rattle.vga_card.specs.Port.{port_of, crtc_port_of}
 use Rattle.vga_card.specs.Cycles.{out_at, inp_at}
 use Rattle.vga_dots.specs.SourceDot.{fetch_address}
-use Rattle.bios_modes.specs.declared.modes.ModeRow.{ModeRow}
-use Rattle.bios_modes.specs.declared.kind.Kind.TheVariants.{Planar}
-use Rattle.bios_modes.specs.Begin.{data_of_mode}
-use Rattle.bios_modes.specs.Heights.{row_at}
-use Rattle.bios_modes.specs.Modes.{planes_320_by_200, planes_640_by_350, planes_640_by_480, bytes_320_by_200}
-use Rattle.bios_modes.specs.Kinds.{is_text, is_packed, kind_of}
-use Rattle.bios_services.specs.Cells.{page_base}
+use Rattle.bios_modes.specs.Modes.{planes_320_by_200, planes_640_by_350, planes_640_by_480}
 use Rattle.bios_services.specs.Cycles.{group, attribute_group}
 use Rattle.bios_services.specs.ModeSet.{registers_plan}
 use Rattle.bios_screen.specs.Shown.{shows}
 use Rattle.bios_screen.specs.Picture.{pixel_width, pixel_height}
-use Rattle.bios_screen.specs.Raster.{Raster, width, line_dots}
+use Rattle.bios_screen.specs.Raster.{width, line_dots}
 use Rattle.bios_screen.specs.Drawing.{dots_a_line, lines_a_frame}
 use Rattle.bios_screen.proofs.Base.Places.{ends_before}
 use Rattle.bios_screen.proofs.Base.Setting.{Setting}

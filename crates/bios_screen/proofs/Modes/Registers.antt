@@ -1,14 +1,9 @@
 -- The registers of a mode set, from any state.
 use Rattle.std.proofs.Common.{◌≡◌, ℕ, ap, ◌∙◌, List, false, Some}
 use Rattle.std.specs.Prelude.{slice_index}
-use Rattle.vga_card.specs.Bounds.{IsCard}
-use Rattle.vga_card.specs.Bus.{card_meaning}
-use Rattle.vga_card.specs.Card.{CardState}
-use Rattle.bios_modes.specs.declared.modes.ModeRow.{ModeRow}
+use Rattle.bios_screen.proofs.Prelude.{IsCard, card_meaning, CardState, ModeRow, run, listing}
 use Rattle.bios_modes.specs.Modes.{mode_row}
-use Rattle.bios_services.specs.Plan.{run}
 use Rattle.bios_services.specs.ModeSet.{registers_plan}
-use Rattle.bios_screen.specs.Listing.{listing}
 use Rattle.bios_screen.proofs.Base.Lists.{spelled}
 
 abbrev with_registers : CardState → List ℕ → List ℕ → List ℕ → List ℕ → CardState

@@ -4,21 +4,15 @@ use Rattle.std.specs.Prelude.{slice_index, if◌then◌else◌}
 use Rattle.std.proofs.lemmas.Bool.Decides.{nat_tests}
 use Rattle.vga_crtc.specs.Ports.{after_out as after_crtc}
 use Rattle.vga_crtc.specs.Fields.{is_protected, overflow}
-use Rattle.vga_dac.specs.Dac.{DacState}
-use Rattle.vga_card.specs.Bounds.{IsCard}
-use Rattle.vga_card.specs.Bus.{card_meaning}
-use Rattle.vga_card.specs.Card.{CardState}
+use Rattle.bios_screen.proofs.Prelude.{DacState, IsCard, card_meaning, CardState, row_at, AreBytes, data_of_mode, Plan, run, put, ◌>>◌, graphics, Cell, Screen}
+use Rattle.bios_screen.proofs.Prelude.{cell_in, all_cells, shown}
 use Rattle.vga_card.specs.Port.{port_of as reached_by, crtc_port_of}
 use Rattle.vga_card.specs.Cycles.{out_at, inp_at}
-use Rattle.bios_modes.specs.Heights.{row_at}
 use Rattle.bios_modes.specs.Fonts.{glyph_row}
-use Rattle.bios_modes.specs.Bounds.{AreBytes}
-use Rattle.bios_modes.specs.Begin.{data_of_mode}
-use Rattle.bios_services.specs.Plan.{Plan, run, put, ◌>>◌}
-use Rattle.bios_services.specs.Cycles.{sequencer, graphics, group, attribute_group}
+use Rattle.bios_services.specs.Cycles.{sequencer, group, attribute_group}
 use Rattle.bios_services.specs.ModeSet.{registers_plan, glyphs_plan, font_plan, blank_byte, blank_plan, text_plan, memory_plan, mode_set_plan}
-use Rattle.bios_screen.specs.Screen.{Cell, Palette, Screen}
-use Rattle.bios_screen.specs.Shown.{cell_in, cells_in, glyph_byte, glyphs_in, shows, screen_with, screen_of, all_cells, shown, shown_by}
+use Rattle.bios_screen.specs.Screen.{Palette}
+use Rattle.bios_screen.specs.Shown.{cells_in, glyph_byte, glyphs_in, shows, screen_with, screen_of, shown_by}
 use Rattle.bios_screen.specs.Fresh.{blank_cells, font_bytes, fresh_text, fresh_pixels}
 use Rattle.bios_screen.specs.Served.{SetsFresh}
 use Rattle.bios_screen.proofs.Shows.Screens.{screen_is_text}

@@ -2,13 +2,10 @@
 use Rattle.std.proofs.Common.{◌≡◌, ℕ, ◌+◌, ◌*◌, ◌<◌, ◌≤◌, refl, subst, arith, List, [], ◌∷◌, length, Bool, true, false, Some, None}
 use Rattle.std.specs.Prelude.{slice_index, bit_and, nat_le, nat_lt, ◌==◌, ◌&&◌, if◌then◌else◌}
 use Rattle.std.proofs.lemmas.Bool.Decides.{nat_tests}
-use Rattle.vga_card.specs.Port.{crtc_port}
-use Rattle.bios_modes.specs.declared.modes.ModeRow.{ModeRow}
+use Rattle.bios_screen.proofs.Prelude.{crtc_port, ModeRow, row_at, is_text, page_base}
 use Rattle.bios_modes.specs.declared.heights.TextRow.{TextRow as HeightRow}
-use Rattle.bios_modes.specs.Heights.{fifty_rows, twenty_eight_rows, twenty_five_rows, with_text, with_height, row_at}
+use Rattle.bios_modes.specs.Heights.{fifty_rows, twenty_eight_rows, twenty_five_rows, with_text, with_height}
 use Rattle.bios_modes.specs.Modes.{colour_text, monochrome_text}
-use Rattle.bios_modes.specs.Kinds.{is_text}
-use Rattle.bios_services.specs.Cells.{page_base}
 use Rattle.bios_screen.proofs.Base.Setting.{Setting}
 use Rattle.bios_screen.proofs.Modes.Frames.{Blinks}
 use Rattle.bios_screen.proofs.Base.Tests.{none_some, some_same}

@@ -2,22 +2,13 @@
 use Rattle.std.proofs.Common.{◌≡◌, ℕ, zero, suc, ◌+◌, ◌-◌, ◌*◌, ◌%◌, ◌<◌, refl, sym, ap, ◌∙◌, subst, arith, Bool, true, false}
 use Rattle.std.specs.Prelude.{◌==◌, if◌then◌else◌}
 use Rattle.vga_bits.specs.Bits.{byte_of}
-use Rattle.vga_card.specs.Bounds.{IsCard}
-use Rattle.vga_card.specs.Bus.{card_meaning}
-use Rattle.vga_card.specs.Card.{CardState}
-use Rattle.bios_modes.specs.Modes.{bytes_320_by_200}
-use Rattle.bios_modes.specs.Bda.{BiosData}
-use Rattle.bios_modes.specs.Fonts.{FontSet}
-use Rattle.bios_services.specs.declared.regs.Regs.{Regs}
+use Rattle.bios_screen.proofs.Prelude.{IsCard, card_meaning, CardState, bytes_320_by_200, BiosData, FontSet, Regs, cells_of, kind_of, Plan, run, get, Screen}
+use Rattle.bios_screen.proofs.Prelude.{packed_pixel, pixel_screen, pixel_of}
 use Rattle.bios_modes.specs.declared.kind.Kind.TheVariants.{Packed}
-use Rattle.bios_services.specs.Cells.{cells_of}
-use Rattle.bios_modes.specs.Kinds.{kind_of}
 use Rattle.bios_services.specs.Cursor.{cursor_cell}
-use Rattle.bios_services.specs.Plan.{Plan, run, get, fold}
+use Rattle.bios_services.specs.Plan.{fold}
 use Rattle.bios_services.specs.CharacterReading.{shift_dot, packed_line, line_plan}
-use Rattle.bios_screen.specs.Screen.{Screen}
-use Rattle.bios_screen.specs.Shown.{packed_pixel, pixel_screen}
-use Rattle.bios_screen.specs.Step.{pixel_of, cell_line}
+use Rattle.bios_screen.specs.Step.{cell_line}
 use Rattle.bios_screen.proofs.Base.Plans.{run_bind}
 use Rattle.bios_screen.proofs.Dots.PackedDots.{IsPacked}
 use Rattle.bios_screen.proofs.Packed.Screens as screens

@@ -4,18 +4,12 @@ use Rattle.std.specs.Prelude.{slice_index, slice_set, ◌==◌, ◌&&◌, if◌t
 use Rattle.std.proofs.lemmas.Bool.Decides.{nat_tests}
 use Rattle.vga_bits.specs.Bits.{byte_of}
 use Rattle.vga_bits.proofs.BitLemmas.{byte_bits}
-use Rattle.vga_bits.specs.Four.{Four, of_plane}
+use Rattle.bios_screen.proofs.Prelude.{Four, bytes_at, HostState, card_meaning, CardState, bytes_320_by_200, run, put, packed_pixel}
+use Rattle.vga_bits.specs.Four.{of_plane}
 use Rattle.vga_bits.proofs.FourLemmas.{by_plane}
-use Rattle.vga_planes.specs.Planes.{bytes_at}
-use Rattle.vga_host.specs.Host.{HostState}
 use Rattle.vga_host.specs.Address.{is_decoded, window_offset}
 use Rattle.vga_host.specs.MemoryWrite.{written_bit, combined_bit, written_byte, memory_after_put}
 use Rattle.vga_host.specs.MemoryRead.{read_bit, read_byte}
-use Rattle.vga_card.specs.Bus.{card_meaning}
-use Rattle.vga_card.specs.Card.{CardState}
-use Rattle.bios_modes.specs.Modes.{bytes_320_by_200}
-use Rattle.bios_services.specs.Plan.{run, put}
-use Rattle.bios_screen.specs.Shown.{packed_pixel}
 use Rattle.bios_screen.proofs.Base.Flat.{set_cell, list_put}
 use Rattle.bios_screen.proofs.Base.Setting.{setting, host_at, with_memory, put_decoded}
 use Rattle.bios_screen.proofs.Modes.PixelModes.{setting_of}

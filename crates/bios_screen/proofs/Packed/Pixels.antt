@@ -1,18 +1,10 @@
 -- Pixels of 256 colours are written and read.
 use Rattle.std.proofs.Common.{◌≡◌, ℕ, ◌+◌, ◌*◌, ◌/◌, ◌<◌, sym, ap, ◌∙◌, subst, arith, Some}
 use Rattle.std.specs.Prelude.{◌==◌, if◌then◌else◌}
-use Rattle.vga_card.specs.Bounds.{IsCard}
-use Rattle.vga_card.specs.Bus.{card_meaning}
-use Rattle.vga_card.specs.Card.{CardState}
-use Rattle.bios_modes.specs.Modes.{bytes_320_by_200}
-use Rattle.bios_modes.specs.Bda.{BiosData}
-use Rattle.bios_modes.specs.Kinds.{is_packed}
-use Rattle.bios_services.specs.Cells.{page_base}
-use Rattle.bios_services.specs.Plan.{Plan, run, put, get}
+use Rattle.bios_screen.proofs.Prelude.{IsCard, card_meaning, CardState, bytes_320_by_200, BiosData, is_packed, page_base, Plan, run, put, get, Screen}
+use Rattle.bios_screen.proofs.Prelude.{packed_pixel, pixel_screen, shown, pixel_of, with_pixels}
 use Rattle.bios_services.specs.Pixels.{pixel_address, write_dot_plan, write_pixel_plan, read_dot_plan, read_pixel_plan}
-use Rattle.bios_screen.specs.Screen.{Screen}
-use Rattle.bios_screen.specs.Shown.{packed_pixel, pixel_screen, shown}
-use Rattle.bios_screen.specs.Step.{pixel_of, with_pixels, colour_over, change_pixel}
+use Rattle.bios_screen.specs.Step.{colour_over, change_pixel}
 use Rattle.bios_screen.proofs.Base.Flat.{set_cell}
 use Rattle.bios_screen.proofs.Dots.PackedDots.{IsPacked}
 use Rattle.bios_screen.proofs.Planar.Settings.{without_drawing}

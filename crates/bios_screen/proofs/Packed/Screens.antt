@@ -1,17 +1,8 @@
 -- Drawn memory of 256 colours as a flat list of pixels, and the screen that it shows.
 use Rattle.std.proofs.Common.{◌≡◌, ℕ, ◌+◌, ◌*◌, ◌/◌, ◌%◌, ◌<◌, refl, sym, ap, ◌∙◌, subst, arith, List, Some}
 use Rattle.std.specs.Prelude.{◌==◌, if◌then◌else◌}
-use Rattle.vga_bits.specs.Four.{Four}
-use Rattle.vga_card.specs.Bounds.{IsCard}
-use Rattle.vga_card.specs.Bus.{card_meaning}
-use Rattle.vga_card.specs.Card.{CardState}
-use Rattle.bios_modes.specs.Bda.{BiosData}
-use Rattle.bios_modes.specs.Modes.{bytes_320_by_200}
-use Rattle.bios_modes.specs.Kinds.{is_packed}
-use Rattle.bios_services.specs.Plan.{run, put, get}
-use Rattle.bios_screen.specs.Screen.{Screen}
-use Rattle.bios_screen.specs.Shown.{packed_pixel, planar_pixel, pixel_in, page_pixels, pixel_screen, shown}
-use Rattle.bios_screen.specs.Step.{pixel_of, with_pixels}
+use Rattle.bios_screen.proofs.Prelude.{Four, IsCard, card_meaning, CardState, BiosData, bytes_320_by_200, is_packed, run, put, get, Screen, packed_pixel}
+use Rattle.bios_screen.proofs.Prelude.{planar_pixel, pixel_in, page_pixels, pixel_screen, shown, pixel_of, with_pixels}
 use Rattle.bios_screen.proofs.Base.Flat.{set_cell}
 use Rattle.bios_services.proofs.CardLemmas.{plan_bounds}
 use Rattle.bios_screen.proofs.Base.Setting.{setting, with_memory, get_decoded}

@@ -1,22 +1,11 @@
 -- A window of 256 colours goes up or down, from the screen to the next.
 use Rattle.std.proofs.Common.{◌≡◌, ℕ, ◌+◌, ◌-◌, ◌*◌, ◌/◌, ◌%◌, ◌<◌, ◌≤◌, refl, sym, ap, ◌∙◌, subst, arith, Some, false}
-use Rattle.vga_card.specs.Bounds.{IsCard}
-use Rattle.vga_card.specs.Bus.{card_meaning}
-use Rattle.vga_card.specs.Card.{CardState}
-use Rattle.bios_modes.specs.Modes.{bytes_320_by_200}
-use Rattle.bios_modes.specs.Bda.{BiosData}
-use Rattle.bios_services.specs.declared.band.Band.{Band}
+use Rattle.bios_screen.proofs.Prelude.{IsCard, card_meaning, CardState, bytes_320_by_200, BiosData, Band, Direction, Window, page_base, kind_of, run, Screen}
+use Rattle.bios_screen.proofs.Prelude.{packed_pixel, page_pixels, pixel_screen, shown, pixel_of, with_pixels}
 use Rattle.bios_modes.specs.declared.kind.Kind.TheVariants.{Packed}
-use Rattle.bios_services.specs.declared.band.Direction.{Direction}
-use Rattle.bios_services.specs.declared.scroll.Window.{Window}
 use Rattle.bios_services.specs.Bands.{filling_byte, plain, fill_plan, scroll_rows, band_by}
-use Rattle.bios_services.specs.Cells.{page_base}
-use Rattle.bios_modes.specs.Kinds.{kind_of}
-use Rattle.bios_services.specs.Plan.{run}
 use Rattle.bios_services.specs.Scroll.{IsOnPage, window_plan}
-use Rattle.bios_screen.specs.Screen.{Screen}
-use Rattle.bios_screen.specs.Shown.{packed_pixel, page_pixels, pixel_screen, shown}
-use Rattle.bios_screen.specs.Step.{pixel_of, pixel_row, pixel_column, in_window, has_source, source, row_pixels, fill_pixel, with_pixels, scroll_pixels}
+use Rattle.bios_screen.specs.Step.{pixel_row, pixel_column, in_window, has_source, source, row_pixels, fill_pixel, scroll_pixels}
 use Rattle.bios_screen.specs.Step.{scroll_window}
 use Rattle.bios_screen.proofs.Base.Flat.{Leaves}
 use Rattle.bios_screen.proofs.Base.Windows.{by_both_tests}

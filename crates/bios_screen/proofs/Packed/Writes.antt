@@ -1,24 +1,12 @@
 -- Characters in 256 colours at some cells of the page, from the screen to the next.
 use Rattle.std.proofs.Common.{◌≡◌, ℕ, ◌+◌, ◌-◌, ◌*◌, ◌/◌, ◌%◌, ◌<◌, ◌≤◌, refl, sym, ap, ◌∙◌, subst, arith, Some, Bool, true, false}
 use Rattle.std.specs.Prelude.{if◌then◌else◌}
-use Rattle.vga_bits.specs.Bits.{is_set}
-use Rattle.vga_card.specs.Bounds.{IsCard}
-use Rattle.vga_card.specs.Bus.{card_meaning}
-use Rattle.vga_card.specs.Card.{CardState}
-use Rattle.bios_modes.specs.Modes.{bytes_320_by_200}
-use Rattle.bios_modes.specs.Bda.{BiosData}
-use Rattle.bios_modes.specs.Fonts.{FontSet}
-use Rattle.bios_services.specs.declared.band.Band.{Band}
-use Rattle.bios_services.specs.declared.colouring.Colouring.{Colouring}
+use Rattle.bios_screen.proofs.Prelude.{is_set, IsCard, card_meaning, CardState, bytes_320_by_200, BiosData, FontSet, Band, Colouring, page_base, cells_of}
+use Rattle.bios_screen.proofs.Prelude.{kind_of, Plan, run, put, each, Screen, packed_pixel, pixel_screen, shown}
 use Rattle.bios_modes.specs.declared.kind.Kind.TheVariants.{Packed}
 use Rattle.bios_services.specs.Bands.{address_in}
-use Rattle.bios_services.specs.Cells.{page_base, cells_of}
 use Rattle.bios_services.specs.Drawing.{dot_of, put_dots, packed_plan, character_by, character_plan, characters_plan}
 use Rattle.bios_services.specs.Glyphs.{glyph_line}
-use Rattle.bios_modes.specs.Kinds.{kind_of}
-use Rattle.bios_services.specs.Plan.{Plan, run, put, each}
-use Rattle.bios_screen.specs.Screen.{Screen}
-use Rattle.bios_screen.specs.Shown.{packed_pixel, pixel_screen, shown}
 use Rattle.bios_screen.specs.Step.{glyph_pixel, put_characters}
 use Rattle.bios_screen.proofs.Base.Flat.{Edited, Turn, Leaves, set_cell}
 use Rattle.bios_screen.proofs.Base.Edits.{one_edit, edits}

@@ -1,16 +1,10 @@
 -- Where a service changes pixels alone: from pixels that are known one by one to the next screen.
 use Rattle.std.proofs.Common.{◌≡◌, ◌≢◌, ℕ, ◌+◌, ◌*◌, ◌<◌, sym, ap, ◌∙◌, arith, List, [], length, get_or, Some, false}
 use Rattle.std.specs.Prelude.{set}
-use Rattle.vga_bits.specs.Four.{Four}
-use Rattle.vga_card.specs.Card.{CardState}
-use Rattle.bios_modes.specs.declared.modes.ModeRow.{ModeRow}
-use Rattle.bios_modes.specs.Heights.{row_at}
-use Rattle.bios_modes.specs.Bda.{BiosData}
-use Rattle.bios_modes.specs.Kinds.{is_text}
-use Rattle.bios_screen.specs.Listing.{listing}
-use Rattle.bios_screen.specs.Screen.{Pixels, Screen}
-use Rattle.bios_screen.specs.Shown.{shows_attribute, pixel_in, pixels_in, pixel_pages, page_pixels, screen_by, pixel_screen, shown}
-use Rattle.bios_screen.specs.Step.{pixel_of, with_pixels}
+use Rattle.bios_screen.proofs.Prelude.{Four, CardState, ModeRow, row_at, BiosData, is_text, listing, Screen, shows_attribute, pixel_in, page_pixels}
+use Rattle.bios_screen.proofs.Prelude.{pixel_screen, shown, pixel_of, with_pixels}
+use Rattle.bios_screen.specs.Screen.{Pixels}
+use Rattle.bios_screen.specs.Shown.{pixels_in, pixel_pages, screen_by}
 use Rattle.bios_screen.proofs.Base.Lists.{same_from_0, length_listing, listed_at, listing_set}
 use Rattle.bios_screen.proofs.Base.Places.{ends_before}
 use Rattle.bios_screen.proofs.Base.Setting.{setting}

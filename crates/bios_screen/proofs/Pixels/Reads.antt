@@ -2,14 +2,9 @@
 use Rattle.std.proofs.Common.{◌≡◌, ℕ, zero, suc, ◌+◌, ◌%◌, ◌/◌, ◌<◌, ◌≤◌, refl, sym, ap, ◌∙◌, subst, arith, List, ◌∷◌, Some, false}
 use Rattle.std.specs.Prelude.{◌==◌, if◌then◌else◌}
 use Rattle.vga_bits.specs.Bits.{byte_of}
-use Rattle.vga_card.specs.Bus.{card_meaning}
-use Rattle.vga_card.specs.Card.{CardState}
-use Rattle.bios_modes.specs.declared.modes.ModeRow.{ModeRow}
+use Rattle.bios_screen.proofs.Prelude.{card_meaning, CardState, ModeRow, BiosData, FontSet, is_text, kind_of, Regs, Plan, run, Done, ◌>>=◌, ◌>>◌, listing}
+use Rattle.bios_screen.proofs.Prelude.{Screen, pixel_screen, shown}
 use Rattle.bios_modes.specs.declared.kind.Kind.{Kind}
-use Rattle.bios_modes.specs.Bda.{BiosData}
-use Rattle.bios_modes.specs.Fonts.{FontSet}
-use Rattle.bios_modes.specs.Kinds.{is_text, kind_of}
-use Rattle.bios_services.specs.declared.regs.Regs.{Regs}
 use Rattle.bios_services.specs.Bands.{address_in, access_plan}
 use Rattle.bios_services.specs.Cells.{cell_address, read_cell_plan}
 use Rattle.bios_services.specs.CharacterReading.{line_plan, lines_plan, read_character_plan}
@@ -17,12 +12,9 @@ use Rattle.bios_services.specs.Cursor.{cursor_cell}
 use Rattle.bios_services.specs.Drawing.{cell_band, cell_row}
 use Rattle.bios_services.specs.Glyphs.{first_character}
 use Rattle.bios_services.specs.Kinds.{row_lines}
-use Rattle.bios_services.specs.Plan.{Plan, run, Done, gather, ◌>>=◌, ◌>>◌}
+use Rattle.bios_services.specs.Plan.{gather}
 use Rattle.bios_services.specs.Registers.{with_low}
 use Rattle.bios_services.specs.Service.{read_cell_service}
-use Rattle.bios_screen.specs.Listing.{listing}
-use Rattle.bios_screen.specs.Screen.{Screen}
-use Rattle.bios_screen.specs.Shown.{pixel_screen, shown}
 use Rattle.bios_screen.specs.Step.{cell_line}
 use Rattle.bios_screen.proofs.Base.Plans.{run_bind}
 use Rattle.bios_screen.proofs.Pixels.Writes.{column_by}

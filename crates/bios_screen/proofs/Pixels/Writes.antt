@@ -1,22 +1,12 @@
 -- Characters at some cells of a page of pixels, from the screen to the next, however memory has the pixels.
 use Rattle.std.proofs.Common.{◌≡◌, ◌≢◌, ℕ, ◌+◌, ◌-◌, ◌*◌, ◌/◌, ◌%◌, ◌<◌, ◌≤◌, sym, ap, ◌∙◌, arith, Some}
 use Rattle.std.proofs.Math.Nat.{mod-lt}
-use Rattle.vga_bits.specs.Bits.{is_set}
-use Rattle.vga_card.specs.Bus.{card_meaning}
-use Rattle.vga_card.specs.Card.{CardState}
+use Rattle.bios_screen.proofs.Prelude.{is_set, card_meaning, CardState, ModeRow, BiosData, FontSet, Band, Colouring, cells_of, run, Screen, page_pixels}
+use Rattle.bios_screen.proofs.Prelude.{pixel_screen, shown, pixel_of, with_pixels}
 use Rattle.bios_modes.specs.declared.kind.Kind.{Kind}
-use Rattle.bios_modes.specs.declared.modes.ModeRow.{ModeRow}
-use Rattle.bios_modes.specs.Bda.{BiosData}
-use Rattle.bios_modes.specs.Fonts.{FontSet}
-use Rattle.bios_services.specs.declared.band.Band.{Band}
-use Rattle.bios_services.specs.declared.colouring.Colouring.{Colouring}
-use Rattle.bios_services.specs.Cells.{cells_of}
 use Rattle.bios_services.specs.Drawing.{character_plan, characters_plan}
 use Rattle.bios_services.specs.Glyphs.{glyph_line}
-use Rattle.bios_services.specs.Plan.{run}
-use Rattle.bios_screen.specs.Screen.{Screen}
-use Rattle.bios_screen.specs.Shown.{page_pixels, pixel_screen, shown}
-use Rattle.bios_screen.specs.Step.{pixel_of, pixel_cell, pixel_line, with_pixels, glyph_pixel, draw_characters}
+use Rattle.bios_screen.specs.Step.{pixel_cell, pixel_line, glyph_pixel, draw_characters}
 use Rattle.bios_screen.proofs.Base.Flat.{Edited, Turn, Leaves}
 use Rattle.bios_screen.proofs.Base.Edits.{edits}
 use Rattle.bios_services.specs.Bands.{band_by}

@@ -3,27 +3,13 @@ use Rattle.std.proofs.Common.{◌≡◌, ℕ, ◌+◌, ◌-◌, ◌*◌, ◌/◌
 use Rattle.std.specs.Prelude.{slice_index, ◌==◌, ◌&&◌, if◌then◌else◌}
 use Rattle.std.specs.Int.{bit_at}
 use Rattle.std.proofs.lemmas.Bool.Decides.{nat_tests}
-use Rattle.vga_bits.specs.Bits.{is_set, byte_of}
-use Rattle.vga_bits.specs.Four.{Four}
-use Rattle.vga_planes.specs.Planes.{bytes_at}
-use Rattle.vga_host.specs.Host.{HostState}
+use Rattle.bios_screen.proofs.Prelude.{is_set, Four, bytes_at, HostState, IsCard, card_meaning, CardState, ModeRow, BiosData, FontSet, Planar, Regs, cells_of}
+use Rattle.bios_screen.proofs.Prelude.{graphics, run, Screen, page_pixels, pixel_screen, pixel_of}
+use Rattle.vga_bits.specs.Bits.{byte_of}
 use Rattle.vga_host.specs.MemoryRead.{read_bit, read_byte}
-use Rattle.vga_card.specs.Bounds.{IsCard}
-use Rattle.vga_card.specs.Bus.{card_meaning}
-use Rattle.vga_card.specs.Card.{CardState}
-use Rattle.bios_modes.specs.declared.modes.ModeRow.{ModeRow}
-use Rattle.bios_modes.specs.Bda.{BiosData}
-use Rattle.bios_modes.specs.Fonts.{FontSet}
-use Rattle.bios_modes.specs.declared.kind.Kind.TheVariants.{Planar}
-use Rattle.bios_services.specs.declared.regs.Regs.{Regs}
-use Rattle.bios_services.specs.Cells.{cells_of}
 use Rattle.bios_services.specs.CharacterReading.{line_plan}
 use Rattle.bios_services.specs.Cursor.{cursor_cell}
-use Rattle.bios_services.specs.Cycles.{graphics}
-use Rattle.bios_services.specs.Plan.{run}
-use Rattle.bios_screen.specs.Screen.{Screen}
-use Rattle.bios_screen.specs.Shown.{page_pixels, pixel_screen}
-use Rattle.bios_screen.specs.Step.{pixel_of, cell_line}
+use Rattle.bios_screen.specs.Step.{cell_line}
 use Rattle.bios_screen.proofs.Base.CellPlaces.{strip_at, strip_within}
 use Rattle.bios_screen.proofs.Base.Setting.{host_at, reached, offset_is, get_decoded}
 use Rattle.bios_screen.proofs.Text.Writes.{IsCellRead}

@@ -4,13 +4,11 @@ use Rattle.std.specs.Prelude.{◌==◌, if◌then◌else◌, bit_xor}
 use Rattle.std.specs.Int.{bit_at}
 use Rattle.std.proofs.lemmas.Bool.Decides.{nat_tests}
 use Rattle.std.proofs.lemmas.Nat.Bits.{bit_at-lt}
-use Rattle.vga_bits.specs.Bits.{is_set, byte_of}
-use Rattle.vga_bits.specs.Four.{Four, four, of_plane}
+use Rattle.bios_screen.proofs.Prelude.{is_set, Four, card_meaning, CardState, graphics, Plan, run, put, get, each, ◌>>◌}
+use Rattle.vga_bits.specs.Bits.{byte_of}
+use Rattle.vga_bits.specs.Four.{four, of_plane}
 use Rattle.vga_host.specs.MemoryWrite.{written_bit, combined_bit}
-use Rattle.vga_card.specs.Bus.{card_meaning}
-use Rattle.vga_card.specs.Card.{CardState}
-use Rattle.bios_services.specs.Cycles.{sequencer, graphics}
-use Rattle.bios_services.specs.Plan.{Plan, run, put, get, each, ◌>>◌}
+use Rattle.bios_services.specs.Cycles.{sequencer}
 use Rattle.bios_services.specs.Drawing.{put_over}
 use Rattle.bios_screen.proofs.Base.Flat.{Edited, Turn, Leaves, set_cell}
 use Rattle.bios_screen.proofs.Base.Edits.{one_edit, edited_twice, edits}

@@ -3,20 +3,10 @@ use Rattle.std.proofs.Common.{◌≡◌, ◌≢◌, ℕ, ◌+◌, ◌*◌, ◌/�
 use Rattle.std.specs.Prelude.{slice_index, bit_and, ◌==◌, if◌then◌else◌}
 use Rattle.std.proofs.lemmas.Bool.{cases_eq, agree_below_at}
 use Rattle.std.proofs.lemmas.Bool.Decides.{nat_tests}
-use Rattle.vga_bits.specs.Bits.{is_set}
-use Rattle.vga_bits.specs.Four.{Four}
-use Rattle.vga_planes.specs.Planes.{bytes_at}
-use Rattle.vga_card.specs.Bounds.{IsCard}
-use Rattle.vga_card.specs.Bus.{card_meaning}
-use Rattle.vga_card.specs.Card.{CardState}
-use Rattle.bios_modes.specs.declared.modes.ModeRow.{ModeRow}
-use Rattle.bios_modes.specs.Bda.{BiosData}
-use Rattle.bios_services.specs.Cycles.{graphics}
-use Rattle.bios_services.specs.Plan.{Plan, run, put, get, Done, ◌>>=◌, ◌>>◌}
+use Rattle.bios_screen.proofs.Prelude.{is_set, Four, bytes_at, IsCard, card_meaning, CardState, ModeRow, BiosData, graphics, Plan, run, put, get, Done, ◌>>=◌}
+use Rattle.bios_screen.proofs.Prelude.{◌>>◌, Screen, page_pixels, pixel_screen, shown, pixel_of, with_pixels}
 use Rattle.bios_services.specs.Pixels.{pixel_address, write_dot_plan, write_pixel_plan}
-use Rattle.bios_screen.specs.Screen.{Screen}
-use Rattle.bios_screen.specs.Shown.{page_pixels, pixel_screen, shown}
-use Rattle.bios_screen.specs.Step.{pixel_of, pixel_number, with_pixels, colour_over, change_pixel}
+use Rattle.bios_screen.specs.Step.{pixel_number, colour_over, change_pixel}
 use Rattle.bios_screen.proofs.Base.Flat.{set_cell, set_same, set_other}
 use Rattle.bios_screen.proofs.Base.Plans.{then_runs}
 use Rattle.bios_screen.proofs.Dots.PlanarDots.{IsPlanar}

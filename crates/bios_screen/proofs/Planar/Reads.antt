@@ -2,27 +2,17 @@
 use Rattle.std.proofs.Common.{◌≡◌, ℕ, ◌+◌, ◌-◌, ◌*◌, ◌/◌, ◌%◌, ◌<◌, refl, sym, ap, ◌∙◌, subst, arith, List, [], ◌∷◌, Some, true}
 use Rattle.std.specs.Prelude.{slice_index, slice_set, bit_and, if◌then◌else◌}
 use Rattle.std.specs.Int.{bit_at}
-use Rattle.vga_bits.specs.Bits.{is_set, byte_of}
+use Rattle.bios_screen.proofs.Prelude.{is_set, HostState, IsCard, card_meaning, CardState, ModeRow, BiosData, is_packed, graphics, Plan, run, get, Screen}
+use Rattle.bios_screen.proofs.Prelude.{pixel_in, pixel_screen, shown, pixel_of}
+use Rattle.vga_bits.specs.Bits.{byte_of}
 use Rattle.vga_bits.proofs.BitLemmas.{byte_bits}
 use Rattle.vga_bits.specs.Four.{four}
 use Rattle.vga_bits.proofs.FourLemmas.{by_plane}
 use Rattle.vga_planes.specs.Planes.{byte_at}
-use Rattle.vga_host.specs.Host.{HostState}
 use Rattle.vga_host.specs.MemoryRead.{read_bit, read_byte}
-use Rattle.vga_card.specs.Bounds.{IsCard}
-use Rattle.vga_card.specs.Bus.{card_meaning}
-use Rattle.vga_card.specs.Card.{CardState}
 use Rattle.vga_card.specs.Port.{port_of}
 use Rattle.vga_card.specs.Cycles.{out_at}
-use Rattle.bios_modes.specs.declared.modes.ModeRow.{ModeRow}
-use Rattle.bios_modes.specs.Bda.{BiosData}
-use Rattle.bios_modes.specs.Kinds.{is_packed}
-use Rattle.bios_services.specs.Cycles.{graphics}
-use Rattle.bios_services.specs.Plan.{Plan, run, get}
 use Rattle.bios_services.specs.Pixels.{pixel_address, read_dot_plan, read_pixel_plan}
-use Rattle.bios_screen.specs.Screen.{Screen}
-use Rattle.bios_screen.specs.Shown.{pixel_in, pixel_screen, shown}
-use Rattle.bios_screen.specs.Step.{pixel_of}
 use Rattle.bios_screen.proofs.Base.Setting.{Setting, setting, host_at, reached, offset_is, get_decoded}
 use Rattle.bios_screen.proofs.Pixels.NewPixels.{There, number_within, pixels_stay}
 use Rattle.bios_screen.proofs.Planar.Settings.{without_drawing}

@@ -2,15 +2,8 @@
 use Rattle.std.proofs.Common.{◌≡◌, ◌≢◌, ℕ, ◌+◌, ◌*◌, ◌/◌, ◌%◌, ◌<◌, ◌≤◌, ◌⊎◌, inl, inr, ⊎_elim, refl, sym, ap, ◌∙◌, subst, arith, List, Some}
 use Rattle.std.specs.Prelude.{slice_index, if◌then◌else◌}
 use Rattle.std.proofs.lemmas.Bool.{cases_lt}
-use Rattle.vga_bits.specs.Four.{Four}
-use Rattle.vga_planes.specs.Planes.{bytes_at}
-use Rattle.vga_card.specs.Bounds.{IsCard}
-use Rattle.vga_card.specs.Card.{CardState}
-use Rattle.bios_modes.specs.declared.modes.ModeRow.{ModeRow}
-use Rattle.bios_modes.specs.Bda.{BiosData}
-use Rattle.bios_screen.specs.Screen.{Screen}
-use Rattle.bios_screen.specs.Shown.{packed_pixel, planar_pixel, pixel_in, page_pixels, pixel_screen, shown}
-use Rattle.bios_screen.specs.Step.{pixel_of, with_pixels}
+use Rattle.bios_screen.proofs.Prelude.{Four, bytes_at, IsCard, CardState, ModeRow, BiosData, Screen, packed_pixel, planar_pixel, pixel_in, page_pixels}
+use Rattle.bios_screen.proofs.Prelude.{pixel_screen, shown, pixel_of, with_pixels}
 use Rattle.bios_screen.proofs.Base.Places.{ends_before}
 use Rattle.bios_screen.proofs.Base.Setting.{setting}
 use Rattle.bios_screen.proofs.Pixels.NewPixels.{page_renewed, pixels_stay}

@@ -1,26 +1,13 @@
 -- A window of sixteen colours goes up or down, from the screen to the next.
 use Rattle.std.proofs.Common.{◌≡◌, ℕ, ◌+◌, ◌-◌, ◌*◌, ◌/◌, ◌%◌, ◌<◌, ◌≤◌, ◌⊎◌, ⊎_elim, refl, sym, ap, ◌∙◌, subst, arith, Some, Bool, true, false}
 use Rattle.std.specs.Prelude.{slice_index, ◌==◌, if◌then◌else◌}
-use Rattle.vga_bits.specs.Four.{Four}
+use Rattle.bios_screen.proofs.Prelude.{Four, bytes_at, IsCard, card_meaning, CardState, ModeRow, BiosData, Band, Planar, Direction, Up, Down, Window, run}
+use Rattle.bios_screen.proofs.Prelude.{Screen, page_pixels, pixel_screen, shown, pixel_of}
 use Rattle.vga_bits.proofs.BitLemmas.{ones_byte}
-use Rattle.vga_planes.specs.Planes.{bytes_at}
-use Rattle.vga_card.specs.Bounds.{IsCard}
-use Rattle.vga_card.specs.Bus.{card_meaning}
-use Rattle.vga_card.specs.Card.{CardState}
-use Rattle.bios_modes.specs.declared.modes.ModeRow.{ModeRow}
-use Rattle.bios_modes.specs.Bda.{BiosData}
-use Rattle.bios_services.specs.declared.band.Band.{Band}
-use Rattle.bios_modes.specs.declared.kind.Kind.TheVariants.{Planar}
-use Rattle.bios_services.specs.declared.band.Direction.{Direction}
-use Rattle.bios_services.specs.declared.band.Direction.TheVariants.{Up, Down}
-use Rattle.bios_services.specs.declared.scroll.Window.{Window}
 use Rattle.bios_services.specs.Bands.{band_of, scroll_rows, band_by}
 use Rattle.bios_services.specs.Cells.{page_address}
-use Rattle.bios_services.specs.Plan.{run}
 use Rattle.bios_services.specs.Scroll.{IsOnPage, window_plan}
-use Rattle.bios_screen.specs.Screen.{Screen}
-use Rattle.bios_screen.specs.Shown.{page_pixels, pixel_screen, shown}
-use Rattle.bios_screen.specs.Step.{pixel_of, pixel_row, pixel_column, in_window, has_source, source, row_pixels, fill_pixel, scroll_pixels, scroll_window}
+use Rattle.bios_screen.specs.Step.{pixel_row, pixel_column, in_window, has_source, source, row_pixels, fill_pixel, scroll_pixels, scroll_window}
 use Rattle.bios_screen.proofs.Base.Tests.{le_is}
 use Rattle.bios_screen.proofs.Base.Windows.{inside_of, by_both_tests}
 use Rattle.bios_screen.proofs.Base.Bands.{IsWindow}

@@ -4,21 +4,15 @@ use Rattle.std.specs.Prelude.{slice_index, slice_set, ◌==◌, ◌&&◌, if◌t
 use Rattle.std.proofs.lemmas.Bool.{cases_eq, agree_below_at}
 use Rattle.std.proofs.lemmas.Bool.Decides.{nat_tests}
 use Rattle.std.proofs.lemmas.List.{get_or-set_same, get_or-set_other}
-use Rattle.vga_bits.specs.Bits.{is_set}
-use Rattle.vga_bits.specs.Four.{Four, four, of_plane}
+use Rattle.bios_screen.proofs.Prelude.{is_set, Four, bytes_at, HostState, IsCard, card_meaning, CardState, Plan, run, put, get, graphics}
+use Rattle.vga_bits.specs.Four.{four, of_plane}
 use Rattle.vga_bits.proofs.FourLemmas.{by_plane, same_four}
-use Rattle.vga_planes.specs.Planes.{bytes_at}
-use Rattle.vga_host.specs.Host.{HostState}
 use Rattle.vga_host.specs.Address.{is_decoded, window_offset}
 use Rattle.vga_host.specs.MemoryWrite.{written_bit, combined_bit, written_byte, memory_after_put}
 use Rattle.vga_host.specs.MemoryRead.{loaded}
-use Rattle.vga_card.specs.Bounds.{IsCard}
-use Rattle.vga_card.specs.Bus.{card_meaning}
-use Rattle.vga_card.specs.Card.{CardState}
 use Rattle.vga_card.specs.Port.{port_of}
 use Rattle.vga_card.specs.Cycles.{written_unless, out_at}
-use Rattle.bios_services.specs.Plan.{Plan, run, put, get}
-use Rattle.bios_services.specs.Cycles.{sequencer, graphics}
+use Rattle.bios_services.specs.Cycles.{sequencer}
 use Rattle.bios_screen.proofs.Base.Flat.{set_cell, set_same, set_other}
 use Rattle.bios_services.proofs.CardLemmas.{plan_bounds}
 use Rattle.bios_screen.proofs.Base.Setting.{Setting, setting, host_at, with_memory, reached, offset_is, put_decoded, get_decoded}

@@ -1,21 +1,15 @@
 -- A window of sixteen colours is moved and filled: what its plan leaves of four bytes each.
 use Rattle.std.proofs.Common.{◌≡◌, ℕ, ◌+◌, ◌-◌, ◌%◌, ◌<◌, ◌≤◌, refl, sym, ap, ◌∙◌, subst, arith, Bool, true, false}
 use Rattle.std.specs.Prelude.{◌==◌, if◌then◌else◌}
-use Rattle.vga_bits.specs.Bits.{is_set, byte_of}
-use Rattle.vga_bits.specs.Four.{Four, of_plane}
+use Rattle.bios_screen.proofs.Prelude.{is_set, Four, bytes_at, card_meaning, CardState, Band, Planar, Window, Direction, graphics, run, put, get, ◌>>◌}
+use Rattle.vga_bits.specs.Bits.{byte_of}
+use Rattle.vga_bits.specs.Four.{of_plane}
 use Rattle.vga_bits.proofs.BitLemmas.{byte_bits}
 use Rattle.vga_bits.proofs.FourLemmas.{by_plane}
-use Rattle.vga_planes.specs.Planes.{bytes_at}
 use Rattle.vga_host.specs.MemoryWrite.{written_bit, combined_bit}
-use Rattle.vga_card.specs.Bus.{card_meaning}
-use Rattle.vga_card.specs.Card.{CardState}
-use Rattle.bios_services.specs.declared.band.Band.{Band}
-use Rattle.bios_modes.specs.declared.kind.Kind.TheVariants.{Planar}
-use Rattle.bios_services.specs.declared.scroll.Window.{Window}
-use Rattle.bios_services.specs.declared.band.Direction.{Direction}
 use Rattle.bios_services.specs.Bands.{filling_byte, plain, fill_rows, move_rows, fill_plan, scroll_rows}
-use Rattle.bios_services.specs.Cycles.{sequencer, graphics}
-use Rattle.bios_services.specs.Plan.{run, put, get, move, ◌>>◌}
+use Rattle.bios_services.specs.Cycles.{sequencer}
+use Rattle.bios_services.specs.Plan.{move}
 use Rattle.bios_screen.proofs.Base.Flat.{Leaves, set_cell}
 use Rattle.bios_screen.proofs.Base.Edits.{edited_twice}
 use Rattle.bios_screen.proofs.Base.Plans.{run_bind}

@@ -1,25 +1,11 @@
 -- Characters in sixteen colours at some cells of a page, from the screen to the next.
 use Rattle.std.proofs.Common.{◌≡◌, ℕ, ◌+◌, ◌-◌, ◌*◌, ◌/◌, ◌%◌, ◌<◌, ◌≤◌, ⊎_elim, refl, sym, ap, ◌∙◌, subst, arith, Some, Bool}
 use Rattle.std.specs.Prelude.{slice_index, ◌==◌, ◌&&◌, nat_le, nat_lt, min, not, if◌then◌else◌}
-use Rattle.vga_bits.specs.Bits.{is_set}
-use Rattle.vga_bits.specs.Four.{Four}
-use Rattle.vga_planes.specs.Planes.{bytes_at}
-use Rattle.vga_card.specs.Bounds.{IsCard}
-use Rattle.vga_card.specs.Bus.{card_meaning}
-use Rattle.vga_card.specs.Card.{CardState}
-use Rattle.bios_modes.specs.declared.modes.ModeRow.{ModeRow}
-use Rattle.bios_modes.specs.Bda.{BiosData}
-use Rattle.bios_modes.specs.Fonts.{FontSet}
-use Rattle.bios_services.specs.declared.band.Band.{Band}
-use Rattle.bios_services.specs.declared.colouring.Colouring.{Colouring}
-use Rattle.bios_modes.specs.declared.kind.Kind.TheVariants.{Planar}
+use Rattle.bios_screen.proofs.Prelude.{is_set, Four, bytes_at, IsCard, card_meaning, CardState, ModeRow, BiosData, FontSet, Band, Colouring, Planar, cells_of}
+use Rattle.bios_screen.proofs.Prelude.{run, Screen, pixel_screen, shown}
 use Rattle.bios_services.specs.Bands.{address_in, fill_line, fill_row}
-use Rattle.bios_services.specs.Cells.{cells_of}
 use Rattle.bios_services.specs.Drawing.{put_glyph, put_glyph_over, plain_plan, xor_plan, planar_plan, character_by, character_plan, characters_plan}
 use Rattle.bios_services.specs.Glyphs.{glyph_line}
-use Rattle.bios_services.specs.Plan.{run}
-use Rattle.bios_screen.specs.Screen.{Screen}
-use Rattle.bios_screen.specs.Shown.{pixel_screen, shown}
 use Rattle.bios_screen.specs.Step.{glyph_pixel, put_characters}
 use Rattle.bios_screen.proofs.Base.Flat.{Edited, Turn, Leaves}
 use Rattle.bios_screen.proofs.Dots.PlanarDots.{IsPlanar}

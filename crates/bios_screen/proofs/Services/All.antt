@@ -1,11 +1,7 @@
 -- The laws of the services.
 use Rattle.std.proofs.Common.{ℕ, ◌<◌, subst, List}
-use Rattle.vga_card.specs.Bounds.{IsCard}
-use Rattle.vga_card.specs.Card.{CardState}
-use Rattle.bios_modes.specs.Bda.{BiosData}
-use Rattle.bios_modes.specs.Fonts.{FontSet}
+use Rattle.bios_screen.proofs.Prelude.{IsCard, CardState, BiosData, FontSet, Regs, IsServed, AreBytes}
 use Rattle.bios_modes.specs.Bounds.{IsBda}
-use Rattle.bios_services.specs.declared.regs.Regs.{Regs}
 use Rattle.bios_services.specs.declared.scroll.Scroll.{Scroll}
 use Rattle.bios_services.specs.declared.cell_run.CellRun.{CellRun}
 use Rattle.bios_services.specs.declared.strings.StringCall.{StringCall}
@@ -13,8 +9,7 @@ use Rattle.bios_services.specs.declared.colours.ColourService.{ColourService}
 use Rattle.bios_services.specs.declared.call.Service.{Service}
 use Rattle.bios_services.specs.declared.call.Service.TheVariants.{SetCursorType, SetCursor, ReadCursor, SelectPage, ReadCell, WriteCells, ScrollUp, ScrollDown}
 use Rattle.bios_services.specs.declared.call.Service.TheVariants.{WritePixel, ReadPixel, Teletype, ReadMode, Colours, ReadAdapter, WriteString, ReadDisplay}
-use Rattle.bios_screen.specs.Served.{FitsBytes, IsServed, Serves, ServesText}
-use Rattle.bios_modes.specs.Bounds.{AreBytes}
+use Rattle.bios_screen.specs.Served.{FitsBytes, Serves, ServesText}
 use Rattle.bios_screen.proofs.Shows.Screens.{text_shown}
 use Rattle.bios_screen.proofs.Shows.Any.{IsAny, any_screen, any_is}
 use Rattle.bios_screen.proofs.Services.AnyReaders as any

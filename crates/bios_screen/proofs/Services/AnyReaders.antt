@@ -1,16 +1,12 @@
 -- Services that answer, and do nothing, in text and in graphics.
 use Rattle.std.proofs.Common.{◌≡◌, ℕ, refl, ap, List}
 use Rattle.std.specs.Prelude.{slice_index}
-use Rattle.vga_card.specs.Card.{CardState}
-use Rattle.bios_modes.specs.Bda.{BiosData}
-use Rattle.bios_modes.specs.Fonts.{FontSet}
-use Rattle.bios_services.specs.declared.regs.Regs.{Regs}
+use Rattle.bios_screen.proofs.Prelude.{CardState, BiosData, FontSet, Regs, page_among, page_named, page_meant, IsServed}
 use Rattle.bios_services.specs.declared.call.Service.TheVariants.{ReadCursor, ReadMode, ReadAdapter, ReadDisplay}
 use Rattle.bios_services.specs.Reasons.{no_page}
-use Rattle.bios_services.specs.Refusals.{page_among, page_named, refusal_in_mode}
+use Rattle.bios_services.specs.Refusals.{refusal_in_mode}
 use Rattle.bios_services.specs.Service.{plan_of}
-use Rattle.bios_screen.specs.Step.{page_meant, refusal_on, next, answer_on}
-use Rattle.bios_screen.specs.Served.{IsServed}
+use Rattle.bios_screen.specs.Step.{refusal_on, next, answer_on}
 use Rattle.bios_screen.proofs.Shows.Screens.{pages_are, named_page}
 use Rattle.bios_screen.proofs.Shows.Any.{IsAny, any_screen, still_any}
 

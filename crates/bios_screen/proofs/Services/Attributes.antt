@@ -2,17 +2,14 @@
 use Rattle.std.proofs.Common.{◌≡◌, ℕ, ◌+◌, ◌*◌, ◌<◌, refl, ap, ◌∙◌, List, [], ◌∷◌, ◌++◌, length, Bool, true, false}
 use Rattle.std.specs.Prelude.{◌==◌, ◌&&◌, nat_lt, if◌then◌else◌, slice_index, slice_set, take, bit_and, bit_or}
 use Rattle.std.proofs.lemmas.Bool.{agree_below_at}
-use Rattle.vga_bits.specs.Bits.{is_set, field}
+use Rattle.bios_screen.proofs.Prelude.{is_set, IsCard, card_meaning, CardState, crtc_port, Plan, run, Done, each, ◌>>=◌, ◌>>◌, listing}
+use Rattle.vga_bits.specs.Bits.{field}
 use Rattle.vga_attr.specs.Attr.{attr_masks}
-use Rattle.vga_card.specs.Bounds.{IsCard}
-use Rattle.vga_card.specs.Bus.{card_meaning}
-use Rattle.vga_card.specs.Card.{CardState}
-use Rattle.vga_card.specs.Port.{crtc_port, port_of as reached_by}
+use Rattle.vga_card.specs.Port.{port_of as reached_by}
 use Rattle.vga_card.specs.Cycles.{out_at, inp_at, written_unless, answered_unless}
-use Rattle.bios_services.specs.Plan.{Plan, run, Done, each, out, inp, byte_of, ◌>>=◌, ◌>>◌}
+use Rattle.bios_services.specs.Plan.{out, inp, byte_of}
 use Rattle.bios_services.specs.Cycles.{attribute, attribute_group, expect_index, show_palette}
 use Rattle.bios_services.specs.Palette.{set_register_plan, set_palette_plan, set_blinking_plan, register_plan, read_register_plan}
-use Rattle.bios_screen.specs.Listing.{listing}
 use Rattle.bios_screen.specs.Colours.{six_bits}
 use Rattle.bios_screen.proofs.Base.Lists.{spelled}
 use Rattle.bios_screen.proofs.Base.Plans.{run_bind, then_runs}

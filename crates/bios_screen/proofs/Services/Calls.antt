@@ -1,20 +1,14 @@
 -- Calls: the service that the registers ask for, whole.
 use Rattle.std.proofs.Common.{◌≡◌, ℕ, ◌<◌, refl, ap, ◌∙◌, subst, arith, List, length, Option, Some, None, Bool, true, false, Err}
 use Rattle.std.specs.Prelude.{◌==◌, ◌&&◌, nat_lt, if◌then◌else◌, IfSome}
-use Rattle.vga_bits.specs.declared.refusal.Refusal.{Refusal}
+use Rattle.bios_screen.proofs.Prelude.{Refusal, IsCard, card_meaning, CardState, BiosData, FontSet, Regs, Plan, run, Done, Outcome, Screen, shown, IsServed}
+use Rattle.bios_screen.proofs.Prelude.{AreBytes}
 use Rattle.vga_bits.specs.declared.refusal.Refusal.TheVariants.{NoMode, BadFunction, BadMode}
-use Rattle.vga_card.specs.Bounds.{IsCard}
-use Rattle.vga_card.specs.Bus.{card_meaning}
-use Rattle.vga_card.specs.Card.{CardState}
-use Rattle.bios_modes.specs.Bda.{BiosData}
 use Rattle.bios_modes.specs.Modes.{mode_row}
-use Rattle.bios_modes.specs.Fonts.{FontSet}
-use Rattle.bios_services.specs.declared.regs.Regs.{Regs}
 use Rattle.bios_services.specs.declared.call.Call.{Call}
 use Rattle.bios_services.specs.declared.call.Call.TheVariants.{SetMode, InMode}
 use Rattle.bios_services.specs.declared.call.Service.{Service}
 use Rattle.bios_services.specs.declared.call.Service.TheVariants.{ReadDisplay}
-use Rattle.bios_services.specs.Plan.{Plan, run, Done}
 use Rattle.bios_services.specs.declared.colours.ColourService.TheVariants.{SetRegister, SetOverscan, SetPalette, SetBlinking, ReadRegister, ReadOverscan}
 use Rattle.bios_services.specs.declared.colours.ColourService.TheVariants.{SetEntry, SetEntries, ReadEntry, SetMask, ReadMask}
 use Rattle.bios_services.specs.Registers.{high, low}
@@ -24,13 +18,10 @@ use Rattle.bios_services.specs.declared.glyph_load.GlyphLoad.{GlyphLoad}
 use Rattle.bios_services.specs.GlyphLoads.{glyph_load_of}
 use Rattle.bios_services.specs.Calls.{scroll_of, colours, colour_call_of, service_of, in_mode, call_of, glyphs_or}
 use Rattle.bios_services.specs.Refusals.{on_page_named, refusal_in_mode}
-use Rattle.bios_services.specs.Service.{plan_of, set_mode_plan, Outcome, Answered, answer_of, refuse, unless, in_mode_plan, call_plan}
+use Rattle.bios_services.specs.Service.{plan_of, set_mode_plan, Answered, answer_of, refuse, unless, in_mode_plan, call_plan}
 use Rattle.bios_modes.specs.Bounds.{IsBda}
-use Rattle.bios_screen.specs.Screen.{Screen}
-use Rattle.bios_screen.specs.Shown.{shown}
 use Rattle.bios_screen.specs.Step.{refusal_on, next, answer_on}
-use Rattle.bios_screen.specs.Served.{IsServed, Serves, after_call, after_service}
-use Rattle.bios_modes.specs.Bounds.{AreBytes}
+use Rattle.bios_screen.specs.Served.{Serves, after_call, after_service}
 use Rattle.bios_screen.specs.Called.{AreWords, reply_unless, screen_unless, IsCalled}
 use Rattle.bios_screen.proofs.Base.Plans.{run_bind}
 use Rattle.bios_services.proofs.CardLemmas.{plan_beam}

@@ -1,28 +1,16 @@
 -- Functions 08, 09 and 0A in any mode: the character at the cursor is read, and characters are written from there on.
 use Rattle.std.proofs.Common.{◌≡◌, ℕ, ◌+◌, ◌<◌, ◌≤◌, ap, ◌∙◌, List, Some, None}
-use Rattle.vga_card.specs.Bounds.{IsCard}
-use Rattle.vga_card.specs.Bus.{card_meaning}
-use Rattle.vga_card.specs.Card.{CardState}
-use Rattle.bios_modes.specs.Bda.{BiosData}
-use Rattle.bios_modes.specs.Fonts.{FontSet}
-use Rattle.bios_modes.specs.Modes.{bytes_320_by_200}
-use Rattle.bios_services.specs.declared.regs.Regs.{Regs}
+use Rattle.bios_screen.proofs.Prelude.{IsCard, card_meaning, CardState, BiosData, FontSet, bytes_320_by_200, Regs, Colouring, pages_of, cells_of, Plan, run}
+use Rattle.bios_screen.proofs.Prelude.{Done, ◌>>=◌, ◌>>◌, page_among, page_named, Outcome, Screen, shown, page_meant, IsServed}
 use Rattle.bios_services.specs.declared.cell_run.CellRun.{CellRun}
-use Rattle.bios_services.specs.declared.colouring.Colouring.{Colouring}
 use Rattle.bios_services.specs.declared.call.Service.TheVariants.{ReadCell, WriteCells}
-use Rattle.bios_services.specs.Bounds.{pages_of}
-use Rattle.bios_services.specs.Cells.{cells_of}
 use Rattle.bios_services.specs.CellRuns.{cell_run_plan}
 use Rattle.bios_services.specs.Cursor.{cursor_cell}
 use Rattle.bios_services.specs.Drawing.{characters_plan}
-use Rattle.bios_services.specs.Plan.{Plan, run, Done, ◌>>=◌, ◌>>◌}
 use Rattle.bios_services.specs.Reasons.{◌or◌, no_page, outside_cells, past_cells}
-use Rattle.bios_services.specs.Refusals.{page_among, page_named, refusal_in_mode}
-use Rattle.bios_services.specs.Service.{plan_of, read_cell_service, Outcome}
-use Rattle.bios_screen.specs.Screen.{Screen}
-use Rattle.bios_screen.specs.Shown.{shown}
-use Rattle.bios_screen.specs.Step.{page_meant, refusal_on, next, answer_on, put_characters}
-use Rattle.bios_screen.specs.Served.{IsServed}
+use Rattle.bios_services.specs.Refusals.{refusal_in_mode}
+use Rattle.bios_services.specs.Service.{plan_of, read_cell_service}
+use Rattle.bios_screen.specs.Step.{refusal_on, next, answer_on, put_characters}
 use Rattle.bios_screen.proofs.Base.Plans.{run_bind}
 use Rattle.bios_services.proofs.CardLemmas.{plan_beam}
 use Rattle.bios_screen.proofs.Base.Reasons.{cell_allowed, cells_allowed}

@@ -6,29 +6,20 @@ use Rattle.std.proofs.lemmas.Bool.Decides.{nat_tests}
 use Rattle.std.proofs.lemmas.List.{get_or-set_same, get_or-set_other}
 use Rattle.vga_crtc.specs.Ports.{after_out as after_crtc}
 use Rattle.vga_card.specs.declared.port.Port.TheVariants.{CrtcIndex, CrtcData}
-use Rattle.vga_card.specs.Card.{CardState}
-use Rattle.vga_card.specs.Port.{crtc_port}
+use Rattle.bios_screen.proofs.Prelude.{CardState, crtc_port, card_meaning, ModeRow, BiosData, FontSet, is_text, Regs, Plan, run, Done, ◌>>=◌, ◌>>◌}
+use Rattle.bios_screen.proofs.Prelude.{start_address, page_among, page_named, Outcome, Screen, crtc_registers, shown, page_meant, IsServed}
 use Rattle.vga_card.specs.Cycles.{out_at}
-use Rattle.vga_card.specs.Bus.{card_meaning}
-use Rattle.bios_modes.specs.declared.modes.ModeRow.{ModeRow}
-use Rattle.bios_modes.specs.Bda.{BiosData}
-use Rattle.bios_modes.specs.Fonts.{FontSet}
 use Rattle.bios_modes.specs.Bounds.{IsBda}
-use Rattle.bios_modes.specs.Kinds.{is_text}
-use Rattle.bios_services.specs.declared.regs.Regs.{Regs}
 use Rattle.bios_services.specs.declared.call.Service.TheVariants.{SetCursorType, SetCursor, SelectPage}
-use Rattle.bios_services.specs.Plan.{Plan, run, Done, ◌>>=◌, ◌>>◌}
 use Rattle.bios_services.specs.Registers.{high, low}
 use Rattle.bios_services.specs.Cycles.{crtc}
-use Rattle.bios_services.specs.Cursor.{word_plan, cursor_plan, page_plan, cursor_address, start_address, place_of, with_place, with_page, move_cursor_plan}
+use Rattle.bios_services.specs.Cursor.{word_plan, cursor_plan, page_plan, cursor_address, place_of, with_place, with_page, move_cursor_plan}
 use Rattle.bios_services.specs.Cursor.{cursor_type_plan}
 use Rattle.bios_services.specs.Reasons.{no_page}
-use Rattle.bios_services.specs.Refusals.{page_among, page_named, refusal_in_mode}
-use Rattle.bios_services.specs.Service.{plan_of, Outcome}
-use Rattle.bios_screen.specs.Screen.{Screen}
-use Rattle.bios_screen.specs.Shown.{crtc_registers, location_shown, shows_data, screen_of, shown_by, shown}
-use Rattle.bios_screen.specs.Step.{page_meant, refusal_on, next, answer_on, with_place as placed_on}
-use Rattle.bios_screen.specs.Served.{IsServed}
+use Rattle.bios_services.specs.Refusals.{refusal_in_mode}
+use Rattle.bios_services.specs.Service.{plan_of}
+use Rattle.bios_screen.specs.Shown.{location_shown, shows_data, screen_of, shown_by}
+use Rattle.bios_screen.specs.Step.{refusal_on, next, answer_on, with_place as placed_on}
 use Rattle.bios_screen.proofs.Base.Plans.{run_bind, then_runs}
 use Rattle.bios_screen.proofs.Base.Ports.{crtc_runs}
 use Rattle.bios_screen.proofs.Base.Places.{few_cells}

@@ -3,18 +3,15 @@ use Rattle.std.proofs.Common.{◌≡◌, ℕ, zero, suc, ◌+◌, ◌-◌, ◌*�
 use Rattle.std.proofs.Common.{false}
 use Rattle.std.specs.Prelude.{◌&&◌, nat_lt, nat_le, if◌then◌else◌, slice_index}
 use Rattle.vga_dac.specs.declared.component.Component.TheVariants.{Red}
-use Rattle.vga_dac.specs.Dac.{DacState, IsDac}
-use Rattle.vga_card.specs.Bus.{card_meaning}
-use Rattle.vga_card.specs.Card.{CardState}
+use Rattle.bios_screen.proofs.Prelude.{DacState, card_meaning, CardState, Regs, Plan, run, each, ◌>>◌, listing}
+use Rattle.vga_dac.specs.Dac.{IsDac}
 use Rattle.vga_card.specs.Port.{port_of}
 use Rattle.vga_card.specs.Cycles.{out_at, inp_at}
-use Rattle.bios_services.specs.declared.regs.Regs.{Regs}
 use Rattle.bios_services.specs.Registers.{with_high}
-use Rattle.bios_services.specs.Plan.{Plan, run, each, out, ◌>>◌}
+use Rattle.bios_services.specs.Plan.{out}
 use Rattle.bios_services.specs.ModeSet.{colour_plan}
 use Rattle.bios_services.specs.Dac.{set_entry_plan, components_plan, set_entries_plan}
 use Rattle.bios_services.specs.Colours.{read_entry_plan}
-use Rattle.bios_screen.specs.Listing.{listing}
 use Rattle.bios_screen.specs.Colours.{six_bits, component_over}
 use Rattle.bios_screen.proofs.Base.Flat.{Edited, Turn}
 use Rattle.bios_screen.proofs.Base.Plans.{then_runs}

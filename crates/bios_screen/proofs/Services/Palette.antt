@@ -5,40 +5,29 @@ use Rattle.std.specs.Str.{bytes_eq}
 use Rattle.std.proofs.lemmas.Bool.{agree_below_at}
 use Rattle.std.proofs.lemmas.List.{get_or-set_same, get_or-set_other, get_or-take, length-take-le, take-set-le, drop-set-lt}
 use Rattle.std.proofs.Math.Seq.{take-set-lt}
-use Rattle.vga_bits.specs.Bits.{is_set}
+use Rattle.bios_screen.proofs.Prelude.{is_set, is_palette_shown, DacState, IsCard, card_meaning, CardState, crtc_port, BiosData, AreBytes, FontSet, Regs, Plan}
+use Rattle.bios_screen.proofs.Prelude.{run, Done, ◌>>=◌, ◌>>◌, Outcome, listing, Screen, shows_attribute, shown, IsServed}
 use Rattle.vga_bits.specs.declared.refusal.Refusal.TheVariants.{BadRegister}
 use Rattle.vga_attr.specs.Attr.{attr_masks}
-use Rattle.vga_attr.specs.Fields.{is_palette_shown}
 use Rattle.vga_dac.specs.declared.component.Component.TheVariants.{Red}
-use Rattle.vga_dac.specs.Dac.{DacState}
-use Rattle.vga_card.specs.Bounds.{IsCard}
-use Rattle.vga_card.specs.Bus.{card_meaning}
-use Rattle.vga_card.specs.Card.{CardState}
-use Rattle.vga_card.specs.Port.{crtc_port, port_of as reached_by}
+use Rattle.vga_card.specs.Port.{port_of as reached_by}
 use Rattle.vga_card.specs.Cycles.{out_at, inp_at}
-use Rattle.bios_modes.specs.Bda.{BiosData}
-use Rattle.bios_modes.specs.Bounds.{AreBytes}
-use Rattle.bios_modes.specs.Fonts.{FontSet}
-use Rattle.bios_services.specs.declared.regs.Regs.{Regs}
 use Rattle.bios_services.specs.declared.colours.ColourService.{ColourService}
 use Rattle.bios_services.specs.declared.colours.ColourService.TheVariants.{SetRegister, SetOverscan, SetPalette, SetBlinking, ReadRegister, ReadOverscan}
 use Rattle.bios_services.specs.declared.colours.ColourService.TheVariants.{SetEntry, SetEntries, ReadEntry, SetMask, ReadMask}
 use Rattle.bios_services.specs.declared.call.Service.TheVariants.{Colours}
 use Rattle.bios_services.specs.Registers.{with_high, with_low}
-use Rattle.bios_services.specs.Plan.{Plan, run, Done, out, ◌>>=◌, ◌>>◌}
+use Rattle.bios_services.specs.Plan.{out}
 use Rattle.bios_services.specs.Palette.{set_register_plan, set_palette_plan, set_blinking_plan, read_register_plan}
 use Rattle.bios_services.specs.Dac.{set_entry_plan, set_entries_plan}
 use Rattle.bios_services.specs.Reasons.{refuse_unless, wrong_block}
 use Rattle.bios_services.specs.Colours.{colour_refusal, has_entries, no_register, no_entry, no_entries, read_register_in_bh, read_mask_in_bl, colours_plan}
 use Rattle.bios_services.specs.Refusals.{refusal_in_mode}
-use Rattle.bios_services.specs.Service.{plan_of, Outcome}
-use Rattle.bios_screen.specs.Listing.{listing}
-use Rattle.bios_screen.specs.Screen.{Screen}
-use Rattle.bios_screen.specs.Shown.{shows_attribute, shown}
+use Rattle.bios_services.specs.Service.{plan_of}
 use Rattle.bios_screen.specs.Colours.{six_bits, with_value, with_block, with_entries, with_colours, colours_answer}
 use Rattle.bios_screen.proofs.Base.Reasons.{neither, holds, block_allowed}
 use Rattle.bios_screen.specs.Step.{refusal_on, next, answer_on}
-use Rattle.bios_screen.specs.Served.{FitsBytes, IsServed}
+use Rattle.bios_screen.specs.Served.{FitsBytes}
 use Rattle.bios_screen.proofs.Base.Plans.{run_bind, then_runs, then_answers}
 use Rattle.bios_screen.proofs.Base.Lists.{same_from_0, spelled}
 use Rattle.bios_screen.proofs.Base.Tests.{both_true, same, lt_is, le_is}

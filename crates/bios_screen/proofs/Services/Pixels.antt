@@ -2,26 +2,15 @@
 use Rattle.std.proofs.Common.{◌≡◌, ℕ, ◌+◌, ◌*◌, ◌<◌, refl, ap, ◌∙◌, List, Some, None, Bool, true, false}
 use Rattle.std.specs.Prelude.{nat_lt, not}
 use Rattle.vga_bits.specs.declared.refusal.Refusal.TheVariants.{Outside, WrongKind}
-use Rattle.vga_card.specs.Bounds.{IsCard}
-use Rattle.vga_card.specs.Bus.{card_meaning}
-use Rattle.vga_card.specs.Card.{CardState}
-use Rattle.bios_modes.specs.Bda.{BiosData}
-use Rattle.bios_modes.specs.Fonts.{FontSet}
-use Rattle.bios_modes.specs.Modes.{bytes_320_by_200}
-use Rattle.bios_modes.specs.Kinds.{is_text}
-use Rattle.bios_services.specs.declared.regs.Regs.{Regs}
+use Rattle.bios_screen.proofs.Prelude.{IsCard, card_meaning, CardState, BiosData, FontSet, bytes_320_by_200, is_text, Regs, pages_of, Plan, run, Done, ◌>>=◌}
+use Rattle.bios_screen.proofs.Prelude.{◌>>◌, page_among, page_named, Outcome, Screen, shown, page_meant, pixel_of, with_pixels, IsServed}
 use Rattle.bios_services.specs.declared.call.Service.TheVariants.{WritePixel, ReadPixel}
-use Rattle.bios_services.specs.Bounds.{pages_of}
 use Rattle.bios_services.specs.Registers.{with_low}
-use Rattle.bios_services.specs.Plan.{Plan, run, Done, ◌>>=◌, ◌>>◌}
 use Rattle.bios_services.specs.Pixels.{dots_across, dots_down, write_pixel_plan, read_pixel_plan}
 use Rattle.bios_services.specs.Reasons.{◌or◌, no_pixels, no_page, outside_pixels}
-use Rattle.bios_services.specs.Refusals.{page_among, page_named, refusal_in_mode}
-use Rattle.bios_services.specs.Service.{plan_of, read_pixel_service, Outcome}
-use Rattle.bios_screen.specs.Screen.{Screen}
-use Rattle.bios_screen.specs.Shown.{shown}
-use Rattle.bios_screen.specs.Step.{page_meant, refusal_on, next, answer_on, pixel_of, pixel_number, with_pixels, colour_over, change_pixel}
-use Rattle.bios_screen.specs.Served.{IsServed}
+use Rattle.bios_services.specs.Refusals.{refusal_in_mode}
+use Rattle.bios_services.specs.Service.{plan_of, read_pixel_service}
+use Rattle.bios_screen.specs.Step.{refusal_on, next, answer_on, pixel_number, colour_over, change_pixel}
 use Rattle.bios_screen.proofs.Base.Plans.{run_bind}
 use Rattle.bios_screen.proofs.Base.Tests.{both_true, lt_is}
 use Rattle.bios_screen.proofs.Base.Reasons.{neither, holds, page_allowed}

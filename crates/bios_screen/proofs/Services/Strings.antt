@@ -1,28 +1,19 @@
 -- Typing a string: from a state that shows a screen to one that shows the next.
 use Rattle.std.proofs.Common.{◌≡◌, ℕ, zero, suc, ◌+◌, ◌*◌, ◌<◌, refl, ap, ◌∙◌, List, length, Option, Some, None, Bool, true, false}
 use Rattle.std.specs.Prelude.{if◌then◌else◌, slice_index}
-use Rattle.vga_bits.specs.declared.refusal.Refusal.{Refusal}
-use Rattle.vga_card.specs.Bounds.{IsCard}
-use Rattle.vga_card.specs.Bus.{card_meaning}
-use Rattle.vga_card.specs.Card.{CardState}
-use Rattle.bios_modes.specs.Bda.{BiosData}
-use Rattle.bios_modes.specs.Bounds.{IsBda, AreBytes}
-use Rattle.bios_modes.specs.Fonts.{FontSet}
-use Rattle.bios_services.specs.declared.regs.Regs.{Regs}
+use Rattle.bios_screen.proofs.Prelude.{Refusal, IsCard, card_meaning, CardState, BiosData, AreBytes, FontSet, Regs, Plan, run, Done, pages_of, page_among}
+use Rattle.bios_screen.proofs.Prelude.{page_named, Screen, shown, page_meant, IsServed}
+use Rattle.bios_modes.specs.Bounds.{IsBda}
 use Rattle.bios_services.specs.declared.strings.StringCall.{StringCall}
 use Rattle.bios_services.specs.declared.call.Service.TheVariants.{WriteString}
-use Rattle.bios_services.specs.Plan.{Plan, run, Done, fold}
-use Rattle.bios_services.specs.Bounds.{pages_of}
+use Rattle.bios_services.specs.Plan.{fold}
 use Rattle.bios_services.specs.Cursor.{move_cursor_plan}
 use Rattle.bios_services.specs.Teletype.{type_plan}
 use Rattle.bios_services.specs.Strings.{string_len, character_at, colouring_at, type_string_plan, string_plan}
 use Rattle.bios_services.specs.Reasons.{◌or◌, no_page, outside_page, wrong_block}
-use Rattle.bios_services.specs.Refusals.{page_among, page_named, refusal_in_mode}
+use Rattle.bios_services.specs.Refusals.{refusal_in_mode}
 use Rattle.bios_services.specs.Service.{plan_of}
-use Rattle.bios_screen.specs.Screen.{Screen}
-use Rattle.bios_screen.specs.Shown.{shown}
-use Rattle.bios_screen.specs.Step.{page_meant, refusal_on, next, answer_on, type_character, type_characters, type_string, with_place as placed_on}
-use Rattle.bios_screen.specs.Served.{IsServed}
+use Rattle.bios_screen.specs.Step.{refusal_on, next, answer_on, type_character, type_characters, type_string, with_place as placed_on}
 use Rattle.bios_screen.proofs.Base.Plans.{run_bind}
 use Rattle.bios_services.proofs.CardLemmas.{plan_bounds, plan_beam}
 use Rattle.bios_screen.proofs.Base.Reasons.{neither, page_allowed, place_allowed}

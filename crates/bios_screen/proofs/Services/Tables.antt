@@ -2,31 +2,24 @@
 use Rattle.std.proofs.Common.{◌≡◌, ℕ, zero, suc, ◌+◌, ◌*◌, ◌%◌, ◌<◌, ◌≤◌, refl, sym, ap, ◌∙◌, subst, arith, List, [], ◌∷◌, ◌++◌, Option, Some, None, false, Err}
 use Rattle.std.proofs.lemmas.Bool.Decides.{nat_tests}
 use Rattle.std.specs.Prelude.{if◌then◌else◌, slice_index, take}
-use Rattle.vga_bits.specs.declared.refusal.Refusal.{Refusal}
+use Rattle.bios_screen.proofs.Prelude.{Refusal, IsCard, card_meaning, CardState, crtc_port, BiosData, FontSet, Regs, Plan, run, Done, ◌>>=◌, listing, Screen}
+use Rattle.bios_screen.proofs.Prelude.{shown}
 use Rattle.vga_bits.specs.declared.refusal.Refusal.TheVariants.{NoMode}
 use Rattle.vga_dac.specs.declared.component.Component.TheVariants.{Red}
-use Rattle.vga_card.specs.Bounds.{IsCard}
-use Rattle.vga_card.specs.Bus.{card_meaning}
-use Rattle.vga_card.specs.Card.{CardState}
-use Rattle.vga_card.specs.Port.{crtc_port, port_of as reached_by}
+use Rattle.vga_card.specs.Port.{port_of as reached_by}
 use Rattle.vga_card.specs.Cycles.{out_at, inp_at}
-use Rattle.bios_modes.specs.Bda.{BiosData}
-use Rattle.bios_modes.specs.Fonts.{FontSet}
-use Rattle.bios_services.specs.declared.regs.Regs.{Regs}
 use Rattle.bios_services.specs.declared.reply.Table.{Table}
 use Rattle.bios_services.specs.declared.reply.Table.TheVariants.{Palette as PaletteTable, Dac as DacTable}
 use Rattle.bios_services.specs.declared.tables.TableService.{TableService}
 use Rattle.bios_services.specs.declared.tables.TableService.TheVariants.{ReadPalette, ReadEntries}
 use Rattle.bios_services.specs.declared.call.Call.{Call}
 use Rattle.bios_services.specs.declared.call.Call.TheVariants.{ReadTable}
-use Rattle.bios_services.specs.Plan.{Plan, run, Done, out, inp, gather, ◌>>=◌}
+use Rattle.bios_services.specs.Plan.{out, inp, gather}
 use Rattle.bios_services.specs.Palette.{register_plan}
 use Rattle.bios_services.specs.Tables.{table_refusal, palette_register, registers_plan, read_palette_plan, read_components_plan, read_entries_plan, table_plan}
 use Rattle.bios_services.specs.Calls.{call_of}
 use Rattle.bios_services.specs.Service.{Answered, answer_with, refuse, table_unless, table_in_mode_plan, call_plan}
-use Rattle.bios_screen.specs.Listing.{listing}
-use Rattle.bios_screen.specs.Screen.{Screen}
-use Rattle.bios_screen.specs.Shown.{palette_in, shown}
+use Rattle.bios_screen.specs.Shown.{palette_in}
 use Rattle.bios_screen.specs.Colours.{entries_from, table_answer}
 use Rattle.bios_screen.specs.Served.{after_call}
 use Rattle.bios_screen.specs.Called.{IsRead, WantsMemory, IsLeft, table_unless as replied_unless}

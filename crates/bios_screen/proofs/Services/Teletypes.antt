@@ -1,24 +1,14 @@
 -- Typing at the cursor of the active page: from a state that shows a screen to one that shows the next.
 use Rattle.std.proofs.Common.{◌≡◌, ℕ, ◌+◌, ◌<◌, refl, ap, ◌∙◌, List, Some, Bool, true, false}
 use Rattle.std.specs.Prelude.{◌==◌, if◌then◌else◌}
-use Rattle.vga_card.specs.Bounds.{IsCard}
-use Rattle.vga_card.specs.Bus.{card_meaning}
-use Rattle.vga_card.specs.Card.{CardState}
-use Rattle.bios_modes.specs.Bda.{BiosData}
+use Rattle.bios_screen.proofs.Prelude.{IsCard, card_meaning, CardState, BiosData, FontSet, Regs, pages_of, Plan, run, Done, ◌>>=◌, Screen, shown, IsServed}
 use Rattle.bios_modes.specs.Bounds.{IsBda}
-use Rattle.bios_modes.specs.Fonts.{FontSet}
-use Rattle.bios_services.specs.declared.regs.Regs.{Regs}
 use Rattle.bios_services.specs.declared.call.Service.TheVariants.{Teletype}
-use Rattle.bios_services.specs.Bounds.{pages_of}
-use Rattle.bios_services.specs.Plan.{Plan, run, Done, ◌>>=◌}
 use Rattle.bios_services.specs.Cursor.{place_of, move_cursor_plan}
 use Rattle.bios_services.specs.Teletype.{dots_in, type_plan, teletype_plan}
 use Rattle.bios_services.specs.Refusals.{refusal_in_mode}
 use Rattle.bios_services.specs.Service.{plan_of}
-use Rattle.bios_screen.specs.Screen.{Screen}
-use Rattle.bios_screen.specs.Shown.{shown}
 use Rattle.bios_screen.specs.Step.{refusal_on, next, answer_on, type_character, type_at_cursor, with_place as placed_on}
-use Rattle.bios_screen.specs.Served.{IsServed}
 use Rattle.bios_screen.proofs.Base.Plans.{run_bind}
 use Rattle.bios_services.proofs.CardLemmas.{plan_beam}
 use Rattle.bios_screen.proofs.Base.Reasons.{place_allowed}

@@ -1,21 +1,14 @@
 -- Typing a character in any mode: from a state that shows a screen to one that shows the next, plan after plan.
 use Rattle.std.proofs.Common.{◌≡◌, ℕ, ◌+◌, ◌-◌, ◌*◌, ◌<◌, refl, sym, ap, ◌∙◌, subst, arith, Some, Bool, true, false}
 use Rattle.std.specs.Prelude.{◌==◌, nat_lt, if◌then◌else◌}
-use Rattle.vga_card.specs.Bounds.{IsCard}
-use Rattle.vga_card.specs.Bus.{card_meaning}
-use Rattle.vga_card.specs.Card.{CardState}
-use Rattle.bios_modes.specs.Bda.{BiosData}
-use Rattle.bios_modes.specs.Fonts.{FontSet}
-use Rattle.bios_services.specs.declared.colouring.Colouring.{Colouring}
-use Rattle.bios_services.specs.Bounds.{pages_of}
-use Rattle.bios_services.specs.Plan.{Plan, run, Done, get, ◌>>=◌, ◌>>◌}
+use Rattle.bios_screen.proofs.Prelude.{IsCard, card_meaning, CardState, BiosData, FontSet, Colouring, pages_of, Plan, run, Done, get, ◌>>=◌, ◌>>◌, Screen}
+use Rattle.bios_screen.proofs.Prelude.{shown}
 use Rattle.bios_services.specs.Cells.{cell_address}
 use Rattle.bios_services.specs.Cursor.{row_of as text_row_of, column_of, cell_number}
 use Rattle.bios_services.specs.Drawing.{character_plan, characters_plan}
 use Rattle.bios_services.specs.Scroll.{page_up_plan}
 use Rattle.bios_services.specs.Teletype.{line_start, line_feed_fill, line_feed_plan, cursor_advance_plan, show_plan, type_plan}
-use Rattle.bios_screen.specs.Screen.{Screen, page_start}
-use Rattle.bios_screen.specs.Shown.{shown}
+use Rattle.bios_screen.specs.Screen.{page_start}
 use Rattle.bios_screen.specs.Step.{cell_on, last_colour, line_feed, cursor_advance, put_characters, put_character, type_character}
 use Rattle.bios_screen.proofs.Base.Plans.{run_bind, then_runs, then_answers}
 use Rattle.bios_screen.proofs.Base.Places.{ends_before}

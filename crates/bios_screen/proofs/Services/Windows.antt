@@ -1,24 +1,13 @@
 -- Functions 06 and 07, and a page that goes up by a row, in any mode.
 use Rattle.std.proofs.Common.{◌≡◌, ℕ, ◌+◌, ◌<◌, ◌≤◌, refl, sym, ap, ◌∙◌, arith, Option, Some, None}
-use Rattle.vga_card.specs.Bounds.{IsCard}
-use Rattle.vga_card.specs.Bus.{card_meaning}
-use Rattle.vga_card.specs.Card.{CardState}
-use Rattle.bios_modes.specs.Bda.{BiosData}
-use Rattle.bios_modes.specs.Modes.{bytes_320_by_200}
-use Rattle.bios_services.specs.declared.band.Direction.{Direction}
-use Rattle.bios_services.specs.declared.band.Direction.TheVariants.{Up, Down}
+use Rattle.bios_screen.proofs.Prelude.{IsCard, card_meaning, CardState, BiosData, bytes_320_by_200, Direction, Up, Down, Regs, Window, pages_of, Plan, run}
+use Rattle.bios_screen.proofs.Prelude.{Done, ◌>>◌, Outcome, Screen, shown}
 use Rattle.bios_services.specs.declared.call.Service.TheVariants.{ScrollUp, ScrollDown}
-use Rattle.bios_services.specs.declared.regs.Regs.{Regs}
 use Rattle.bios_services.specs.declared.scroll.Scroll.{Scroll}
-use Rattle.bios_services.specs.declared.scroll.Window.{Window}
-use Rattle.bios_services.specs.Bounds.{pages_of}
-use Rattle.bios_services.specs.Plan.{Plan, run, Done, ◌>>◌}
 use Rattle.bios_services.specs.Refusals.{refusal_in_mode}
 use Rattle.bios_services.specs.Scroll.{IsOnPage, window_among, whole_page, lines_of, window_plan, page_up_plan, scroll_within, scroll_plan}
-use Rattle.bios_services.specs.Service.{plan_of, Outcome}
-use Rattle.bios_screen.specs.Screen.{Screen}
+use Rattle.bios_services.specs.Service.{plan_of}
 use Rattle.bios_screen.specs.Served.{Serves}
-use Rattle.bios_screen.specs.Shown.{shown}
 use Rattle.bios_screen.specs.Step.{scroll_window, scroll_asked, scroll, page_up, refusal_on, next, answer_on}
 use Rattle.bios_services.proofs.CardLemmas.{plan_beam}
 use Rattle.bios_screen.proofs.Base.Plans.{run_bind}

@@ -1,9 +1,7 @@
 -- What services leave of a plain screen: its mode, and how it is cut.
 use Rattle.std.proofs.Common.{◌≡◌, ℕ, zero, suc, ◌+◌, ◌-◌, refl, ◌∙◌, Bool, true, false, List, Option, Some, None}
 use Rattle.std.specs.Prelude.{◌==◌, nat_lt, if◌then◌else◌}
-use Rattle.vga_bits.specs.declared.refusal.Refusal.{Refusal}
-use Rattle.bios_modes.specs.Fonts.{FontSet}
-use Rattle.bios_services.specs.declared.colouring.Colouring.{Colouring}
+use Rattle.bios_screen.proofs.Prelude.{Refusal, FontSet, Colouring, Direction, Up, Down, Window, Screen, page_meant}
 use Rattle.bios_services.specs.declared.strings.StringCall.{StringCall}
 use Rattle.bios_services.specs.declared.colours.ColourService.{ColourService}
 use Rattle.bios_services.specs.declared.colours.ColourService.TheVariants.{SetRegister, SetOverscan, SetPalette, SetBlinking, ReadRegister, ReadOverscan}
@@ -11,18 +9,15 @@ use Rattle.bios_services.specs.declared.colours.ColourService.TheVariants.{SetEn
 use Rattle.bios_services.specs.declared.call.Service.{Service}
 use Rattle.bios_services.specs.declared.call.Service.TheVariants.{SetCursorType, SetCursor, ReadCursor, SelectPage, ScrollUp, ScrollDown, ReadCell, WriteCells}
 use Rattle.bios_services.specs.declared.call.Service.TheVariants.{WritePixel, ReadPixel, Teletype, ReadMode, Colours, ReadAdapter, WriteString, ReadDisplay}
-use Rattle.bios_services.specs.declared.band.Direction.{Direction}
-use Rattle.bios_services.specs.declared.band.Direction.TheVariants.{Up, Down}
 use Rattle.bios_services.specs.declared.scroll.Scroll.{Scroll}
-use Rattle.bios_services.specs.declared.scroll.Window.{Window}
 use Rattle.bios_services.specs.Scroll.{window_among}
 use Rattle.bios_services.specs.Teletype.{line_start, dots_in}
 use Rattle.bios_services.specs.Strings.{character_at, colouring_at}
 use Rattle.bios_services.specs.Cursor.{row_of, column_of}
-use Rattle.bios_screen.specs.Screen.{Screen, cursor_place}
+use Rattle.bios_screen.specs.Screen.{cursor_place}
 use Rattle.bios_screen.specs.Colours.{with_colours}
 use Rattle.bios_screen.specs.Called.{screen_unless}
-use Rattle.bios_screen.specs.Step.{page_meant, scroll_asked, last_colour, page_up, line_feed, cursor_advance, put_character, type_character, type_characters}
+use Rattle.bios_screen.specs.Step.{scroll_asked, last_colour, page_up, line_feed, cursor_advance, put_character, type_character, type_characters}
 use Rattle.bios_screen.specs.Step.{with_place, next}
 
 -- t has the mode of s, and is cut as s is

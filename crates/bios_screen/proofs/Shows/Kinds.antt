@@ -1,12 +1,6 @@
 -- A screen is of text or of pixels, and one of pixels has sixteen colours or 256.
 use Rattle.std.proofs.Common.{◌≡◌, refl, subst, Bool, true, false, Some}
-use Rattle.vga_card.specs.Card.{CardState}
-use Rattle.bios_modes.specs.declared.modes.ModeRow.{ModeRow}
-use Rattle.bios_modes.specs.Modes.{bytes_320_by_200}
-use Rattle.bios_modes.specs.Bda.{BiosData}
-use Rattle.bios_modes.specs.Kinds.{is_text}
-use Rattle.bios_screen.specs.Screen.{Screen}
-use Rattle.bios_screen.specs.Shown.{pixel_screen, shown}
+use Rattle.bios_screen.proofs.Prelude.{CardState, ModeRow, bytes_320_by_200, BiosData, is_text, Screen, pixel_screen, shown}
 use Rattle.bios_screen.proofs.Shows.Screens.{AllTests, data_is, IsShown, screen_shown, shown_is}
 use Rattle.bios_screen.proofs.Shows.Pixels.{IsPixels, pixels_shown, pixels_of_shown}
 use Rattle.bios_screen.proofs.Modes.PixelModes.{IsPackedRow}

@@ -1,13 +1,8 @@
 -- What a screen of pixels that is shown says of registers and data.
 use Rattle.std.proofs.Common.{◌≡◌, sym, ap, ◌∙◌, false, Some}
 use Rattle.std.specs.Prelude.{if◌then◌else◌}
-use Rattle.vga_card.specs.Card.{CardState}
-use Rattle.bios_modes.specs.declared.modes.ModeRow.{ModeRow}
-use Rattle.bios_modes.specs.Heights.{row_at}
-use Rattle.bios_modes.specs.Bda.{BiosData}
-use Rattle.bios_modes.specs.Kinds.{is_text}
-use Rattle.bios_screen.specs.Screen.{Screen}
-use Rattle.bios_screen.specs.Shown.{text_screen, pixel_screen, screen_of, shown}
+use Rattle.bios_screen.proofs.Prelude.{CardState, ModeRow, row_at, BiosData, is_text, Screen, pixel_screen, shown}
+use Rattle.bios_screen.specs.Shown.{text_screen, screen_of}
 use Rattle.bios_screen.proofs.Shows.Screens.{HasData, data_is, AllTests, row_shown, shown_by_row}
 
 -- all that a screen of pixels says

@@ -4,18 +4,12 @@ use Rattle.std.proofs.Common.{append_assoc, get_or, Bool, true, false, Some, Non
 use Rattle.std.specs.Prelude.{slice_index, slice_set, bit_and, nat_lt, ◌&&◌, if◌then◌else◌}
 use Rattle.std.proofs.lemmas.Bool.{cases_lt}
 use Rattle.std.proofs.lemmas.List.{get_or_append_left, get_or-append-add, get_or_default, append-nil, length-append}
-use Rattle.vga_bits.specs.Four.{Four}
-use Rattle.vga_card.specs.Card.{CardState}
-use Rattle.bios_modes.specs.declared.modes.ModeRow.{ModeRow}
-use Rattle.bios_modes.specs.Heights.{row_at}
-use Rattle.bios_modes.specs.Bda.{BiosData}
-use Rattle.bios_modes.specs.Kinds.{is_text, is_packed}
-use Rattle.bios_services.specs.Cursor.{start_address}
-use Rattle.bios_screen.specs.Listing.{listing}
-use Rattle.bios_screen.specs.Screen.{Cell, Contents, Cells, Pixels, Layout, Screen, no_cell, cell_of}
+use Rattle.bios_screen.proofs.Prelude.{Four, CardState, ModeRow, row_at, BiosData, is_text, is_packed, start_address, listing, Cell, Screen, cell_in, pixel_in}
+use Rattle.bios_screen.proofs.Prelude.{page_pixels, pixel_screen, crtc_registers}
+use Rattle.bios_screen.specs.Screen.{Contents, Cells, Pixels, Layout, no_cell, cell_of}
 use Rattle.bios_screen.specs.Parts.{text_cell, page_pixel, cut_pages, pixel_count, contents_of, IsLaidOut}
-use Rattle.bios_screen.specs.Shown.{cell_in, cells_in, glyph_byte, glyphs_in, pixel_in, pixels_in, page_pixels, pixel_pages, layout_of, screen_by, pixel_screen}
-use Rattle.bios_screen.specs.Shown.{crtc_registers, crtc_shown, location_shown, shows}
+use Rattle.bios_screen.specs.Shown.{cells_in, glyph_byte, glyphs_in, pixels_in, pixel_pages, layout_of, screen_by}
+use Rattle.bios_screen.specs.Shown.{crtc_shown, location_shown, shows}
 use Rattle.bios_screen.specs.Raster.{join}
 use Rattle.bios_screen.proofs.Base.Lists.{spelled, same_from_0, length_listing, listed_at}
 use Rattle.bios_screen.proofs.Base.Places.{ends_before}

@@ -3,20 +3,15 @@ use Rattle.std.proofs.Common.{◌≡◌, ℕ, ◌+◌, ◌*◌, ◌<◌, refl, s
 use Rattle.std.specs.Prelude.{slice_index, bit_and, ◌==◌, ◌&&◌, if◌then◌else◌}
 use Rattle.std.specs.Str.{bytes_eq}
 use Rattle.std.proofs.lemmas.Slice.Eq.{bytes_eq-Decides}
-use Rattle.vga_attr.specs.Fields.{is_palette_shown}
-use Rattle.vga_card.specs.Card.{CardState}
-use Rattle.bios_modes.specs.declared.modes.ModeRow.{ModeRow}
-use Rattle.bios_modes.specs.Heights.{row_at}
-use Rattle.bios_modes.specs.Bda.{BiosData}
+use Rattle.bios_screen.proofs.Prelude.{is_palette_shown, CardState, ModeRow, row_at, BiosData, Planar, pages_of, page_among, page_named, is_text, kind_of}
+use Rattle.bios_screen.proofs.Prelude.{start_address, Screen, crtc_registers, shows_attribute, pixel_screen, shown}
 use Rattle.bios_modes.specs.declared.kind.Kind.{Kind}
-use Rattle.bios_modes.specs.declared.kind.Kind.TheVariants.{Text, Planar, Packed}
-use Rattle.bios_services.specs.Bounds.{pages_in, pages_of}
-use Rattle.bios_services.specs.Refusals.{page_among, page_named}
-use Rattle.bios_modes.specs.Kinds.{is_text, kind_of, is_text_kind}
-use Rattle.bios_services.specs.Cursor.{cursor_address, start_address}
-use Rattle.bios_screen.specs.Screen.{Screen}
-use Rattle.bios_screen.specs.Shown.{shows_memory, crtc_registers, crtc_shown, shows_attribute, shows_data, shows, text_screen, pixel_screen, screen_of}
-use Rattle.bios_screen.specs.Shown.{shown_by, shown}
+use Rattle.bios_modes.specs.declared.kind.Kind.TheVariants.{Text, Packed}
+use Rattle.bios_services.specs.Bounds.{pages_in}
+use Rattle.bios_modes.specs.Kinds.{is_text_kind}
+use Rattle.bios_services.specs.Cursor.{cursor_address}
+use Rattle.bios_screen.specs.Shown.{shows_memory, crtc_shown, shows_data, shows, text_screen, screen_of}
+use Rattle.bios_screen.specs.Shown.{shown_by}
 use Rattle.bios_screen.proofs.Base.Tests.{both_true, if_some, none_some, same, lt_is}
 use Rattle.bios_screen.proofs.Base.Setting.{Setting, setting}
 use Rattle.bios_screen.proofs.Modes.TextModes.{Display, text_setting, text_sequencer, misc_of, IsTextRow, Height, row_with, number_of, control_of}

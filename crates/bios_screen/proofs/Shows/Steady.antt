@@ -1,20 +1,13 @@
 -- What dots leave of a screen that is shown, and what services leave of the beam's frame.
 use Rattle.std.proofs.Common.{◌≡◌, ℕ, ◌*◌, ◌/◌, refl, sym, ap, ◌∙◌, List, Some}
 use Rattle.std.specs.Prelude.{if◌then◌else◌, slice_index}
-use Rattle.vga_bits.specs.Bits.{is_set}
-use Rattle.vga_crtc.specs.declared.beam.Beam.{Beam}
+use Rattle.bios_screen.proofs.Prelude.{is_set, Beam, CardState, ModeRow, row_at, BiosData, is_text, start_address, Screen, crtc_registers, shown}
 use Rattle.vga_crtc.specs.Fields.{horizontal_total, maximum_scan_line, is_double_scan, offset}
 use Rattle.vga_crtc.specs.Raster.{beam_at}
 use Rattle.vga_card.specs.Picture.{Dot}
-use Rattle.vga_card.specs.Card.{CardState}
 use Rattle.vga_card.specs.Dots.{character_width}
-use Rattle.bios_modes.specs.declared.modes.ModeRow.{ModeRow}
-use Rattle.bios_modes.specs.Heights.{row_at}
-use Rattle.bios_modes.specs.Bda.{BiosData}
-use Rattle.bios_modes.specs.Kinds.{is_text}
-use Rattle.bios_services.specs.Cursor.{start_address}
-use Rattle.bios_screen.specs.Screen.{Layout, Screen}
-use Rattle.bios_screen.specs.Shown.{crtc_registers, location_shown, shown}
+use Rattle.bios_screen.specs.Screen.{Layout}
+use Rattle.bios_screen.specs.Shown.{location_shown}
 use Rattle.bios_screen.proofs.Base.Tests.{some_same}
 use Rattle.bios_screen.proofs.Base.Setting.{Setting}
 use Rattle.bios_screen.proofs.Shows.Screens.{data_is, setting_by, mode_of_shown}

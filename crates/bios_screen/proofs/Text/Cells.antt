@@ -4,13 +4,8 @@ use Rattle.std.specs.Prelude.{slice_index, ◌==◌, if◌then◌else◌}
 use Rattle.std.proofs.lemmas.Bool.{cases_eq}
 use Rattle.std.proofs.lemmas.Bool.Decides.{nat_tests}
 use Rattle.vga_host.specs.Bounds.{IsHost}
-use Rattle.vga_card.specs.Bus.{card_meaning}
-use Rattle.vga_card.specs.Card.{CardState}
-use Rattle.bios_services.specs.declared.colouring.Colouring.{Colouring}
-use Rattle.bios_services.specs.Plan.{run, put, get, Done, ◌>>◌}
+use Rattle.bios_screen.proofs.Prelude.{card_meaning, CardState, Colouring, run, put, get, Done, ◌>>◌, Cell, cell_in}
 use Rattle.bios_services.specs.Cells.{write_cell_plan}
-use Rattle.bios_screen.specs.Screen.{Cell}
-use Rattle.bios_screen.specs.Shown.{cell_in}
 use Rattle.bios_screen.specs.Step.{character_over}
 use Rattle.bios_screen.proofs.Base.Flat.{set_cell, set_same, set_other}
 use Rattle.bios_screen.proofs.Base.Setting.{setting}

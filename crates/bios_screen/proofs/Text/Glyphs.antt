@@ -5,13 +5,9 @@ use Rattle.std.proofs.lemmas.Bool.Decides.{nat_tests}
 use Rattle.std.proofs.lemmas.List.{length-set}
 use Rattle.vga_bits.specs.Bits.{byte_of}
 use Rattle.vga_bits.proofs.BitLemmas.{byte_bits}
-use Rattle.vga_bits.specs.Four.{Four}
-use Rattle.vga_host.specs.Host.{HostState}
+use Rattle.bios_screen.proofs.Prelude.{Four, HostState, card_meaning, CardState, run, put}
 use Rattle.vga_host.specs.Address.{is_decoded, window_offset}
 use Rattle.vga_host.specs.MemoryWrite.{written_bit, combined_bit, written_byte, memory_after_put}
-use Rattle.vga_card.specs.Bus.{card_meaning}
-use Rattle.vga_card.specs.Card.{CardState}
-use Rattle.bios_services.specs.Plan.{run, put}
 use Rattle.bios_services.specs.ModeSet.{glyph_plan, glyphs_plan}
 use Rattle.bios_screen.proofs.Base.Flat.{Edited, Turn, Leaves, set_cell, list_put}
 use Rattle.bios_screen.proofs.Base.Edits.{one_edit, edits}

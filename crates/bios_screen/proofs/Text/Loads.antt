@@ -3,33 +3,25 @@ use Rattle.std.proofs.Common.{◌≡◌, ℕ, ◌+◌, ◌*◌, ◌/◌, ◌%◌
 use Rattle.std.specs.Prelude.{slice_index, nat_le, nat_lt, ◌&&◌, replicate}
 use Rattle.std.proofs.lemmas.Bool.Decides.{nat_tests}
 use Rattle.vga_crtc.specs.Ports.{after_out as after_crtc}
-use Rattle.vga_card.specs.Bounds.{IsCard}
-use Rattle.vga_card.specs.Bus.{card_meaning}
-use Rattle.vga_card.specs.Card.{CardState}
+use Rattle.bios_screen.proofs.Prelude.{IsCard, card_meaning, CardState, ModeRow, row_at, BiosData, data_of_mode, AreBytes, FontSet, Plan, run, ◌>>◌}
+use Rattle.bios_screen.proofs.Prelude.{start_address, Screen, is_palette_shown, crtc_registers, shows_attribute, shown, listing}
 use Rattle.vga_card.specs.Port.{port_of as reached_by, crtc_port_of}
 use Rattle.vga_card.specs.Cycles.{out_at}
 use Rattle.bios_modes.specs.declared.heights.TextRow.{TextRow}
-use Rattle.bios_modes.specs.declared.modes.ModeRow.{ModeRow}
-use Rattle.bios_modes.specs.Heights.{with_text, row_at}
-use Rattle.bios_modes.specs.Bda.{BiosData}
-use Rattle.bios_modes.specs.Begin.{data_of_mode}
-use Rattle.bios_modes.specs.Bounds.{AreBytes, AreFonts}
-use Rattle.bios_modes.specs.Fonts.{FontSet, glyph_row}
+use Rattle.bios_modes.specs.Heights.{with_text}
+use Rattle.bios_modes.specs.Bounds.{AreFonts}
+use Rattle.bios_modes.specs.Fonts.{glyph_row}
 use Rattle.bios_services.specs.declared.glyph_load.GlyphLoad.{GlyphLoad}
-use Rattle.bios_services.specs.Plan.{Plan, run, ◌>>◌}
 use Rattle.bios_services.specs.Cycles.{crtc}
 use Rattle.bios_services.specs.ModeSet.{glyphs_plan, font_plan}
-use Rattle.bios_services.specs.Cursor.{word_plan, cursor_address, start_address}
+use Rattle.bios_services.specs.Cursor.{word_plan, cursor_address}
 use Rattle.bios_services.specs.Glyphs.{glyph_line}
 use Rattle.bios_services.specs.GlyphLoads.{AreThere, loaded_line, load_plan}
-use Rattle.bios_screen.specs.Screen.{Screen}
 use Rattle.std.specs.Str.{bytes_eq}
 use Rattle.std.specs.Prelude.{◌-◌, ◌==◌, bit_and, drop}
 use Rattle.vga_attr.specs.Attr.{AttrState}
-use Rattle.vga_attr.specs.Fields.{is_palette_shown}
-use Rattle.bios_screen.specs.Shown.{crtc_registers, shows_data, shows_attribute, text_screen, glyph_byte, glyphs_in, shown}
+use Rattle.bios_screen.specs.Shown.{shows_data, text_screen, glyph_byte, glyphs_in}
 use Rattle.bios_screen.specs.Loaded.{load_byte, load_at_height}
-use Rattle.bios_screen.specs.Listing.{listing}
 use Rattle.bios_screen.proofs.Base.Flat.{Edited, Turn}
 use Rattle.bios_screen.proofs.Base.Plans.{then_runs}
 use Rattle.bios_screen.proofs.Base.Lists.{same_from_0, length_listing, listed_at}

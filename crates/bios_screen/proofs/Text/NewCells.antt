@@ -1,11 +1,8 @@
 -- Where a service changes cells alone: from cells that are known one by one to the next screen.
 use Rattle.std.proofs.Common.{◌≡◌, ℕ, ◌<◌, sym, ap, ◌∙◌, List, Some}
-use Rattle.vga_card.specs.Card.{CardState}
-use Rattle.bios_modes.specs.Bda.{BiosData}
-use Rattle.bios_modes.specs.declared.modes.ModeRow.{ModeRow}
-use Rattle.bios_screen.specs.Listing.{listing}
-use Rattle.bios_screen.specs.Screen.{Cell, no_cell, cell_of}
-use Rattle.bios_screen.specs.Shown.{cell_in, cells_in, shows, screen_with, all_cells, shown}
+use Rattle.bios_screen.proofs.Prelude.{CardState, BiosData, ModeRow, listing, Cell, cell_in, all_cells, shown}
+use Rattle.bios_screen.specs.Screen.{no_cell, cell_of}
+use Rattle.bios_screen.specs.Shown.{cells_in, shows, screen_with}
 use Rattle.bios_screen.specs.Step.{with_cells, cell_on}
 use Rattle.bios_screen.proofs.Base.Lists.{same_from_0, length_listing, listed_at}
 use Rattle.bios_screen.proofs.Modes.TextModes.{Display}

@@ -4,13 +4,9 @@ use Rattle.std.proofs.lemmas.Bool.{cases_eq}
 use Rattle.vga_bits.specs.Bits.{byte_of}
 use Rattle.vga_bits.proofs.BitLemmas.{byte_bits}
 use Rattle.vga_bits.specs.Four.{of_plane}
-use Rattle.vga_planes.specs.Planes.{bytes_at}
-use Rattle.vga_host.specs.Host.{HostState}
+use Rattle.bios_screen.proofs.Prelude.{bytes_at, HostState, card_meaning, CardState, run, get}
 use Rattle.vga_host.specs.Address.{plane_offset}
 use Rattle.vga_host.specs.MemoryRead.{read_bit, read_byte, loaded}
-use Rattle.vga_card.specs.Bus.{card_meaning}
-use Rattle.vga_card.specs.Card.{CardState}
-use Rattle.bios_services.specs.Plan.{run, get}
 use Rattle.bios_screen.proofs.Base.Setting.{host_at, get_decoded}
 use Rattle.bios_screen.proofs.Modes.TextModes.{Display, base_of, text_setting}
 use Rattle.bios_screen.proofs.Modes.TextModes.Display.{Colour, Monochrome}

@@ -3,20 +3,11 @@ use Rattle.std.proofs.Common.{◌≡◌, ℕ, ◌+◌, ◌-◌, ◌*◌, ◌/◌
 use Rattle.std.specs.Prelude.{◌==◌, ◌&&◌, nat_le, if◌then◌else◌}
 use Rattle.std.proofs.lemmas.Bool.Decides.{nat_tests}
 use Rattle.std.proofs.lemmas.Nat.{mod_below}
-use Rattle.vga_card.specs.Bounds.{IsCard}
-use Rattle.vga_card.specs.Bus.{card_meaning}
-use Rattle.vga_card.specs.Card.{CardState}
-use Rattle.bios_modes.specs.Bda.{BiosData}
+use Rattle.bios_screen.proofs.Prelude.{IsCard, card_meaning, CardState, BiosData, Band, Direction, Up, Down, Window, run, Screen, all_cells, shown}
 use Rattle.bios_modes.specs.declared.kind.Kind.TheVariants.{Text}
-use Rattle.bios_services.specs.declared.band.Band.{Band}
-use Rattle.bios_services.specs.declared.band.Direction.{Direction}
-use Rattle.bios_services.specs.declared.band.Direction.TheVariants.{Up, Down}
-use Rattle.bios_services.specs.declared.scroll.Window.{Window}
 use Rattle.bios_services.specs.Bands.{filling_byte, blank, scroll_rows, fill_plan, band_by}
-use Rattle.bios_services.specs.Plan.{run}
 use Rattle.bios_services.specs.Scroll.{IsOnPage, window_plan}
-use Rattle.bios_screen.specs.Screen.{Screen, page_start}
-use Rattle.bios_screen.specs.Shown.{all_cells, shown}
+use Rattle.bios_screen.specs.Screen.{page_start}
 use Rattle.bios_screen.specs.Step.{row_on, column_on, in_window, has_source, source, scroll_cells, scroll_window, cell_on}
 use Rattle.bios_screen.proofs.Base.Flat.{Leaves}
 use Rattle.bios_screen.proofs.Base.Places.{twice, rows_further, row_and_column}

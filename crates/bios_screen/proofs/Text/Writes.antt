@@ -1,22 +1,14 @@
 -- Cells of text that are written and read: where they lie, and the screen that is then shown.
 use Rattle.std.proofs.Common.{◌≡◌, ℕ, ◌+◌, ◌-◌, ◌*◌, ◌/◌, ◌<◌, ◌≤◌, refl, sym, ap, ◌∙◌, arith, Some}
 use Rattle.std.specs.Prelude.{if◌then◌else◌}
-use Rattle.vga_card.specs.Bounds.{IsCard}
-use Rattle.vga_card.specs.Bus.{card_meaning}
-use Rattle.vga_card.specs.Card.{CardState}
-use Rattle.bios_modes.specs.Bda.{BiosData}
-use Rattle.bios_modes.specs.Fonts.{FontSet}
-use Rattle.bios_services.specs.declared.regs.Regs.{Regs}
-use Rattle.bios_services.specs.declared.colouring.Colouring.{Colouring}
-use Rattle.bios_services.specs.Plan.{Plan, run, Done, get, each, ◌>>=◌}
-use Rattle.bios_services.specs.Cells.{page_base, cell_address, cells_of, read_cell_plan, write_cell_plan}
+use Rattle.bios_screen.proofs.Prelude.{IsCard, card_meaning, CardState, BiosData, FontSet, Regs, Colouring, Plan, run, Done, get, each, ◌>>=◌, page_base}
+use Rattle.bios_screen.proofs.Prelude.{cells_of, Cell, Screen, cell_in, all_cells, shown}
+use Rattle.bios_services.specs.Cells.{cell_address, read_cell_plan, write_cell_plan}
 use Rattle.bios_services.specs.Cursor.{cursor_cell}
 use Rattle.bios_services.specs.Drawing.{cell_band, cell_row, character_by, characters_plan}
 use Rattle.bios_services.specs.CharacterReading.{read_character_plan}
 use Rattle.bios_services.specs.Registers.{with_low}
 use Rattle.bios_services.specs.Service.{read_cell_service}
-use Rattle.bios_screen.specs.Screen.{Cell, Screen}
-use Rattle.bios_screen.specs.Shown.{cell_in, all_cells, shown}
 use Rattle.bios_screen.specs.Step.{character_over, cell_on, cell_answer, write_characters, put_characters}
 use Rattle.bios_screen.proofs.Base.Flat.{set_cell}
 use Rattle.bios_screen.proofs.Base.Plans.{run_bind}

@@ -1,11 +1,8 @@
 use Rattle.std.proofs.Common.{◌≡◌, Bool, true, false, refl, ap, sym, ◌∙◌}
 use Rattle.std.specs.Prelude.{◌&&◌}
 use Rattle.std.specs.Str.{bytes_eq}
-use Rattle.vga_crtc.specs.Crtc.{CrtcState}
-use Rattle.vga_card.specs.Card.{CardState}
-use Rattle.bios_modes.specs.declared.modes.ModeRow.{ModeRow}
-use Rattle.bios_modes.specs.Bda.{BiosData}
-use Rattle.bios_screen.specs.Shown.{shows, shows_memory, shows_data, shows_attribute, crtc_shown}
+use Rattle.bios_screen.proofs.Prelude.{CrtcState, CardState, ModeRow, BiosData, shows_attribute}
+use Rattle.bios_screen.specs.Shown.{shows, shows_memory, shows_data, crtc_shown}
 use Rattle.bios_screen.proofs.shown.is_shown.Goals as goal
 
 third_fails : (m d p a : Bool) → p ≡ false → false ≡ (m && (d && (p && a)))

@@ -1,0 +1,46 @@
+-- Names that many rooms use, passed on from where they are defined.
+pub use Rattle.bios_modes.specs.Bda.{BiosData}
+pub use Rattle.bios_modes.specs.Begin.{data_of_mode}
+pub use Rattle.bios_modes.specs.Bounds.{AreBytes}
+pub use Rattle.bios_modes.specs.Fonts.{FontSet}
+pub use Rattle.bios_modes.specs.Heights.{row_at}
+pub use Rattle.bios_modes.specs.Kinds.{is_packed, is_text, kind_of}
+pub use Rattle.bios_modes.specs.Modes.{bytes_320_by_200}
+pub use Rattle.bios_modes.specs.declared.kind.Kind.TheVariants.{Planar}
+pub use Rattle.bios_modes.specs.declared.modes.ModeRow.{ModeRow}
+pub use Rattle.bios_screen.specs.Listing.{listing}
+pub use Rattle.bios_screen.specs.Picture.{shade}
+pub use Rattle.bios_screen.specs.Raster.{Draws, Raster}
+pub use Rattle.bios_screen.specs.Screen.{Cell, Screen}
+pub use Rattle.bios_screen.specs.Served.{IsServed}
+pub use Rattle.bios_screen.specs.Shown.{all_cells, cell_in, crtc_registers, packed_pixel, page_pixels, pixel_in, pixel_screen, planar_pixel, shown}
+pub use Rattle.bios_screen.specs.Shown.{shows_attribute}
+pub use Rattle.bios_screen.specs.Step.{page_meant, pixel_of, with_pixels}
+pub use Rattle.bios_services.specs.Bounds.{pages_of}
+pub use Rattle.bios_services.specs.Cells.{cells_of, page_base}
+pub use Rattle.bios_services.specs.Cursor.{start_address}
+pub use Rattle.bios_services.specs.Cycles.{graphics}
+pub use Rattle.bios_services.specs.Plan.{Done, Plan, each, get, put, run, ◌>>=◌, ◌>>◌}
+pub use Rattle.bios_services.specs.Refusals.{page_among, page_named}
+pub use Rattle.bios_services.specs.Service.{Outcome}
+pub use Rattle.bios_services.specs.declared.band.Band.{Band}
+pub use Rattle.bios_services.specs.declared.band.Direction.{Direction}
+pub use Rattle.bios_services.specs.declared.band.Direction.TheVariants.{Down, Up}
+pub use Rattle.bios_services.specs.declared.colouring.Colouring.{Colouring}
+pub use Rattle.bios_services.specs.declared.regs.Regs.{Regs}
+pub use Rattle.bios_services.specs.declared.scroll.Window.{Window}
+pub use Rattle.vga_attr.specs.Fields.{is_palette_shown}
+pub use Rattle.vga_bits.specs.Bits.{is_set}
+pub use Rattle.vga_bits.specs.Four.{Four}
+pub use Rattle.vga_bits.specs.declared.refusal.Refusal.{Refusal}
+pub use Rattle.vga_card.specs.Bounds.{IsCard}
+pub use Rattle.vga_card.specs.Bus.{card_meaning}
+pub use Rattle.vga_card.specs.Card.{CardState}
+pub use Rattle.vga_card.specs.Port.{crtc_port}
+pub use Rattle.vga_crtc.specs.Beam.{first_counter}
+pub use Rattle.vga_crtc.specs.Crtc.{CrtcState}
+pub use Rattle.vga_crtc.specs.Raster.{regular_beam}
+pub use Rattle.vga_crtc.specs.declared.beam.Beam.{Beam}
+pub use Rattle.vga_dac.specs.Dac.{DacState}
+pub use Rattle.vga_host.specs.Host.{HostState}
+pub use Rattle.vga_planes.specs.Planes.{bytes_at}
