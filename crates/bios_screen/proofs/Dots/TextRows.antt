@@ -42,6 +42,7 @@ pub record HasTextLines (mode : ℕ) (row : ModeRow) : Type 0 where
   pub underline : (v : Bool) (r : ℕ) → (is_monochrome_mode mode && v && r == underline_location row.crtc)
       ≡ (is_monochrome_mode mode && (v && (r == row.height - 1)))
 
+-- a row of text with all that it says of a frame
 pub record IsTextFrame (mode : ℕ) (row : ModeRow) : Type 0 where
   pub frame : IsFrame (text_raster row) row
   pub shades : HasShades row

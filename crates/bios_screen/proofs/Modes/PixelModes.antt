@@ -85,6 +85,7 @@ pub record HasPlaces (mode : ℕ) (row : ModeRow) (m : Raster) : Type 0 where
       ≡ row.size * page + (m.columns * (v / pixel_height mode) + x)
   pub pixel : (v x i : ℕ) → v < m.height → x < m.columns → i < 8 → 8 * row.columns * (v / pixel_height mode) + (x * 8 + i) / pixel_width mode < pixels_of row
 
+-- a row of graphics of this mode: all of it, and the numbers of its frames
 pub record IsGraphicsRow (mode : ℕ) (row : ModeRow) : Type 0 where
   pub raster : Raster
   pub frame : IsFrame raster row
@@ -95,7 +96,7 @@ pub record IsGraphicsRow (mode : ℕ) (row : ModeRow) : Type 0 where
   pub picture : IsPictured mode row raster
   pub places : HasPlaces mode row raster
 
--- and one of sixteen colours
+-- of sixteen colours: its kind, its memory at rest, and that a counter is the address of a byte of each plane
 pub record HasPlanes (mode : ℕ) (row : ModeRow) (m : Raster) : Type 0 where
   pub kind : kind_of mode ≡ Planar
   pub packed : is_packed mode ≡ false
@@ -105,12 +106,13 @@ pub record HasPlanes (mode : ℕ) (row : ModeRow) (m : Raster) : Type 0 where
   pub columns : m.columns ≡ row.columns
   pub fetch : (n : ℕ) → fetch_address row.crtc n ≡ n
 
+-- a row of sixteen colours
 pub record IsPlanarRow (mode : ℕ) (row : ModeRow) : Type 0 where
   pub graphics : IsGraphicsRow mode row
   pub planes : HasPlanes mode row graphics.raster
   pub shades : HasShades row
 
--- the one of 256 colours
+-- the row of 256 colours, of which there is one
 pub record IsPackedRow (mode : ℕ) (row : ModeRow) : Type 0 where
   pub number : mode ≡ 0x13
   pub literal : bytes_320_by_200 ≡ row

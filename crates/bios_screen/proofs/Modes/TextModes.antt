@@ -44,7 +44,7 @@ text_graphics k = 0x00 ∷ 0x00 ∷ 0x00 ∷ 0x00 ∷ 0x00 ∷ 0x10 ∷ window_o
 abbrev pub text_setting : Display → Setting
 text_setting k = record { misc = misc_of k; seq = text_sequencer; gfx = text_graphics k }
 
--- a row of text: the registers of its memory, and its port
+-- what a row of text has of its display: the registers of memory, and the port
 pub record IsOfDisplay (k : Display) (mode : ℕ) (row : ModeRow) : Type 0 where
   pub misc : row.misc ≡ misc_of k
   pub sequencer : row.sequencer ≡ text_sequencer
@@ -64,6 +64,7 @@ pub record HasTextPages (row : ModeRow) : Type 0 where
   pub pages : row.pages ≤ 8
   pub last_row : row.last_row < 255
 
+-- a row of text of this display
 pub record IsTextRow (k : Display) (mode : ℕ) (row : ModeRow) : Type 0 where
   pub of_display : IsOfDisplay k mode row
   pub open of_display use *
@@ -127,6 +128,7 @@ display_by : (k : Display) (height : Height) → IsOfDisplay k (number_of k) (ro
 display_by Colour _ = record { misc = refl; sequencer = refl; graphics = refl; port = refl; base = refl; crtc = refl }
 display_by Monochrome _ = record { misc = refl; sequencer = refl; graphics = refl; port = refl; base = refl; crtc = refl }
 
+-- the numbers by a test that is computed of a literal row
 paged : (row : ModeRow) (half : ℕ) → row.size ≡ 2 * half → (nat_lt 0 row.columns && (nat_le row.columns 80 && (nat_le (row.columns * (row.last_row + 1)) half
     && (nat_le (half * row.pages) 16384 && (nat_le row.pages 8 && nat_lt row.last_row 255))))) ≡ true → HasTextPages row
 paged row half even e = record {
