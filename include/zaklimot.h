@@ -29,7 +29,7 @@ extern "C" {
 /* The interface that this header describes. The major number changes when a call, a struct or a
  * status is no longer what it was; the minor one grows when some are added. */
 #define ZAK_API_MAJOR 1
-#define ZAK_API_MINOR 3
+#define ZAK_API_MINOR 4
 #define ZAK_API_VERSION (65536u * ZAK_API_MAJOR + ZAK_API_MINOR) /* as zak_version() tells it */
 
 /* What a call answers. 1 to 13 are the refusals E1 to E13 of docs/REPORT.md; 102 and up are the
