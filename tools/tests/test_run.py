@@ -149,7 +149,7 @@ class Listings(Fake):
     def test_no_toolchain(self) -> None:
         told = (
             "vga-report: rt: it is not in the path: it is the command of the Rattle toolchain, "
-            "which README.md tells of under \"Run it\". Without it --vga runs a program that is "
+            "which README.md tells of under \"Build it\". Without it --vga runs a program that is "
             "built already, and --debug FILE writes a page that runs the script in a browser\n"
         )
         environment = {**os.environ, "PATH": str(self.folder)}
@@ -159,7 +159,7 @@ class Listings(Fake):
         ):
             with self.assertRaisesRegex(Trouble, "^rt: it is not in the path: "):
                 build_program(Progress())
-        self.assertIn("## Run it\n", (TOP / "README.md").read_text("utf-8"))
+        self.assertIn("## Build it\n", (TOP / "README.md").read_text("utf-8"))
 
     def test_a_release_has_no_sources(self) -> None:
         with mock.patch("vga_report.program.CRATE", self.folder), mock.patch("vga_report.program.PROGRAM", self.folder / "none"):

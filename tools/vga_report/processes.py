@@ -43,7 +43,7 @@ PACKAGES = {
     "aarch64-linux-gnu-gcc": "gcc-aarch64-linux-gnu",
 }
 SOURCES = {
-    "rt": "it is the command of the Rattle toolchain, which README.md tells of under \"Run it\"",
+    "rt": "it is the command of the Rattle toolchain, which README.md tells of under \"Build it\"",
     **{name: f"install the package {package}" for name, package in PACKAGES.items()},
 }
 # Linux' prctl: the signal that a process gets when the one that has started it ends.
