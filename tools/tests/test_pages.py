@@ -1,0 +1,121 @@
+"""The links of the pages: each leads to a file that is there, and to a heading or an anchor in it."""
+
+from __future__ import annotations
+
+import re
+import subprocess
+import unittest
+from pathlib import Path
+from typing import Iterator
+
+ROOT = Path(__file__).resolve().parents[2]
+# A link or a picture: what stands between its round brackets, without a title.
+LINK = re.compile(r"\]\(([^()\s]+)\)")
+HEADING, ANCHOR = re.compile(r"#{1,6} +(.*?)\s*$"), re.compile(r'<a (?:id|name)="([^"]+)">')
+FENCE = re.compile(r"^ *(```|~~~)")
+OUTSIDE = ("http:", "https:", "mailto:")
+
+
+def prose(text: str) -> Iterator[str]:
+    """The lines of a page that are no code."""
+    inside = False
+    for line in text.splitlines():
+        if FENCE.match(line):
+            inside = not inside
+        elif not inside and not line.startswith("    "):
+            yield re.sub(r"`[^`]*`", lambda code: "`" + re.sub(r"[\[\]()]", "", code.group()) + "`", line)
+
+
+def anchor_of(heading: str) -> str:
+    """The anchor that a heading has: its letters in lower case, blanks as hyphens, and no other marks."""
+    plain = re.sub(r"\[([^\]]*)\]\([^)]*\)", r"\1", heading).replace("`", "").lower()
+    return re.sub(r"[^\w\- ]", "", plain).replace(" ", "-")
+
+
+def anchors(text: str) -> set[str]:
+    """All anchors of a page: those of its headings, the second of a name with -1, and those that it names itself."""
+    found: set[str] = set()
+    for line in prose(text):
+        found.update(ANCHOR.findall(line))
+        heading = HEADING.match(line)
+        if heading:
+            name, more = anchor_of(heading.group(1)), 0
+            while name + (f"-{more}" if more else "") in found:
+                more += 1
+            found.add(name + (f"-{more}" if more else ""))
+    return found
+
+
+def broken(page: Path, text: str) -> list[str]:
+    """The links of a page that lead nowhere."""
+    wrong = []
+    for target in LINK.findall("\n".join(prose(text))):
+        if target.startswith(OUTSIDE):
+            continue
+        path, _, anchor = target.partition("#")
+        file = (page.parent / path).resolve() if path else page
+        if file != page and not file.exists():
+            wrong.append(target)
+        elif anchor and file.suffix == ".md" and anchor not in anchors(text if file == page else file.read_text("utf-8")):
+            wrong.append(target)
+    return wrong
+
+
+def pages() -> list[Path]:
+    """The pages of the repository."""
+    listed = subprocess.run(
+        ["git", "ls-files", "-z", "--cached", "--others", "--exclude-standard", "--", "*.md"],
+        cwd=ROOT, capture_output=True, check=True,
+    ).stdout
+    return [ROOT / name for name in sorted(set(listed.decode().split("\0"))) if name and (ROOT / name).exists()]
+
+
+class Links(unittest.TestCase):
+    """What a reader follows is there."""
+
+    def test_each_link_leads_somewhere(self) -> None:
+        listed = pages()
+        self.assertGreater(len(listed), 20)
+        for page in listed:
+            with self.subTest(page.relative_to(ROOT)):
+                self.assertEqual(broken(page, page.read_text("utf-8")), [])
+
+    def test_a_broken_link_is_found(self) -> None:
+        text = "# One\n\n## Two `and` more\n\n[a](#two-and-more) [b](#none) [c](none.md) [d](README.md#none)\n\n    [e](none.md)\n"
+        self.assertEqual(broken(ROOT / "page.md", text), ["#none", "none.md", "README.md#none"])
+
+    def test_headings_of_one_name(self) -> None:
+        self.assertEqual(anchors('# A b\n\n# A b\n\n<a id="x.y"></a>\n```\n# no\n```\n'), {"a-b", "a-b-1", "x.y"})
+
+
+# The reference pages, and their sections that are examples and no rules.
+REFERENCE = {
+    "REGISTERS": set(), "HOST-PATH": {"Worked example"}, "RASTER": {"Two examples"}, "MODES": set(),
+    "SERVICES": {"A screen in ten steps"},
+}
+DEFINED = re.compile(r"\[`(\w+)`\]\(\.\./(crates/[^)]*\.antt)\)")
+SHOWN = re.compile(r"\[[^\]]*\]\(\.\./crates/vga_suite/data/([^)]*)\.vga\)")
+
+
+class References(unittest.TestCase):
+    """Each rule of the reference pages names what defines it and which cases show it."""
+
+    def test_each_section_has_definitions_and_cases(self) -> None:
+        cases = set((ROOT / "crates/vga_suite/data/list.txt").read_text("utf-8").split())
+        for name, examples in REFERENCE.items():
+            sections = re.split(r"(?m)^## ", (ROOT / "docs" / f"{name}.md").read_text("utf-8"))[1:]
+            for section in sections:
+                title, _, body = section.partition("\n")
+                if title in examples:
+                    continue
+                with self.subTest(page=name, section=title):
+                    defined, shown = DEFINED.findall(body), SHOWN.findall(body)
+                    self.assertTrue(defined and shown)
+                    self.assertEqual([case for case in shown if case not in cases], [])
+                    for word, file in defined:
+                        said = (ROOT / file).read_text("utf-8")
+                        self.assertRegex(said, rf"(?m)^(\w+ )?pub (record |data )?{word}\b")
+
+
+if __name__ == "__main__":
+    unittest.main()
