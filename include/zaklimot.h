@@ -6,14 +6,13 @@
  * table (docs/REGISTERS.md), and a call that is refused changes nothing. docs/LIBRARY.md is the
  * guide.
  *
- * A card lies in a struct of the caller's. All bytes 0 are a card that is not open. The caller
- * writes none of its bytes, does not copy it, and closes it once. Two cards share nothing. A card
- * may move from one thread to another, but takes one call at a time, and none from a signal
- * handler.
+ * You own the struct of a card. A zero-filled card is a closed card. Do not write or copy an open
+ * card, and close it once. Two cards share nothing. A card may move from one thread to another, but
+ * takes one call at a time, and none from a signal handler.
  *
- * A pointer is never NULL, also with a length of 0, and no two pointers of a call overlap. A call
- * that answers another status than ZAK_OK leaves what its pointers name, except where it says
- * otherwise. Lengths count elements: bytes, or words where the pointer is to uint32_t.
+ * Pointers must not be NULL, even when the length is 0, and no two pointers of a call overlap. On
+ * any status but ZAK_OK, output arguments are unchanged unless the call says otherwise. Lengths
+ * count elements: bytes, or words where the pointer is to uint32_t.
  */
 #ifndef ZAKLIMOT_H
 #define ZAKLIMOT_H
@@ -57,7 +56,7 @@ enum {
     ZAK_RAGGED = 24,         /* two rows of the frame differ in width: there is no picture */
     ZAK_NO_ROOM = 25,        /* the caller's buffer is too short, and nothing was written there */
     ZAK_BAD_ARGUMENT = 26,   /* an argument is not in the range that the call names */
-    ZAK_BAD_CARD = 27,       /* BIOS data that no call leaves: memory was overwritten */
+    ZAK_BAD_CARD = 27,       /* corrupt BIOS data: the card's memory was overwritten */
     ZAK_NO_SCREEN = 28,      /* the adapter shows no plain screen (docs/SCREENS.md) */
     ZAK_STATE_MAGIC = 30,    /* of zak_restore: the bytes are no saved state */
     ZAK_STATE_VERSION = 31,  /* one of another version of the format */
