@@ -22,7 +22,7 @@
 
 static uint8_t fonts[ZAK_FONTS_SIZE], rgb[ZAK_MOST_RGB], table[ZAK_MOST_TABLE];
 static uint8_t text[ZAK_MOST_TEXT];
-static uint8_t state[ZAK_MOST_STATE];
+static uint8_t state[ZAK_MOST_STATE], fixed[ZAK_MOST_STATE + 4];
 static uint32_t pixels[ZAK_WIDEST * ZAK_HIGHEST], widths[ZAK_HIGHEST];
 static const uint8_t none[1];
 static zak_card card = ZAK_CARD_INIT;
@@ -163,6 +163,18 @@ static zak_status do_frame_once(uint32_t i)
     return zak_frame_words(&card, ZAK_ONCE, &picture, pixels, sizeof pixels / 4, ZAK_WIDEST);
 }
 
+/* The lines of a frame, one by one. */
+static zak_status do_lines(uint32_t i)
+{
+    zak_scan_line line = {0};
+    zak_status status = ZAK_OK;
+    (void)i;
+    do
+        status |= zak_line(&card, 0, &line, pixels, ZAK_WIDEST);
+    while (!line.ends_frame);
+    return status;
+}
+
 static zak_status do_block(uint32_t i)
 {
     zak_regs regs = {0x1301, 0, (uint16_t)i, 0};
@@ -185,6 +197,17 @@ static zak_status do_save(uint32_t i)
 static zak_status do_restore(uint32_t i)
 {
     return i == 0 ? do_save(i) : zak_restore(&card, state, len);
+}
+
+static zak_status do_save_fixed(uint32_t i)
+{
+    (void)i;
+    return zak_save_fixed(&card, fixed, sizeof fixed);
+}
+
+static zak_status do_restore_fixed(uint32_t i)
+{
+    return i == 0 ? do_save_fixed(i) : zak_restore_fixed(&card, fixed, sizeof fixed);
 }
 
 static zak_status do_teletype(uint32_t i) { return call_int10(0x0E41, 7 + (i & 0)); }
@@ -303,11 +326,14 @@ static const struct call {
     {"frame_once", do_frame_once, NULL},
     {"block", do_block, NULL},
     {"frame_lines", do_frame_lines, NULL},
+    {"lines", do_lines, NULL},
     {"teletype", do_teletype, NULL},
     {"read_registers", do_read_registers, NULL},
     {"read_beam", do_read_beam, NULL},
     {"show_regs", do_show_regs, NULL},
     {"save", do_save, NULL},
+    {"save_fixed", do_save_fixed, NULL},
+    {"restore_fixed", do_restore_fixed, NULL},
     {"restore", do_restore, NULL},
     {"run_on_one", do_run_on_first, make_one},
     {"run_on_first", do_run_on_first, make_puts},

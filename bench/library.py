@@ -44,10 +44,12 @@ CALLS = (
     Call("frame", "13", 10, 500), Call("frame", "3", 10, 500), Call("frame", "12", 10, 500),
     Call("frame_xrgb", "13", 10, 500), Call("frame_xrgb", "3", 10, 500), Call("frame_xrgb", "12", 10, 500),
     Call("frame_once", "13", 10, 500), Call("frame_once", "3", 10, 500), Call("frame_once", "12", 10, 500),
-    Call("frame_lines", "12", 10, 500), Call("block", "13", 1000, 1_000_000),
+    Call("frame_lines", "12", 10, 500), Call("lines", "12", 10, 500), Call("lines", "13", 10, 500),
+    Call("block", "13", 1000, 1_000_000),
     Call("teletype", "3", 1000, 100_000), Call("read_registers", "13", 1000, 1_000_000),
     Call("read_beam", "13", 1000, 1_000_000), Call("show_regs", "13", 1000, 100_000),
     Call("save", "13", 10, 2000), Call("restore", "13", 10, 2000),
+    Call("save_fixed", "13", 5, 200), Call("restore_fixed", "13", 5, 200),
     # A step of a script that has no other, the first and the last one of 10,000, and all of these, against as many calls.
     Call("run_on_one", "13", 1000, 100_000), Call("run_on_first", "13", 100, 10_000),
     Call("run_on_last", "13", 100, 10_000), Call("run_on_all", "13", 10, 1000), Call("puts", "13", 10, 1000),
