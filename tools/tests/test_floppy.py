@@ -8,6 +8,7 @@ import re
 import shlex
 import shutil
 import signal
+import struct
 import subprocess
 import sys
 import time
@@ -191,6 +192,20 @@ class Interpreting(unittest.TestCase):
         ):
             self.assertRegex(source, rf"(?m)^{name} +equ {value}\b")
         self.assertEqual(len(CODE.read_bytes()), images.CODE_SIZE)
+        self.assertRegex(source, rf"(?m)^PARTITIONS +equ {images.PARTITIONS_AT}\b")
+
+    def test_a_disk_has_a_table_of_partitions(self) -> None:
+        floppy, disk = (image_for({"": script_of(SCRIPT, "script")}, "script", is_disk=is_disk) for is_disk in (False, True))
+        self.assertEqual((len(disk), floppy[440:512], disk[510:512]), (len(floppy), bytes(70) + b"\x55\xAA", b"\x55\xAA"))
+        # A floppy tells its form, and a disk none; the code before and behind it is the same.
+        self.assertEqual((floppy[11:13], disk[11:62]), (b"\0\2", bytes(51)))
+        self.assertEqual((disk[:11], disk[62:440], disk[512:]), (floppy[:11], floppy[62:440], floppy[512:]))
+        self.assertEqual((disk[440:446], disk[462:510]), (b"VGAF\0\0", bytes(48)))
+        active, head, sector, track, _, last_head, last_sector, last_track, first, length = struct.unpack_from("<8B2I", disk, 446)
+        self.assertEqual((active, first, length), (0x80, 1, len(disk) // 512 - 1))
+        for number, place in ((first, (track, head, sector)), (first + length - 1, (last_track, last_head, last_sector))):
+            self.assertEqual((0, number // 63, number % 63 + 1), place)
+        self.assertEqual(b"".join(report_lines(read_image(Machine(disk, Adapter()).run(), "disk"), "disk")), REPORT)
 
 
 class Several(Folder):
@@ -224,6 +239,16 @@ class Several(Folder):
         record.write_bytes(b"".join(booted.record[:-2]))
         self.assertEqual(run("read", "--serial", "--part", record, self.folder / "part"), (0, b"", ""))
         self.assertEqual((self.folder / "part" / "one.report").read_bytes(), b"")
+
+    def test_one_alone_has_a_folder_too(self) -> None:
+        folder, image = self.folder_of_scripts(one="in 3CC\n"), self.folder / "image"
+        self.assertEqual(run("make", "--disk", folder, image), (0, b"", ""))
+        self.assertEqual(image.read_bytes()[446], 0x80)
+        image.write_bytes(Machine(image.read_bytes(), Adapter()).run())
+        self.assertEqual(run("read", image), (0, b"1 CC\n", ""))
+        reports = self.folder / "reports"
+        self.assertEqual(run("read", image, reports), (0, b"", ""))
+        self.assertEqual({path.name: path.read_bytes() for path in reports.iterdir()}, {"one.report": b"1 CC\n"})
 
     def test_a_bad_one_is_named(self) -> None:
         folder = self.folder_of_scripts(one="frame\n", two="move\n")

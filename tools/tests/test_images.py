@@ -61,6 +61,7 @@ class Images(unittest.TestCase):
             b"", b"GIF89a", b"P6 1", b"P6\n1 1\n255\n\0", b"P6\n1 1\n65535\n123456", good[:-1], good[:40],
             good.replace(b"IDAT", b"iDAT"), png(1, 2, b"\0" + bytes(3)), png(1, 1, b"\0\0", colour=3, palette=b""),
             png(1, 1, b"\0" + bytes(3), interlace=1), png(1, 1, b"\0", colour=5),
+            png(1, 1, b"\5" + bytes(3)), png(1, 1, b"\xff" + bytes(3)),
         ):
             with self.subTest(data[:60]), self.assertRaises(Trouble):
                 image_of(data, "i")

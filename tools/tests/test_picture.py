@@ -14,9 +14,11 @@ from itertools import chain, product
 from pathlib import Path
 
 from vga_picture.cells import Chooser, Chosen
-from vga_picture.colours import Fewer, chosen_colours, indexed
+from vga_picture.choosing import middle_colours, outer_colours
+from vga_picture.colours import Fewer, indexed
 from vga_picture.command import main
 from vga_picture.mode import MODES
+from vga_picture.nearest import Nearest, distance
 from vga_picture.planes import best_numbers, planes_of, put_steps
 from vga_picture.planes import MASKS, Bytes, Word, Write, least_writes
 from vga_report.png import Shape, write_png
@@ -353,10 +355,56 @@ class Colours(unittest.TestCase):
         self.assertEqual((image.colours, image.rows, count), ((green, blue, red), (b"\2\0\0", b"\1\0\1"), 3))
 
     def test_colours_that_stand_for_more(self) -> None:
-        counts = Counter({(0, 0, 0): 90, (1, 1, 1): 10, (60, 60, 60): 10, (63, 63, 63): 30, (63, 0, 0): 1, (62, 0, 0): 1})
-        self.assertEqual(chosen_colours(counts, 2), [(0, 0, 0), (63, 63, 63)])
-        self.assertEqual(chosen_colours(counts, 6), sorted(counts))
-        self.assertEqual(len(chosen_colours(counts, 4)), 4)
+        counts = Counter({(0, 0, 0): 90, (1, 1, 1): 10, (60, 60, 60): 5, (63, 63, 63): 40, (63, 0, 0): 1, (62, 0, 0): 1})
+        self.assertEqual(middle_colours(counts, 2), [(0, 0, 0), (63, 63, 63)])
+        for chosen in (middle_colours, outer_colours):
+            self.assertEqual(chosen(counts, 6), sorted(counts))
+            self.assertEqual(len(chosen(counts, 4)), 4)
+
+    def lost(self, counts: Counter[tuple[int, int, int]], colours: list[tuple[int, int, int]]) -> int:
+        """How far all dots are from the nearest of some colours."""
+        return sum(count * min(distance(colour, other) for other in colours) for colour, count in counts.items())
+
+    def test_no_colour_of_those_chosen_would_be_better_elsewhere(self) -> None:
+        # Twenty heaps of dots, and as many colours: each heap has one, whatever a cut at the median gives it.
+        chance = random.Random(7)
+        middles = [tuple(chance.randrange(4, 60) for _ in range(3)) for _ in range(20)]
+        counts: Counter[tuple[int, int, int]] = Counter()
+        for number, (red, green, blue) in enumerate(middles):
+            for _ in range(40 * (number + 1)):
+                counts[red + chance.randint(-1, 1), green + chance.randint(-1, 1), blue + chance.randint(-1, 1)] += 1
+        chosen = middle_colours(counts, 20)
+        self.assertEqual(len(chosen), 20)
+        for middle in middles:
+            self.assertLess(min(distance(middle, colour) for colour in chosen), 8)
+        self.assertLess(self.lost(counts, chosen), 1.1 * self.lost(counts, middles))  # type: ignore[arg-type]
+
+    def test_colours_are_in_the_middle_of_their_dots(self) -> None:
+        counts = Counter({(red, green, 20): 1 + red * green % 7 for red in range(0, 60, 3) for green in range(0, 60, 5)})
+        chosen = middle_colours(counts, 16)
+        nearest = Nearest(chosen)
+        for number, colour in enumerate(chosen):
+            box = [(dot, count) for dot, count in counts.items() if nearest(dot) == number]
+            for part in range(3):
+                mean = sum(dot[part] * count for dot, count in box) / sum(count for _, count in box)
+                self.assertLess(abs(mean - colour[part]), 1.01)
+
+    def test_the_nearest_is_found_whatever_was_found_before(self) -> None:
+        chance = random.Random(3)
+        colours = [tuple(chance.randrange(64) for _ in range(3)) for _ in range(60)]
+        nearest = Nearest(colours)  # type: ignore[arg-type]
+        for _ in range(3000):
+            dot = tuple(chance.randrange(-9, 73) for _ in range(3))
+            far = [distance(dot, colour) for colour in colours]
+            self.assertEqual(nearest(dot), far.index(min(far)))  # type: ignore[arg-type]
+
+    def test_a_dither_has_the_outermost_colours_where_it_needs_them(self) -> None:
+        # Four greys in the middle of others leave none for the ends; of sixteen the outermost ones are near enough.
+        dots = [[(x // 2, x // 2, x // 2) for x in range(128)] for _ in range(64)]
+        for most, has_ends in ((4, True), (16, False)):
+            floyd, nearest = (set(indexed(dots, most, way, "i")[0].colours) for way in (Fewer.FLOYD, Fewer.NEAREST))
+            ends = {(0, 0, 0), (63, 63, 63)}
+            self.assertEqual((ends <= floyd, ends & nearest, floyd == nearest), (has_ends, set(), not has_ends))
 
     def means(self, rows: list[bytes], colours: tuple[tuple[int, int, int], ...]) -> list[float]:
         """The mean red of each block of eight by eight dots."""
@@ -416,7 +464,7 @@ class Text(unittest.TestCase):
         cell = bytearray(self.cell(0x41, 1, 0))
         self.assertEqual(cell[8], 0)
         cell[8] = 1
-        self.assertEqual(self.chooser((0, 0, 0), (10, 0, 0)).chosen(bytes(cell)), Chosen(300, 0x41, 0x01))
+        self.assertEqual(self.chooser((0, 0, 0), (10, 0, 0)).chosen(bytes(cell)), Chosen(200, 0x41, 0x01))
 
     def test_no_other_cell_is_nearer(self) -> None:
         chance, colours = random.Random(4), [(0, 0, 0), (20, 5, 30), (50, 60, 10), (63, 63, 63)]
@@ -430,7 +478,7 @@ class Text(unittest.TestCase):
                 bits = [[*line[:8], 0] for line in bits]
             shown_numbers = [front if bit else back for line in bits for bit in line]
             return sum(
-                3 * (r - p) ** 2 + 6 * (g - q) ** 2 + (b - s) ** 2
+                2 * (r - p) ** 2 + 4 * (g - q) ** 2 + (b - s) ** 2
                 for (r, g, b), (p, q, s) in ((colours[one], colours[other]) for one, other in zip(shown_numbers, cell))
             )
 
@@ -459,16 +507,30 @@ class Sizes(unittest.TestCase):
         self.assertIn("mode 0D: 2x1 stretched to 320x200, 2 colours; ", said)
 
     def test_between_bars(self) -> None:
-        for dots, told, rows in (
-            ([[self.RED, self.BLUE]], "2x1 stretched to 320x160, with bars of 3F0000 to 320x200",
-             [[self.RED] * 320] * 20 + [[self.RED] * 160 + [self.BLUE] * 160] * 160 + [[self.RED] * 320] * 20),
-            ([[self.RED], [self.BLUE]], "1x2 stretched to 100x200, with bars of 3F0000 to 320x200",
-             [[self.RED] * 320] * 100 + [[self.RED] * 110 + [self.BLUE] * 100 + [self.RED] * 110] * 100),
+        # A screen is four wide and three high: eight by three take half its height, one by one three quarters of its width.
+        black = (0, 0, 0)
+        for dots, told, words, bar, rows in (
+            ([[self.RED, self.BLUE] * 4] * 3, "8x3 stretched to 320x100, with bars of 000000 to 320x200", (), black,
+             [[black] * 320] * 50 + [[*[self.RED] * 40, *[self.BLUE] * 40] * 4] * 100 + [[black] * 320] * 50),
+            ([[self.RED], [self.BLUE]], "1x2 stretched to 120x200, with bars of FE00FF to 320x200", ("--bars", "#fe00FF"), None,
+             [[(63, 0, 63)] * 100 + [self.RED] * 120 + [(63, 0, 63)] * 100] * 100
+             + [[(63, 0, 63)] * 100 + [self.BLUE] * 120 + [(63, 0, 63)] * 100] * 100),
         ):
             with self.subTest(told):
-                said, text = made_of(png_of(dots), "--mode", "13", "--fit")
-                self.assertIn(f"mode 13: {told}, 2 colours; ", said)
-                self.assertEqual(drawn(text)[0], shown(rows, 2, 2))
+                for image in (png_of(dots), ppm_of(dots)):
+                    said, text = made_of(image, "--mode", "13", "--fit", *words)
+                    self.assertIn(f"mode 13: {told}, 3 colours; ", said)
+                    self.assertEqual(drawn(text)[0], shown(rows, 2, 2))
+
+    def test_bars_that_are_none(self) -> None:
+        image = png_of([[self.RED] * 3] * 2)
+        for words, told in (
+            (("--scale", "--bars", "ff0000"), "vga-picture: --bars is the colour of the bars that --fit makes\n"),
+            (("--fit", "--bars", "ff000"), "'ff000' is no colour of six hexadecimal digits, as FFFFFF for white\n"),
+        ):
+            status, text, said = run("script", "-", "-", "--mode", "12", *words, given=image)
+            self.assertEqual((status, text), (2, b""))
+            self.assertTrue(said.endswith(told), said)
 
     def test_a_dot_is_the_one_under_its_middle(self) -> None:
         few = [[(at // 60, 0, 0) for at in range(960)]] * 2
@@ -498,6 +560,7 @@ class Refusals(Folder):
             ("the header of the PPM is damaged", b"P6\n320 200\n"),
             ("the PPM of 320x200 dots is damaged", ppm(320, 200, bytes(100))),
             ("the components go to 1000; 63 and 255 can be read", b"P6\n1 1\n1000\n123456"),
+            ("a row of the PNG has filter 5, and the filters are 0 to 4", png(1, 2, b"\0" + bytes(3) + b"\5" + bytes(3))),
             ("an interlaced PNG can't be read: save it without interlace", png(1, 1, b"\0" + bytes(3), interlace=1)),
             ("the image has 5000x5000 dots, and 16,777,216 are the most", png(5000, 5000, b"")),
             ("the image has 9999999x2 dots, and 16,777,216 are the most", b"P6 9999999 2 255\n"),

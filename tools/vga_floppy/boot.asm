@@ -1,4 +1,4 @@
-; The boot sector of a floppy that runs a script, and the interpreter behind it.
+; The boot sector of a floppy, a stick or a hard disk that runs a script, and the interpreter behind it.
 ;
 ;     nasm -f bin boot.asm -o boot.bin
 ;
@@ -27,7 +27,11 @@ LOAD            equ 2                   ; functions of interrupt 13
 STORE           equ 3
 TRIES           equ 4                   ; a floppy's motor takes its time
 MISCELLANEOUS_OUTPUT equ 0x3c2
+SEQUENCER       equ 0x3c4
+INPUT_STATUS    equ 0x3da
 FIRST_SERIAL    equ 0x400               ; the BIOS data's port of the first serial adapter, 0 where there is none
+LOCKS           equ 0x417               ; the BIOS data's flags of the keyboard: bits 4 to 6 are its three locks
+PARTITIONS      equ 440                 ; in sector 0: what a disk has there, written by image.py
 
 ; How a run ends, in [ending].
 WAIT_FOR_KEY    equ 0                   ; a machine: the picture stays until a key is pressed, and then a text is shown
@@ -180,7 +184,8 @@ packet  db 16, 0                        ; as these functions take it: one sector
 number  dd 0, 0
 per_track dw 18
 heads   dw 2
-        times 510 - ($ - $$) db 0
+        times PARTITIONS - ($ - $$) db 0
+        times 510 - ($ - $$) db 0       ; a disk's signature and its table of partitions; of a floppy 0
         dw 0xaa55
 
 ; ------------------------------------------------------------------------------------------------- the interpreter
@@ -666,10 +671,20 @@ finish: cmp byte [ending], LEAVE_EMULATOR
         je leave_emulator
         cmp byte [ending], STAND_STILL
         je stop
+        call beep
+        or byte [LOCKS], 0x70           ; the BIOS lights its three lamps when it is asked for a key
+.typed: mov ah, 1                       ; keys that were pressed while the script ran do not count
+        int 0x16
+        jz .wait
         xor ah, ah
         int 0x16
-        mov ax, 3
-        int 0x10
+        jmp .typed
+.wait:  xor ah, ah
+        int 0x16
+        and byte [LOCKS], 0x8f
+        mov ah, 1
+        int 0x16
+        call show_text
         mov si, stored
         cmp byte [failed], 0
         je .told
@@ -677,6 +692,53 @@ finish: cmp byte [ending], LEAVE_EMULATOR
 .told:  call say
 stop:   hlt
         jmp stop
+
+; Sounds the speaker for a third of a second. A read of its port takes a microsecond, so no interrupt is needed.
+beep:   mov al, 0xb6                    ; timer 2: a square wave
+        out 0x43, al
+        mov ax, 1356                    ; of 880 a second
+        out 0x42, al
+        mov al, ah
+        out 0x42, al
+        in al, 0x61
+        or al, 3
+        out 0x61, al
+        mov bx, 5
+.next:  xor cx, cx
+.wait:  in al, 0x61
+        loop .wait
+        dec bx
+        jnz .next
+        and al, 0xfc
+        out 0x61, al
+        ret
+
+; Brings text back, whatever a script has left. A BIOS asks for input status at 3DA, so that the flip-flop is known, and
+; writes the CRT controller at 3D4: they are there again first. Then what calls of function 12 may have turned off.
+show_text:
+        mov dx, MISCELLANEOUS_OUTPUT
+        mov al, 0x67
+        out dx, al
+        mov dx, SEQUENCER
+        mov ax, 0x0300                  ; the sequencer runs
+        out dx, ax
+        mov dx, INPUT_STATUS
+        in al, dx
+        mov bx, 0x31                    ; a mode set loads the DAC
+        call turn_on
+        mov bx, 0x32                    ; the adapter answers
+        call turn_on
+        mov bx, 0x36                    ; the screen is on
+        call turn_on
+        mov ax, 3
+        int 0x10
+        xor ax, ax
+        mov ds, ax
+        ret
+turn_on:
+        mov ax, 0x1200
+        int 0x10
+        ret
 
 ; The mark, last, says that the answers are whole: its name, their length and sum, and the check of the table.
 store_mark:

@@ -51,8 +51,11 @@ def _parser() -> argparse.ArgumentParser:
         "tools/vga-floppy run --on dosbox examples/asked-of-machines.vga", "docs/REAL-MACHINES.md",
     )
     commands = parser.add_subparsers(required=True, metavar="COMMAND")
-    command = commands.add_parser("make", help="makes a floppy's image that runs a script, or many")
+    command = commands.add_parser("make", help="makes the image of a floppy or a stick that runs a script, or many")
     _add_script(command)
+    command.add_argument(
+        "--disk", action="store_true", help="with a table of partitions, for a stick or a hard disk; else as a floppy"
+    )
     command.add_argument("image", metavar="IMAGE", help="the image, of 1,474,560 bytes; - is standard output")
     command.set_defaults(job=_make)
     command = commands.add_parser("read", help="gives the report of what a run has left")
@@ -82,7 +85,7 @@ def _script(path: str) -> Script:
         return script_of(stream.read(MOST_BYTES + 1), name_of(path))
 
 
-def _scripts(path: str) -> dict[str, Script]:
+def scripts_of(path: str) -> dict[str, Script]:
     """The script of a file; or those of a folder, by the names that its list has."""
     if not os.path.isdir(path) or not os.path.exists(os.path.join(path, LIST)):
         return {"": _script(path)}
@@ -95,7 +98,8 @@ def _scripts(path: str) -> dict[str, Script]:
 def _write_report(words: argparse.Namespace, run: Run, name: str) -> None:
     """Writes the report of a run, or those of its scripts into a folder."""
     scripts = run.table.scripts()
-    if len(scripts) == 1:
+    # A script of a folder has a name, and its report is a file of a folder too, be it the only one.
+    if len(scripts) == 1 and (not scripts[0].name or words.report == STANDARD):
         with writing(words.report) as stream:
             stream.writelines(report_lines(run, name, words.all_registers))
         return
@@ -116,7 +120,7 @@ def _write_report(words: argparse.Namespace, run: Run, name: str) -> None:
 
 def _make(words: argparse.Namespace, _: Progress) -> int:
     """Makes an image."""
-    write_file(words.image, image_for(_scripts(words.script), name_of(words.script)))
+    write_file(words.image, image_for(scripts_of(words.script), name_of(words.script), is_disk=words.disk))
     return AGREED
 
 
@@ -137,7 +141,7 @@ def _read(words: argparse.Namespace, _: Progress) -> int:
 def _run(words: argparse.Namespace, _: Progress) -> int:
     """Runs a script on an emulator."""
     wanted = Wanted(words.bios, words.seconds, words.picture is not None)
-    ran = run_on(MACHINES[words.on], _scripts(words.script), name_of(words.script), wanted)
+    ran = run_on(MACHINES[words.on], scripts_of(words.script), name_of(words.script), wanted)
     if ran.picture is not None:
         _write_picture(words.picture, ran.picture)
     _write_report(words, ran.run, words.on)

@@ -1,4 +1,4 @@
-"""The floppy's image: boot sector, interpreter, table of steps, and what a run has left.
+"""The image of a floppy or a disk: boot sector, interpreter, table of steps, and what a run has left.
 
 The layout is that of boot.asm; offsets and lengths are bytes. A run sends its answers over the
 serial port too, as a record: `VGA-FLOPPY 1`, then lines of a letter, a number of six digits, bytes,
@@ -28,6 +28,12 @@ OEM_NAME, OEM_AT = b"VGAFLOPY", 3
 # What is written into the boot sector: how many sectors are loaded, and how the run ends.
 LOADED_AT, LOADED = 62, struct.Struct("<HB")
 WAIT_FOR_KEY, LEAVE_EMULATOR, STAND_STILL = range(3)
+# What a disk has and a floppy has not: a signature, which keeps others from writing one, and one partition, from sector 1
+# to the image's end. It is the one to boot; its kind says that it holds no file system. Then three that are empty.
+PARTITIONS_AT, PARTITIONS = 440, struct.Struct("<4sH4B4BII48x")
+SIGNATURE, ACTIVE, NO_FILES = b"VGAF", 0x80, 0xDA
+# The form of a floppy in its boot sector, which a disk has not: a machine would take the disk for a floppy.
+FORM = slice(11, 62)
 # So many sectors end where services may write.
 MOST_LOADED = (0x70000 - 0x8000) // SECTOR
 MARK_AT, ANSWERS_AT = 1023 * SECTOR, 1024 * SECTOR
@@ -49,7 +55,7 @@ class Run(NamedTuple):
     is_whole: bool = True
 
 
-def image_for(scripts: Mapping[str, Script], name: str, ending: int = WAIT_FOR_KEY) -> bytes:
+def image_for(scripts: Mapping[str, Script], name: str, ending: int = WAIT_FOR_KEY, is_disk: bool = False) -> bytes:
     """The image that runs scripts one after the other; a Trouble where a machine has no room for them."""
     table = table_for(scripts)
     code = bytearray(CODE.read_bytes())
@@ -61,7 +67,18 @@ def image_for(scripts: Mapping[str, Script], name: str, ending: int = WAIT_FOR_K
     if length > MOST_ANSWERS:
         raise Trouble(f"its answers take {length:,} bytes, and a machine has room for {MOST_ANSWERS:,}", name)
     LOADED.pack_into(code, LOADED_AT, loaded, ending)
+    if is_disk:
+        code[FORM] = bytes(FORM.stop - FORM.start)
+        _partition(code)
     return (bytes(code) + table).ljust(IMAGE_SIZE, b"\0")
+
+
+def _partition(code: bytearray) -> None:
+    """Writes a disk's table of partitions into a boot sector."""
+    last = IMAGE_SIZE // SECTOR - 1
+    # Places as head, sector and cylinder, as on most machines: 63 sectors of a track, and more heads than are needed.
+    begin, end = (0, 2, 0), (last // 63, last % 63 + 1, 0)
+    PARTITIONS.pack_into(code, PARTITIONS_AT, SIGNATURE, 0, ACTIVE, *begin, NO_FILES, *end, 1, last)
 
 
 def read_image(image: bytes, name: str) -> Run:

@@ -9,8 +9,9 @@ from typing import Callable, Iterator, Sequence
 from vga_report.trouble import Trouble
 from vga_trace.step import PUTW, Step
 
-from .colours import Colour, Indexed, distance
+from .colours import Indexed
 from .mode import Mode
+from .nearest import Colour, distance
 from .steps import Item, Service
 
 WINDOW = 0xB8000

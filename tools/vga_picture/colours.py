@@ -10,17 +10,13 @@ from typing import Callable, Iterable, Iterator, Mapping, Sequence
 from vga_report.images import Image
 from vga_report.trouble import Trouble
 
-# Red, green and blue, six bits each.
-Colour = tuple[int, int, int]
+from .choosing import middle_colours, outer_colours
+from .nearest import Colour, Nearest, distance
+
 Row = Sequence[Colour]
 MOST = 63
-# How the eye weighs a difference of red, of green and of blue.
-WEIGHTS = (3, 6, 1)
-# Rounds in which sixteen colours are moved to the middle of the dots that they stand for.
-ROUNDS = 4
-# Where an image has more colours than this, those that differ in the lowest bits alone are first taken as one.
-MANY = 4096
-FEW = 16
+# Colours for a dither are tried on so many dots at most, and judged by areas of so many dots across and down.
+TRIED, AREA = 16384, 4
 # An ordered dither of four by four dots: the order in which they become brighter.
 ORDERED = ((0, 8, 2, 10), (12, 4, 14, 6), (3, 11, 1, 9), (15, 7, 13, 5))
 
@@ -72,107 +68,6 @@ def counted(rows: Sequence[Row]) -> Counter[Colour]:
         for colour, count in Counter(row).items():
             counts[colour] += count * times[id(row)]
     return counts
-
-
-def distance(one: Sequence[int], other: Sequence[int]) -> int:
-    """How far two colours are from each other: a weighted sum of squares."""
-    red, green, blue = one[0] - other[0], one[1] - other[1], one[2] - other[2]
-    return WEIGHTS[0] * red * red + WEIGHTS[1] * green * green + WEIGHTS[2] * blue * blue
-
-
-def _mean(box: Sequence[tuple[Colour, int]]) -> Colour:
-    """The middle of colours, each with how often it stands; the one that most of the dots have, if there is one."""
-    total = sum(count for _, count in box)
-    colour, most = max(box, key=lambda entry: (entry[1], entry[0]))
-    if 2 * most > total:
-        return colour
-    red, green, blue = (
-        (2 * sum(colour[part] * count for colour, count in box) + total) // (2 * total) for part in range(3)
-    )
-    return red, green, blue
-
-
-def _widest(box: Sequence[tuple[Colour, int]]) -> tuple[int, int]:
-    """How wide a box of colours is, weighted, and in which component."""
-    spans = [
-        (WEIGHTS[part] * (max(colour[part] for colour, _ in box) - min(colour[part] for colour, _ in box)) ** 2, part)
-        for part in range(3)
-    ]
-    return max(spans)
-
-
-def _cut(box: Sequence[tuple[Colour, int]], part: int) -> Iterator[list[tuple[Colour, int]]]:
-    """A box in two, so that about half of the dots stand in each; none is empty."""
-    ordered = sorted(box, key=lambda entry: (entry[0][part], entry))
-    half, passed, at = sum(count for _, count in ordered) / 2, 0, 0
-    while at < len(ordered) - 1 and (at == 0 or passed + ordered[at][1] / 2 <= half):
-        passed += ordered[at][1]
-        at += 1
-    yield ordered[:at]
-    yield ordered[at:]
-
-
-def chosen_colours(counts: Counter[Colour], most: int) -> list[Colour]:
-    """So many colours that stand for those of an image: by cutting boxes of colours at their median."""
-    if len(counts) > MANY:
-        counts = _coarse(counts)
-    boxes = [list(counts.items())]
-    while len(boxes) < most:
-        spans = [(_widest(box), -number) for number, box in enumerate(boxes) if len(box) > 1]
-        if not spans:
-            break
-        # The box that is widest, and of the most dots, is cut first.
-        (_, part), number = max(
-            ((span * sum(count for _, count in boxes[-at]), part), at) for (span, part), at in spans
-        )
-        box = boxes.pop(-number)
-        boxes.extend(_cut(box, part))
-    chosen = [_mean(box) for box in boxes]
-    for _ in range(ROUNDS if most <= FEW else 0):
-        chosen = _moved(counts, chosen)
-    return sorted(set(chosen))
-
-
-def _coarse(counts: Counter[Colour]) -> Counter[Colour]:
-    """Colours of five bits a component, each as the middle of those that it has."""
-    boxes: dict[Colour, list[tuple[Colour, int]]] = {}
-    for colour, count in counts.items():
-        red, green, blue = colour
-        boxes.setdefault((red >> 1, green >> 1, blue >> 1), []).append((colour, count))
-    coarse: Counter[Colour] = Counter()
-    for box in boxes.values():
-        coarse[_mean(box)] += sum(count for _, count in box)
-    return coarse
-
-
-def _moved(counts: Counter[Colour], chosen: Sequence[Colour]) -> list[Colour]:
-    """Each colour in the middle of those that are nearest to it."""
-    nearest = Nearest(chosen)
-    boxes: list[list[tuple[Colour, int]]] = [[] for _ in chosen]
-    for colour, count in counts.items():
-        boxes[nearest(colour)].append((colour, count))
-    return [_mean(box) if box else colour for colour, box in zip(chosen, boxes)]
-
-
-class Nearest:
-    """The number of the nearest of some colours; of several the first."""
-
-    def __init__(self, colours: Sequence[Colour]) -> None:
-        self._colours = colours
-        self._known: dict[Colour, int] = {}
-
-    def __call__(self, colour: Colour) -> int:
-        """The number for a colour, whose components may be any integers."""
-        number = self._known.get(colour)
-        if number is None:
-            red, green, blue = colour
-            weigh_red, weigh_green, weigh_blue = WEIGHTS
-            far = [
-                weigh_red * (red - r) * (red - r) + weigh_green * (green - g) * (green - g) + weigh_blue * (blue - b) * (blue - b)
-                for r, g, b in self._colours
-            ]
-            number = self._known[colour] = far.index(min(far))
-        return number
 
 
 def _clamped(value: int) -> int:
@@ -247,6 +142,38 @@ WAYS: dict[Fewer, Callable[[Sequence[Row], Sequence[Colour]], Iterable[bytes]]] 
 }
 
 
+def _chosen(rows: Sequence[Row], counts: Counter[Colour], most: int, fewer: Fewer) -> list[Colour]:
+    """So many colours for an image: of those in the middle and the outer ones those that a dither does better with.
+
+    A dither makes each colour that lies between those it has, and none that lies outside of them; but the farther these
+    are apart, the coarser is its grain.
+    """
+    middle = middle_colours(counts, most)
+    if fewer is Fewer.NEAREST:
+        return middle
+    step = 1
+    while len(rows) // step * (len(rows[0]) // step) > TRIED:
+        step += 1
+    part = [row[::step] for row in rows[::step]]
+    return min((middle, outer_colours(counts, most)), key=lambda colours: _seen(part, colours, WAYS[fewer](part, colours)))
+
+
+def _seen(rows: Sequence[Row], colours: Sequence[Colour], made: Iterable[bytes]) -> int:
+    """How far an image is from the one that it stands for: by its dots, times by areas of dots that are seen as one."""
+    by_dots, by_areas, width = 1, 1, len(rows[0])
+    off = [[0, 0, 0] for _ in range(0, width, AREA)]
+    for y, (row, numbers) in enumerate(zip(rows, made), 1):
+        for x, (dot, number) in enumerate(zip(row, numbers)):
+            area, colour = off[x // AREA], colours[number]
+            by_dots += distance(dot, colour)
+            for part in range(3):
+                area[part] += dot[part] - colour[part]
+        if y % AREA == 0 or y == len(rows):
+            by_areas += sum(distance(area, (0, 0, 0)) for area in off)
+            off = [[0, 0, 0] for _ in off]
+    return by_dots * by_areas
+
+
 def indexed(rows: Sequence[Row], most: int, fewer: Fewer, name: str) -> tuple[Indexed, int]:
     """The image of these dots in so many colours at most, and how many it had; a Trouble where more are refused."""
     counts = counted(rows)
@@ -257,7 +184,7 @@ def indexed(rows: Sequence[Row], most: int, fewer: Fewer, name: str) -> tuple[In
         told = f"it has {len(colours):,} colours of six bits a component, and the mode {most}"
         raise Trouble(f"{told}: --nearest takes the nearest of {most}, --dither mixes them", name)
     else:
-        colours = chosen_colours(counts, most)
+        colours = _chosen(rows, counts, most, fewer)
         made = list(WAYS[fewer](rows, colours))
     return _by_frequency(len(rows[0]), colours, made), len(counts)
 

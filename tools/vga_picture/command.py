@@ -4,6 +4,7 @@ from __future__ import annotations
 
 import argparse
 import os
+import re
 import sys
 
 from vga_report import cli
@@ -28,6 +29,14 @@ WAYS = {
 }
 
 
+def _colour(word: str) -> bytes:
+    """Reads a colour as pages have it: six hexadecimal digits, perhaps behind a `#`."""
+    digits = word.removeprefix("#")
+    if not re.fullmatch("[0-9A-Fa-f]{6}", digits):
+        raise argparse.ArgumentTypeError(f"'{word}' is no colour of six hexadecimal digits, as FFFFFF for white")
+    return bytes.fromhex(digits)
+
+
 def _parser() -> argparse.ArgumentParser:
     parser = cli.tool_parser(
         "vga-picture", "Makes scripts that draw an image. `-` is standard input, or standard output.",
@@ -45,7 +54,10 @@ def _parser() -> argparse.ArgumentParser:
         "--scale", dest="fit", action="store_const", const=Fit.SCALE, help="stretches an image of another size"
     )
     sizes.add_argument(
-        "--fit", dest="fit", action="store_const", const=Fit.FIT, help="the same, but it keeps its shape, between bars"
+        "--fit", dest="fit", action="store_const", const=Fit.FIT, help="the same, but it keeps its shape on the screen, between bars"
+    )
+    command.add_argument(
+        "--bars", type=_colour, metavar="RRGGBB", help="the colour of the bars of --fit, eight bits a component; else black"
     )
     colours = command.add_mutually_exclusive_group()
     colours.add_argument(
@@ -67,12 +79,14 @@ def _parser() -> argparse.ArgumentParser:
 def _drawn(words: argparse.Namespace, progress: Progress) -> tuple[Drawn, str]:
     """The parts of the script, and what was done to the image."""
     mode, name = MODES[words.mode], name_of(words.image)
+    if words.bars is not None and words.fit is not Fit.FIT:
+        raise Trouble("--bars is the colour of the bars that --fit makes")
     font = b""
     if mode.kind is Kind.CELLS:
         refuse_twice(words.image, words.fonts)
         font = font_of(read_at_most(words.fonts, MOST_BYTES), name_of(words.fonts))
     image = read_image(image_bytes(words.image), name)
-    image, size = fitted(image, mode, words.fit, name)
+    image, size = fitted(image, mode, words.fit, words.bars or bytes(3), name)
     made, count = indexed(six_bits(image), len(mode.entries), words.fewer, name)
     told = f"{size}, {counted(len(made.colours), 'colour')}"
     if count > len(mode.entries):

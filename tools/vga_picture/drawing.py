@@ -10,8 +10,9 @@ from zaklimot.format import Picture
 
 from .areas import Areas
 from .cells import cells_of, put_cells, rows_of, typed_cells
-from .colours import Colour, Indexed
+from .colours import Indexed
 from .mode import Kind, Mode
+from .nearest import Colour
 from .screen import screen_of
 from .steps import Part, Service
 

@@ -14,6 +14,8 @@ from .mode import Mode
 
 # An image that is read has so many dots at most.
 MOST_DOTS = 1 << 24
+# The shape of a screen.
+WIDE, HIGH = 4, 3
 PNG_SIZE = struct.Struct(">8x4x4sII")
 PPM_SIZE = re.compile(rb"P6(?:\s|#[^\n]*\n)+(\d+)(?:\s|#[^\n]*\n)+(\d+)")
 
@@ -50,8 +52,12 @@ def _stretched(image: Image, width: int, height: int) -> list[bytes]:
     return [known[line] for line in lines]
 
 
-def fitted(image: Image, mode: Mode, fit: Fit, name: str) -> tuple[Image, str]:
-    """An image of the mode's size, and what was done for that; a Trouble where nothing may be done."""
+def fitted(image: Image, mode: Mode, fit: Fit, bars: bytes, name: str) -> tuple[Image, str]:
+    """An image of the mode's size, and what was done for that; a Trouble where nothing may be done.
+
+    `bars` is the colour of bars, eight bits a component. The image's dots are square, and a screen has the shape of 4 to
+    3 in each mode.
+    """
     given = f"{image.width}x{image.height}"
     if (image.width, image.height) == (mode.width, mode.height):
         return image, given
@@ -59,17 +65,16 @@ def fitted(image: Image, mode: Mode, fit: Fit, name: str) -> tuple[Image, str]:
         ways = "--scale stretches it, --fit keeps its shape"
         raise Trouble(f"the image has {given} dots, and mode {mode.name} has {mode.size}: {ways}", name)
     width, height = mode.width, mode.height
-    if fit is Fit.FIT and image.width * height > width * image.height:
-        height = max(1, image.height * width // image.width)
+    if fit is Fit.FIT and WIDE * image.height < HIGH * image.width:
+        height = max(1, WIDE * image.height * height // (HIGH * image.width))
     elif fit is Fit.FIT:
-        width = max(1, image.width * height // image.height)
+        width = max(1, HIGH * image.width * width // (WIDE * image.height))
     rows = _stretched(image, width, height)
-    bar = image.rows[0][:3]
+    bar = bytes(value >> 2 for value in bars) if image.most == 63 else bars
     left, above = (mode.width - width) // 2, (mode.height - height) // 2
     beside = [bar * left + row + bar * (mode.width - width - left) for row in rows]
     rows = [bar * mode.width] * above + beside + [bar * mode.width] * (mode.height - height - above)
     told = f"{given} stretched to {width}x{height}"
     if (width, height) != (mode.width, mode.height):
-        six = bytes(value if image.most == 63 else value >> 2 for value in bar)
-        told += f", with bars of {six.hex().upper()} to {mode.size}"
+        told += f", with bars of {bars.hex().upper()} to {mode.size}"
     return Image(mode.width, mode.height, tuple(rows), image.most), told

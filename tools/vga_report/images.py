@@ -133,15 +133,15 @@ def _png(data: bytes, name: str) -> Image:
         raise Trouble("the PNG is damaged", name)
     rows = [
         _dots(_samples(line, width, depth, SAMPLES[colour], colour), colour, palette)
-        for line in _unfiltered(lines, length, max(1, bits // 8))
+        for line in _unfiltered(lines, length, max(1, bits // 8), name)
     ]
     if any(len(row) != 3 * width for row in rows):
         raise Trouble("the PNG names a colour that it does not have", name)
     return Image(width, height, tuple(rows), 255)
 
 
-def _unfiltered(lines: bytes, length: int, back: int) -> Iterator[bytes]:
-    """The rows of a PNG without their filters."""
+def _unfiltered(lines: bytes, length: int, back: int, name: str) -> Iterator[bytes]:
+    """The rows of a PNG without their filters; a Trouble where one has a filter that there is not."""
     last = bytearray(length)
     for at in range(0, len(lines), length + 1):
         kind, row = lines[at], bytearray(lines[at + 1:at + 1 + length])
@@ -157,6 +157,8 @@ def _unfiltered(lines: bytes, length: int, back: int) -> Iterator[bytes]:
                     row[x] = (row[x] + (left + last[x]) // 2) & 255
                 else:
                     row[x] = (row[x] + _paeth(left, last[x], last[x - back] if x >= back else 0)) & 255
+        elif kind:
+            raise Trouble(f"a row of the PNG has filter {kind}, and the filters are 0 to 4", name)
         last = row
         yield bytes(row)
 

@@ -1,0 +1,135 @@
+#!/usr/bin/env python3
+"""Boots an image of vga-floppy on qemu as a floppy, a hard disk and a USB stick, and looks at how each ends.
+
+    python3 tools/emulator_tests/media.py FOLDER [SCRIPT]
+
+Each leaves in FOLDER its image, what came over the serial port, what the speaker sounded, and two screens: the script's
+last one, and that behind a key. SCRIPT is a script, or a folder of `vga-report scripts`; else it is one that leaves the
+adapter as unfit for text as it can. The status is 1 where the two reports differ, where the speaker was silent, or where
+the screen behind the key has not the text that a script of one `frame` brings. It needs qemu-system-x86 and seabios.
+"""
+
+from __future__ import annotations
+
+import argparse
+import sys
+import time
+from pathlib import Path
+from typing import Mapping, Sequence
+
+sys.path.insert(0, str(Path(__file__).resolve().parents[1]))
+
+# The tools beside this folder are found by the line above.
+from vga_floppy.answers import Reports
+from vga_floppy.command import scripts_of
+from vga_floppy.image import Run, has_ended, image_for, read_image, read_record
+from vga_floppy.machines import QEMU, ROMS, SEABIOS
+from vga_floppy.running import DRAWING, PAUSE, monitor_at
+from vga_report import cli
+from vga_report.images import image_of
+from vga_report.processes import end_with_parent, started
+from vga_report.progress import Progress
+from vga_report.script import script_of
+from vga_report.trouble import Trouble
+from zaklimot.format import Script
+
+# How a drive stands in qemu, and whether its image has a table of partitions.
+DRIVES: Mapping[str, tuple[str, bool]] = {
+    "floppy": ("-drive file={image},format=raw,if=floppy", False),
+    "disk": ("-drive file={image},format=raw,if=ide", True),
+    "stick": ("-drive file={image},format=raw,if=none,id=stick -device usb-ehci -device usb-storage,drive=stick", True),
+}
+# A mode of graphics whose CRT controller and memory are away, with data for 3C0 next, a black DAC and a screen turned off.
+UNFIT = b"""version 2
+int ax=13
+int ax=1201 bx=31
+int ax=1201 bx=36
+out 3C8 00
+repeat 768
+out 3C9 00
+end
+outw 3C4 0000
+out 3C2 00
+out 3C0 10
+"""
+# Seconds until a run has ended, and lines of the screen that have the text.
+SECONDS, LINES = 180, 16
+WAV_HEADER = 44
+
+
+def _boot(folder: Path, base: str, drive: str, scripts: Mapping[str, Script]) -> tuple[bytes, ...]:
+    """Boots scripts from a drive; the lines of the screen that have the text behind the key."""
+    words, is_disk = DRIVES[drive]
+    image = folder / f"{base}.img"
+    image.write_bytes(image_for(scripts, base, is_disk=is_disk))
+    rom = ROMS[QEMU, SEABIOS][1]
+    command = [
+        "nice", "-n", "19", "qemu-system-i386", "-accel", "tcg", "-m", "16", "-display", "none", "-nodefaults",
+        "-audiodev", f"wav,id=speaker,path={base}.wav", "-machine", "pc,pcspk-audiodev=speaker", "-device",
+        f"VGA,romfile={rom}", "-serial", f"file:{base}.record", "-qmp", f"unix:{base}.qmp,server=on,wait=off",
+        *words.format(image=image.name).split(),
+    ]
+    with started(command, cwd=folder, preexec_fn=end_with_parent) as process:
+        until = time.monotonic() + SECONDS
+        while not has_ended(image):
+            if process.poll() is not None or time.monotonic() > until:
+                raise Trouble(f"the run has not ended within {SECONDS} seconds", base)
+            time.sleep(PAUSE)
+        with monitor_at(folder / f"{base}.qmp") as do:
+            time.sleep(2 * DRAWING)
+            do("screendump", filename=f"{base}-last.ppm")
+            do("send-key", keys=[{"type": "qcode", "data": "ret"}])
+            time.sleep(2 * DRAWING)
+            do("screendump", filename=f"{base}-end.ppm")
+            do("quit")
+        process.wait(SECONDS)
+    return image_of((folder / f"{base}-end.ppm").read_bytes(), base).rows[:LINES]
+
+
+def _report(run: Run, name: str) -> list[bytes]:
+    """The lines of the reports of a run."""
+    reports = Reports(run, name)
+    lines = [line for script in run.table.scripts() for line in reports.lines(script)]
+    reports.check_end()
+    return lines
+
+
+def _wrong(folder: Path, base: str, text: Sequence[bytes], expected: Sequence[bytes]) -> list[str]:
+    """What is wrong with how a run has ended."""
+    wrong = [] if text == expected and len(set(b"".join(text))) > 1 else ["the text behind the key is lacking"]
+    left = read_image((folder / f"{base}.img").read_bytes(), base)
+    sent = read_record((folder / f"{base}.record").read_bytes(), base)
+    if not sent.is_whole or _report(left, base) != _report(sent, base):
+        wrong.append("the disk and the serial port have other answers")
+    if not any((folder / f"{base}.wav").read_bytes()[WAV_HEADER:]):
+        wrong.append("the speaker was silent")
+    return wrong
+
+
+def _try_all(words: argparse.Namespace, _: Progress) -> int:
+    """Boots each drive twice, and tells what is wrong."""
+    words.folder.mkdir(parents=True, exist_ok=True)
+    scripts = {"": script_of(UNFIT, "unfit")} if words.script is None else scripts_of(words.script)
+    status = 0
+    for drive in DRIVES:
+        expected = _boot(words.folder, f"{drive}-frame", drive, {"": script_of(b"frame\n", "frame")})
+        text = _boot(words.folder, drive, drive, scripts)
+        wrong = _wrong(words.folder, drive, text, expected)
+        print(f"{drive}: {'; '.join(wrong) or 'as it is to be'}", flush=True)
+        status |= bool(wrong)
+    return status
+
+
+def _parser() -> argparse.ArgumentParser:
+    parser = cli.tool_parser(
+        "media.py", "Boots an image on qemu as a floppy, a hard disk and a USB stick.",
+        "python3 tools/emulator_tests/media.py kept", "docs/REAL-MACHINES.md", cli.JUDGES,
+    )
+    parser.add_argument("folder", type=Path, metavar="FOLDER")
+    parser.add_argument("script", nargs="?", metavar="SCRIPT")
+    parser.set_defaults(job=_try_all)
+    return parser
+
+
+if __name__ == "__main__":
+    sys.exit(cli.runner(_parser)())
