@@ -1,7 +1,7 @@
 """A small adapter for tests: runs scripts that draw, from power-on, with none of the tools' own code.
 
 It knows mode sets, map mask, bytes and words of memory, and of the video services those that draw: 06, 07, 01, 10 with AL
-03 and 12, 13 with AL 02. A step of any other kind is an error. It goes by docs/SERVICES.md and docs/MODES.md.
+03 and 12, 11 with AL 10 to 12, 13 with AL 02. A step of any other kind is an error. It goes by docs/SERVICES.md and docs/MODES.md.
 """
 
 from __future__ import annotations
@@ -65,7 +65,10 @@ class Screen:
     """The adapter: its planes, the map mask, the DAC, and the BIOS' mode."""
 
     def __init__(self, font: bytes) -> None:
-        self.font = font[256 * (8 + 14):]
+        self.font = font
+        # Text: the lines of a character, and each character's glyph of 32 lines.
+        self.lines_of_text = 16
+        self.glyphs = [bytes(32)] * 256
         self.mode = 0
         self.planes = [bytearray(65536) for _ in range(4)]
         self.mask = 0
@@ -112,7 +115,7 @@ class Screen:
         ax, bx, cx, dx = (int(values.get(name, "0"), 16) for name in ("ax", "bx", "cx", "dx"))
         if ax >> 8 == 0:
             self.set_mode(ax)
-        elif ax in (0x1012, 0x1003, 0x1302) or ax >> 8 in (1, 6, 7):
+        elif ax in (0x1012, 0x1003, 0x1110, 0x1111, 0x1112, 0x1302) or ax >> 8 in (1, 6, 7):
             getattr(self, f"service_{ax >> 8:02X}")(ax & 0xFF, bx, cx, dx, block)
         else:
             raise AssertionError(words)
@@ -120,6 +123,7 @@ class Screen:
     def set_mode(self, mode: int) -> None:
         self.mode, self.mask, self.has_blink, self.has_cursor = mode, 0x03 if mode == 3 else 0x0F, True, True
         if mode == 3:
+            self.load_font(16)
             for at in range(0, 0x8000, 2):
                 self.planes[0][at], self.planes[1][at] = 0x20, 0x07
         else:
@@ -152,6 +156,30 @@ class Screen:
 
     def service_01(self, _: int, bx: int, cx: int, dx: int, block: bytes) -> None:
         self.has_cursor = not cx >> 13 & 1
+
+    def load_font(self, height: int) -> None:
+        """Gives each character the glyph of so many lines, and text this height."""
+        start = {8: 0, 14: 256 * 8, 16: 256 * 22}[height]
+        for character in range(256):
+            self.load(character, self.font[start + height * character:start + height * (character + 1)])
+        self.lines_of_text = height
+
+    def load(self, character: int, glyph: bytes) -> None:
+        """Writes the first lines of a glyph; the others stay."""
+        self.glyphs[character] = glyph + self.glyphs[character][len(glyph):]
+
+    def service_11(self, part: int, bx: int, cx: int, dx: int, block: bytes) -> None:
+        assert self.mode == 3
+        if part != 0x10:
+            self.load_font({0x11: 14, 0x12: 8}[part])
+        else:
+            height = bx >> 8
+            assert bx & 0xFF == 0 and height in (8, 14, 16) and len(block) == cx * height and cx + dx <= 256
+            for at in range(cx):
+                self.load(dx + at, block[height * at:height * (at + 1)])
+            self.lines_of_text = height
+        # It sets the cursor's lines.
+        self.has_cursor = True
 
     def service_06(self, lines: int, bx: int, cx: int, dx: int, block: bytes) -> None:
         assert lines == 0
@@ -201,7 +229,8 @@ class Screen:
 
     def service_13(self, part: int, bx: int, cx: int, dx: int, block: bytes) -> None:
         at = (dx >> 8) * 80 + (dx & 0xFF)
-        assert self.mode == 3 and bx == 0 and len(block) == 2 * cx and at + cx < 2000, "it would scroll"
+        cells = 400 // self.lines_of_text * 80
+        assert self.mode == 3 and bx == 0 and len(block) == 2 * cx and at + cx < cells, "it would scroll"
         for place in range(cx):
             assert block[2 * place] not in (7, 8, 10, 13), "a control character"
             self.planes[0][2 * (at + place)], self.planes[1][2 * (at + place)] = block[2 * place], block[2 * place + 1]
@@ -223,21 +252,21 @@ class Screen:
 
     def text_rows(self) -> list[list[int]]:
         """The rows of dots of the first page, as entries of the DAC, in frame 0."""
-        rows = []
-        for y in range(400):
+        rows, height = [], self.lines_of_text
+        for y in range(400 // height * height):
             row: list[int] = []
             for column in range(80):
-                row += self.cell_line(y // 16 * 80 + column, y % 16)
+                row += self.cell_line(y // height * 80 + column, y % height)
             rows.append(row)
         return rows
 
     def cell_line(self, cell: int, line: int) -> list[int]:
         """The nine dots of a line of a cell."""
         character, attribute = self.planes[0][2 * cell], self.planes[1][2 * cell]
-        byte = self.font[16 * character + line]
+        byte = self.glyphs[character][line]
         bits = [byte >> 7 - x & 1 for x in range(8)]
         bits.append(bits[7] if 0xC0 <= character <= 0xDF else 0)
-        if self.has_cursor and cell == 0 and line in (13, 14):
+        if self.has_cursor and cell == 0 and self.lines_of_text - line in (2, 3):
             bits = [1] * 9
         back = attribute >> 4 & (7 if self.has_blink else 15)
         return [LARGE[attribute & 15 if bit else back] for bit in bits]

@@ -100,23 +100,33 @@ def script(image: bytes, *words: str) -> bytes:
 SIZES = {"0D": (320, 200, 16, 1, 2), "10": (640, 350, 16, 1, 1), "12": (640, 480, 16, 1, 1), "13": (320, 200, 200, 2, 2)}
 
 
-def text_dots(seed: int = 3) -> Dots:
-    """A page of cells at random, in sixteen colours, a third of it blank; as the font of sixteen lines shows them."""
+# Where the font file has the glyphs of each height.
+FONTS_AT = {8: 0, 14: 256 * 8, 16: 256 * 22}
+
+
+def text_dots(seed: int = 3, height: int = 16, own: int = 0) -> Dots:
+    """A page of cells at random, in sixteen colours, a third of it blank; as the font of so many lines shows them.
+
+    So many glyphs are not the font's, but made at random.
+    """
     chance = random.Random(seed)
     colours = [(at * 4, 63 - at * 4, at * 9 & 63) for at in range(16)]
-    dots: Dots = [[] for _ in range(400)]
-    for row, column in product(range(25), range(80)):
+    rows, start = 400 // height, FONTS_AT[height]
+    font = bytearray(FONT[start:start + 256 * height])
+    font[height * 0x80:height * (0x80 + own)] = chance.randbytes(height * own)
+    dots: Dots = [[] for _ in range(rows * height)]
+    for row, column in product(range(rows), range(80)):
         character, front, back = chance.choice([0x20, 0x41, chance.randrange(256)]), chance.randrange(16), chance.randrange(16)
         if chance.random() < 0.3:
             character, back = 0x20, 5
-        if (row, column) == (24, 79):
+        if (row, column) == (rows - 1, 79):
             # Behind the last cell a string would scroll.
             character, front, back = 0x41, 1, 2
-        for y in range(16):
-            byte = FONT[256 * 22 + 16 * character + y]
+        for y in range(height):
+            byte = font[height * character + y]
             bits = [byte >> 7 - x & 1 for x in range(8)]
             bits.append(bits[7] if 0xC0 <= character < 0xE0 else 0)
-            dots[16 * row + y] += [colours[front if bit else back] for bit in bits]
+            dots[height * row + y] += [colours[front if bit else back] for bit in bits]
     return dots
 
 
@@ -132,6 +142,10 @@ def all_scripts() -> dict[str, tuple[bytes, bytes]]:
             dots = some_dots(width, height, colours)
             made[f"{mode} {option}"] = script(ppm_of(dots), "--mode", mode, *option), shown(dots, across, down)
         made[f"3 {option}"] = script(ppm_of(text_dots()), "--mode", "3", *option), ppm_of(text_dots())
+        for rows, height in ((28, 14), (50, 8)):
+            dots = text_dots(5, height, 40)
+            words = ["--mode", "3", "--rows", str(rows), "--own-glyphs", *option]
+            made[f"3 of {rows} rows {option}"] = script(ppm_of(dots), *words), ppm_of(dots)
     return made
 
 
@@ -357,6 +371,9 @@ class Colours(unittest.TestCase):
     def test_colours_that_stand_for_more(self) -> None:
         counts = Counter({(0, 0, 0): 90, (1, 1, 1): 10, (60, 60, 60): 5, (63, 63, 63): 40, (63, 0, 0): 1, (62, 0, 0): 1})
         self.assertEqual(middle_colours(counts, 2), [(0, 0, 0), (63, 63, 63)])
+        counts = Counter({(0, 0, 0): 90, (10, 10, 10): 10, (40, 40, 40): 60, (50, 50, 50): 40})
+        self.assertEqual(middle_colours(counts, 2), [(0, 0, 0), (44, 44, 44)])
+        counts = Counter({(at, at, 9): 1 for at in range(6)})
         for chosen in (middle_colours, outer_colours):
             self.assertEqual(chosen(counts, 6), sorted(counts))
             self.assertEqual(len(chosen(counts, 4)), 4)
@@ -399,9 +416,9 @@ class Colours(unittest.TestCase):
             self.assertEqual(nearest(dot), far.index(min(far)))  # type: ignore[arg-type]
 
     def test_a_dither_has_the_outermost_colours_where_it_needs_them(self) -> None:
-        # Four greys in the middle of others leave none for the ends; of sixteen the outermost ones are near enough.
+        # Four greys in the middle of others leave none for the ends; of twelve the outermost ones are near enough.
         dots = [[(x // 2, x // 2, x // 2) for x in range(128)] for _ in range(64)]
-        for most, has_ends in ((4, True), (16, False)):
+        for most, has_ends in ((4, True), (12, False)):
             floyd, nearest = (set(indexed(dots, most, way, "i")[0].colours) for way in (Fewer.FLOYD, Fewer.NEAREST))
             ends = {(0, 0, 0), (63, 63, 63)}
             self.assertEqual((ends <= floyd, ends & nearest, floyd == nearest), (has_ends, set(), not has_ends))
@@ -485,6 +502,51 @@ class Text(unittest.TestCase):
         least = min(error(character, front, back) for character in range(256) for front in range(4) for back in range(4))
         self.assertEqual((found.error, error(found.character, found.attribute & 15, found.attribute >> 4)), (least, least))
 
+    def test_rows_and_glyphs(self) -> None:
+        for rows, height in ((25, 16), (28, 14), (50, 8)):
+            image = ppm_of(text_dots(5, height, 40))
+            words = ["--mode", "3", *(["--rows", str(rows)] if rows != 25 else [])]
+            loads = {25: [], 28: [b"int ax=1111"], 50: [b"int ax=1112"]}[rows]
+            told, text = made_of(image, *words)
+            self.assertNotIn("own", told)
+            self.assertEqual([line for line in text.splitlines() if line.startswith(b"int ax=11")], loads)
+            told, text = made_of(image, *words, "--own-glyphs")
+            cells = f"{80 * rows:,}"
+            self.assertIn(f"mode 3: 720x{rows * height}, 16 colours, {cells} of {cells} cells fit, ", told)
+            lines = [line for line in text.splitlines() if line.startswith(b"int ax=11")]
+            self.assertEqual(lines[:len(loads)], loads)
+            count = sum(int(line.split(b"cx=")[1].split()[0], 16) for line in lines[len(loads):])
+            self.assertIn(f" cells fit, {count} glyphs of its own; ", told)
+            # Not each of the forty stands on the page.
+            self.assertTrue(30 < count <= 40, count)
+
+    def test_a_glyph_shows_a_cell_of_many_colours_as_near_as_two_can(self) -> None:
+        # Half of each line is red, half nearly so, and the rest blue: two colours, of which the background is the ninth dot's.
+        line = [(60, 0, 0), (60, 0, 0), (60, 0, 0), (56, 0, 0), (0, 0, 60), (0, 0, 60), (60, 0, 0), (60, 0, 0), (0, 0, 60)]
+        dots = [line * 80 for _ in range(400)]
+        told, text = made_of(ppm_of(dots), "--mode", "3", "--own-glyphs")
+        self.assertIn("3 colours, 0 of 2,000 cells fit, 1 glyphs of its own", told)
+        self.assertIn(b"int ax=1110 bx=1000 cx=1 block " + b"F3" * 16 + b"\n", text)
+        line[3] = (60, 0, 0)
+        self.assertEqual(drawn(text)[0], ppm_of([line * 80 for _ in range(400)]))
+
+    def test_more_glyphs_than_there_are_characters(self) -> None:
+        # In C0 to DF the ninth dot is the eighth, so these characters keep their glyphs, and so does the blank.
+        chance, colours = random.Random(6), [(0, 0, 0), (63, 63, 0)]
+        dots = [[colours[x % 9 < 8 and chance.randrange(2)] if y < 48 else colours[0] for x in range(720)] for y in range(400)]
+        told, text = made_of(ppm_of(dots), "--mode", "3", "--own-glyphs")
+        self.assertIn("2 colours, 1,983 of 2,000 cells fit, 223 glyphs of its own; ", told)
+        loads = [dict(word.split(b"=") for word in line.split() if b"=" in word) for line in text.splitlines() if b"ax=1110" in line]
+        self.assertEqual(
+            [(int(load.get(b"dx", b"0"), 16), int(load[b"cx"], 16)) for load in loads], [(0, 32), (0x21, 0x9F), (0xE0, 32)]
+        )
+        self.assertTrue(text.endswith(b"picture 720x400 %s\n" % Picture.of_ppm(drawn(text)[0]).sum.encode()))
+
+    def test_rows_of_other_modes(self) -> None:
+        for words in (("--rows", "28"), ("--own-glyphs",)):
+            status, text, said = run("script", "-", "-", "--mode", "12", *words, given=b"")
+            self.assertEqual((status, text, said), (2, b"", "vga-picture: --rows and --own-glyphs are of text, which is mode 3\n"))
+
     def test_how_many_cells_are_as_in_the_image(self) -> None:
         dots = text_dots()
         dots[0][0] = next(colour for colour in dots[5] if colour != dots[0][0])
@@ -509,12 +571,14 @@ class Sizes(unittest.TestCase):
     def test_between_bars(self) -> None:
         # A screen is four wide and three high: eight by three take half its height, one by one three quarters of its width.
         black = (0, 0, 0)
-        for dots, told, words, bar, rows in (
-            ([[self.RED, self.BLUE] * 4] * 3, "8x3 stretched to 320x100, with bars of 000000 to 320x200", (), black,
+        for dots, told, words, rows in (
+            ([[self.RED, self.BLUE] * 4] * 3, "8x3 stretched to 320x100, with bars of 000000 to 320x200", (),
              [[black] * 320] * 50 + [[*[self.RED] * 40, *[self.BLUE] * 40] * 4] * 100 + [[black] * 320] * 50),
-            ([[self.RED], [self.BLUE]], "1x2 stretched to 120x200, with bars of FE00FF to 320x200", ("--bars", "#fe00FF"), None,
-             [[(63, 0, 63)] * 100 + [self.RED] * 120 + [(63, 0, 63)] * 100] * 100
-             + [[(63, 0, 63)] * 100 + [self.BLUE] * 120 + [(63, 0, 63)] * 100] * 100),
+            ([[self.RED, self.RED, self.BLUE]] * 2, "3x2 stretched to 320x177, with bars of 000000 to 320x200", (),
+             [[black] * 320] * 11 + [[self.RED] * 213 + [self.BLUE] * 107] * 177 + [[black] * 320] * 12),
+            ([[self.RED], [self.BLUE]], "1x2 stretched to 120x200, with bars of 8000FF to 320x200", ("--bars", "#8000fF"),
+             [[(32, 0, 63)] * 100 + [self.RED] * 120 + [(32, 0, 63)] * 100] * 100
+             + [[(32, 0, 63)] * 100 + [self.BLUE] * 120 + [(32, 0, 63)] * 100] * 100),
         ):
             with self.subTest(told):
                 for image in (png_of(dots), ppm_of(dots)):

@@ -15,9 +15,9 @@ from .nearest import Colour, distance
 from .steps import Item, Service
 
 WINDOW = 0xB8000
-GLYPHS, GLYPH_HEIGHT = 256, 16
-# The font file: glyphs of 8 lines, of 14 and of 16.
-FONTS_LENGTH, FONT_16 = 9728, 256 * (8 + 14)
+GLYPHS = 256
+# The font file, and where it has the glyphs of so many lines.
+FONTS_LENGTH, FONTS_AT = 9728, {8: 0, 14: 256 * 8, 16: 256 * (8 + 14)}
 # Characters whose ninth dot is the eighth once more.
 LINE_CHARACTERS = range(0xC0, 0xE0)
 BLANK, BLANK_ATTRIBUTE = 0x20, 0x07
@@ -40,17 +40,17 @@ class Chosen:
     attribute: int
 
 
-def font_of(data: bytes, name: str) -> bytes:
-    """The glyphs of 16 lines of a font file."""
+def font_of(data: bytes, height: int, name: str) -> bytes:
+    """The glyphs of 8, 14 or 16 lines of a font file."""
     if len(data) != FONTS_LENGTH:
         raise Trouble(f"a font file has {FONTS_LENGTH:,} bytes, and this has {len(data):,}", name)
-    return data[FONT_16:]
+    return data[FONTS_AT[height]:FONTS_AT[height] + GLYPHS * height]
 
 
 def glyph_dots(font: bytes, character: int, width: int) -> Dots:
     """The dots of a character that have the colour of the character."""
-    dots = 0
-    for y, byte in enumerate(font[GLYPH_HEIGHT * character:GLYPH_HEIGHT * (character + 1)]):
+    dots, height = 0, len(font) // GLYPHS
+    for y, byte in enumerate(font[height * character:height * (character + 1)]):
         line = int(f"{byte:08b}"[::-1], 2)
         if width == 9 and character in LINE_CHARACTERS:
             line |= (line >> 7 & 1) << 8
@@ -129,12 +129,17 @@ def cells_of(image: Indexed, mode: Mode, font: bytes, tell: Callable[[int], None
     """The choices for all cells of an image, row by row; how many are done is told."""
     chooser = Chooser(font, mode, image.colours)
     made = []
+    for cell in dots_of_cells(image, mode):
+        made.append(chooser.chosen(cell))
+        tell(len(made))
+    return made
+
+
+def dots_of_cells(image: Indexed, mode: Mode) -> Iterator[bytes]:
+    """The dots of each cell of an image, line by line."""
     for at in range(mode.columns * mode.rows):
         top, left = at // mode.columns * mode.cell_height, at % mode.columns * mode.cell_width
-        lines = image.rows[top:top + mode.cell_height]
-        made.append(chooser.chosen(b"".join(line[left:left + mode.cell_width] for line in lines)))
-        tell(at + 1)
-    return made
+        yield b"".join(line[left:left + mode.cell_width] for line in image.rows[top:top + mode.cell_height])
 
 
 def rows_of(cells: Sequence[Chosen], mode: Mode, font: bytes) -> list[bytes]:

@@ -21,7 +21,7 @@ from .cells import font_of
 from .colours import Fewer, indexed, six_bits
 from .drawing import Drawn, draw_pixels, draw_text
 from .fitting import Fit, fitted, read_image
-from .mode import MODES, Kind
+from .mode import LINES, MODES, Kind, text_of
 from .steps import write_script
 
 WAYS = {
@@ -71,6 +71,8 @@ def _parser() -> argparse.ArgumentParser:
     command.add_argument(
         "--fonts", type=to_read, default=str(FONTS), metavar="FILE", help="the font file of text; else the project's"
     )
+    command.add_argument("--rows", type=int, choices=list(LINES), help="rows of text; else 25")
+    command.add_argument("--own-glyphs", action="store_true", help="text with glyphs of its own, where the font's don't fit")
     command.add_argument("--picture", metavar="FILE", help="the picture that the script is to show, as PNG")
     command.set_defaults(job=_script, fit=Fit.EXACT, fewer=Fewer.REFUSED)
     return parser
@@ -84,7 +86,10 @@ def _drawn(words: argparse.Namespace, progress: Progress) -> tuple[Drawn, str]:
     font = b""
     if mode.kind is Kind.CELLS:
         refuse_twice(words.image, words.fonts)
-        font = font_of(read_at_most(words.fonts, MOST_BYTES), name_of(words.fonts))
+        mode = text_of(words.rows or mode.rows)
+        font = font_of(read_at_most(words.fonts, MOST_BYTES), mode.cell_height, name_of(words.fonts))
+    elif words.rows or words.own_glyphs:
+        raise Trouble("--rows and --own-glyphs are of text, which is mode 3")
     image = read_image(image_bytes(words.image), name)
     image, size = fitted(image, mode, words.fit, words.bars or bytes(3), name)
     made, count = indexed(six_bits(image), len(mode.entries), words.fewer, name)
@@ -98,7 +103,7 @@ def _drawn(words: argparse.Namespace, progress: Progress) -> tuple[Drawn, str]:
         if progress.is_due():
             progress.tell(f"{done:,} of {mode.columns * mode.rows:,} cells")
 
-    return draw_text(made, mode, font, words.short, tell), told
+    return draw_text(made, mode, font, words.short, words.own_glyphs, tell), told
 
 
 def _script(words: argparse.Namespace, progress: Progress) -> int:

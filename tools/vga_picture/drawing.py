@@ -11,6 +11,7 @@ from zaklimot.format import Picture
 from .areas import Areas
 from .cells import cells_of, put_cells, rows_of, typed_cells
 from .colours import Indexed
+from .glyphs import loading, own_glyphs, with_glyphs
 from .mode import Kind, Mode
 from .nearest import Colour
 from .screen import screen_of
@@ -82,10 +83,20 @@ def draw_pixels(image: Indexed, mode: Mode, is_short: bool) -> Drawn:
     return Drawn(parts, _picture(image.rows, image.colours, mode))
 
 
-def draw_text(image: Indexed, mode: Mode, font: bytes, is_short: bool, tell: Callable[[int], None]) -> Drawn:
-    """A script for text: bright backgrounds in the place of blinking, no cursor, and the cells."""
-    cells = cells_of(image, mode, font, tell)
+def draw_text(
+    image: Indexed, mode: Mode, font: bytes, is_short: bool, has_own: bool, tell: Callable[[int], None]
+) -> Drawn:
+    """A script for text: its rows, glyphs of its own if they are wanted, bright backgrounds, no cursor, and the cells."""
+    cells, told = cells_of(image, mode, font, tell), ""
+    glyphs: dict[int, bytes] = {}
+    if has_own:
+        glyphs = own_glyphs(image, mode, cells)
+        font = with_glyphs(font, glyphs)
+        cells, told = cells_of(image, mode, font, tell), f", {len(glyphs):,} glyphs of its own"
     parts = _begin(mode, image.colours, len(image.colours))
+    loads = list(loading(mode, glyphs))
+    if loads:
+        parts.append(Part(f"Text of {mode.rows} rows, and {len(glyphs)} glyphs of its own", loads))
     # In frames 16 to 31 of 32 a blinking character is away, and its background has three bits.
     parts.append(Part("No blinking, but bright backgrounds; no cursor", [Service(6, 0x1003), Service(4, 0x0100, 0, NO_CURSOR)]))
     steps = typed_cells(cells, mode.columns) if is_short else put_cells(cells)
@@ -94,4 +105,4 @@ def draw_text(image: Indexed, mode: Mode, font: bytes, is_short: bool, tell: Cal
     parts.append(Part("The picture", [Step(FRAME)]))
     exact = sum(cell.error == 0 for cell in cells)
     picture = _picture(rows_of(cells, mode, font), image.colours, mode)
-    return Drawn(parts, picture, f", {exact:,} of {len(cells):,} cells fit")
+    return Drawn(parts, picture, f", {exact:,} of {len(cells):,} cells fit{told}")
