@@ -94,16 +94,16 @@ def _report(run: Run, name: str) -> list[bytes]:
     return lines
 
 
-def _wrong(folder: Path, base: str, text: Sequence[bytes], expected: Sequence[bytes]) -> list[str]:
+def wrong(folder: Path, base: str, text: Sequence[bytes], expected: Sequence[bytes]) -> list[str]:
     """What is wrong with how a run has ended."""
-    wrong = [] if text == expected and len(set(b"".join(text))) > 1 else ["the text behind the key is lacking"]
+    told = [] if text == expected and len(set(b"".join(text))) > 1 else ["the text behind the key is lacking"]
     left = read_image((folder / f"{base}.img").read_bytes(), base)
     sent = read_record((folder / f"{base}.record").read_bytes(), base)
     if not sent.is_whole or _report(left, base) != _report(sent, base):
-        wrong.append("the disk and the serial port have other answers")
+        told.append("the disk and the serial port have other answers")
     if not any((folder / f"{base}.wav").read_bytes()[WAV_HEADER:]):
-        wrong.append("the speaker was silent")
-    return wrong
+        told.append("the speaker was silent")
+    return told
 
 
 def _try_all(words: argparse.Namespace, _: Progress) -> int:
@@ -114,9 +114,9 @@ def _try_all(words: argparse.Namespace, _: Progress) -> int:
     for drive in DRIVES:
         expected = _boot(words.folder, f"{drive}-frame", drive, {"": script_of(b"frame\n", "frame")})
         text = _boot(words.folder, drive, drive, scripts)
-        wrong = _wrong(words.folder, drive, text, expected)
-        print(f"{drive}: {'; '.join(wrong) or 'as it is to be'}", flush=True)
-        status |= bool(wrong)
+        told = wrong(words.folder, drive, text, expected)
+        print(f"{drive}: {'; '.join(told) or 'as it is to be'}", flush=True)
+        status |= bool(told)
     return status
 
 

@@ -10,18 +10,53 @@ import threading
 import unittest
 from pathlib import Path
 
+from emulator_tests.media import UNFIT, wrong
 from emulator_tests.software import MOST_SECTORS, NO_CALL, SECTOR, Call, caller, screen
 from emulator_tests.recording import Machine, wait_for_quiet
 from emulator_tests.software import SOFTWARE, archive_file
 from emulator_tests.traces import Replayed
 
+from vga_floppy.image import image_for
 from vga_floppy.running import monitor_at
+from vga_report.script import script_of
 from vga_report.trouble import Trouble
 
+from .floppy import Adapter
+from .floppy import Machine as BootedMachine
 from .tools import Folder
 
 PROGRAM = Path(__file__).resolve().parents[1] / "emulator_tests" / "traces.py"
 MODES = (3, 7, 0x0D, 0x10, 0x12, 0x13)
+
+
+class Media(Folder):
+    """What is told of how a run from a drive has ended."""
+
+    TEXT = (b"\0\0\0", b"\xaa\xaa\xaa")
+
+    def leave(self, **changed: bytes) -> None:
+        """Leaves in the folder what a run has left, but for what is changed."""
+        booted = BootedMachine(image_for({"": script_of(UNFIT + b"in 3CC\n", "unfit")}, "unfit"), Adapter())
+        left = {"img": booted.run(), "record": b"".join(booted.record), "wav": bytes(44) + b"\1", **changed}
+        for ending, data in left.items():
+            (self.folder / f"stick.{ending}").write_bytes(data)
+
+    def test_what_is_wrong(self) -> None:
+        other = BootedMachine(image_for({"": script_of(UNFIT + b"in 3CE\n", "unfit")}, "unfit"), Adapter())
+        other.run()
+        lacking, differing, silent = (
+            "the text behind the key is lacking", "the disk and the serial port have other answers", "the speaker was silent"
+        )
+        for changed, text, told in (
+            ({}, self.TEXT, []), ({}, self.TEXT[::-1], [lacking]), ({"record": b"".join(other.record)}, self.TEXT, [differing]),
+            ({"wav": b"RIFF".ljust(50, b"\0")}, self.TEXT, [silent]), ({"wav": b""}, self.TEXT, [silent]),
+        ):
+            with self.subTest(told):
+                self.leave(**changed)
+                self.assertEqual(wrong(self.folder, "stick", text, self.TEXT), told)
+        self.leave()
+        # A screen that is black both times has no text either.
+        self.assertEqual(wrong(self.folder, "stick", (bytes(9),), (bytes(9),)), [lacking])
 
 
 class Discs(Folder):
