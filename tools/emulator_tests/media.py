@@ -3,10 +3,11 @@
 
     python3 tools/emulator_tests/media.py FOLDER [SCRIPT]
 
-Each leaves in FOLDER its image, what came over the serial port, what the speaker sounded, and two screens: the script's
-last one, and that behind a key. SCRIPT is a script, or a folder of `vga-report scripts`; else it is one that leaves the
-adapter as unfit for text as it can. The status is 1 where the two reports differ, where the speaker was silent, or where
-the screen behind the key has not the text that a script of one `frame` brings. It needs qemu-system-x86 and seabios.
+FOLDER is new or empty. Each leaves in it its image, what came over the serial port, what the speaker sounded, and two
+screens: the script's last one, and that behind a key. SCRIPT is a script, or a folder of `vga-report scripts`; else it
+is one that leaves the adapter as unfit for text as it can. The status is 1 where the two reports differ, where the
+speaker was silent, or where the screen behind the key has not the text that a script of one `frame` brings. It needs
+qemu-system-x86 and seabios.
 """
 
 from __future__ import annotations
@@ -30,6 +31,7 @@ from vga_report.images import image_of
 from vga_report.processes import end_with_parent, started
 from vga_report.progress import Progress
 from vga_report.script import script_of
+from vga_report.suite import empty_folder
 from vga_report.trouble import Trouble
 from zaklimot.format import Script
 
@@ -108,13 +110,13 @@ def wrong(folder: Path, base: str, text: Sequence[bytes], expected: Sequence[byt
 
 def _try_all(words: argparse.Namespace, _: Progress) -> int:
     """Boots each drive twice, and tells what is wrong."""
-    words.folder.mkdir(parents=True, exist_ok=True)
+    folder = empty_folder(words.folder)
     scripts = {"": script_of(UNFIT, "unfit")} if words.script is None else scripts_of(words.script)
     status = 0
     for drive in DRIVES:
-        expected = _boot(words.folder, f"{drive}-frame", drive, {"": script_of(b"frame\n", "frame")})
-        text = _boot(words.folder, drive, drive, scripts)
-        told = wrong(words.folder, drive, text, expected)
+        expected = _boot(folder, f"{drive}-frame", drive, {"": script_of(b"frame\n", "frame")})
+        text = _boot(folder, drive, drive, scripts)
+        told = wrong(folder, drive, text, expected)
         print(f"{drive}: {'; '.join(told) or 'as it is to be'}", flush=True)
         status |= bool(told)
     return status
@@ -125,7 +127,7 @@ def _parser() -> argparse.ArgumentParser:
         "media.py", "Boots an image on qemu as a floppy, a hard disk and a USB stick.",
         "python3 tools/emulator_tests/media.py kept", "docs/REAL-MACHINES.md", cli.JUDGES,
     )
-    parser.add_argument("folder", type=Path, metavar="FOLDER")
+    parser.add_argument("folder", metavar="FOLDER", help="a folder that is new or empty")
     parser.add_argument("script", nargs="?", metavar="SCRIPT")
     parser.set_defaults(job=_try_all)
     return parser
