@@ -122,8 +122,13 @@ class Lines(unittest.TestCase):
             cycles(b"; good\n0 w p 3C2 67\n" + BEGIN)
 
     def test_no_cycle_at_all(self) -> None:
-        for data in (b"", b"; nothing\n", b"hello\n"):
+        for data in (b"", b"; nothing\n"):
             with self.subTest(data), self.assertRaisesRegex(Trouble, "^trace: it has no cycle"):
+                cycles(data)
+
+    def test_the_line_of_a_mistake_where_no_line_has_a_cycle(self) -> None:
+        for data, line in ((b"0 w p 3C2 67\n", 1), (b"0 x p 3C2 67 1", 1), (b"; good\n\nhello\noh\n", 3)):
+            with self.subTest(data), self.assertRaisesRegex(Trouble, f"^trace:{line}: it has no cycle.* first that is no comment$"):
                 cycles(data)
 
 
@@ -512,7 +517,7 @@ class Checking(Folder):
     def test_so_many_kinds_at_most(self) -> None:
         given = BEGIN + b"- r p 3C4 0 1\n- r p 3CE 0 1\n"
         _, lines, _ = self.check("ok", "01", "01", PICTURE, given=given, options=("--most", "1"))
-        self.assertEqual([line.split()[0] for line in lines], ["4", "read", "read", "differ"])
+        self.assertEqual([line.split()[0] for line in lines], ["4", "read", "differ"])
 
     def test_the_index_of_the_attribute_controller(self) -> None:
         given = BEGIN + b"- w p 3C0 10 1\n- r p 3C1 0 1\n"
@@ -539,6 +544,8 @@ class Checking(Folder):
         self.assertEqual(self.check("ok", "00", PICTURE, given=given, options=("--polls", "first"))[0], 0)
         self.assertEqual(self.check("ok", "00", "00", PICTURE, PICTURE, given=given, options=("--time",))[0], 0)
         self.assertEqual(self.check("ok", PICTURE, given=given, options=("--to", "1"))[0], 0)
+        for option in ("--text", "--no-repeat"):
+            self.assertEqual(self.check("ok", "00", "00", PICTURE, given=given, options=(option,))[0], 0)
         self.assertEqual(self.check("ok", "00", PICTURE, given=given)[0], 2)
 
     def test_a_damaged_report(self) -> None:

@@ -39,13 +39,13 @@ class Checked:
         return not (self.refused or self.differing)
 
     def lines(self, most: int) -> Iterator[str]:
-        """The figures, and of refusals and differing reads so many kinds at most."""
+        """The figures, and so many kinds at most of refusals, of reads, and of those that differ."""
         refused, reads, differing = (sum(kinds.values()) for kinds in (self.refused, self.reads, self.differing))
         skipped = f", {self.skipped:,} skipped" if self.skipped else ""
         yield f"{self.steps:,} steps, {refused:,} refused, {reads:,} reads answered, {differing:,} differ{skipped}"
         for kind, count in self.refused.most_common(most):
             yield f"  refused {count:9,} {kind} ({self.examples[kind]})"
-        for kind, count in self.reads.most_common():
+        for kind, count in self.reads.most_common(most):
             yield f"  read    {count:9,} {kind}"
         for kind, count in self.differing.most_common(most):
             yield f"  differ  {count:9,} {kind} ({self.examples[kind]})"

@@ -42,6 +42,11 @@ def _add_trace(parser: argparse.ArgumentParser) -> None:
 
 
 def _add_listing(parser: argparse.ArgumentParser) -> None:
+    parser.add_argument("--text", action="store_true", help="a script as text, with the trace's reads as expected answers")
+    parser.add_argument(
+        "--no-repeat", dest="repeat", action="store_false",
+        help="each step alone, in version 1 of scripts (default: rows of equal steps are blocks of version 2)",
+    )
     parser.add_argument(
         "--polls", choices=[KEEP, FIRST], default=KEEP,
         help="whether all reads of input status 1 stay, or of a row of them the first (default: keep)",
@@ -62,18 +67,13 @@ def _parser() -> argparse.ArgumentParser:
     command = commands.add_parser("convert", help="makes a script of a trace")
     _add_trace(command)
     command.add_argument("script", metavar="SCRIPT", help="the script; - is standard output")
-    command.add_argument("--text", action="store_true", help="a script as text, with the trace's reads as expected answers")
-    command.add_argument(
-        "--no-repeat", dest="repeat", action="store_false",
-        help="each step alone, in version 1 of scripts (default: rows of equal steps are blocks of version 2)",
-    )
     _add_listing(command)
     command.set_defaults(job=_convert)
     command = commands.add_parser("check", help="holds a script's report against the trace; with the options of convert")
     _add_trace(command)
     command.add_argument("report", type=to_read, metavar="REPORT", help="the report; - is standard input")
     command.add_argument(
-        "--most", type=number_to(MOST_KINDS), default=40, metavar="N", help="tells N kinds at most (default: 40)"
+        "--most", type=number_to(MOST_KINDS), default=40, metavar="N", help="tells N kinds at most of refusals, of reads, and of reads that differ (default: 40)"
     )
     _add_listing(command)
     command.set_defaults(job=_check)

@@ -80,11 +80,17 @@ class Trace:
             if cycle is not None:
                 yield cycle
         if self._is_plain is None:
-            raise Trouble("it has no cycle, neither of qemu's log nor of the plain form", self.name)
+            raise self._without_cycle("it has no cycle, neither of qemu's log nor of the plain form")
 
     def trouble(self, reason: str) -> Trouble:
         """What ends the work at the line that was read last."""
         return Trouble(reason, self.name, self.line)
+
+    def _without_cycle(self, reason: str) -> Trouble:
+        """What ends the work where no line has a cycle: the first that is no comment is named, since it may be meant as one."""
+        if self._first_other:
+            return Trouble(f"{reason}; this line is the first that is no comment", self.name, self._first_other)
+        return Trouble(reason, self.name)
 
     def _lines(self) -> Iterator[bytes]:
         try:
@@ -95,7 +101,7 @@ class Trace:
                     raise self.trouble("the line is longer than any of a trace")
                 passed += len(line)
                 if self._is_plain is None and passed > MOST_BEFORE:
-                    raise Trouble(f"it has no cycle in its first {MOST_BEFORE:,} bytes", self.name)
+                    raise self._without_cycle(f"it has no cycle in its first {MOST_BEFORE:,} bytes")
                 yield line
         except (EOFError, gzip.BadGzipFile, zlib.error) as error:
             raise self.trouble(f"its compressed bytes are damaged behind this line: {error}") from error
