@@ -11,8 +11,7 @@ from pathlib import Path
 from typing import Callable, Iterator, NamedTuple, Optional, Sequence
 
 from vga_report.processes import run
-
-from .recording import Machine
+from vga_trace.recording import Deed, Machine, chain_4
 
 GRUB_GRAPHICS = """insmod vga
 insmod font
@@ -30,7 +29,6 @@ menuentry "on a planar screen" { echo two; sleep 1 }
 menuentry "of sixteen colours" { echo three; sleep 1 }
 """
 SEA, LGPL = "/usr/share/seabios/vgabios-stdvga.bin", "/usr/share/vgabios/vgabios.bin"
-PLUGIN = Path(__file__).resolve().parents[1] / "vga_trace" / "chain4.c"
 # What Linux runs: lines in all colours, more than the screen has, and no cursor at the end.
 INIT = """#!/bin/busybox sh
 /bin/busybox mount -t devtmpfs dev /dev
@@ -92,16 +90,15 @@ def _grub(is_graphics: bool, keys: Sequence[str], folder: Path, _: Optional[Path
     words = (GRUB_GRAPHICS if is_graphics else GRUB_TEXT) + GRUB_MENU
     (root / "boot" / "grub" / "grub.cfg").write_text(words, encoding="ascii")
     run(["grub-mkrescue", "-o", disc, root])
-    return Machine([*_card(SEA), "-cdrom", str(disc), "-boot", "d"], quiet=12, most=120, keys=keys)
+    deeds = [*(Deed(keys=(key,)) for key in keys), Deed()]
+    return Machine([*_card(SEA), "-cdrom", str(disc), "-boot", "d"], deeds, quiet=12, most=300)
 
 
 def _calls(mode: int, rom: str, folder: Path, _: Optional[Path]) -> Machine:
     """A video BIOS that draws in a mode. Of mode 13, which is chain 4, qemu tells by a plugin alone."""
     words = [*_card(rom), *_disc(mode, folder)]
     if mode == 0x13:
-        plugin = folder / "chain4.so"
-        run(["gcc", "-shared", "-fPIC", "-O2", "-o", plugin, PLUGIN])
-        words += ["-plugin", str(plugin.resolve()), "-d", "plugin"]
+        words += chain_4(folder)
     return Machine(words)
 
 

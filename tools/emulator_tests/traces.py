@@ -20,14 +20,14 @@ from typing import NamedTuple, Optional, Sequence
 
 sys.path.insert(0, str(Path(__file__).resolve().parents[1]))
 
-# The tools beside this folder, and the recording here, are found by the line above.
-from emulator_tests.recording import SCREENS, record
+# The tools beside this folder are found by the line above.
 from emulator_tests.software import SOFTWARE, Software
 from vga_report import cli
 from vga_report.processes import captured, started
 from vga_report.program import FONTS, PROGRAM
 from vga_report.progress import Progress
 from vga_report.trouble import Trouble
+from vga_trace.recording import PHASES, dump, record
 
 TOOLS = Path(__file__).resolve().parents[1]
 TRACE, REPORT = TOOLS / "vga-trace", TOOLS / "vga-report"
@@ -100,7 +100,7 @@ def replay(base: Path) -> Replayed:
         if process.wait():
             raise Trouble(f"it ended with status {process.returncode}", str(PROGRAM))
     _, refused, reads, differing = _figures(CHECKED, _out(TRACE, "check", trace, report)[1])
-    screens = [base.with_name(f"{base.name}.{number}.ppm") for number in range(SCREENS)]
+    screens = [dump(base, number) for number in range(PHASES)]
     return Replayed(cycles, steps, length, plain, reads, differing, refused, _differing_dots(report, steps, screens))
 
 
@@ -138,8 +138,9 @@ def _all_known(words: argparse.Namespace) -> bool:
         if software.is_unpacked and words.unpacked is None:
             _say(f"{name}: left out, since --unpacked names no folder")
             continue
-        if not base.with_name(name + ".trace.gz").exists():
-            record(software.machine(words.folder, words.unpacked), base, _say)
+        trace = base.with_name(name + ".trace.gz")
+        if not trace.exists():
+            record(software.machine(words.folder, words.unpacked), trace, base, lambda text: _say(f"{name}: {text}"))
         replayed = replay(base)
         is_known &= replayed.is_as_known(software)
         print(replayed.row(name), flush=True)

@@ -12,7 +12,6 @@ from pathlib import Path
 
 from emulator_tests.media import UNFIT, wrong
 from emulator_tests.software import MOST_SECTORS, NO_CALL, SECTOR, Call, caller, screen
-from emulator_tests.recording import Machine, wait_for_quiet
 from emulator_tests.software import SOFTWARE, archive_file
 from emulator_tests.traces import Replayed
 
@@ -93,15 +92,6 @@ class Discs(Folder):
         fields = [int(packed[at:at + 8], 16) for at in range(6, 110, 8)]
         self.assertEqual((fields[1], fields[6], fields[11]), (0o100755, 3, 5))
         self.assertEqual(packed[110:115] + packed[116:119], b"init\0#!x")
-
-
-class Recording(Folder):
-    def test_a_file_that_no_longer_grows_is_quiet(self) -> None:
-        path = self.folder / "log"
-        path.write_bytes(b"cycle")
-        self.assertTrue(wait_for_quiet(path, Machine([], quiet=0.01, most=10)))
-        path.write_bytes(b"")
-        self.assertFalse(wait_for_quiet(path, Machine([], quiet=0.01, most=0.3)))
 
 
 class Monitors(Folder):

@@ -5,7 +5,7 @@ from __future__ import annotations
 import struct
 import zlib
 from dataclasses import dataclass
-from typing import BinaryIO, Iterable, Iterator
+from typing import BinaryIO, Iterable, Iterator, Optional
 
 from zaklimot.format import Picture
 from zaklimot.format.picture import marks_in_row
@@ -122,10 +122,11 @@ def write_marked_png(stream: BinaryIO, picture: Picture, other: Picture, shape: 
 
 
 class Animation:
-    """Frames of one size."""
+    """Frames of one size: that of the first, or a size that is given, to which each picture is stretched."""
 
-    def __init__(self, shape: Shape) -> None:
+    def __init__(self, shape: Shape, stretched: Optional[tuple[int, int]] = None) -> None:
         self._shape = shape
+        self._stretched = stretched
         self._size = (0, 0)
         self._first = ""
         self.seconds = 0.0
@@ -134,12 +135,13 @@ class Animation:
 
     def add(self, picture: Picture, seconds: float, name: str) -> None:
         """Adds a frame, which is to have the size of the first."""
-        size = self._shape.size(picture.width, picture.height)
+        given = picture.width, picture.height
+        size = self._shape.size(*(self._stretched or given))
         if self.frames and size != self._size:
             raise Trouble(f"{name} has a picture of another size than {self._first}: --step picks those of one size")
         self._size, self._first = size, self._first or name
         packer = zlib.compressobj(COMPRESSION)
-        rows = _shaped(_rows(picture), (picture.width, picture.height), self._shape)
+        rows = _rows(picture) if given == size else _stretched(_rows(picture), given, size)
         packed = [packer.compress(b"\0" + row) for row in rows]
         part = SHORT if seconds < 1 else LONG
         self.frames.append((b"".join(packed) + packer.flush(), min(MOST_NUMBER, round(seconds * part)), part))

@@ -5,7 +5,7 @@ from __future__ import annotations
 import argparse
 import os
 import sys
-from typing import Callable, Iterator, Optional, Sequence
+from typing import Callable, Iterator, NamedTuple, Optional, Sequence
 
 from zaklimot.format import MOST_ADVANCE, Answer, Digest, Picture
 from zaklimot.format.picture import DifferentDots, different_dots
@@ -83,7 +83,7 @@ def _animate(words: argparse.Namespace, shape: Shape, progress: Progress) -> int
     """Writes the pictures of a report as one that moves."""
     if words.folder is not None or words.ppm:
         raise Trouble("--apng writes one file, with neither a folder nor --ppm")
-    delays = _delays(words.script)
+    delays = delays_of(words.script)
     animation = Animation(shape)
     with reading(words.report) as stream:
         name = name_of(words.report)
@@ -98,7 +98,7 @@ def _animate(words: argparse.Namespace, shape: Shape, progress: Progress) -> int
     return AGREED
 
 
-def _delays(script: Optional[str]) -> Callable[[int], float]:
+def delays_of(script: Optional[str]) -> Callable[[int], float]:
     """How long the frame of a step lasts, with the whole frames that an advance passes over behind it, as a script tells it."""
     if script is None:
         return lambda number: USUAL
@@ -260,6 +260,30 @@ def _best(picture: Picture, image: Image) -> tuple[Picture, Optional[DifferentDo
     return min(found, key=lambda entry: entry[1].count if entry[1] else 0)
 
 
+class Held(NamedTuple):
+    """A picture held against an image: how many dots differ, None where the sizes do; how they were brought to one size, and told.
+
+    `image` has the image's dots where there are as many.
+    """
+
+    count: Optional[int]
+    how: str
+    told: str = ""
+    image: Optional[Picture] = None
+
+
+def held(picture: Picture, image: Image) -> Held:
+    """Holds a picture against an image."""
+    fitted = _fitted(image_of_picture(picture), image)
+    if fitted is None:
+        sizes = f"{picture.size} and {image.width}x{image.height}"
+        return Held(None, f"they have {sizes} dots, and neither is the other with dots repeated")
+    _, image, told = fitted
+    read, difference, bits = _best(picture, image)
+    how = ", ".join(part for part in (picture.size, told, bits) if part)
+    return Held(0 if difference is None else difference.count, how, told_dots(picture, read), read)
+
+
 def compare_picture(words: argparse.Namespace, progress: Progress) -> int:
     """Compares the picture of a step with an image, PNG or PPM."""
     refuse_twice(words.report, words.image)
@@ -268,20 +292,13 @@ def compare_picture(words: argparse.Namespace, progress: Progress) -> int:
         _, picture = next(wanted_pictures(steps, [words.step], name_of(words.report)))
     name = name_of(words.image)
     image = image_of(image_bytes(words.image), name)
-    fitted = _fitted(image_of_picture(picture), image)
-    if fitted is None:
-        sizes = f"{picture.size} and {image.width}x{image.height}"
-        why = f"they have {sizes} dots, and neither is the other with dots repeated"
-        write(f"step {words.step} and {name} differ: {why}\n")
-        return DIFFERED
-    _, image, told = fitted
-    read, difference, bits = _best(picture, image)
-    how = ", ".join(part for part in (picture.size, told, bits) if part)
-    if difference is None:
-        write(f"step {words.step} and {name} agree: {how}\n")
+    found = held(picture, image)
+    write(f"step {words.step} and {name} {'differ' if found.count != 0 else 'agree'}: {found.how}\n")
+    if found.count == 0:
         return AGREED
-    write(f"step {words.step} and {name} differ: {how}\n  {told_dots(picture, read)}\n")
-    if words.picture is not None:
-        with writing(words.picture) as stream:
-            write_marked_png(stream, picture, read, Shape(words.scale, words.aspect))
+    if found.image is not None:
+        write(f"  {found.told}\n")
+        if words.picture is not None:
+            with writing(words.picture) as stream:
+                write_marked_png(stream, picture, found.image, Shape(words.scale, words.aspect))
     return DIFFERED

@@ -3,30 +3,42 @@
 from __future__ import annotations
 
 import argparse
+import os
+import re
 import sys
 from itertools import islice
+from pathlib import Path
+from tempfile import TemporaryDirectory
 from typing import ContextManager, Optional, Sequence, TextIO
 
 from vga_report import cli
-from vga_report.output import AGREED, DIFFERED, name_of, refuse_twice
+from vga_report.output import AGREED, DIFFERED, name_of, refuse_twice, write_name
+from vga_report.png import Shape, write_png
+from vga_report.program import Built, found_program
 from vga_report.progress import Progress
 from vga_report.report import Report
-from vga_report.streams import STANDARD, reading, to_read, writing
+from vga_report.runs import DEFAULT_FONTS
+from vga_report.streams import STANDARD, check_file, check_folder, reading, to_read, writing
 from vga_report.trouble import Trouble
-from vga_report.words import number_to, seconds
+from vga_report.words import MOST_SCALE, number_to, seconds
 
 from .checking import check
-from .converting import END, FLIP, Form, Frames, Listing, Wanted, convert
+from .converting import CLOCK, END, FLIP, SCREENS, Form, Frames, Listing, Wanted, convert
 from .checking import count
+from .recording import Deed, Machine, chain_4, record
+from .replaying import Moving, pictures_of, replay
 from .trace import Trace, opened
 
 KEEP, FIRST = "keep", "first"
+QUIET = "quiet"
 MOST_CYCLES, MOST_KINDS = 1 << 40, 1 << 20
+# So many kinds of refusals, of reads and of differing reads are told of a recording.
+MOST_TOLD = 10
 
 
 def _frames(word: str) -> Frames:
     """Reads when a frame stands."""
-    return word if word in (END, FLIP) else seconds(word)
+    return word if word in (END, FLIP, SCREENS, CLOCK) else seconds(word)
 
 
 def _add_trace(parser: argparse.ArgumentParser) -> None:
@@ -53,12 +65,75 @@ def _add_listing(parser: argparse.ArgumentParser) -> None:
     )
     parser.add_argument("--time", action="store_true", help="the clock goes on by the trace's times, a frame at most a pause")
     parser.add_argument(
-        "--frames", type=_frames, default=END, metavar="end|flip|SECONDS",
-        help="a frame at the end alone, before each change of the start address, or so often by the trace's times",
+        "--frames", type=_frames, default=END, metavar="end|flip|screens|clock|SECONDS",
+        help="a frame at the end alone, before each change of the start address, where `record` took a screen, "
+        "in each frame of the dot clock that has a write, or so often by the trace's times",
+    )
+    _add_longest(parser)
+
+
+def _add_longest(parser: argparse.ArgumentParser) -> None:
+    parser.add_argument(
+        "--longest", type=seconds, default=1, metavar="SECONDS", help="with frames by the clock: a silence at most (default: 1)"
     )
 
 
-def _parser() -> argparse.ArgumentParser:
+def _add_program(parser: argparse.ArgumentParser) -> None:
+    parser.add_argument("--vga", metavar="PROGRAM", help="the program; else the one that is built here, or in the path")
+    parser.add_argument("--fonts", type=to_read, default=DEFAULT_FONTS, metavar="FILE", help="the font file; else the project's")
+
+
+def _deed(word: str) -> Deed:
+    """Reads keys, with their time or without: `2.5:ret`, `c,l,s,ret`."""
+    time, colon, keys = word.rpartition(":")
+    if not re.fullmatch("[a-z0-9_]+([-,][a-z0-9_]+)*", keys):
+        raise argparse.ArgumentTypeError(f"'{word}' is no key of qemu's, as `ret`, `2.5:down,ret` or `ctrl-c`")
+    return Deed(seconds(time) if colon else None, tuple(keys.split(",")))
+
+
+def _screen(word: str) -> Deed:
+    """Reads when the screen is taken."""
+    return Deed(None if word == QUIET else seconds(word))
+
+
+def _add_record(command: argparse.ArgumentParser) -> None:
+    command.add_argument("folder", metavar="FOLDER", help="where all goes: a new folder, or an empty one")
+    command.add_argument(
+        "--key", dest="deeds", action="append", default=[], type=_deed, metavar="[SECONDS:]KEY,..",
+        help="presses keys so many seconds after power-on, or once the software is quiet; again and again",
+    )
+    command.add_argument(
+        "--screen", dest="deeds", action="append", type=_screen, metavar="quiet|SECONDS",
+        help="takes the screen, among the keys in the order of the words (default: at the end, once it is quiet)",
+    )
+    command.add_argument(
+        "--quiet", type=seconds, default=3, metavar="SECONDS", help="so long without a cycle is quiet (default: 3)"
+    )
+    command.add_argument(
+        "--seconds", type=seconds, default=60, metavar="SECONDS", help="the machine ends after so many (default: 60)"
+    )
+    command.add_argument(
+        "--chain-4", action="store_true", help="mode 13 is recorded too, by a plugin for qemu 7.2 that gcc builds"
+    )
+    command.add_argument("--card", default="VGA", metavar="DEVICE", help="the VGA among qemu's devices (default: VGA)")
+    _add_program(command)
+    command.set_defaults(job=_record)
+
+
+def _add_pictures(command: argparse.ArgumentParser) -> None:
+    command.add_argument("folder", nargs="?", metavar="FOLDER", help="where they go as PNG, by the second that each is first seen")
+    command.add_argument("--apng", metavar="FILE", help="all as one that moves, in real time")
+    command.add_argument(
+        "--scale", type=number_to(MOST_SCALE), default=1, metavar="N", help="each dot N times as wide and as high"
+    )
+    command.add_argument("--aspect", action="store_true", help="stretched to 4:3, the shape that a monitor shows")
+    _add_longest(command)
+    _add_program(command)
+    command.set_defaults(job=_pictures)
+
+
+def _parser(qemu: Sequence[str] = ()) -> argparse.ArgumentParser:
+    """The parser; the words for qemu, behind `--`, are none of its own."""
     parser = cli.tool_parser(
         "vga-trace", "Makes scripts of what software did to a VGA.",
         "tools/vga-trace convert examples/typed-line.trace script.bin", "docs/TRACES.md", cli.DIFFERS,
@@ -80,12 +155,23 @@ def _parser() -> argparse.ArgumentParser:
     command = commands.add_parser("kinds", help="counts a trace's cycles by kind")
     _add_trace(command)
     command.set_defaults(job=_kinds)
+    command = commands.add_parser("pictures", help="the pictures of a trace, in real time")
+    _add_trace(command)
+    _add_pictures(command)
+    command = commands.add_parser(
+        "record", help="records on qemu, replays, and holds both screens against one another",
+        usage="vga-trace record [OPTION..] FOLDER -- QEMU-WORD..", epilog="Behind `--` stand words for qemu: -cdrom disc.iso",
+    )
+    command.set_defaults(qemu=qemu)
+    _add_record(command)
     return parser
 
 
 def _wanted(words: argparse.Namespace) -> Wanted:
     _check_range(words)
-    return Wanted(words.polls == KEEP, words.time, words.frames, words.to, words.from_)
+    if words.time and words.frames == CLOCK:
+        raise Trouble("frames by the clock have the time already: without --time")
+    return Wanted(words.polls == KEEP, words.time, words.frames, words.to, words.from_, words.longest)
 
 
 def _check_range(words: argparse.Namespace) -> None:
@@ -141,5 +227,87 @@ def _kinds(words: argparse.Namespace, _: Progress) -> int:
     return AGREED
 
 
-# Runs a command line, and answers its exit status.
-main = cli.runner(_parser)
+def _pictures(words: argparse.Namespace, _: Progress) -> int:
+    """Makes a script of a trace in real time, runs it, and writes its pictures."""
+    _check_range(words)
+    if words.folder is None and words.apng is None:
+        raise Trouble("the pictures want a folder, or --apng a file")
+    program, shape = found_program(words.vga), Shape(words.scale, words.aspect)
+    if words.folder is not None:
+        check_folder(words.folder)
+        os.makedirs(words.folder, exist_ok=True)
+    if words.apng is not None:
+        check_file(words.apng)
+    with TemporaryDirectory(prefix="vga-trace-") as name:
+        script, shown, moving = Path(name) / "script", 0.0, Moving(shape)
+        with _opened(words) as trace, writing(str(script)) as stream:
+            listing = Listing(trace, Wanted(frames=CLOCK, most=words.to, first=words.from_, longest=words.longest))
+            convert(listing, trace, stream, Form())
+        _warn(listing.warnings(), name_of(words.trace))
+        with Built(program).running(script, words.fonts, None, True) as outcome:
+            for picture, lasts in pictures_of(outcome.report, script, words.longest):
+                if words.folder is not None:
+                    path = Path(words.folder) / f"{shown:09.3f}.png"
+                    with writing(str(path)) as stream:
+                        write_png(stream, picture, shape)
+                    write_name(path)
+                if words.apng is not None:
+                    moving.add(picture, lasts)
+                shown += lasts
+        if outcome.status:
+            raise Trouble(f"it ended with status {outcome.status}: {outcome.fault}", program)
+    if words.apng is not None:
+        told = moving.write(words.apng)
+        _say(f"{words.apng}: {told}", sys.stderr if words.apng == STANDARD else sys.stdout)
+    return AGREED
+
+
+def _record(words: argparse.Namespace, _: Progress) -> int:
+    """Records, replays, and says how each screen compares."""
+    if not words.qemu:
+        raise Trouble("qemu wants words behind `--`, as `-- -cdrom disc.iso`")
+    program, folder = found_program(words.vga), Path(words.folder)
+    check_folder(words.folder)
+    if folder.exists() and any(folder.iterdir()):
+        raise Trouble("it has files: name a new folder", words.folder)
+    deeds = list(words.deeds)
+    if not deeds or deeds[-1].keys:
+        deeds.append(Deed())
+    folder.mkdir(parents=True, exist_ok=True)
+    try:
+        with TemporaryDirectory(prefix="vga-trace-") as made:
+            plugin = chain_4(Path(made)) if words.chain_4 else []
+            machine = Machine(["-device", words.card, *plugin, *words.qemu], deeds, words.quiet, words.seconds)
+            return _judge(machine, folder, program, words.fonts)
+    finally:
+        for left in folder.glob(".dump.*.ppm"):
+            left.unlink()
+        if not any(folder.iterdir()):
+            folder.rmdir()
+
+
+def _judge(machine: Machine, folder: Path, program: str, fonts: str) -> int:
+    """Records into a folder, and prints what came of it."""
+    trace, dumps = folder / "trace.gz", folder / ".dump"
+    screens = record(machine, trace, dumps, lambda text: _say(f"vga-trace: {text}"))
+    replayed = replay(trace, dumps, screens, program, fonts)
+    _warn(replayed.warnings, str(trace))
+    lines = [replayed.figures, *replayed.checked.lines(MOST_TOLD)]
+    are_equal = replayed.checked.agrees and bool(screens)
+    for number, at in enumerate(screens):
+        verdict = replayed.verdicts.get(number)
+        are_equal &= verdict is not None and verdict.count == 0
+        if verdict is None:
+            lines.append(f"screen {number + 1} at {at:.1f} s: here no frame has the shape of a picture")
+            continue
+        lines += verdict.lines()
+        verdict.write(folder)
+    print("\n".join(lines))
+    return AGREED if are_equal else DIFFERED
+
+
+def main(words: Optional[Sequence[str]] = None) -> int:
+    """Runs a command line, and answers its exit status. What stands behind `--` of `record` is for qemu."""
+    given = sys.argv[1:] if words is None else list(words)
+    end = given.index("--") if given[:1] == ["record"] and "--" in given else len(given)
+    return cli.runner(lambda: _parser(given[end + 1:]))(given[:end])

@@ -11,15 +11,16 @@ from zaklimot.format import FIRST_LINE, HEADERS, MOST_BYTES, MOST_STEPS
 
 from .trace import Cycle
 from .folding import Coded, Row, alone, folded
-from .passing import Flips, Pauses, with_frames_every
+from .passing import Clocked, Flips, Pauses, with_frames_every
 from .rebuilding import rebuilt
 from .state import State
 from .step import FRAME, NAMES, Step, steps_of, without_polls
 from .trace import Trace
 from .watch import Watch
 
-# When a script has a frame: at its end alone, before each page flip, or every so many seconds.
-END, FLIP = "end", "flip"
+# When a script has a frame: at its end alone, before each page flip, where a screen was taken, once in each frame of the dot
+# clock in which something was written, or every so many seconds.
+END, FLIP, SCREENS, CLOCK = "end", "flip", "screens", "clock"
 Frames = Union[str, float]
 # Bytes that are kept free, as text: for the steps at the end, and for a row that is no block once it is cut there.
 FOR_THE_END = 1024
@@ -30,7 +31,7 @@ class Wanted:
     """How cycles become steps: whether all polls stay, whether time passes, when a frame stands.
 
     `most` is how many cycles count. The script begins with the cycle of the number `first`, and with steps that rebuild what
-    those before it have done.
+    those before it have done. With frames by the clock a time without a write lasts `longest` seconds at most.
     """
 
     keeps_polls: bool = True
@@ -38,6 +39,7 @@ class Wanted:
     frames: Frames = END
     most: Optional[int] = None
     first: int = 1
+    longest: float = 1
 
 
 @dataclass(frozen=True)
@@ -56,12 +58,18 @@ class Listing:
         self._wanted = wanted
         self._watch = Watch(trace, wanted.most)
         self._pauses = Pauses()
+        self._clocked = Clocked(wanted.longest)
         self.rebuilding = 0
 
     @property
     def count(self) -> int:
         """How many cycles were taken."""
         return self._watch.count
+
+    @property
+    def has_vbe(self) -> bool:
+        """Whether VBE was turned on so far."""
+        return self._watch.has_vbe
 
     def cycles(self) -> Iterator[Cycle]:
         """The cycles, as many as are wanted."""
@@ -70,11 +78,15 @@ class Listing:
     def steps(self) -> Iterator[Step]:
         """The steps, and the frame at the end. Where time passes there are two: the first began amid the cycles."""
         wanted = self._wanted
-        steps = steps_of(self.cycles())
+        steps = steps_of(self.cycles(), self._trace.screens)
         if not wanted.keeps_polls:
             steps = without_polls(steps)
         if wanted.frames == FLIP:
             steps = Flips().steps(steps)
+        elif wanted.frames == SCREENS:
+            steps = self._with_screens(steps)
+        elif wanted.frames == CLOCK:
+            steps = self._clocked.steps(self._timed(steps))
         elif isinstance(wanted.frames, float):
             steps = with_frames_every(wanted.frames, self._timed(steps))
         if wanted.has_time:
@@ -87,7 +99,10 @@ class Listing:
         told = self._watch.warnings()
         if self._pauses.backwards:
             told.append(f"the time runs back {self._pauses.backwards:,} times, which is no pause")
-        is_time_used = self._wanted.has_time or isinstance(self._wanted.frames, float)
+        if self._clocked.shortened:
+            told.append(f"{self._clocked.shortened:,} times without a write last {self._wanted.longest:g} seconds each, "
+                        f"and lasted {self._clocked.left_out:,.1f} seconds more in all")
+        is_time_used = self._wanted.has_time or self._wanted.frames == CLOCK or isinstance(self._wanted.frames, float)
         if is_time_used and self._watch.untimed:
             told.append(f"{self._watch.untimed:,} cycles have no time, and come without a pause")
         return told
@@ -106,6 +121,16 @@ class Listing:
             yield rebuilding
         yield step
         yield from steps
+
+    def _with_screens(self, steps: Iterator[Step]) -> Iterator[Step]:
+        """The steps, with a frame at each place where a screen was taken."""
+        screens, taken = self._trace.screens, 0
+        for step in steps:
+            while taken < len(screens) and screens[taken] < step.cycle:
+                yield Step(FRAME, time=step.time)
+                taken += 1
+            yield step
+        yield from [Step(FRAME)] * (len(screens) - taken)
 
     def _timed(self, steps: Iterator[Step]) -> Iterator[Step]:
         """The steps, of which the first must have a time."""

@@ -5,11 +5,13 @@ from __future__ import annotations
 from typing import Iterable, Iterator, Optional
 
 from vga_report.timing import Timing
+from zaklimot.format import MOST_ADVANCE
 
-from .step import ADVANCE, FRAME, Step
+from .step import ADVANCE, FRAME, OUT, OUTW, PUT, PUTW, Step
 
 # Microseconds that are put together before they become a step: about a line.
 LEAST_PAUSE = 30
+WRITES = (OUT, OUTW, PUT, PUTW)
 CONTROLLERS = (0x3D4, 0x3B4)
 # The CRT controller's registers of the start address, which a page flip writes.
 START_ADDRESS = (0x0C, 0x0D)
@@ -51,6 +53,57 @@ class Pauses:
         owed, self._owed = self._owed, 0
         speed = self._timing.speed()
         return 0 if speed is None else min(int(owed * speed[1] / 1_000_000), speed[0])
+
+
+class Clocked:
+    """Real time: a frame at the end of each frame of the dot clock in which something was written.
+
+    Behind it so many frames pass as went by until the next that is drawn; a time without a write is cut to `longest` seconds.
+    """
+
+    def __init__(self, longest: float) -> None:
+        self._longest = longest
+        self._timing = Timing()
+        # When the last frame that was drawn ended, and when the one ends that is under way.
+        self._drawn: Optional[float] = None
+        self._ends: Optional[float] = None
+        self._is_changed = False
+        self.shortened, self.left_out = 0, 0.0
+
+    def steps(self, steps: Iterable[Step]) -> Iterator[Step]:
+        """The steps, with the frames that end before them, and the time until the end of the last."""
+        for step in steps:
+            if step.time is not None:
+                yield from self._frames(step.time / 1_000_000)
+            self._is_changed |= step.opcode in WRITES
+            for port, value in step.written():
+                self._timing.out(port, value)
+            yield step
+        yield from self._passed()
+
+    def _frames(self, now: float) -> Iterator[Step]:
+        """The frame that has ended by now, if there is one to draw."""
+        frame = self._timing.frame()
+        if self._ends is None:
+            self._ends = now + frame
+        if now < self._ends:
+            return
+        if self._is_changed:
+            yield from self._passed()
+            yield Step(FRAME)
+            self._drawn, self._is_changed = self._ends, False
+        self._ends += ((now - self._ends) // frame + 1) * frame
+
+    def _passed(self) -> Iterator[Step]:
+        """The frames between the last that was drawn and the one that ends now."""
+        seconds = 0.0 if self._drawn is None or self._ends is None else self._ends - self._drawn
+        if seconds > self._longest:
+            self.shortened += 1
+            self.left_out += seconds - self._longest
+        speed, frames = self._timing.speed(), round(min(seconds, self._longest) / self._timing.frame()) - 1
+        dots = 0 if speed is None else speed[0] * max(frames, 0)
+        for left in range(dots, 0, -MOST_ADVANCE):
+            yield Step(ADVANCE, min(left, MOST_ADVANCE))
 
 
 class Flips:

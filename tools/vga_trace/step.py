@@ -2,7 +2,7 @@
 
 from __future__ import annotations
 
-from typing import Iterable, Iterator, NamedTuple, Optional
+from typing import Iterable, Iterator, NamedTuple, Optional, Sequence
 
 from vga_report import format
 from zaklimot.format import FORMS
@@ -77,12 +77,16 @@ def _narrowed(number: int, cycle: Cycle) -> Iterator[Step]:
         yield Step(opcode + 1, cycle.address + at, cycle.value >> 8 * at & 0xFFFF, cycle.time, number)
 
 
-def steps_of(cycles: Iterable[Cycle]) -> Iterator[Step]:
-    """The steps of cycles. A byte of memory at an even address and the next one become a word, as software meant them."""
+def steps_of(cycles: Iterable[Cycle], apart: Sequence[int] = ()) -> Iterator[Step]:
+    """The steps of cycles. A byte of memory at an even address and the next one become a word, as software meant them.
+
+    The two stay apart behind cycles of some numbers, which may be found while the cycles pass.
+    """
     held: Optional[Step] = None
     numbered = ((number, cycle) for number, cycle in enumerate(cycles, 1) if cycle.space != VBE)
     for step in (step for number, cycle in numbered for step in _narrowed(number, cycle)):
-        if held is not None and step.opcode == held.opcode and step.address == held.address + 1:
+        is_next = held is not None and step.opcode == held.opcode and step.address == held.address + 1
+        if held is not None and is_next and held.cycle not in apart:
             yield Step(held.opcode + 1, held.address, held.value | step.value << 8, held.time, step.cycle)
             held = None
             continue

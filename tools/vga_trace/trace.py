@@ -36,6 +36,8 @@ REGIONS = {
 PLAIN = re.compile(
     rb"\s*(-|[0-9]{1,18})\s+([rw])\s+([pm])\s+([0-9A-Fa-f]{1,8})\s+([0-9A-Fa-f]{1,16})\s+(\d)\s*(?:;.*)?", re.DOTALL
 )
+# The line of a log that tells where a screen was taken. The filter of the log keeps it with those of the VGA.
+SCREEN = b"screen of 'vga-trace'"
 # A line of the plain form without a cycle: blanks, and a comment.
 PASSED = re.compile(rb"\s*(?:;.*)?", re.DOTALL)
 
@@ -69,6 +71,9 @@ class Trace:
         self._is_plain: Optional[bool] = None
         self._first_other = 0
         self.line = 0
+        self.count = 0
+        # How many cycles stand before each screen that was taken.
+        self.screens: list[int] = []
         self.damaged = 0
         self.first_damaged = 0
 
@@ -78,6 +83,7 @@ class Trace:
             self.line += 1
             cycle = self._cycle(line)
             if cycle is not None:
+                self.count += 1
                 yield cycle
         if self._is_plain is None:
             raise self._without_cycle("it has no cycle, neither of qemu's log nor of the plain form")
@@ -110,6 +116,9 @@ class Trace:
 
     def _cycle(self, line: bytes) -> Optional[Cycle]:
         """The cycle of a line, where it has one of a VGA. The first line that has one says which form it is."""
+        if not self._is_plain and line.startswith(SCREEN):
+            self.screens.append(self.count)
+            return None
         if self._is_plain is None:
             self._is_plain = self._found_form(line)
         if self._is_plain is None:

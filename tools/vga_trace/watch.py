@@ -48,6 +48,11 @@ class Watch:
             yield cycle
         self._end_chain()
 
+    @property
+    def has_vbe(self) -> bool:
+        """Whether VBE was turned on so far."""
+        return self._vbe_enabled is not None
+
     def warnings(self) -> list[str]:
         """What the cycles up to now lack, a line each."""
         told = []

@@ -1,0 +1,358 @@
+"""Recordings: a machine's keys and screens, the verdicts on them, and pictures in real time."""
+
+from __future__ import annotations
+
+import gzip
+import os
+import re
+import struct
+import unittest
+from functools import partial
+from pathlib import Path
+from unittest import mock
+
+from vga_report.trouble import Trouble
+from vga_trace import recording
+from vga_trace.command import main
+from vga_trace.known import ALL, PAGE, known
+from vga_trace.passing import Clocked
+from vga_trace.recording import PHASES
+from vga_trace.state import State
+from vga_trace.step import ADVANCE, FRAME, OUT, PUT, Step
+from vga_trace.trace import SCREEN
+
+from .making import BLACK, RED, WHITE, ppm, report
+from .test_trace import BEGIN, listed, qemu, registers
+from .tools import SIGNALS, TOP, Folder, begin, call, is_running, run_tool
+
+run = partial(run_tool, "vga-trace")
+PICTURE = ppm(3, 2, RED * 3 + WHITE * 3)
+# A fake of qemu: it writes what its environment says into its log, serves a monitor, and keeps what it is asked.
+QEMU = """import json, os, re, socket, sys, threading
+words = " ".join(sys.argv)
+folder = os.environ["FAKE"]
+if "-ends" in sys.argv:
+    sys.exit("there is no such disc")
+open(folder + "/number", "w").write(f"{os.getpid()}\\n")
+log = open(re.search(r"-D (\\S+)", words)[1], "w")
+server = socket.socket(socket.AF_UNIX)
+path = re.search(r"-qmp unix:([^,]+),", words)[1]
+server.bind(path + "-")
+server.listen()
+os.rename(path + "-", path)
+lines = open(folder + "/lines").read()
+log.write(lines)
+log.flush()
+connection, _ = server.accept()
+if "-leaves" in sys.argv:
+    threading.Timer(0.3, os._exit, [0]).start()
+with connection, connection.makefile("rw") as monitor:
+    monitor.write("{}\\n")
+    monitor.flush()
+    for line in monitor:
+        asked = json.loads(line)
+        name = asked["execute"]
+        with open(folder + "/asked", "a") as stream:
+            keys = "-".join(key["data"] for key in asked["arguments"].get("keys", ()))
+            stream.write(f"{name} {keys}".strip() + "\\n")
+        if name == "screendump":
+            open(asked["arguments"]["filename"], "wb").write(open(folder + "/screen", "rb").read())
+        if name == "send-key":
+            log.write(lines)
+            log.flush()
+        if name == "send-key" and "-dies" in sys.argv:
+            sys.exit()
+        monitor.write('{"return": {}}\\n')
+        monitor.flush()
+        if name == "quit":
+            break
+"""
+# A line that the filter of the log keeps, and one of another device.
+LINES = qemu("write 3c2 67 1") + qemu("write 70 f 1", "rtc")
+
+
+class Recorded(Folder):
+    """Recordings of a fake of qemu, replayed by a fake of the program."""
+
+    def setUp(self) -> None:
+        super().setUp()
+        self.program("bin/qemu-system-x86_64", QEMU)
+        path = f"{self.folder / 'bin'}:{os.environ['PATH']}"
+        self.environment = {**os.environ, "PATH": path, "FAKE": str(self.folder), "TMPDIR": self.temporary()}
+        self.write("lines", LINES)
+        self.write("screen", PICTURE)
+        self.into = self.folder / "into"
+
+    def temporary(self) -> str:
+        (self.folder / "temporary").mkdir()
+        return str(self.folder / "temporary")
+
+    def fake(self, *answers: str | bytes) -> str:
+        """A program that writes a report of these answers."""
+        self.report("given", *answers)
+        return self.program("vga", f"#!/bin/sh\ncat {self.folder / 'given'}\n")
+
+    def record(
+        self, *options: str, screens: bool = True, words: tuple[str, ...] = ("-cdrom", "disc"),
+        picture: bytes = PICTURE, steps: tuple[int, ...] = (1,),
+    ) -> tuple[int, list[str], str]:
+        """Exit status, lines and what is said of a recording whose script has so many steps before each of its screens."""
+        answers = [answer for count in steps for answer in ["ok"] * count + [picture] * PHASES * bool(screens)]
+        program = self.fake(*answers, picture)
+        done = run(
+            "record", self.into, "--vga", program, "--quiet", "0.2", "--seconds", "20", *options, "--", *words,
+            env=self.environment,
+        )
+        return done[0], done[1].decode().splitlines(), done[2]
+
+    def asked(self) -> list[str]:
+        """What the machine was asked, but for the phases of screens."""
+        phases = "stop\nscreendump\n" + "cont\nstop\nscreendump\n" * (PHASES - 1) + "cont\n"
+        return (self.folder / "asked").read_text().replace(phases, "screen\n").splitlines()
+
+    def test_a_screen_that_is_equal(self) -> None:
+        status, lines, said = self.record()
+        self.assertEqual((status, said), (0, ""))
+        self.assertRegex(lines[-1], r"^screen 1 at \d+\.\d s, behind cycle 1: equal, 3x2, six bits a component$")
+        self.assertEqual(lines[0], "1 cycles, 8 steps, 16 bytes: 7 frame, 1 out")
+        self.assertEqual(lines[1], "8 steps, 0 refused, 0 reads answered, 0 differ")
+        names = sorted(path.name for path in self.into.iterdir())
+        self.assertEqual(names, ["picture-1.png", "report.txt", "screen-1.ppm", "script.bin", "trace.gz"])
+        kept = gzip.decompress((self.into / "trace.gz").read_bytes())
+        self.assertEqual(kept, qemu("write 3c2 67 1") + PHASES * (SCREEN + b"\n"))
+        self.assertEqual(self.asked(), ["qmp_capabilities", "screen", "quit"])
+        self.assertEqual(list((self.folder / "temporary").iterdir()), [])
+
+    def test_a_screen_that_differs_is_told_with_its_place(self) -> None:
+        other = ppm(3, 2, RED * 3 + WHITE + BLACK + BLACK)
+        status, lines, _ = self.record(picture=other)
+        self.assertEqual(status, 1)
+        self.assertTrue(lines[-2].endswith("behind cycle 1: 2 of 6 dots differ, in columns 1 to 2 and rows 1 to 1"), lines)
+        self.assertIn("may be what is known of qemu: palette address source", lines[-1])
+        self.assertTrue((self.into / "differing-1.png").exists())
+
+    def test_a_screen_of_another_size_and_a_frame_without_a_picture(self) -> None:
+        status, lines, _ = self.record(picture=ppm(5, 1, RED * 5))
+        self.assertEqual((status, "another size: they have 5x1 and 3x2 dots" in lines[-2]), (1, True))
+        self.into = self.folder / "again"
+        frames = ["ragged"] * (PHASES + 1)
+        done = run(
+            "record", self.into, "--vga", self.fake("ok", *frames), "--quiet", "0.2", "--", "-cdrom", "disc", env=self.environment
+        )
+        self.assertEqual(done[0], 1)
+        self.assertTrue(done[1].endswith(b"here no frame has the shape of a picture\n"))
+
+    def test_keys_and_screens_in_their_order_and_time(self) -> None:
+        words = ("--screen", "quiet", "--key", "0.1:c,ctrl-l", "--screen", "0.2", "--key", "ret")
+        status, lines, _ = self.record(*words, steps=(1, 2, 1))
+        self.assertEqual(status, 0)
+        expected = ["qmp_capabilities", "screen", "send-key c", "send-key ctrl-l", "screen", "send-key ret", "screen", "quit"]
+        self.assertEqual(self.asked(), expected)
+        places = [line.partition("behind ")[2].partition(":")[0] for line in lines[-3:]]
+        self.assertEqual(places, ["cycle 1", "cycle 3", "cycle 4"])
+
+    def test_a_machine_that_is_never_quiet_ends(self) -> None:
+        status, _, said = self.record("--quiet", "50", "--seconds", "1")
+        self.assertEqual((status, said), (0, "vga-trace: the software was still busy when its screen was taken\n"))
+        self.into = self.folder / "again"
+        status, _, said = self.record("--quiet", "50", "--seconds", "1", "--key", "ret")
+        self.assertIn("seconds were over before this was done", said)
+
+    def test_a_machine_that_ends_by_itself(self) -> None:
+        status, lines, said = self.record("--key", "ret", words=("-dies",))
+        self.assertEqual(status, 2)
+        self.assertIn("qemu: its monitor doesn't do send-key", said)
+        self.assertFalse(self.into.exists())
+        status, lines, said = self.record("--screen", "10", words=("-leaves",), screens=False)
+        self.assertRegex(said, r"^vga-trace: the machine ended by itself after \d\.\d seconds\n$")
+        self.assertEqual((status, lines[1]), (1, "2 steps, 0 refused, 0 reads answered, 0 differ"))
+
+    def test_a_machine_that_does_not_begin(self) -> None:
+        status, _, said = self.record(words=("-ends",))
+        told = "vga-trace: qemu-system-x86_64: it doesn't begin: there is no such disc\n"
+        self.assertEqual((status, said, self.into.exists()), (2, told, False))
+
+    def test_a_program_that_fails_leaves_the_trace(self) -> None:
+        program = self.program("vga", "#!/bin/sh\necho oh >&2\nexit 3\n")
+        status, _, said = run(
+            "record", self.into, "--vga", program, "--quiet", "0.2", "--", "-cdrom", "disc", env=self.environment
+        )
+        self.assertEqual((status, said), (2, f"vga-trace: {program}: it ended with status 3: oh\n"))
+        self.assertEqual(sorted(path.name for path in self.into.iterdir()), ["script.bin", "trace.gz"])
+
+    def test_signals_leave_nothing(self) -> None:
+        for number, status in SIGNALS:
+            with self.subTest(number):
+                (self.folder / "number").unlink(missing_ok=True)
+                words = ("--vga", self.fake("ok"), "--quiet", "50", "--", "-cdrom", "disc")
+                command = begin("vga-trace", "record", self.into, *words, env=self.environment)
+                self.addCleanup(command.communicate)
+                self.addCleanup(command.kill)
+                machine = int(self.wait_for(self.folder / "number", command))
+                self.assertTrue(is_running(machine))
+                command.send_signal(number)
+                self.assertEqual(command.wait(60), status)
+                self.assert_ended(machine)
+                self.assertFalse(self.into.exists())
+                self.assertEqual(list((self.folder / "temporary").iterdir()), [])
+
+    def test_more_lines_than_are_kept(self) -> None:
+        variables = {name: self.environment[name] for name in ("PATH", "FAKE")}
+        self.patch(mock.patch.dict(os.environ, variables), mock.patch.object(recording, "MOST_LINES", 100))
+        self.write("lines", LINES * 3)
+        status, _, said = call(main, "record", self.into, "--vga", self.fake("ok"), "--", "-cdrom", "disc")
+        self.assertEqual((status, self.into.exists()), (2, False))
+        self.assertIn("its trace has more than 100 bytes: end it sooner", said)
+
+
+class Words(Folder):
+    def test_what_is_refused(self) -> None:
+        program = self.program("vga", "#!/bin/sh\n")
+        self.write("full/file", "")
+        for words, told in (
+            ((self.folder / "full", "--vga", program, "--", "-cdrom", "x"), "it has files: name a new folder"),
+            ((self.folder / "new", "--vga", program), "qemu wants words behind `--`"),
+            ((self.folder / "new", "--key", "2:"), "'2:' is no key of qemu's"),
+            ((self.folder / "new", "--key", "x:ret"), "'x' is no number of seconds"),
+            ((self.folder / "new", "--screen", "soon"), "'soon' is no number of seconds"),
+        ):
+            with self.subTest(told):
+                status, _, said = call(main, "record", *words)
+                self.assertEqual(status, 2)
+                self.assertIn(told, said)
+        self.assertEqual(self.names(), ["full", "vga"])
+        given = BEGIN.decode()
+        status, _, said = run("convert", "-", "-", "--time", "--frames", "clock", given=given.encode())
+        self.assertEqual(said, "vga-trace: frames by the clock have the time already: without --time\n")
+
+
+class Screens(unittest.TestCase):
+    def test_a_frame_at_each_screen(self) -> None:
+        mark = SCREEN + b"\n"
+        text = mark + qemu("write 3c2 67 1") + mark + mark + qemu("write b8000 41 1", "vga-lowmem") + mark
+        text += qemu("write b8001 1f 1", "vga-lowmem") + mark
+        steps = ["frame", "out 3C2 67", "frame", "frame", "put B8000 41", "frame", "put B8001 1F", "frame", "frame"]
+        self.assertEqual(listed(text, frames="screens"), steps)
+
+    def test_none_in_the_plain_form(self) -> None:
+        with self.assertRaisesRegex(Trouble, "^trace:2: it is no cycle"):
+            listed(BEGIN + SCREEN + b"\n", frames="screens")
+
+
+class Knowledge(unittest.TestCase):
+    def test_each_is_on_the_page(self) -> None:
+        page = " ".join((TOP / PAGE).read_text("utf-8").split())
+        for one in ALL:
+            self.assertIn(one.name, page)
+
+    def names(self, *steps: Step, dots: tuple[tuple[int, int], ...] = ()) -> list[str]:
+        """The names in a state behind these steps, in text whose palette is shown."""
+        state = State()
+        usual = [Step(OUT, 0x3C2, 0x67), Step(OUT, 0x3C0, 0x20), *crtc(0x07, 0x1F), *crtc(0x09, 0x4F), *crtc(0x14, 0x1F),
+                 *crtc(0x12, 0x8F), *crtc(0x18, 0xFF), *sequencer(4, 2), *sequencer(2, 3), *graphics(6, 0x0E), *graphics(8, 0xFF)]
+        for step in [*usual, *steps]:
+            state.take(step)
+        return list(known(state, dots))
+
+    def test_what_may_show_in_a_state(self) -> None:
+        ninth = attribute(0x10, 4)
+        for steps, names in (
+            ((), []),
+            ((Step(OUT, 0x3C0, 0x00), Step(OUT, 0x3C0, 0x00)), ["palette address source"]),
+            (sequencer(1, 0x20), ["screen off"]),
+            ((Step(OUT, 0x3C6, 0x0F),), ["DAC mask"]),
+            (sequencer(3, 0x04), ["colour plane enable"]),
+            (crtc(8, 3), ["preset row scan"]),
+            (attribute(0x13, 4), ["panning"]),
+            (crtc(0x18, 0x80) + crtc(7, 0x0F) + crtc(9, 0x0F), ["line compare"]),
+            (crtc(0x14, 0x0D), ["underline"]),
+            (attribute(0x10, 8) + [Step(PUT, 0xB8001, 0x87)], ["blinking"]),
+            (attribute(0x10, 8) + [Step(PUT, 0xB8001, 0x07)], []),
+            (ninth, ["ninth dot"]),
+        ):
+            with self.subTest(names):
+                self.assertEqual(self.names(*steps, dots=((8, 0), (17, 3))), names)
+        self.assertEqual(self.names(*ninth, dots=((8, 0), (9, 0))), [])
+
+
+def crtc(index: int, value: int) -> list[Step]:
+    """A register of the CRT controller."""
+    return [Step(OUT, 0x3D4, index), Step(OUT, 0x3D5, value)]
+
+
+def sequencer(index: int, value: int) -> list[Step]:
+    """A register of the sequencer."""
+    return [Step(OUT, 0x3C4, index), Step(OUT, 0x3C5, value)]
+
+
+def graphics(index: int, value: int) -> list[Step]:
+    """A register of the graphics controller."""
+    return [Step(OUT, 0x3CE, index), Step(OUT, 0x3CF, value)]
+
+
+def attribute(index: int, value: int) -> list[Step]:
+    """A register of the attribute controller, the flip-flop at the data's turn before it."""
+    return [Step(OUT, 0x3C0, 0x20), Step(OUT, 0x3C0, index | 0x20), Step(OUT, 0x3C0, value), Step(OUT, 0x3C0, 0x20)]
+
+
+class RealTime(Folder):
+    # Dots of a frame, and its microseconds.
+    DOTS, FRAME = 900 * 449, 900 * 449 / 28.322
+
+    def frames(self, *frames: float, longest: float = 1) -> tuple[list[tuple[int, int]], Clocked]:
+        """The frames and dots that pass where something is written at so many frames' times."""
+        steps = registers(0x67, 0)
+        steps[0] = steps[0]._replace(time=0)
+        steps += [Step(PUT, 0xA0000, 1, round(at * self.FRAME)) for at in frames]
+        clocked = Clocked(longest)
+        return [step[:2] for step in clocked.steps(steps) if step.opcode in (ADVANCE, FRAME)], clocked
+
+    def test_a_frame_where_something_is_written(self) -> None:
+        self.assertEqual(self.frames(0.2, 0.4)[0], [])
+        self.assertEqual(self.frames(1.2, 1.4)[0], [(FRAME, 0)])
+        frames, _ = self.frames(1.2, 1.4, 2.2, 5.7)
+        # The first ends at one frame of the usual rate, the second and the third one frame later each.
+        self.assertEqual(frames, [(FRAME, 0), (FRAME, 0), (FRAME, 0), (ADVANCE, 2 * self.DOTS)])
+
+    def test_the_time_that_passes_is_that_of_the_trace(self) -> None:
+        frames, clocked = self.frames(1.2, 41.5, 60.5, longest=10)
+        count = sum(1 for opcode, _ in frames if opcode == FRAME)
+        dots = sum(dots for _, dots in frames)
+        self.assertEqual((count, clocked.shortened), (3, 0))
+        self.assertEqual(count + dots // self.DOTS, 60)
+
+    def test_long_silences_are_cut_and_told(self) -> None:
+        frames, clocked = self.frames(1.2, 701.2, 702.5, longest=1)
+        self.assertEqual(clocked.shortened, 1)
+        self.assertAlmostEqual(clocked.left_out, 700 * self.FRAME / 1e6 - 1, delta=0.02)
+        self.assertEqual(sum(dots for _, dots in frames) // self.DOTS, 69)
+        self.assertEqual({dots for opcode, dots in frames if opcode == ADVANCE} - {16_777_216, 69 * self.DOTS % 16_777_216}, set())
+
+    def test_pictures_and_moving_pictures(self) -> None:
+        trace = self.write("trace", BEGIN + b"20000 w m A0000 1 1\n40000 w m A0000 2 1\n5040000 w m A0000 3 1\n")
+        small, large = ppm(2, 1, RED + WHITE), ppm(4, 3, BLACK * 12)
+        self.report("given", "ok", small, "ok", small, "ok", large, "ok", large)
+        program = self.program("vga", f"#!/bin/sh\ncat {self.folder / 'given'}\n")
+        moving, folder = self.folder / "moving.png", self.folder / "pictures"
+        status, out, said = run("pictures", trace, folder, "--apng", moving, "--vga", program)
+        told = "1 times without a write last 1 seconds each, and lasted 4.0 seconds more in all"
+        self.assertEqual((status, said), (0, f"vga-trace: warning: {trace}: {told}\n"))
+        lines = out.decode().splitlines()
+        self.assertEqual(lines[-1].rpartition(": ")[2], "2 pictures, 1.057 seconds")
+        self.assertEqual([Path(line).name for line in lines[:-1]], ["00000.000.png", "00000.029.png"])
+        data = moving.read_bytes()
+        self.assertEqual(struct.unpack_from(">II", data, 16), (4, 3))
+        delays = [struct.unpack_from(">HH", data, found.end() + 20) for found in re.finditer(b"fcTL", data)]
+        self.assertEqual([part for _, part in delays], [50_000, 100])
+        self.assertEqual(len(delays), 2)
+
+    def test_a_program_that_fails(self) -> None:
+        trace = self.write("trace", BEGIN)
+        program = self.program("vga", "#!/bin/sh\nexit 3\n")
+        status, _, said = run("pictures", trace, self.folder / "pictures", "--vga", program)
+        self.assertEqual((status, said.startswith("vga-trace: ")), (2, True), said)
+        self.assertEqual(run("pictures", trace, "--vga", program)[2], "vga-trace: the pictures want a folder, or --apng a file\n")
+
+
+if __name__ == "__main__":
+    unittest.main()

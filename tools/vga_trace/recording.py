@@ -1,0 +1,218 @@
+"""Records on qemu what software does to a VGA: its trace, and its screens at chosen times."""
+
+from __future__ import annotations
+
+import gzip
+import os
+import subprocess
+import tempfile
+import time
+from contextlib import ExitStack, contextmanager, suppress
+from dataclasses import dataclass
+from pathlib import Path
+from threading import Thread
+from typing import BinaryIO, Callable, Iterator, NamedTuple, Optional, Sequence
+
+from vga_floppy.running import ANSWERING, Monitor, monitor_at
+from vga_report.processes import DRAINING, check_program, end_with_parent, run, said_last, started
+from vga_report.streams import writing
+from vga_report.trouble import Trouble
+
+from .trace import SCREEN
+
+QEMU = "qemu-system-x86_64"
+EVENTS = "memory_region_ops_read\nmemory_region_ops_write\n"
+# The regions of the log that are the VGA's.
+KEPT = ("'vga", "'vbe'", "'cirrus-io'", "'cirrus-low-memory'")
+# A machine of one processor whose cycles keep their order, with no devices but those that are wanted.
+BARE = ("-accel", "tcg", "-machine", "pc,smm=off", "-nodefaults", "-m", "128", "-no-reboot", "-display", "none")
+# Seconds between two looks, between two keys, and that the cursor's phase lasts about half of.
+LOOK, PRESSING, PHASE = 0.05, 0.1, 0.12
+# Screens are taken again and again, since qemu blinks by a clock of its own.
+PHASES = 6
+# So many bytes of lines are kept, about twenty million cycles, and so many are read at a time.
+MOST_LINES, CHUNK = 1 << 31, 1 << 16
+Say = Callable[[str], None]
+
+
+class Deed(NamedTuple):
+    """Keys that are pressed one after the other, or the screen taken where there are none.
+
+    It is done so many seconds after power-on, or once the software is quiet. Keys have qemu's names, `ctrl-c` two of them.
+    """
+
+    at: Optional[float] = None
+    keys: tuple[str, ...] = ()
+
+
+@dataclass(frozen=True)
+class Machine:
+    """What a machine is made of, what is done to it in this order, and how long its software is waited for.
+
+    `quiet` is how many seconds without a cycle mean that the software waits; `most` is after how many seconds the machine
+    ends, whatever was not done by then.
+    """
+
+    words: Sequence[str]
+    deeds: Sequence[Deed] = (Deed(),)
+    quiet: float = 3
+    most: float = 60
+
+
+class Keeper(Thread):
+    """Keeps the lines of a pipe in a file, and tells how many bytes there were, and when the last came."""
+
+    def __init__(self, source: BinaryIO, target: BinaryIO) -> None:
+        super().__init__(daemon=True)
+        self._source, self._target = source, target
+        self.size, self.last = 0, time.monotonic()
+        self.trouble: Optional[Trouble] = None
+
+    def run(self) -> None:
+        """Takes all lines, also those that can't be kept, so that their writer goes on to its end."""
+        with self._source:
+            while chunk := os.read(self._source.fileno(), CHUNK):
+                self.size, self.last = self.size + len(chunk), time.monotonic()
+                try:
+                    if self.size <= MOST_LINES:
+                        self._target.write(chunk)
+                    else:
+                        self.trouble = Trouble(f"its trace has more than {MOST_LINES:,} bytes: end it sooner", QEMU)
+                except OSError as error:
+                    self.trouble = Trouble(f"its trace can't be kept: {error.strerror or error}", QEMU)
+
+
+class Session:
+    """A machine that runs: what is done to it, and the seconds at which each of its screens was taken."""
+
+    def __init__(self, machine: Machine, process: subprocess.Popen[bytes], keeper: Keeper, base: Path) -> None:
+        self._machine, self._process, self._keeper, self._base = machine, process, keeper, base
+        self._began = self._acted = time.monotonic()
+        self.screens: list[float] = []
+
+    def passed(self) -> float:
+        """The seconds since power-on."""
+        return time.monotonic() - self._began
+
+    def has_ended(self) -> bool:
+        """Whether the machine has ended by itself; a Trouble where its lines can't be kept."""
+        if self._keeper.trouble:
+            raise self._keeper.trouble
+        return self._process.poll() is not None
+
+    def is_due(self, deed: Deed) -> bool:
+        """Whether a deed is to be done now."""
+        if deed.at is not None:
+            return self.passed() >= deed.at
+        last = max(self._acted, self._keeper.last)
+        return self._keeper.size > 0 and time.monotonic() - last > self._machine.quiet
+
+    def wait(self, deed: Deed) -> bool:
+        """Waits until a deed is to be done; whether it came to that before the machine's last second."""
+        while not self.is_due(deed):
+            if self.has_ended() or self.passed() >= self._machine.most:
+                return False
+            time.sleep(LOOK)
+        return True
+
+    def act(self, do: Monitor, log: BinaryIO, say: Say) -> None:
+        """Does all that is to be done. The last screen is taken in the last second at the latest."""
+        for number, deed in enumerate(self._machine.deeds, 1):
+            is_due, is_last = self.wait(deed), number == len(self._machine.deeds)
+            if self.has_ended():
+                say(f"the machine ended by itself after {self.passed():.1f} seconds")
+                return
+            if not is_due and (deed.keys or not is_last):
+                say(f"the machine's {self._machine.most:g} seconds were over before this was done, and what was to follow: {deed}")
+            elif not is_due:
+                say("the software was still busy when its screen was taken")
+            self._press(do, deed.keys) if is_due and deed.keys else self._take_screen(do, log)
+            if not is_due:
+                return
+
+    def _press(self, do: Monitor, keys: Sequence[str]) -> None:
+        for key in keys:
+            do("send-key", keys=[{"type": "qcode", "data": part} for part in key.split("-")])
+            time.sleep(PRESSING)
+        self._acted = time.monotonic()
+
+    def _take_screen(self, do: Monitor, log: BinaryIO) -> None:
+        """Takes the screen at several phases of the cursor. A line of the log tells the place of each among the cycles."""
+        self.screens.append(self.passed())
+        do("stop")
+        for phase in range(PHASES):
+            if phase:
+                do("cont")
+                time.sleep(PHASE)
+                do("stop")
+            log.write(SCREEN + b"\n")
+            path = dump(self._base, PHASES * (len(self.screens) - 1) + phase)
+            do("screendump", filename=str(path.resolve()))
+        do("cont")
+        self._acted = time.monotonic()
+
+
+def chain_4(folder: Path) -> list[str]:
+    """The words by which qemu logs chain 4 too: a plugin, which is built into a folder."""
+    plugin = folder / "chain4.so"
+    run(["gcc", "-shared", "-fPIC", "-O2", "-o", plugin, Path(__file__).with_name("chain4.c")])
+    return ["-plugin", str(plugin.resolve()), "-d", "plugin"]
+
+
+def dump(base: Path, number: int) -> Path:
+    """The file of a dump, counted from 0: a screen has as many as phases."""
+    return base.with_name(f"{base.name}.{number}.ppm")
+
+
+def _qemu(machine: Machine, folder: Path) -> list[str]:
+    """The command. Its log goes into a pipe."""
+    (folder / "events").write_text(EVENTS, encoding="ascii")
+    return [
+        "nice", "-n", "10", QEMU, *BARE, "-msg", "timestamp=on", "-trace", f"events={folder}/events", "-D", f"{folder}/log",
+        "-qmp", f"unix:{folder}/monitor,server=on,wait=off", *machine.words,
+    ]
+
+
+@contextmanager
+def _reached(folder: Path, process: subprocess.Popen[bytes]) -> Iterator[tuple[Monitor, BinaryIO]]:
+    """The monitor of a machine, and its log to write into; a Trouble tells what it said where it doesn't begin."""
+    until = time.monotonic() + ANSWERING
+    while not (folder / "monitor").exists():
+        if process.poll() is not None or time.monotonic() > until:
+            raise Trouble(f"it doesn't begin: {said_last(folder / 'said') or 'it said nothing'}", QEMU)
+        time.sleep(LOOK)
+    with monitor_at(folder / "monitor") as do, open(os.open(folder / "log", os.O_WRONLY | os.O_NONBLOCK), "wb", 0) as log:
+        os.set_blocking(log.fileno(), True)
+        yield do, log
+
+
+def record(machine: Machine, trace: Path, base: Path, say: Say) -> list[float]:
+    """Leaves a trace, by gzip, and the dumps BASE.0.ppm and so on beside it; answers the seconds of each screen.
+
+    `say` tells what may spoil them.
+    """
+    check_program(QEMU, ": Debian has it in qemu-system-x86")
+    words = [word for name in KEPT for word in ("-e", name)]
+    with ExitStack() as stack:
+        folder = Path(stack.enter_context(tempfile.TemporaryDirectory(prefix="vga-recording-")))
+        os.mkfifo(folder / "log")
+        target = stack.enter_context(gzip.open(stack.enter_context(writing(str(trace))), "wb", 6))
+        keepers: list[Keeper] = []
+        stack.callback(lambda: [keeper.join(DRAINING) for keeper in keepers])
+        filtering = stack.enter_context(started(
+            ["grep", "--line-buffered", "-F", *words, folder / "log"], stdout=subprocess.PIPE, preexec_fn=end_with_parent
+        ))
+        keepers.append(Keeper(filtering.stdout, target))  # type: ignore[arg-type]
+        filtering.stdout = None
+        keepers[0].start()
+        said = stack.enter_context(open(folder / "said", "wb"))
+        process = stack.enter_context(started(_qemu(machine, folder), stdout=said, stderr=said, preexec_fn=end_with_parent))
+        session = Session(machine, process, keepers[0], base)
+        # A machine that has ended by itself hears nothing more.
+        with suppress(BrokenPipeError), _reached(folder, process) as (do, log):
+            session.act(do, log, say)
+            if not session.has_ended():
+                do("quit")
+        process.wait(ANSWERING)
+        filtering.wait(ANSWERING)
+    return session.screens

@@ -1,0 +1,214 @@
+"""A trace replayed by the program: its pictures held against the screens that qemu showed, or as pictures that move."""
+
+from __future__ import annotations
+
+import zlib
+from dataclasses import dataclass, field
+from pathlib import Path
+from threading import Event
+from typing import BinaryIO, Iterator, Mapping, Optional, Sequence
+
+from vga_report.images import image_bytes, image_of
+from vga_report.png import Animation, Shape, write_marked_png, write_png
+from vga_report.processes import Limits, run_command, said_last
+from vga_report.report import Report
+from vga_report.reports import delays_of, held
+from vga_report.streams import reading, writing
+from vga_report.trouble import Trouble
+from zaklimot.format import Answer, Picture
+from zaklimot.format.picture import marks_in_row
+
+from .checking import FRAME_ANSWERS, Checked, check
+from .converting import SCREENS, Form, Listing, Wanted, convert
+from .known import PAGE, Dots, known
+from .recording import PHASES, dump
+from .state import State
+from .step import Step
+from .trace import opened
+
+# A run may take so many seconds and bytes, and pictures that move so many bytes, packed.
+MOST_RUN = Limits(600, 1 << 32)
+MOST_PACKED = 1 << 29
+
+
+@dataclass
+class Verdict:
+    """The dump of a screen that is nearest to the picture, and how they differ: in no dot, or where."""
+
+    number: int
+    seconds: float
+    cycle: int
+    dump: Path
+    picture: Picture
+    how: str
+    count: Optional[int]
+    dots: Dots
+    image: Optional[Picture]
+    names: Sequence[str]
+
+    def lines(self) -> Iterator[str]:
+        """What is told of it."""
+        place = f"screen {self.number} at {self.seconds:.1f} s, behind cycle {self.cycle:,}"
+        if self.count == 0:
+            yield f"{place}: equal, {self.how}"
+            return
+        if self.count is None:
+            yield f"{place}: another size: {self.how}"
+        else:
+            (left, right), (top, bottom) = ((min(at), max(at)) for at in zip(*self.dots))
+            where = f"in columns {left} to {right} and rows {top} to {bottom}"
+            yield f"{place}: {self.count:,} of {self.picture.width * self.picture.height:,} dots differ, {where}"
+        known_of = f"may be what is known of qemu: {', '.join(self.names)}; {PAGE} tells of it"
+        yield f"  {known_of}" if self.names else "  nothing that is known of qemu shows in this state"
+
+    def write(self, folder: Path) -> None:
+        """Leaves the dump, the picture, and where they differ."""
+        self.dump.replace(folder / f"screen-{self.number}.ppm")
+        with writing(str(folder / f"picture-{self.number}.png")) as stream:
+            write_png(stream, self.picture, Shape())
+        if self.image is not None and self.count:
+            with writing(str(folder / f"differing-{self.number}.png")) as stream:
+                write_marked_png(stream, self.picture, self.image, Shape())
+
+
+def _dots(picture: Picture, image: Optional[Picture]) -> Dots:
+    """Where a picture and an image of its size differ."""
+    if image is None:
+        return ()
+    return [
+        (x, y) for y in range(picture.height) if picture.row(y) != image.row(y)
+        for x, mark in enumerate(marks_in_row(picture.row(y), image.row(y))) if mark
+    ]
+
+
+@dataclass
+class Judge:
+    """Follows the steps of a trace and the answers to them, and holds the picture at each dump against it."""
+
+    listing: Listing
+    base: Path
+    screens: Sequence[float]
+    cycles: Sequence[int]
+    state: State = field(default_factory=State)
+    verdicts: dict[int, Verdict] = field(default_factory=dict)
+    _dumps: int = 0
+
+    def steps(self) -> Iterator[Step]:
+        """The steps, of which the state is kept."""
+        for step in self.listing.steps():
+            self.state.take(step)
+            yield step
+
+    def answers(self, answers: Iterator[Answer]) -> Iterator[Answer]:
+        """The answers, of which each `frame` but the last is that of a dump."""
+        for answer in answers:
+            if answer.answer.partition(" ")[0] in FRAME_ANSWERS:
+                if self._dumps < PHASES * len(self.screens):
+                    self._judge(answer.picture)
+                self._dumps += 1
+            yield answer
+
+    def _judge(self, picture: object) -> None:
+        """Holds a picture against its dump, and keeps of a screen the one that is nearest."""
+        screen, phase = divmod(self._dumps, PHASES)
+        path = dump(self.base, self._dumps)
+        if not isinstance(picture, Picture):
+            return
+        found = held(picture, image_of(image_bytes(str(path)), str(path)))
+        last = self.verdicts.get(screen)
+        if last is not None and (found.count is None or last.count is not None and found.count >= last.count):
+            return
+        dots = _dots(picture, found.image) if found.count else ()
+        names = ["VBE"] if self.listing.has_vbe else list(known(self.state, dots))
+        self.verdicts[screen] = Verdict(
+            screen + 1, self.screens[screen], self.cycles[self._dumps], path, picture, found.how, found.count, dots,
+            found.image, names if found.count != 0 else (),
+        )
+
+
+def run_script(program: str, fonts: str, script: Path, report: Path) -> None:
+    """Runs a script of bytes, and leaves its report; a Trouble where the program doesn't end well."""
+    messages = report.with_name(report.name + ".said")
+    try:
+        words = [program, "run", script, "--fonts", fonts]
+        outcome = run_command(words, report, messages, MOST_RUN, Event())
+        if outcome.status != 0:
+            ended = outcome.reason or f"it ended with status {outcome.status}"
+            raise Trouble(f"{ended}: {said_last(messages) or 'it said nothing'}", program)
+    except BaseException:
+        report.unlink(missing_ok=True)
+        raise
+    finally:
+        messages.unlink(missing_ok=True)
+
+
+@dataclass
+class Replayed:
+    """What came of a replay: the script's figures, the reads, the screens, and what the trace lacks."""
+
+    figures: str
+    checked: Checked
+    verdicts: Mapping[int, Verdict]
+    warnings: Sequence[str]
+
+
+def replay(trace: Path, base: Path, screens: Sequence[float], program: str, fonts: str) -> Replayed:
+    """Makes script.bin and report.txt beside a trace whose screens were taken, and holds all against one another."""
+    script, report = trace.with_name("script.bin"), trace.with_name("report.txt")
+    wanted = Wanted(frames=SCREENS)
+    with opened(str(trace)) as read, writing(str(script)) as stream:
+        listing = Listing(read, wanted)
+        figures = convert(listing, read, stream, Form()).line(listing)
+        cycles = read.screens
+    run_script(program, fonts, script, report)
+    with opened(str(trace)) as read, reading(str(report)) as answers:
+        judge = Judge(Listing(read, wanted), base, screens, cycles)
+        name = str(report)
+        checked = check(judge.steps(), judge.answers(Report(answers, name).steps()), name)
+    return Replayed(figures, checked, judge.verdicts, judge.listing.warnings())
+
+
+class Moving:
+    """Pictures that move, each stretched to the largest size of them, as a monitor shows them."""
+
+    def __init__(self, shape: Shape) -> None:
+        self._shape = shape
+        self._packed: list[tuple[bytes, float]] = []
+        self._size, self._bytes = (0, 0), 0
+
+    def add(self, picture: Picture, seconds: float) -> None:
+        """Adds a picture that is seen for so many seconds; a Trouble where there are too many."""
+        self._size = max(self._size[0], picture.width), max(self._size[1], picture.height)
+        self._packed.append((zlib.compress(picture.ppm, 1), seconds))
+        self._bytes += len(self._packed[-1][0])
+        if self._bytes > MOST_PACKED:
+            raise Trouble(f"the pictures take more than {MOST_PACKED:,} bytes: --from and --to take a part of the trace")
+
+    def write(self, path: str) -> str:
+        """Writes them all, and answers what is told of them."""
+        animation = Animation(self._shape, self._size)
+        for number, (packed, seconds) in enumerate(self._packed, 1):
+            animation.add(Picture.of_ppm(zlib.decompress(packed)), seconds, f"picture {number}")
+        with writing(path) as stream:
+            animation.write(stream)
+        return f"{len(animation.frames)} pictures, {animation.seconds:.3f} seconds"
+
+
+def pictures_of(report: BinaryIO, script: Path, at_last: float) -> Iterator[tuple[Picture, float]]:
+    """The pictures of a report, each with the seconds that it is seen, the last with so many more.
+
+    Equal ones that follow one another are one.
+    """
+    delay = delays_of(str(script))
+    last: Optional[Picture] = None
+    seconds = 0.0
+    for answer in Report(report, "report").steps():  # type: ignore[arg-type]
+        if not isinstance(answer.picture, Picture):
+            continue
+        if last is not None and answer.picture.ppm != last.ppm:
+            yield last, seconds
+            seconds = 0.0
+        last, seconds = answer.picture, seconds + delay(answer.number)
+    if last is None:
+        raise Trouble("no frame has a picture")
+    yield last, seconds + at_last
