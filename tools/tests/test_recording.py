@@ -7,6 +7,7 @@ import os
 import re
 import struct
 import unittest
+import zlib
 from functools import partial
 from pathlib import Path
 from unittest import mock
@@ -16,9 +17,9 @@ from vga_trace import recording
 from vga_trace.command import main
 from vga_trace.known import ALL, PAGE, known
 from vga_trace.passing import Clocked
-from vga_trace.recording import PHASES
+from vga_trace.recording import PHASES, Deed, Machine, Session
 from vga_trace.state import State
-from vga_trace.step import ADVANCE, FRAME, OUT, PUT, Step
+from vga_trace.step import ADVANCE, FRAME, IN, OUT, PUT, Step
 from vga_trace.trace import SCREEN
 
 from .making import BLACK, RED, WHITE, ppm, report
@@ -156,7 +157,7 @@ class Recorded(Folder):
         self.assertEqual((status, said), (0, "vga-trace: the software was still busy when its screen was taken\n"))
         self.into = self.folder / "again"
         status, _, said = self.record("--quiet", "50", "--seconds", "1", "--key", "ret")
-        self.assertIn("seconds were over before this was done", said)
+        self.assertIn("seconds were over before it was time for the keys ret", said)
 
     def test_a_machine_that_ends_by_itself(self) -> None:
         status, lines, said = self.record("--key", "ret", words=("-dies",))
@@ -203,6 +204,20 @@ class Recorded(Folder):
         status, _, said = call(main, "record", self.into, "--vga", self.fake("ok"), "--", "-cdrom", "disc")
         self.assertEqual((status, self.into.exists()), (2, False))
         self.assertIn("its trace has more than 100 bytes: end it sooner", said)
+
+
+class Quiet(unittest.TestCase):
+    def test_a_key_is_given_time_before_it_is_quiet(self) -> None:
+        keeper = mock.Mock(size=5, last=0.0, trouble=None)
+        session = Session(Machine((), quiet=0.2), mock.Mock(), keeper, Path("base"))
+        session._acted = 0.0
+        self.assertTrue(session.is_due(Deed()))
+        session._press(mock.Mock(), ["ret"])
+        self.assertFalse(session.is_due(Deed()))
+        session._acted -= 0.3
+        self.assertTrue(session.is_due(Deed()))
+        keeper.size = 0
+        self.assertFalse(session.is_due(Deed()))
 
 
 class Words(Folder):
@@ -265,6 +280,7 @@ class Knowledge(unittest.TestCase):
             (crtc(8, 3), ["preset row scan"]),
             (attribute(0x13, 4), ["panning"]),
             (crtc(0x18, 0x80) + crtc(7, 0x0F) + crtc(9, 0x0F), ["line compare"]),
+            (crtc(0x18, 0x80) + crtc(7, 0x0F), []),
             (crtc(0x14, 0x0D), ["underline"]),
             (attribute(0x10, 8) + [Step(PUT, 0xB8001, 0x87)], ["blinking"]),
             (attribute(0x10, 8) + [Step(PUT, 0xB8001, 0x07)], []),
@@ -321,6 +337,13 @@ class RealTime(Folder):
         self.assertEqual((count, clocked.shortened), (3, 0))
         self.assertEqual(count + dots // self.DOTS, 60)
 
+    def test_reads_make_no_frame(self) -> None:
+        steps = [step._replace(time=0) for step in registers(0x67, 0)]
+        steps += [Step(IN, 0x3DA, 0, round(at * self.FRAME)) for at in (1.2, 2.5, 3.5)]
+        steps.append(Step(PUT, 0xA0000, 1, round(4.5 * self.FRAME)))
+        frames = [step[:2] for step in Clocked(1).steps(steps) if step.opcode in (ADVANCE, FRAME)]
+        self.assertEqual(frames, [(FRAME, 0), (ADVANCE, 3 * self.DOTS)])
+
     def test_long_silences_are_cut_and_told(self) -> None:
         frames, clocked = self.frames(1.2, 701.2, 702.5, longest=1)
         self.assertEqual(clocked.shortened, 1)
@@ -344,7 +367,9 @@ class RealTime(Folder):
         self.assertEqual(struct.unpack_from(">II", data, 16), (4, 3))
         delays = [struct.unpack_from(">HH", data, found.end() + 20) for found in re.finditer(b"fcTL", data)]
         self.assertEqual([part for _, part in delays], [50_000, 100])
-        self.assertEqual(len(delays), 2)
+        (length,) = struct.unpack_from(">I", data, data.index(b"IDAT") - 4)
+        rows = zlib.decompress(data[data.index(b"IDAT") + 4:][:length])
+        self.assertEqual(rows, 3 * (b"\0" + 2 * b"\xff\0\0" + 6 * b"\xff"))
 
     def test_a_program_that_fails(self) -> None:
         trace = self.write("trace", BEGIN)

@@ -43,7 +43,14 @@ def seconds(word: str) -> float:
     return number
 
 
-def _add_shape(parser: argparse.ArgumentParser) -> None:
+def add_program(parser: argparse.ArgumentParser) -> None:
+    """The options of a command that runs the program."""
+    parser.add_argument("--vga", metavar="PROGRAM", help="the program; else the one that is built here, or in the path")
+    parser.add_argument("--fonts", type=to_read, default=DEFAULT_FONTS, metavar="FILE", help="the font file; else the project's")
+
+
+def add_shape(parser: argparse.ArgumentParser) -> None:
+    """The options of a command that writes pictures."""
     parser.add_argument(
         "--scale", type=number_to(MOST_SCALE), default=1, metavar="N", help="each dot N times as wide and as high"
     )
@@ -87,9 +94,8 @@ def _add_suite(parser: argparse.ArgumentParser) -> None:
 
 
 def _add_run(parser: argparse.ArgumentParser) -> None:
-    parser.add_argument("--vga", metavar="PROGRAM", help="the program; else the one that is built here, or in the path")
+    add_program(parser)
     parser.add_argument("--try", dest="try_", action="store_true", help="the program without its proofs, by `rt try`")
-    parser.add_argument("--fonts", type=to_read, default=DEFAULT_FONTS, metavar="FILE", help="the font file; else the project's")
     parser.add_argument(
         "--until", type=number_to(MOST_STEP, 0), metavar="N", help="stops after N steps, and shows the state"
     )
@@ -114,7 +120,7 @@ def _add_run(parser: argparse.ArgumentParser) -> None:
     )
     parser.add_argument("--watch", action="store_true", help="runs again when the script or the font file changes")
     parser.add_argument("--build", action="store_true", help="proves and builds the program first, where it is lacking")
-    _add_shape(parser)
+    add_shape(parser)
 
 
 def _add_pictures(parser: argparse.ArgumentParser) -> None:
@@ -127,7 +133,7 @@ def _add_pictures(parser: argparse.ArgumentParser) -> None:
     parser.add_argument(
         "--step", type=number_to(MOST_STEP), action="append", default=[], metavar="N", help="of this step alone"
     )
-    _add_shape(parser)
+    add_shape(parser)
 
 
 def parser() -> argparse.ArgumentParser:
@@ -153,12 +159,12 @@ def parser() -> argparse.ArgumentParser:
     adding.add_argument("--all", action="store_true", help="all steps that differ, in the place of the first")
     adding.add_argument("--picture", metavar="FILE", help="the first picture that differs as PNG, its dots marked")
     adding.add_argument("--html", metavar="FILE", help="all steps that differ, as a page that stands alone")
-    _add_shape(adding)
+    add_shape(adding)
     adding = add(compare_picture, "report")
     adding.add_argument("step", type=number_to(MOST_STEP), metavar="STEP")
     adding.add_argument("image", type=to_read, metavar="IMAGE")
     adding.add_argument("--picture", metavar="FILE", help="the picture as PNG, its dots marked that differ")
-    _add_shape(adding)
+    add_shape(adding)
     add(check, "report", "expected")
     adding = add(suite)
     adding.add_argument("command", metavar="COMMAND")

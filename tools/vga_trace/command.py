@@ -17,14 +17,12 @@ from vga_report.png import Shape, write_png
 from vga_report.program import Built, found_program
 from vga_report.progress import Progress
 from vga_report.report import Report
-from vga_report.runs import DEFAULT_FONTS
 from vga_report.streams import STANDARD, check_file, check_folder, reading, to_read, writing
 from vga_report.trouble import Trouble
-from vga_report.words import MOST_SCALE, number_to, seconds
+from vga_report.words import add_program, add_shape, number_to, seconds
 
-from .checking import check
+from .checking import check, count
 from .converting import CLOCK, END, FLIP, SCREENS, Form, Frames, Listing, Wanted, convert
-from .checking import count
 from .recording import Deed, Machine, chain_4, record
 from .replaying import Moving, pictures_of, replay
 from .trace import Trace, opened
@@ -78,11 +76,6 @@ def _add_longest(parser: argparse.ArgumentParser) -> None:
     )
 
 
-def _add_program(parser: argparse.ArgumentParser) -> None:
-    parser.add_argument("--vga", metavar="PROGRAM", help="the program; else the one that is built here, or in the path")
-    parser.add_argument("--fonts", type=to_read, default=DEFAULT_FONTS, metavar="FILE", help="the font file; else the project's")
-
-
 def _deed(word: str) -> Deed:
     """Reads keys, with their time or without: `2.5:ret`, `c,l,s,ret`."""
     time, colon, keys = word.rpartition(":")
@@ -116,19 +109,16 @@ def _add_record(command: argparse.ArgumentParser) -> None:
         "--chain-4", action="store_true", help="mode 13 is recorded too, by a plugin for qemu 7.2 that gcc builds"
     )
     command.add_argument("--card", default="VGA", metavar="DEVICE", help="the VGA among qemu's devices (default: VGA)")
-    _add_program(command)
+    add_program(command)
     command.set_defaults(job=_record)
 
 
 def _add_pictures(command: argparse.ArgumentParser) -> None:
     command.add_argument("folder", nargs="?", metavar="FOLDER", help="where they go as PNG, by the second that each is first seen")
     command.add_argument("--apng", metavar="FILE", help="all as one that moves, in real time")
-    command.add_argument(
-        "--scale", type=number_to(MOST_SCALE), default=1, metavar="N", help="each dot N times as wide and as high"
-    )
-    command.add_argument("--aspect", action="store_true", help="stretched to 4:3, the shape that a monitor shows")
+    add_shape(command)
     _add_longest(command)
-    _add_program(command)
+    add_program(command)
     command.set_defaults(job=_pictures)
 
 

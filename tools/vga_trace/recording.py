@@ -44,6 +44,9 @@ class Deed(NamedTuple):
     at: Optional[float] = None
     keys: tuple[str, ...] = ()
 
+    def __str__(self) -> str:
+        return f"the keys {','.join(self.keys)}" if self.keys else "a screen"
+
 
 @dataclass(frozen=True)
 class Machine:
@@ -123,7 +126,7 @@ class Session:
                 say(f"the machine ended by itself after {self.passed():.1f} seconds")
                 return
             if not is_due and (deed.keys or not is_last):
-                say(f"the machine's {self._machine.most:g} seconds were over before this was done, and what was to follow: {deed}")
+                say(f"{self._machine.most:g} seconds were over before it was time for {deed}: the screen is taken now, and the rest left out")
             elif not is_due:
                 say("the software was still busy when its screen was taken")
             self._press(do, deed.keys) if is_due and deed.keys else self._take_screen(do, log)
