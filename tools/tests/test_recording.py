@@ -358,7 +358,7 @@ class RealTime(Folder):
         program = self.program("vga", f"#!/bin/sh\ncat {self.folder / 'given'}\n")
         moving, folder = self.folder / "moving.png", self.folder / "pictures"
         status, out, said = run("pictures", trace, folder, "--apng", moving, "--vga", program)
-        told = "1 times without a write last 1 seconds each, and lasted 4.0 seconds more in all"
+        told = "1 silence cut to 1 s, and 4.0 s left out so"
         self.assertEqual((status, said), (0, f"vga-trace: warning: {trace}: {told}\n"))
         lines = out.decode().splitlines()
         self.assertEqual(lines[-1].rpartition(": ")[2], "2 pictures, 1.057 seconds")

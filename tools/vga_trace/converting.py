@@ -6,6 +6,7 @@ from collections import Counter
 from dataclasses import dataclass, field
 from typing import BinaryIO, Iterable, Iterator, Optional, Union
 
+from vga_report.output import counted
 from vga_report.trouble import Trouble
 from zaklimot.format import FIRST_LINE, HEADERS, MOST_BYTES, MOST_STEPS
 
@@ -100,8 +101,8 @@ class Listing:
         if self._pauses.backwards:
             told.append(f"the time runs back {self._pauses.backwards:,} times, which is no pause")
         if self._clocked.shortened:
-            told.append(f"{self._clocked.shortened:,} times without a write last {self._wanted.longest:g} seconds each, "
-                        f"and lasted {self._clocked.left_out:,.1f} seconds more in all")
+            silences = counted(self._clocked.shortened, "silence")
+            told.append(f"{silences} cut to {self._wanted.longest:g} s, and {self._clocked.left_out:,.1f} s left out so")
         is_time_used = self._wanted.has_time or self._wanted.frames == CLOCK or isinstance(self._wanted.frames, float)
         if is_time_used and self._watch.untimed:
             told.append(f"{self._watch.untimed:,} cycles have no time, and come without a pause")
