@@ -23,17 +23,21 @@ sys.path.insert(0, str(Path(__file__).resolve().parents[1]))
 # The tools beside this folder are found by the line above.
 from emulator_tests.software import SOFTWARE, Software
 from vga_report import cli
-from vga_report.processes import captured, started
+from vga_report.images import image_bytes, image_of
+from vga_report.processes import captured
 from vga_report.program import FONTS, PROGRAM
 from vga_report.progress import Progress
+from vga_report.report import Report
+from vga_report.reports import held, wanted_pictures
+from vga_report.streams import reading
 from vga_report.trouble import Trouble
 from vga_trace.recording import PHASES, dump, record
+from vga_trace.replaying import run_script
 
 TOOLS = Path(__file__).resolve().parents[1]
-TRACE, REPORT = TOOLS / "vga-trace", TOOLS / "vga-report"
+TRACE = TOOLS / "vga-trace"
 CONVERTED = re.compile(r"([\d,]+) cycles, ([\d,]+) steps, ([\d,]+) bytes")
 CHECKED = re.compile(r"([\d,]+) steps, ([\d,]+) refused, ([\d,]+) reads answered, ([\d,]+) differ")
-DIFFERING = re.compile(r"(\d+) of \d+ dots differ")
 HEADER = (
     "| Software | Cycles | Steps | Bytes | without blocks | Reads | differing | Refused | Picture |\n"
     "|---|---|---|---|---|---|---|---|---|"
@@ -80,15 +84,10 @@ def _figures(pattern: re.Pattern[str], text: str) -> list[int]:
 
 def _differing_dots(report: Path, step: int, screens: Sequence[Path]) -> Optional[int]:
     """The dots of the last picture that differ from the screen that is nearest to it."""
-    counts = []
-    for screen in screens:
-        status, said = _out(REPORT, "compare-picture", report, str(step), screen)
-        found = DIFFERING.search(said)
-        if status == 0:
-            return 0
-        if found is not None:
-            counts.append(int(found[1]))
-    return min(counts, default=None)
+    with reading(str(report)) as stream:
+        _, picture = next(wanted_pictures(Report(stream, str(report)).steps(), [step], str(report)))
+    counts = [held(picture, image_of(image_bytes(str(screen)), str(screen))).count for screen in screens]
+    return min((count for count in counts if count is not None), default=None)
 
 
 def replay(base: Path) -> Replayed:
@@ -96,9 +95,7 @@ def replay(base: Path) -> Replayed:
     trace, script, report = (base.with_name(base.name + end) for end in (".trace.gz", ".bin", ".report"))
     *_, plain = _figures(CONVERTED, _out(TRACE, "convert", trace, script, "--no-repeat")[1])
     cycles, steps, length = _figures(CONVERTED, _out(TRACE, "convert", trace, script)[1])
-    with report.open("wb") as stream, started([PROGRAM, "run", script, "--fonts", FONTS], stdout=stream) as process:
-        if process.wait():
-            raise Trouble(f"it ended with status {process.returncode}", str(PROGRAM))
+    run_script(str(PROGRAM), str(FONTS), script, report)
     _, refused, reads, differing = _figures(CHECKED, _out(TRACE, "check", trace, report)[1])
     screens = [dump(base, number) for number in range(PHASES)]
     return Replayed(cycles, steps, length, plain, reads, differing, refused, _differing_dots(report, steps, screens))

@@ -143,6 +143,12 @@ class Recorded(Folder):
         self.assertEqual(done[0], 1)
         self.assertTrue(done[1].endswith(b"here no frame has the shape of a picture\n"))
 
+    def test_a_screen_of_vbe(self) -> None:
+        self.write("lines", LINES + qemu("write 1ce 4 2", "vbe") + qemu("write 1cf 41 2", "vbe"))
+        status, lines, said = self.record(picture=ppm(3, 2, BLACK * 6))
+        self.assertEqual((status, lines[-1]), (1, "  VBE is on: what qemu shows is no VGA's"))
+        self.assertIn("cycle 3 turns VBE on", said)
+
     def test_keys_and_screens_in_their_order_and_time(self) -> None:
         words = ("--screen", "quiet", "--key", "0.1:c,ctrl-l", "--screen", "0.2", "--key", "ret")
         status, lines, _ = self.record(*words, steps=(1, 2, 1))

@@ -216,6 +216,17 @@ def record(machine: Machine, trace: Path, base: Path, say: Say) -> list[float]:
             session.act(do, log, say)
             if not session.has_ended():
                 do("quit")
-        process.wait(ANSWERING)
-        filtering.wait(ANSWERING)
+        _wait_for_end(process, QEMU)
+        _wait_for_end(filtering, "grep")
+        keepers[0].join(DRAINING)
+        if keepers[0].trouble:
+            raise keepers[0].trouble
     return session.screens
+
+
+def _wait_for_end(process: subprocess.Popen[bytes], name: str) -> None:
+    """Waits until a program ends that has nothing left to do."""
+    try:
+        process.wait(ANSWERING)
+    except subprocess.TimeoutExpired as error:
+        raise Trouble(f"it doesn't end within {ANSWERING} seconds", name) from error

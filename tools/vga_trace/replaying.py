@@ -45,6 +45,7 @@ class Verdict:
     dots: Dots
     image: Optional[Picture]
     names: Sequence[str]
+    has_vbe: bool
 
     def lines(self) -> Iterator[str]:
         """What is told of it."""
@@ -58,8 +59,12 @@ class Verdict:
             (left, right), (top, bottom) = ((min(at), max(at)) for at in zip(*self.dots))
             where = f"in columns {left} to {right} and rows {top} to {bottom}"
             yield f"{place}: {self.count:,} of {self.picture.width * self.picture.height:,} dots differ, {where}"
-        known_of = f"may be what is known of qemu: {', '.join(self.names)}; {PAGE} tells of it"
-        yield f"  {known_of}" if self.names else "  nothing that is known of qemu shows in this state"
+        if self.has_vbe:
+            yield "  VBE is on: what qemu shows is no VGA's"
+        elif self.names:
+            yield f"  may be what is known of qemu: {', '.join(self.names)}; {PAGE} tells of it"
+        else:
+            yield "  nothing that is known of qemu shows in this state"
 
     def write(self, folder: Path) -> None:
         """Leaves the dump, the picture, and where they differ."""
@@ -119,10 +124,10 @@ class Judge:
         if last is not None and (found.count is None or last.count is not None and found.count >= last.count):
             return
         dots = _dots(picture, found.image) if found.count else ()
-        names = ["VBE"] if self.listing.has_vbe else list(known(self.state, dots))
+        names = list(known(self.state, dots)) if found.count != 0 else ()
         self.verdicts[screen] = Verdict(
             screen + 1, self.screens[screen], self.cycles[self._dumps], path, picture, found.how, found.count, dots,
-            found.image, names if found.count != 0 else (),
+            found.image, names, self.listing.has_vbe,
         )
 
 
