@@ -117,16 +117,16 @@ def _parser() -> argparse.ArgumentParser:
     return parser
 
 
-def _replay_all(words: argparse.Namespace, _: Progress) -> int:
+def _replay_all(words: argparse.Namespace, progress: Progress) -> int:
     """Looks at the words, and replays what they name."""
     unknown = set(words.names) - set(SOFTWARE)
     if unknown:
         raise Trouble(f"there is no software {', '.join(sorted(unknown))}")
     words.folder.mkdir(parents=True, exist_ok=True)
-    return 0 if _all_known(words) else 1
+    return 0 if _all_known(words, progress) else 1
 
 
-def _all_known(words: argparse.Namespace) -> bool:
+def _all_known(words: argparse.Namespace, progress: Progress) -> bool:
     """Records and replays what is wanted, and tells whether all was as known."""
     is_known = True
     print(HEADER, flush=True)
@@ -137,7 +137,7 @@ def _all_known(words: argparse.Namespace) -> bool:
             continue
         trace = base.with_name(name + ".trace.gz")
         if not trace.exists():
-            record(software.machine(words.folder, words.unpacked), trace, base, lambda text: _say(f"{name}: {text}"))
+            record(software.machine(words.folder, words.unpacked), trace, base, lambda text: _say(f"{name}: {text}"), progress)
         replayed = replay(base)
         is_known &= replayed.is_as_known(software)
         print(replayed.row(name), flush=True)

@@ -138,7 +138,8 @@ class Recorded(Folder):
         self.into = self.folder / "again"
         frames = ["ragged"] * (PHASES + 1)
         done = run(
-            "record", self.into, "--vga", self.fake("ok", *frames), "--quiet", "0.2", "--", "-cdrom", "disc", env=self.environment
+            "record", self.into, "--vga", self.fake("ok", *frames), "--quiet", "0.2", "--", "-cdrom", "disc",
+            env=self.environment,
         )
         self.assertEqual(done[0], 1)
         self.assertTrue(done[1].endswith(b"here no frame has the shape of a picture\n"))
@@ -215,7 +216,7 @@ class Recorded(Folder):
 class Quiet(unittest.TestCase):
     def test_a_key_is_given_time_before_it_is_quiet(self) -> None:
         keeper = mock.Mock(size=5, last=0.0, trouble=None)
-        session = Session(Machine((), quiet=0.2), mock.Mock(), keeper, Path("base"))
+        session = Session(Machine((), quiet=0.2), mock.Mock(), keeper, Path("base"), mock.Mock())
         session._acted = 0.0
         self.assertTrue(session.is_due(Deed()))
         session._press(mock.Mock(), ["ret"])
@@ -270,7 +271,8 @@ class Knowledge(unittest.TestCase):
         """The names in a state behind these steps, in text whose palette is shown."""
         state = State()
         usual = [Step(OUT, 0x3C2, 0x67), Step(OUT, 0x3C0, 0x20), *crtc(0x07, 0x1F), *crtc(0x09, 0x4F), *crtc(0x14, 0x1F),
-                 *crtc(0x12, 0x8F), *crtc(0x18, 0xFF), *sequencer(4, 2), *sequencer(2, 3), *graphics(6, 0x0E), *graphics(8, 0xFF)]
+                 *crtc(0x12, 0x8F), *crtc(0x18, 0xFF), *sequencer(4, 2), *sequencer(2, 3), *graphics(6, 0x0E),
+                 *graphics(8, 0xFF)]
         for step in [*usual, *steps]:
             state.take(step)
         return list(known(state, dots))
@@ -355,7 +357,8 @@ class RealTime(Folder):
         self.assertEqual(clocked.shortened, 1)
         self.assertAlmostEqual(clocked.left_out, 700 * self.FRAME / 1e6 - 1, delta=0.02)
         self.assertEqual(sum(dots for _, dots in frames) // self.DOTS, 69)
-        self.assertEqual({dots for opcode, dots in frames if opcode == ADVANCE} - {16_777_216, 69 * self.DOTS % 16_777_216}, set())
+        advances = {dots for opcode, dots in frames if opcode == ADVANCE}
+        self.assertEqual(advances, {16_777_216, 69 * self.DOTS % 16_777_216})
 
     def test_pictures_and_moving_pictures(self) -> None:
         trace = self.write("trace", BEGIN + b"20000 w m A0000 1 1\n40000 w m A0000 2 1\n5040000 w m A0000 3 1\n")
@@ -382,7 +385,8 @@ class RealTime(Folder):
         program = self.program("vga", "#!/bin/sh\nexit 3\n")
         status, _, said = run("pictures", trace, self.folder / "pictures", "--vga", program)
         self.assertEqual((status, said.startswith("vga-trace: ")), (2, True), said)
-        self.assertEqual(run("pictures", trace, "--vga", program)[2], "vga-trace: the pictures want a folder, or --apng a file\n")
+        told = "vga-trace: the pictures want a folder, or --apng a file\n"
+        self.assertEqual(run("pictures", trace, "--vga", program)[2], told)
 
 
 if __name__ == "__main__":

@@ -261,7 +261,7 @@ def _best(picture: Picture, image: Image) -> tuple[Picture, Optional[DifferentDo
 
 
 class Held(NamedTuple):
-    """A picture held against an image: how many dots differ, None where the sizes do; how they were brought to one size, and told.
+    """A picture held against an image: how many dots differ, None where the sizes do; how both were read, and what is told.
 
     `image` has the image's dots where there are as many.
     """

@@ -114,7 +114,7 @@ def _add_record(command: argparse.ArgumentParser) -> None:
 
 
 def _add_pictures(command: argparse.ArgumentParser) -> None:
-    command.add_argument("folder", nargs="?", metavar="FOLDER", help="where they go as PNG, by the second that each is first seen")
+    command.add_argument("folder", nargs="?", metavar="FOLDER", help="where they go as PNG, named by the second of each")
     command.add_argument("--apng", metavar="FILE", help="all as one that moves, in real time")
     add_shape(command)
     _add_longest(command)
@@ -138,7 +138,8 @@ def _parser(qemu: Sequence[str] = ()) -> argparse.ArgumentParser:
     _add_trace(command)
     command.add_argument("report", type=to_read, metavar="REPORT", help="the report; - is standard input")
     command.add_argument(
-        "--most", type=number_to(MOST_KINDS), default=40, metavar="N", help="tells N kinds at most of refusals, of reads, and of reads that differ (default: 40)"
+        "--most", type=number_to(MOST_KINDS), default=40, metavar="N",
+        help="tells N kinds at most of refusals, of reads, and of reads that differ (default: 40)",
     )
     _add_listing(command)
     command.set_defaults(job=_check)
@@ -252,7 +253,7 @@ def _pictures(words: argparse.Namespace, _: Progress) -> int:
     return AGREED
 
 
-def _record(words: argparse.Namespace, _: Progress) -> int:
+def _record(words: argparse.Namespace, progress: Progress) -> int:
     """Records, replays, and says how each screen compares."""
     if not words.qemu:
         raise Trouble("qemu wants words behind `--`, as `-- -cdrom disc.iso`")
@@ -268,7 +269,7 @@ def _record(words: argparse.Namespace, _: Progress) -> int:
         with TemporaryDirectory(prefix="vga-trace-") as made:
             plugin = chain_4(Path(made)) if words.chain_4 else []
             machine = Machine(["-device", words.card, *plugin, *words.qemu], deeds, words.quiet, words.seconds)
-            return _judge(machine, folder, program, words.fonts)
+            return _judge(machine, folder, program, words.fonts, progress)
     finally:
         for left in folder.glob(".dump.*.ppm"):
             left.unlink()
@@ -276,11 +277,19 @@ def _record(words: argparse.Namespace, _: Progress) -> int:
             folder.rmdir()
 
 
-def _judge(machine: Machine, folder: Path, program: str, fonts: str) -> int:
+def _judge(machine: Machine, folder: Path, program: str, fonts: str, progress: Progress) -> int:
     """Records into a folder, and prints what came of it."""
     trace, dumps = folder / "trace.gz", folder / ".dump"
-    screens = record(machine, trace, dumps, lambda text: _say(f"vga-trace: {text}"))
-    replayed = replay(trace, dumps, screens, program, fonts)
+
+    def say(text: str) -> None:
+        progress.clear()
+        _say(f"vga-trace: {text}")
+
+    screens = record(machine, trace, dumps, say, progress)
+    if progress.is_due():
+        progress.tell(f"{trace}: a script is made")
+    replayed = replay(trace, dumps, screens, program, fonts, progress)
+    progress.clear()
     _warn(replayed.warnings, str(trace))
     lines = [replayed.figures, *replayed.checked.lines(MOST_TOLD)]
     are_equal = replayed.checked.agrees and bool(screens)

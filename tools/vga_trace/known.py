@@ -41,6 +41,12 @@ def _is_split(state: State) -> bool:
     return _is_text(state) and compare < (crtc[0x12] | (crtc[7] & 2) << 7 | (crtc[7] & 0x40) << 3)
 
 
+def _has_underline(state: State) -> bool:
+    """Whether the line of underlines is one of a character's."""
+    crtc = state.crtc.registers
+    return _is_text(state) and crtc[0x14] & 0x1F <= crtc[9] & 0x1F
+
+
 def _has_two_fonts(state: State) -> bool:
     """Whether bit 3 of an attribute chooses between two fonts, and colour plane enable takes it off the colour."""
     chosen = state.seq.registers[3]
@@ -57,7 +63,7 @@ ALL = (
     Known("preset row scan", lambda state, _: bool(state.crtc.registers[8] & 0x1F)),
     Known("panning", lambda state, _: state.attr.registers[0x13] not in (0, 8) or bool(state.crtc.registers[8] & 0x60)),
     Known("line compare", lambda state, _: _is_split(state)),
-    Known("underline", lambda state, _: _is_text(state) and state.crtc.registers[0x14] & 0x1F <= state.crtc.registers[9] & 0x1F),
+    Known("underline", lambda state, _: _has_underline(state)),
     Known("blinking", lambda state, _: _has_blinking(state)),
 )
 

@@ -15,6 +15,7 @@ from typing import BinaryIO, Callable, Iterator, NamedTuple, Optional, Sequence
 
 from vga_floppy.running import ANSWERING, Monitor, monitor_at
 from vga_report.processes import DRAINING, check_program, end_with_parent, run, said_last, started
+from vga_report.progress import Progress
 from vga_report.streams import writing
 from vga_report.trouble import Trouble
 
@@ -88,8 +89,11 @@ class Keeper(Thread):
 class Session:
     """A machine that runs: what is done to it, and the seconds at which each of its screens was taken."""
 
-    def __init__(self, machine: Machine, process: subprocess.Popen[bytes], keeper: Keeper, base: Path) -> None:
+    def __init__(
+        self, machine: Machine, process: subprocess.Popen[bytes], keeper: Keeper, base: Path, progress: Progress
+    ) -> None:
         self._machine, self._process, self._keeper, self._base = machine, process, keeper, base
+        self._progress = progress
         self._began = self._acted = time.monotonic()
         self.screens: list[float] = []
 
@@ -115,6 +119,8 @@ class Session:
         while not self.is_due(deed):
             if self.has_ended() or self.passed() >= self._machine.most:
                 return False
+            if self._progress.is_due():
+                self._progress.tell(f"recording: {self.passed():.0f} s")
             time.sleep(LOOK)
         return True
 
@@ -126,7 +132,8 @@ class Session:
                 say(f"the machine ended by itself after {self.passed():.1f} seconds")
                 return
             if not is_due and (deed.keys or not is_last):
-                say(f"{self._machine.most:g} seconds were over before it was time for {deed}: the screen is taken now, and the rest left out")
+                over = f"{self._machine.most:g} seconds were over before it was time for {deed}"
+                say(f"{over}: the screen is taken now, and the rest left out")
             elif not is_due:
                 say("the software was still busy when its screen was taken")
             self._press(do, deed.keys) if is_due and deed.keys else self._take_screen(do, log)
@@ -189,7 +196,7 @@ def _reached(folder: Path, process: subprocess.Popen[bytes]) -> Iterator[tuple[M
         yield do, log
 
 
-def record(machine: Machine, trace: Path, base: Path, say: Say) -> list[float]:
+def record(machine: Machine, trace: Path, base: Path, say: Say, progress: Progress) -> list[float]:
     """Leaves a trace, by gzip, and the dumps BASE.0.ppm and so on beside it; answers the seconds of each screen.
 
     `say` tells what may spoil them.
@@ -210,7 +217,7 @@ def record(machine: Machine, trace: Path, base: Path, say: Say) -> list[float]:
         keepers[0].start()
         said = stack.enter_context(open(folder / "said", "wb"))
         process = stack.enter_context(started(_qemu(machine, folder), stdout=said, stderr=said, preexec_fn=end_with_parent))
-        session = Session(machine, process, keepers[0], base)
+        session = Session(machine, process, keepers[0], base, progress)
         # A machine that has ended by itself hears nothing more.
         with suppress(BrokenPipeError), _reached(folder, process) as (do, log):
             session.act(do, log, say)

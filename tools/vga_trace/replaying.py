@@ -11,6 +11,7 @@ from typing import BinaryIO, Iterator, Mapping, Optional, Sequence
 from vga_report.images import image_bytes, image_of
 from vga_report.png import Animation, Shape, write_marked_png, write_png
 from vga_report.processes import Limits, run_command, said_last
+from vga_report.progress import Progress
 from vga_report.report import Report
 from vga_report.reports import delays_of, held
 from vga_report.streams import reading, writing
@@ -157,7 +158,9 @@ class Replayed:
     warnings: Sequence[str]
 
 
-def replay(trace: Path, base: Path, screens: Sequence[float], program: str, fonts: str) -> Replayed:
+def replay(
+    trace: Path, base: Path, screens: Sequence[float], program: str, fonts: str, progress: Progress
+) -> Replayed:
     """Makes script.bin and report.txt beside a trace whose screens were taken, and holds all against one another."""
     script, report = trace.with_name("script.bin"), trace.with_name("report.txt")
     wanted = Wanted(frames=SCREENS)
@@ -169,7 +172,7 @@ def replay(trace: Path, base: Path, screens: Sequence[float], program: str, font
     with opened(str(trace)) as read, reading(str(report)) as answers:
         judge = Judge(Listing(read, wanted), base, screens, cycles)
         name = str(report)
-        checked = check(judge.steps(), judge.answers(Report(answers, name).steps()), name)
+        checked = check(judge.steps(), judge.answers(Report(answers, name, progress).steps()), name)
     return Replayed(figures, checked, judge.verdicts, judge.listing.warnings())
 
 
