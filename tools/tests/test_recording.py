@@ -150,6 +150,17 @@ class Recorded(Folder):
         self.assertEqual((status, lines[-1]), (1, "  VBE is on: what qemu shows is no VGA's"))
         self.assertIn("cycle 3 turns VBE on", said)
 
+    def test_a_screen_of_chain_4_without_its_memory(self) -> None:
+        chained = qemu("write 3c4 f02 2") + qemu("write 3c4 e04 2")
+        for number, (memory, told) in enumerate((
+            (b"", "  chain 4 is on, and no memory was recorded since: --chain-4 does so"),
+            (qemu("write a0000 1 1", "vga-chain4"), "palette address source"),
+        )):
+            self.into = self.folder / f"into{number}"
+            self.write("lines", LINES + chained + memory)
+            status, lines, _ = self.record(picture=ppm(3, 2, BLACK * 6), steps=(3 + bool(memory),))
+            self.assertEqual((status, told in lines[-1]), (1, True), lines)
+
     def test_keys_and_screens_in_their_order_and_time(self) -> None:
         words = ("--screen", "quiet", "--key", "0.1:c,ctrl-l", "--screen", "0.2", "--key", "ret")
         status, lines, _ = self.record(*words, steps=(1, 2, 1))

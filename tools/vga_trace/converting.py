@@ -68,9 +68,9 @@ class Listing:
         return self._watch.count
 
     @property
-    def has_vbe(self) -> bool:
-        """Whether VBE was turned on so far."""
-        return self._watch.has_vbe
+    def lacking(self) -> str:
+        """Why a picture may be another one here."""
+        return self._watch.lacking
 
     def cycles(self) -> Iterator[Cycle]:
         """The cycles, as many as are wanted."""

@@ -46,7 +46,7 @@ class Verdict:
     dots: Dots
     image: Optional[Picture]
     names: Sequence[str]
-    has_vbe: bool
+    lacking: str
 
     def lines(self) -> Iterator[str]:
         """What is told of it."""
@@ -60,8 +60,8 @@ class Verdict:
             (left, right), (top, bottom) = ((min(at), max(at)) for at in zip(*self.dots))
             where = f"in columns {left} to {right} and rows {top} to {bottom}"
             yield f"{place}: {self.count:,} of {self.picture.width * self.picture.height:,} dots differ, {where}"
-        if self.has_vbe:
-            yield "  VBE is on: what qemu shows is no VGA's"
+        if self.lacking:
+            yield f"  {self.lacking}"
         elif self.names:
             yield f"  may be what is known of qemu: {', '.join(self.names)}; {PAGE} tells of it"
         else:
@@ -128,7 +128,7 @@ class Judge:
         names = list(known(self.state, dots)) if found.count != 0 else ()
         self.verdicts[screen] = Verdict(
             screen + 1, self.screens[screen], self.cycles[self._dumps], path, picture, found.how, found.count, dots,
-            found.image, names, self.listing.has_vbe,
+            found.image, names, self.listing.lacking,
         )
 
 

@@ -46,12 +46,19 @@ class Watch:
             elif cycle.is_write:
                 self._write(cycle)
             yield cycle
+        # What is lacking stays so for the frames at the end.
+        chained = self._chained
         self._end_chain()
+        self._chained = chained
 
     @property
-    def has_vbe(self) -> bool:
-        """Whether VBE was turned on so far."""
-        return self._vbe_enabled is not None
+    def lacking(self) -> str:
+        """Why a picture may be another one here: what the cycles lack so far that a screen shows."""
+        if self._vbe_enabled is not None:
+            return "VBE is on: what qemu shows is no VGA's"
+        if self._chained is not None and not self._is_memory_seen:
+            return "chain 4 is on, and no memory was recorded since: --chain-4 does so"
+        return ""
 
     def warnings(self) -> list[str]:
         """What the cycles up to now lack, a line each."""
