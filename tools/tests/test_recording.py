@@ -65,6 +65,8 @@ with connection, connection.makefile("rw") as monitor:
             sys.exit()
         monitor.write('{"return": {}}\\n')
         monitor.flush()
+        if name == "quit" and "-stays" in sys.argv:
+            threading.Event().wait(60)
         if name == "quit":
             break
 """
@@ -215,13 +217,22 @@ class Recorded(Folder):
                 self.assertFalse(self.into.exists())
                 self.assertEqual(list((self.folder / "temporary").iterdir()), [])
 
-    def test_more_lines_than_are_kept(self) -> None:
+    def refused(self, name: str, value: float, word: str) -> str:
+        """What is said of a machine that is given up, with a limit changed."""
         variables = {name: self.environment[name] for name in ("PATH", "FAKE")}
-        self.patch(mock.patch.dict(os.environ, variables), mock.patch.object(recording, "MOST_LINES", 100))
-        self.write("lines", LINES * 3)
-        status, _, said = call(main, "record", self.into, "--vga", self.fake("ok"), "--", "-cdrom", "disc")
+        self.patch(mock.patch.dict(os.environ, variables), mock.patch.object(recording, name, value))
+        options = ("--vga", self.fake("ok"), "--quiet", "0.2")
+        status, _, said = call(main, "record", self.into, *options, "--", word)
         self.assertEqual((status, self.into.exists()), (2, False))
-        self.assertIn("its trace has more than 100 bytes: end it sooner", said)
+        self.assert_ended(int((self.folder / "number").read_text()))
+        return said
+
+    def test_more_lines_than_are_kept(self) -> None:
+        self.write("lines", LINES * 3)
+        self.assertIn("its trace has more than 100 bytes: end it sooner", self.refused("MOST_LINES", 100, "-cdrom"))
+
+    def test_a_machine_that_does_not_end(self) -> None:
+        self.assertIn("qemu-system-x86_64: it doesn't end within 2 seconds", self.refused("ANSWERING", 2, "-stays"))
 
 
 class Quiet(unittest.TestCase):
