@@ -230,6 +230,7 @@ class Recorded(Folder):
     def test_more_lines_than_are_kept(self) -> None:
         self.write("lines", LINES * 3)
         self.assertIn("its trace has more than 100 bytes: end it sooner", self.refused("MOST_LINES", 100, "-cdrom"))
+        self.assertEqual(self.asked(), ["qmp_capabilities"])
 
     def test_a_machine_that_does_not_end(self) -> None:
         self.assertIn("qemu-system-x86_64: it doesn't end within 2 seconds", self.refused("ANSWERING", 2, "-stays"))
