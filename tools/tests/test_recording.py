@@ -33,6 +33,8 @@ QEMU = """import json, os, re, socket, sys, threading
 words = " ".join(sys.argv)
 folder = os.environ["FAKE"]
 if "-ends" in sys.argv:
+    if "-late" in sys.argv:
+        open(re.search(r"-qmp unix:([^,]+),", words)[1], "w").close()
     sys.exit("there is no such disc")
 open(folder + "/number", "w").write(f"{os.getpid()}\\n")
 log = open(re.search(r"-D (\\S+)", words)[1], "w")
@@ -189,9 +191,10 @@ class Recorded(Folder):
         self.assertEqual((status, lines[1]), (1, "2 steps, 0 refused, 0 reads answered, 0 differ"))
 
     def test_a_machine_that_does_not_begin(self) -> None:
-        status, _, said = self.record(words=("-ends",))
         told = "vga-trace: qemu-system-x86_64: it doesn't begin: there is no such disc\n"
-        self.assertEqual((status, said, self.into.exists()), (2, told, False))
+        for words in (("-ends",), ("-ends", "-late")):
+            status, _, said = self.record(words=words)
+            self.assertEqual((status, said, self.into.exists()), (2, told, False))
 
     def test_a_program_that_fails_leaves_the_trace(self) -> None:
         program = self.program("vga", "#!/bin/sh\necho oh >&2\nexit 3\n")

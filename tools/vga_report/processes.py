@@ -38,7 +38,8 @@ MOST_SAID, MOST_KEPT = 2000, 1 << 24
 # Where each program comes from that may be lacking: the toolchain's, and those of Debian's
 # packages.
 PACKAGES = {
-    "ld": "binutils", "objcopy": "binutils", "ar": "binutils", "nm": "binutils", "cc": "gcc", "node": "nodejs",
+    "ld": "binutils", "objcopy": "binutils", "ar": "binutils", "nm": "binutils", "cc": "gcc", "gcc": "gcc",
+    "node": "nodejs", "qemu-system-x86_64": "qemu-system-x86",
     **{f"aarch64-linux-gnu-{name}": "binutils-aarch64-linux-gnu" for name in ("ld", "objcopy", "ar")},
     "aarch64-linux-gnu-gcc": "gcc-aarch64-linux-gnu",
 }

@@ -27,8 +27,9 @@ EVENTS = "memory_region_ops_read\nmemory_region_ops_write\n"
 KEPT = ("'vga", "'vbe'", "'cirrus-io'", "'cirrus-low-memory'")
 # A machine of one processor whose cycles keep their order, with no devices but those that are wanted.
 BARE = ("-accel", "tcg", "-machine", "pc,smm=off", "-nodefaults", "-m", "128", "-no-reboot", "-display", "none")
-# Seconds between two looks, between two keys, and that the cursor's phase lasts about half of.
-LOOK, PRESSING, PHASE = 0.05, 0.1, 0.12
+# Seconds between two looks, between two keys, and that the cursor's phase lasts about half of; and in which qemu ends
+# that can't begin.
+LOOK, PRESSING, PHASE, BEGINNING = 0.05, 0.1, 0.12, 0.3
 # Screens are taken again and again, since qemu blinks by a clock of its own.
 PHASES = 6
 # So many bytes of lines are kept, about twenty million cycles, and so many are read at a time.
@@ -187,10 +188,13 @@ def _qemu(machine: Machine, folder: Path) -> list[str]:
 def _reached(folder: Path, process: subprocess.Popen[bytes]) -> Iterator[tuple[Monitor, BinaryIO]]:
     """The monitor of a machine, and its log to write into; a Trouble tells what it said where it doesn't begin."""
     until = time.monotonic() + ANSWERING
-    while not (folder / "monitor").exists():
-        if process.poll() is not None or time.monotonic() > until:
-            raise Trouble(f"it doesn't begin: {said_last(folder / 'said') or 'it said nothing'}", QEMU)
+    while not (folder / "monitor").exists() and process.poll() is None and time.monotonic() < until:
         time.sleep(LOOK)
+    # The monitor is there before all words have been looked at.
+    with suppress(subprocess.TimeoutExpired):
+        process.wait(BEGINNING)
+    if process.poll() is not None or not (folder / "monitor").exists():
+        raise Trouble(f"it doesn't begin: {said_last(folder / 'said') or 'it said nothing'}", QEMU)
     with monitor_at(folder / "monitor") as do, open(os.open(folder / "log", os.O_WRONLY | os.O_NONBLOCK), "wb", 0) as log:
         os.set_blocking(log.fileno(), True)
         yield do, log
@@ -201,7 +205,7 @@ def record(machine: Machine, trace: Path, base: Path, say: Say, progress: Progre
 
     `say` tells what may spoil them.
     """
-    check_program(QEMU, ": Debian has it in qemu-system-x86")
+    check_program(QEMU)
     words = [word for name in KEPT for word in ("-e", name)]
     with ExitStack() as stack:
         folder = Path(stack.enter_context(tempfile.TemporaryDirectory(prefix="vga-recording-")))
