@@ -1,7 +1,5 @@
 """Runs all tests that are found; and once the program is built, those that were skipped for want of it."""
 
-from __future__ import annotations
-
 import argparse
 import os
 import tempfile

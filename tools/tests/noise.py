@@ -1,7 +1,5 @@
 """Cycles at random for tests, as lines of the plain form: such as software does, and such as none would."""
 
-from __future__ import annotations
-
 from random import Random
 from typing import Iterator
 

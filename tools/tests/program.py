@@ -31,13 +31,9 @@ class Ran(NamedTuple):
     said: str
 
 
-def run_program(
-    *words: str | bytes | Path, given: bytes = b"", folder: Optional[Path] = None
-) -> Ran:
+def run_program(*words: str | bytes | Path, given: bytes = b"", folder: Optional[Path] = None) -> Ran:
     """How a run of the program with these words ends."""
-    done = subprocess.run(
-        [PROGRAM, *words], cwd=folder, input=given, capture_output=True, timeout=MOST_SECONDS
-    )
+    done = subprocess.run([PROGRAM, *words], cwd=folder, input=given, capture_output=True, timeout=MOST_SECONDS)
     return Ran(done.returncode, done.stdout, done.stderr.decode())
 
 

@@ -4,8 +4,6 @@ It knows mode sets, map mask, bytes and words of memory, and of the video servic
 03 and 12, 11 with AL 10 to 12, 13 with AL 02. A step of any other kind is an error. It goes by docs/SERVICES.md and docs/MODES.md.
 """
 
-from __future__ import annotations
-
 from functools import lru_cache
 from typing import Iterator, NamedTuple
 

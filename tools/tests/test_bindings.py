@@ -1,7 +1,5 @@
 """The tests of the packages for Python and Rust: their words, and what they tell where something is lacking."""
 
-from __future__ import annotations
-
 import os
 import shutil
 import subprocess

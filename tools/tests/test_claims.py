@@ -1,7 +1,5 @@
 """What the pages say of the sources themselves: how many wrong bodies are tried, and what a model shares."""
 
-from __future__ import annotations
-
 import re
 import unittest
 from pathlib import Path

@@ -248,9 +248,7 @@ SUITES: list[tuple[tuple[tuple[str, str], ...], str, list[str]]] = [
     # A machine is compared up to a refusal.
     ((("get A0000\nget A0000\nget A0000\n", "1 FF\n2 E1 NotDecoded\n3 55\n"),
       ("get A0000\nget A0000\n", "1 55\n2 E1 NotDecoded\n"),
-      ("crash\n", "F7 BadLine(1)\n"), (
-          "crash\nget A0000\n", "1 E1 NotDecoded\n2 55\n"
-      )), "--machine", [
+      ("crash\n", "F7 BadLine(1)\n"), ("crash\nget A0000\n", "1 E1 NotDecoded\n2 55\n")), "--machine", [
         "c/0: 2 of 3 steps are skipped, the others agree\n",
         "c/1: step 1: FF, not 55 (`get A0000`, c/1.vga:1)\n",
         f"c/2: {NOTHING_ASKED}\n", f"c/3: {NOTHING_ASKED}\n", "\n4 cases: 3 skipped, 1 differ\n",

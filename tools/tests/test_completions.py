@@ -1,7 +1,5 @@
 """What zsh and fish offer by the completions, asked of the shells themselves where they are installed."""
 
-from __future__ import annotations
-
 import os
 import pty
 import select
@@ -19,35 +17,7 @@ COMMANDS = ["asm", "dis", "go", "help", "run"]
 PATIENCE = 30
 # Where fish looks for completions below a user's folder.
 FISH_FOLDER = ".local/share/fish/vendor_completions.d"
-# Completes as Tab does, and writes the line and all words that were offered into a file.
-RECORDING = r"""
-fpath=($FUNCTIONS $fpath)
-autoload -Uz compinit && compinit -D -u
-_record() {
-    compadd() {
-        local -a found
-        if (( ! ${argv[(I)-[OAD]*]} )); then
-            builtin compadd -O found "$@"
-            offered+=("${found[@]}")
-        fi
-        builtin compadd "$@"
-    }
-    _main_complete
-    unfunction compadd
-}
-zle -C record complete-word _record
-tab() {
-    local -a offered
-    zle record
-    print -rl -- "$BUFFER" "${offered[@]}" > $ANSWER.new
-    command mv $ANSWER.new $ANSWER
-    BUFFER=
-}
-zle -N tab
-bindkey '^I' tab
-print ready > $ANSWER.new
-command mv $ANSWER.new $ANSWER
-"""
+RECORDING = Path(__file__).with_name("manual") / "recording.zsh"
 
 
 class Shell(Fakes):
@@ -138,7 +108,7 @@ class Zsh(Shell):
     def complete_by(self, helps: Mapping[str, str]) -> None:
         """Starts zsh; its file is found by its name in a folder of functions."""
         function = Path(self.write("functions/_vga", self.made(helps)[ZSH]))
-        setting, self.answer = self.write("setting.zsh", RECORDING), self.folder / "answer"
+        self.answer = self.folder / "answer"
         self.terminal, end = pty.openpty()
         self.addCleanup(os.close, self.terminal)
         environment = self.environment(FUNCTIONS=str(function.parent), ANSWER=str(self.answer))
@@ -149,7 +119,7 @@ class Zsh(Shell):
         self.addCleanup(shell.wait)
         self.addCleanup(shell.kill)
         os.close(end)
-        self.assertEqual(self.answered(f"source {setting}\n"), ["ready"])
+        self.assertEqual(self.answered(f"source '{RECORDING}'\n"), ["ready"])
 
     def answered(self, keys: str) -> list[str]:
         """What is written into the file behind these keys."""

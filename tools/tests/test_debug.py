@@ -1,7 +1,5 @@
 """`run --debug`: the page that runs a script, in a folder of tools as a release has them."""
 
-from __future__ import annotations
-
 import base64
 import shutil
 import subprocess

@@ -1,7 +1,5 @@
 """The page that runs scripts: how its scripts are joined, what it is given, what its module is held to."""
 
-from __future__ import annotations
-
 import base64
 import contextlib
 import gzip
@@ -21,9 +19,8 @@ from vga_page.bundling import joined
 from vga_page.page import DATA, SCRIPT, STYLE, Sources, about, data_of, examples, make_page, packed, page_text
 from vga_page.retargeting import LAYOUTS, TRIPLES, retargeted
 from vga_page.wasm import check_module, exports_of, kit_of, with_kit
-from vga_report.trouble import TROUBLE
+from vga_report.trouble import TROUBLE, Trouble, Wrong
 from vga_report.debugging import page_data
-from vga_report.trouble import Trouble, Wrong
 
 FRAME = f"<!DOCTYPE html>\n{STYLE}\n{DATA}\n{SCRIPT}\n"
 

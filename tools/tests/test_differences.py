@@ -1,7 +1,5 @@
 """Reports: read, whole and damaged; compared with others and with what is expected; and dumps."""
 
-from __future__ import annotations
-
 import hashlib
 import unittest
 from typing import Optional

@@ -1,7 +1,5 @@
 """Files and streams, through the built program: their order, their failures, the longest."""
 
-from __future__ import annotations
-
 import os
 import resource
 import signal
@@ -213,9 +211,7 @@ class Longest(Folder):
         self.assertTrue(run_program("dis", self.script) == (0, PRINTED_LINE * LINES, ""))
 
     def test_its_bytes_are_run(self) -> None:
-        self.assertTrue(
-            run_program("run", self.script, "--fonts", FONTS) == (0, b"".join(answers()), "")
-        )
+        self.assertTrue(run_program("run", self.script, "--fonts", FONTS) == (0, b"".join(answers()), ""))
 
     def test_its_text_is_run_in_little_memory(self) -> None:
         words: list[str | Path] = [PROGRAM, "go", self.text, "--fonts", FONTS]
@@ -231,6 +227,4 @@ class Longest(Folder):
 
     def test_one_line_more_is_too_long(self) -> None:
         self.text.write_bytes(LINE * (LINES + 1))
-        self.assertEqual(
-            run_program("go", self.text, "--fonts", FONTS), (1, b"", "vga: F6 TooLong\n")
-        )
+        self.assertEqual(run_program("go", self.text, "--fonts", FONTS), (1, b"", "vga: F6 TooLong\n"))

@@ -1,7 +1,5 @@
 """The format of scripts and reports: its one table, against the pages and the copies in other languages, and what goes by it."""
 
-from __future__ import annotations
-
 import doctest
 import io
 import re

@@ -1,7 +1,5 @@
 """The fuzzer: what it makes, and that it finds each thing that may be wrong with a program."""
 
-from __future__ import annotations
-
 import contextlib
 import signal
 import subprocess
@@ -13,10 +11,8 @@ from unittest import mock
 
 from vga_fuzz import command
 from vga_fuzz.feeding import Fed, Program
-from vga_fuzz.judging import meant_by, trouble_of
-from vga_fuzz.making import Input, make
-from vga_fuzz.judging import Limits, Outcome
-from vga_fuzz.making import block, spelled, step
+from vga_fuzz.judging import Limits, Outcome, meant_by, trouble_of
+from vga_fuzz.making import Input, block, make, spelled, step
 from zaklimot.format import (
     FORMS, HEADERS, MAGIC, MOST_COUNT, Block, Script, Step, decode, encoded, parse_text, print_text,
 )
@@ -85,9 +81,7 @@ class Judging(Fuzzed):
         for wrong, said in WRONGS.items():
             for given, name in ((SCRIPT, "run"), (TEXT, "go")):
                 with self.subTest(wrong, command=name):
-                    fed = self.fed(
-                        given, self.program_that(wrong), SHORT if "sleep" in wrong else LIMITS
-                    )
+                    fed = self.fed(given, self.program_that(wrong), SHORT if "sleep" in wrong else LIMITS)
                     self.assertEqual(fed.answer, "wrong")
                     self.assertIn(fed.trouble, (f"vga {name}: {said}", f"vga {name} {said}"))
 
@@ -113,9 +107,7 @@ class Judging(Fuzzed):
         path = self.program(
             "program", GOOD.replace("stdout.buffer.write(data)", "stdout.buffer.write(data + b'x')")
         )
-        self.assertEqual(
-            self.fed(SCRIPT, path).trouble, "vga asm: what vga dis prints spells another script"
-        )
+        self.assertEqual(self.fed(SCRIPT, path).trouble, "vga asm: what vga dis prints spells another script")
 
     def test_a_report_that_fills_its_room(self) -> None:
         full = "\n    try:\n        for n in range(1, 100000): sys.stdout.buffer.write(b'%d 55\\n' % n)\n"
@@ -200,9 +192,7 @@ class Command(Fuzzed):
         self.assertRegex(lines[0], r"^input 1 \([a-z, ]+\): vga (run|go): status 3: ''$")
         self.assertEqual(sorted(file.stem for file in keep.iterdir()), ["1", "2", "3", "4"])
         before = {file: file.read_bytes() for file in keep.iterdir()}
-        status, _, said = self.run_command(
-            self.program_that("sys.exit(3)"), "--seed", "2", "--keep", str(keep)
-        )
+        status, _, said = self.run_command(self.program_that("sys.exit(3)"), "--seed", "2", "--keep", str(keep))
         self.assertEqual(status, 2)
         self.assertIn("the folder has files, and none of them is to be lost", said)
         self.assertEqual({file: file.read_bytes() for file in keep.iterdir()}, before)

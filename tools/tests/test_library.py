@@ -1,7 +1,5 @@
 """The library for C: what its header says, where its files lie, what a release holds, and that its tests can fail."""
 
-from __future__ import annotations
-
 import re
 import unittest
 from pathlib import Path
@@ -89,9 +87,7 @@ class Made(Folder):
         self.write("crates.txt", "vga_c: low\n")
         self.parts = [Path(self.write(name, name)) for name in ("one.a", "two.a")]
         folder = self.folder / "crates" / "vga_c" / "out" / "made"
-        self.patch(
-            mock.patch.multiple(making, TOP=self.folder, FOLDER=folder, below=lambda _: ["low"])
-        )
+        self.patch(mock.patch.multiple(making, TOP=self.folder, FOLDER=folder, below=lambda _: ["low"]))
 
     def test_the_same_sources(self) -> None:
         self.assertIsNone(making.kept("llvm", X86_64))

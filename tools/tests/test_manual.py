@@ -1,7 +1,5 @@
 """The manual page and the completions hold all that the helps tell, and bash completes by them."""
 
-from __future__ import annotations
-
 import re
 import shutil
 import subprocess
@@ -42,9 +40,7 @@ ADDED = (
     ("dis", "\n\nOptions:", "\n  <LIST>  One more\n\nOptions:"),
 )
 # What roff writes in the place of letters.
-LETTERS = {
-    "-": "-", "(aq": "'", "(dq": '"', "(ga": "`", "[u2014]": "\u2014", "e": "\\",
-}
+LETTERS = {"-": "-", "(aq": "'", "(dq": '"', "(ga": "`", "[u2014]": "\u2014", "e": "\\"}
 # What zsh and fish have of more helps, and what they have not.
 IN_ZSH = (
     "'2:One more:_files'", "'*:More of them:_files'",
@@ -164,9 +160,7 @@ class Helps(unittest.TestCase):
         whole, told = read_help(kept_helps()["vga"], "vga", "vga"), read_help(TRY, "vga try", "try")
         names = [made.names for made in whole.commands]
         self.assertEqual(names, [("asm",), ("dis",), ("run",), ("go",), ("help",)])
-        self.assertEqual(
-            [is_literal for is_literal, _ in whole.paragraphs[0]], [False, True, False]
-        )
+        self.assertEqual([is_literal for is_literal, _ in whole.paragraphs[0]], [False, True, False])
         self.assertEqual(whole.paragraphs[0][1][1][2], "frame           ; draw a frame")
         sound = 'Writes the "sound" to C:\\a \u2014 or elsewhere'
         self.assertEqual(told.options[0], Entry(("-s", "--sound"), "FILE", sound))
@@ -316,9 +310,7 @@ class Bash(Fakes):
             completion = self.write("completion", self.made(helps())[BASH])
             for words, wanted in offered.items():
                 with self.subTest(words, helps=helps.__name__):
-                    command = [
-                        "bash", "--norc", "--noprofile", COMPLETING, completion
-                    ]
+                    command = ["bash", "--norc", "--noprofile", COMPLETING, completion]
                     done = subprocess.run(
                         [*command, "vga", *words.split(" ")], cwd=self.folder / "files",
                         capture_output=True, text=True, timeout=60,
@@ -337,8 +329,7 @@ BAD = (
     ("vga", "Options:", "Commands:", "--help:12: `Commands:` stands in it twice"),
     ("vga", "  dis ", "  Dis ", f"--help:7: {FORM} a command"),
     ("vga", "The status is", "It is", "--help: it says nothing of the exit status"),
-    ("vga", f"\nvga {version()}", "\nvga one",
-     "--help: it has not one line that tells the version, as `vga 1.0`"),
+    ("vga", f"\nvga {version()}", "\nvga one", "--help: it has not one line that tells the version, as `vga 1.0`"),
     ("vga", "of steps", "of\x1b", "--help:21: it has a character that is not printable"),
     ("asm", "asm <", "dis <", "asm --help:3: its usage does not begin with `vga asm`"),
     ("asm", "> <BIN>\n", "> <X>\n", "asm --help: its usage has X, which it does not explain"),
@@ -393,9 +384,7 @@ class Made(Fakes):
         self.assertEqual(sum(path.is_file() for path in folder.rglob("*")), len(PLACES))
 
     def test_no_program_is_found(self) -> None:
-        new, lacking = self.folder / "new", mock.patch(
-            "vga_report.program.PROGRAM", self.folder / "none"
-        )
+        new, lacking = self.folder / "new", mock.patch("vga_report.program.PROGRAM", self.folder / "none")
         with lacking, mock.patch("shutil.which", return_value=None):
             done = call(command.main, "make", new)
         self.assertEqual(done, (TROUBLE, "", f"vga-manual: {command.NO_PROGRAM}\n"))

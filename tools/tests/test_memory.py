@@ -1,7 +1,5 @@
 """The refusals of memory: what `rt try` writes, and that each wrong answer is found."""
 
-from __future__ import annotations
-
 import unittest
 from typing import Optional
 
@@ -9,8 +7,7 @@ from vga_memory.command import CRATES, ENDING, FILES, GROWTH, cases_of, jobs
 from vga_memory.judging import (
     CALLS, FAULT, IN_WORDS, REFUSED, REFUSED_IN_STEP, RIGHT, Wrong, judge_calls, judge_program
 )
-from vga_memory.trying import NoSuchMain, growing
-from vga_memory.trying import Answer, answers_of
+from vga_memory.trying import Answer, NoSuchMain, answers_of, growing
 
 EARLY = Answer(1, b"", "Error: memory allocation failed\n")
 FRONTS = [b"", b"1 ok\n"]

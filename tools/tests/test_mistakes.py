@@ -1,7 +1,5 @@
 """Lines that are no steps: the program refuses each, and the tool says why, below the word at which it stops being one."""
 
-from __future__ import annotations
-
 import json
 import unittest
 from pathlib import Path

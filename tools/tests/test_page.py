@@ -1,7 +1,5 @@
 """The page of a run and that of two reports: well formed, and referring to nothing outside."""
 
-from __future__ import annotations
-
 import base64
 import json
 import re

@@ -1,7 +1,5 @@
 """The links of the pages: each leads to a file that is there, and to a heading or an anchor in it."""
 
-from __future__ import annotations
-
 import re
 import subprocess
 import unittest

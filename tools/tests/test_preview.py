@@ -1,7 +1,5 @@
 """The specimens of a font: drawn where each call was done, and else not written."""
 
-from __future__ import annotations
-
 import os
 import shutil
 import subprocess

@@ -100,9 +100,7 @@ class Signals(Folder):
         )
         places = {
             "harness": f"{sys.executable} {harness} {self.folder}/child {{script}}",
-            "list": self.write(
-                "list.txt", "fonts two.fnt\none\n"
-            ), "script": str(self.folder / "one.vga"),
+            "list": self.write("list.txt", "fonts two.fnt\none\n"), "script": str(self.folder / "one.vga"),
             "vga": self.program("bin/vga", SLEEPING), "made": str(self.folder / "made"),
         }
         for line in STARTING:

@@ -1,7 +1,5 @@
 """Why steps are refused: in the page's words, for the same cases."""
 
-from __future__ import annotations
-
 import json
 import unittest
 from pathlib import Path

@@ -31,8 +31,7 @@ FILES: dict[str, str | bytes] = {
 # The words of tools, and what is said of them. {o} is a file that is not there, {d} the folder.
 REFUSED = {
     # Files without an end.
-    "report run /dev/zero --vga /bin/true":
-        "/dev/zero: F6 TooLong: a script has at most 16,777,216 bytes\n",
+    "report run /dev/zero --vga /bin/true": "/dev/zero: F6 TooLong: a script has at most 16,777,216 bytes\n",
     "report run {s} --fonts /dev/zero --debug {o}": "/dev/zero: it has more than 16,777,216 bytes",
     "report text /dev/zero": "/dev/zero:1: the line is longer than any answer",
     "report pictures {r} --apng {o} --script /dev/zero": "F6 TooLong: ",
@@ -65,8 +64,7 @@ REFUSED = {
     "manual make {s} --vga {p}": "vga-manual: {s}: it is not a folder\n",
     "manual make {d}/made --vga {p}": "vga-manual: {d}/made/share: it is not a folder\n",
     "manual make {d}/full --vga {p}": f"vga-manual: {{d}}/full/{FISH}: it is a folder\n",
-    "manual make {o} --vga /bin/true":
-        "vga-manual: /bin/true --help:1: its usage does not begin with `vga`\n",
+    "manual make {o} --vga /bin/true": "vga-manual: /bin/true --help:1: its usage does not begin with `vga`\n",
     "manual make  --vga {p}": "vga-manual: the name of a file is empty\n",
     "report text ": "vga-report: the name of a file is empty\n",
     "report run  --vga {p}": "vga-report: the name of a file is empty\n",
@@ -83,8 +81,7 @@ REFUSED = {
     "fuzz /bin/true": "vga asm: status 0, and it has written no script",
     # Disks that are full.
     "picture script {i} {o} --mode 13 --scale --picture /dev/full": "/dev/full: No space left on device",
-    "picture script {i} /dev/full --mode 13 --scale":
-        "vga-picture: /dev/full: No space left on device\n",
+    "picture script {i} /dev/full --mode 13 --scale": "vga-picture: /dev/full: No space left on device\n",
     "trace convert {t} /dev/full": "vga-trace: /dev/full: No space left on device\n",
     "floppy make {s} /dev/full": "vga-floppy: /dev/full: No space left on device\n",
     "floppy read {m} /dev/full": "vga-floppy: /dev/full: No space left on device\n",
@@ -120,22 +117,15 @@ REFUSED = {
     **{
         f"{words} {option} {number}": f"argument {option}: '{number}' is no number"
         for words, option, numbers in (
-            (
-                "report suite x{{script}}", "--timeout", "-1 0 nan inf"
-            ), ("report suite x{{script}}", "--jobs", "0 1000"),
-            ("report suite x{{script}}", "--output", "-1"), (
-                "report pictures r f", "--scale", "0 1001 +1"
-            ),
-            (
-                "report pictures r f", "--step", "-1"
-            ), ("report run {s}", "--until", "-1"), ("fuzz", "--timeout", "0"),
+            ("report suite x{{script}}", "--timeout", "-1 0 nan inf"), ("report suite x{{script}}", "--jobs", "0 1000"),
+            ("report suite x{{script}}", "--output", "-1"), ("report pictures r f", "--scale", "0 1001 +1"),
+            ("report pictures r f", "--step", "-1"), ("report run {s}", "--until", "-1"), ("fuzz", "--timeout", "0"),
             ("fuzz", "--memory", "0 -1"), ("fuzz", "--output", "0"), ("fuzz", "--seconds", "0 nan"),
         )
         for number in numbers.split()
     },
 }
-# Words of the tools, in which the file {in} is read, what it has, and the other name of it in the
-# folder, which would
+# Words of the tools, in which the file {in} is read, what it has, and the other name of it in the folder, which would
 # be written.
 READ_AND_WRITTEN = [
     ("report run {s} --vga {p} --fonts {in} --html {out}", "font", "out"),
@@ -169,9 +159,7 @@ class Refused(Folder):
         super().setUp()
         for name, content in FILES.items():
             self.write(name, content)
-        self.places = {
-            name.removesuffix(".vga"): str(self.folder / name) for name in (*FILES, "o", "in")
-        }
+        self.places = {name.removesuffix(".vga"): str(self.folder / name) for name in (*FILES, "o", "in")}
         self.places.update(p=self.program("p", PROGRAM), d=str(self.folder))
 
     def files(self) -> list[Path]:

@@ -1,7 +1,5 @@
 """A release: the same bytes whatever the order and the time, from a commit alone."""
 
-from __future__ import annotations
-
 import hashlib
 import io
 import os
@@ -21,10 +19,8 @@ from vga_report.version import version
 from vga_library.targets import X86_64
 from vga_release import command
 from vga_release.commit import Commit, File
-from vga_release.gathering import FRONT, INSTALL, LINKS, MADE_OF, PAGE, PATHS, made_of, settled
+from vga_release.gathering import FRONT, INSTALL, LINKS, MADE_OF, PAGE, PATHS, Pages, made_of, settled, wheel_of
 from vga_release.packing import Entry, pack
-from vga_release.gathering import Pages
-from vga_release.gathering import wheel_of
 from vga_report.processes import Done
 from vga_report.trouble import TROUBLE
 
@@ -192,9 +188,7 @@ class Installing(Folder):
         super().setUp()
         self.release = self.folder / "a release"
         self.program("a release/bin/vga", "#!program")
-        for place, text in (
-            ("include/z.h", "header"), ("lib/z.so.1", "library"), ("share/z/f.fnt", "font")
-        ):
+        for place, text in (("include/z.h", "header"), ("lib/z.so.1", "library"), ("share/z/f.fnt", "font")):
             self.write(f"a release/{place}", text)
         (self.release / "lib/z.so").symlink_to("z.so.1")
         shutil.copy(TOP / "tools" / "vga_release" / INSTALL, self.release / INSTALL)

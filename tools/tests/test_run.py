@@ -1,7 +1,5 @@
 """Scripts beside their answers, and beside those that they expect; scripts of a folder."""
 
-from __future__ import annotations
-
 import io
 import json
 import os
@@ -69,9 +67,7 @@ class Fake(Folder):
         self.vga.write_text(text.replace(old, new) + more)
 
     def run_script(self, *words: str, path: str = "", given: bytes = b"") -> tuple[int, str, str]:
-        status, output, said = run(
-            "run", path or self.path, "--vga", str(self.vga), *words, given=given
-        )
+        status, output, said = run("run", path or self.path, "--vga", str(self.vga), *words, given=given)
         return status, output.decode(), said
 
 
@@ -136,9 +132,7 @@ class Listings(Fake):
 
     @unittest.skipUnless(Path("/dev/stdin").exists(), "this system has no name for standard input")
     def test_standard_input_by_its_name(self) -> None:
-        _, output, _ = run_tool(
-            "vga-report", "run", "/dev/stdin", "--vga", self.vga, given=TEXT.encode()
-        )
+        _, output, _ = run_tool("vga-report", "run", "/dev/stdin", "--vga", self.vga, given=TEXT.encode())
         self.assertEqual(output.decode(), self.run_script()[1])
 
     def test_scripts_that_can_not_be_read(self) -> None:
@@ -197,9 +191,7 @@ class Listings(Fake):
             with open(name, "wb") as stream:
                 stream.write(data)
         # As the program does, which wants words of UTF-8.
-        self.change_program(
-            "words = sys.argv[1:]", "words = sys.argv[1:]; ' '.join(words).encode()"
-        )
+        self.change_program("words = sys.argv[1:]", "words = sys.argv[1:]; ' '.join(words).encode()")
         _, output, _ = run("run", path, "--fonts", fonts, "--vga", self.vga)
         self.assertEqual(output.decode(), self.run_script()[1])
 
@@ -398,14 +390,10 @@ class Several(Fake):
 
     def test_the_program_is_built_where_it_is_lacking(self) -> None:
         # A toolchain that tells what it is asked for, and builds nothing.
-        rt = self.program(
-            "bin/rt", "#!/bin/sh\necho \"$@\" > asked; echo crate vga: proved >&2; exit 3\n"
-        )
+        rt = self.program("bin/rt", "#!/bin/sh\necho \"$@\" > asked; echo crate vga: proved >&2; exit 3\n")
         crate = Path(self.write("crate/src/main.rt", "")).parents[1]
         path = {"PATH": f"{Path(rt).parent}{os.pathsep}{os.environ['PATH']}"}
-        with mock.patch.dict(os.environ, path), mock.patch.multiple(
-            program, CRATE=crate, PROGRAM=crate / "out"
-        ):
+        with mock.patch.dict(os.environ, path), mock.patch.multiple(program, CRATE=crate, PROGRAM=crate / "out"):
             with self.assertRaisesRegex(Trouble, "^rt: it ended with status 3"):
                 program.build_program(Progress())
         self.assertEqual((crate / "asked").read_text(), "run -- --help\n")

@@ -1,17 +1,14 @@
 """The state that cycles leave, also as the program has it; and scripts that begin with one."""
 
-from __future__ import annotations
-
 import io
 import unittest
 from typing import Iterable, Iterator, Mapping, Optional
 
 from vga_report.report import Report
 from vga_report.trouble import Trouble
-from vga_trace.state import Beam, Shape
+from vga_trace.state import Beam, Shape, State
 from vga_trace.converting import Listing, Wanted
 from vga_trace.rebuilding import rebuilt
-from vga_trace.state import State
 from vga_trace.step import ADVANCE, FRAME, GET, GETW, IN, INW, OUT, OUTW, PUT, PUTW, READS, WORDS, Step
 from vga_trace.trace import Trace
 

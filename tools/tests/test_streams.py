@@ -1,7 +1,5 @@
 """Files that are written, whole or not at all; and the line that tells how far work has come."""
 
-from __future__ import annotations
-
 import io
 import os
 import stat

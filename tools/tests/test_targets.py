@@ -1,7 +1,5 @@
 """The library for another processor: which programs make it, in which order, and what is told where one is lacking."""
 
-from __future__ import annotations
-
 import io
 import os
 import shutil
@@ -25,47 +23,9 @@ from vga_report.version import version
 from .test_release import sources
 from .tools import Folder, call
 
-# A program that notes its words, and writes a file where -o or -c names one, or its fourth word.
-FAKE = """\
-#!/bin/sh
-printf '%s' "${0##*/}" >> "$NOTES"
-printf ' %s' "$@" >> "$NOTES"
-echo >> "$NOTES"
-case "${0##*/} $1" in "rt doc") echo "$KIT/START-HERE.md" ;; *-ar*) echo archive > "$2" ;; esac
-while [ $# -gt 1 ]; do
-    [ "$1" != -o ] || echo made > "$2"
-    shift
-done
-"""
-# Blocks of no byte, blocks that grow, and requests that the C library refuses.
-TAKING = """\
-#include <stddef.h>
-#include <stdint.h>
-struct tried { size_t ok; unsigned char *p; };
-struct tried rattle_alloc(size_t, size_t), rattle_realloc(void *, size_t, size_t, size_t);
-void rattle_dealloc(void *);
-int main(void)
-{
-    struct tried none = rattle_alloc(0, 16), some = rattle_alloc(40, 8), most = rattle_alloc(PTRDIFF_MAX, 8);
-    if (none.ok != 1 || some.ok != 1 || none.p == some.p || most.ok || !most.p || (uintptr_t)some.p % 16)
-        return 1;
-    for (int i = 0; i < 40; i++)
-        some.p[i] = (unsigned char)i;
-    struct tried more = rattle_realloc(some.p, 40, 1 << 20, 8);
-    struct tried lost = rattle_realloc(more.p, 40, PTRDIFF_MAX, 8);
-    if (more.ok != 1 || lost.ok || !lost.p)
-        return 2;
-    for (int i = 0; i < 40; i++)
-        if (more.p[i] != i)
-            return 3;
-    struct tried small = rattle_realloc(more.p, 0, 0, 8);
-    if (small.ok != 1 || !small.p)
-        return 4;
-    rattle_dealloc(small.p);
-    rattle_dealloc(none.p);
-    return 0;
-}
-"""
+# A program that notes its words; and one that takes blocks of memory in each way.
+FAKE = Path(__file__).with_name("noting.sh").read_text("ascii")
+TAKING = Path(__file__).with_name("taking.c")
 
 
 class Fakes(Folder):
@@ -83,9 +43,7 @@ class Fakes(Folder):
         self.patch(
             mock.patch.dict(os.environ, {"PATH": path, "NOTES": str(self.notes), "KIT": str(kit)}),
             mock.patch.multiple(building, CRATE=self.crate, KEPT=self.crate / "out" / "incremental"),
-            mock.patch.multiple(
-                toolchain, CRATE=self.crate, rlib=lambda name: Path(f"{name}.rlib")
-            ),
+            mock.patch.multiple(toolchain, CRATE=self.crate, rlib=lambda name: Path(f"{name}.rlib")),
             mock.patch.object(making, "FOLDER", self.crate / "out" / "made"),
         )
 
@@ -164,9 +122,9 @@ class Making(Fakes):
 @unittest.skipUnless(shutil.which("cc"), "there is no C compiler")
 class Heap(Folder):
     def test_what_it_answers(self) -> None:
-        source, program = self.write("taking.c", TAKING), self.folder / "taking"
+        program = self.folder / "taking"
         # A compiler that knows malloc would warn of so large a request.
-        words = ["cc", *HEAP_OPTIONS, "-fno-builtin", source, HEAP, "-o", program]
+        words = ["cc", *HEAP_OPTIONS, "-fno-builtin", TAKING, HEAP, "-o", program]
         subprocess.run(words, check=True, timeout=60)
         self.assertEqual(subprocess.run([program], timeout=60).returncode, 0)
 

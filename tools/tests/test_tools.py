@@ -1,7 +1,6 @@
 """What all tools have in common: how they begin and end, and run others; and the gate."""
 
-from __future__ import annotations
-
+import ast
 import importlib
 import os
 import re
@@ -99,9 +98,7 @@ class Endings(unittest.TestCase):
         for name in Words.NAMES:
             for rest, told in ((">/dev/full", "No space left on device"), (">&-", "it is closed")):
                 with self.subTest(name, rest=rest):
-                    self.assertEqual(
-                        self.ended(name, rest), (TROUBLE, f"{name}: standard output: {told}\n")
-                    )
+                    self.assertEqual(self.ended(name, rest), (TROUBLE, f"{name}: standard output: {told}\n"))
 
     def test_a_reader_that_has_gone(self) -> None:
         for name in Words.NAMES:
@@ -133,6 +130,19 @@ class Programs(unittest.TestCase):
         self.assertEqual((done.returncode, done.stderr), (7, b""))
 
 
+class Sources(unittest.TestCase):
+    def test_unions_of_types_are_not_evaluated(self) -> None:
+        # Python 3.9, which the tools are content with, has no `|` between types.
+        for path in TOOLS.glob("vga_*/*.py"):
+            nodes = list(ast.walk(ast.parse(path.read_text("utf-8"))))
+            told = [node.annotation for node in nodes if isinstance(node, (ast.arg, ast.AnnAssign))]
+            told += [node.returns for node in nodes if isinstance(node, ast.FunctionDef)]
+            unions = [part.lineno for one in told if one for part in ast.walk(one) if isinstance(part, ast.BinOp)]
+            with self.subTest(path.relative_to(TOOLS)):
+                is_late = any(isinstance(node, ast.ImportFrom) and node.module == "__future__" for node in nodes)
+                self.assertEqual([] if is_late else unions, [])
+
+
 class Again(Folder):
     def run_tests(self, *words: str) -> tuple[int, str]:
         """Exit status and standard error of the tests in a folder."""
@@ -155,7 +165,6 @@ class Again(Folder):
         self.assertIn("Ran 2 tests", said)
         # What needs no program ran in the first run alone.
         self.assertEqual((self.folder / "program.three").read_text(), "3")
-
 
     def test_a_signal_ends_them(self) -> None:
         self.write("new/__init__.py", "")

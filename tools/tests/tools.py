@@ -25,9 +25,7 @@ SIGNALS = ((signal.SIGTERM, 143), (signal.SIGHUP, 129), (signal.SIGINT, 130))
 WAITING = 60
 
 
-def run_tool(
-    name: str, *words: str | Path, given: bytes = b"", **options: Any
-) -> tuple[int, bytes, str]:
+def run_tool(name: str, *words: str | Path, given: bytes = b"", **options: Any) -> tuple[int, bytes, str]:
     """Exit status, output and standard error of a tool; `options` go to `subprocess.run`."""
     words_of_all = [sys.executable, TOOLS / name, *words]
     done = subprocess.run(words_of_all, input=given, capture_output=True, timeout=200, **options)
@@ -50,9 +48,7 @@ def _heed_signals() -> None:
 
 def begin(name: str, *words: str | Path, **options: Any) -> subprocess.Popen[bytes]:
     """A tool that has begun, with pipes for its streams; `options` go to `subprocess.Popen`."""
-    given = {
-        "stdout": subprocess.PIPE, "stderr": subprocess.PIPE, "preexec_fn": _heed_signals, **options
-    }
+    given = {"stdout": subprocess.PIPE, "stderr": subprocess.PIPE, "preexec_fn": _heed_signals, **options}
     return subprocess.Popen([sys.executable, TOOLS / name, *words], **given)
 
 

@@ -1,7 +1,5 @@
 """The words of the command line, and the figures at the end."""
 
-from __future__ import annotations
-
 import argparse
 import os
 import tempfile

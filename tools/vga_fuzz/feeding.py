@@ -1,7 +1,5 @@
 """Feeds the program with one input, in each way that it takes one, and holds the answers side by side."""
 
-from __future__ import annotations
-
 from dataclasses import dataclass
 from pathlib import Path
 from typing import Optional

@@ -3,8 +3,6 @@
 Their steps have numbers at random, and those at the ends of what a step may hold.
 """
 
-from __future__ import annotations
-
 from random import Random
 from typing import Callable, NamedTuple, Optional, Sequence
 

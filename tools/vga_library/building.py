@@ -1,7 +1,5 @@
 """What the library is joined of: the crate's archive for a processor, and the functions that take its memory."""
 
-from __future__ import annotations
-
 from pathlib import Path
 from typing import Optional
 

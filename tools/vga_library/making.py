@@ -4,8 +4,6 @@ What they are made of is kept, so that `install` takes it, without a proof and w
 toolchain: only where the crates' sources are, byte for byte, those that it was made of.
 """
 
-from __future__ import annotations
-
 import hashlib
 import shutil
 import tempfile
@@ -26,6 +24,8 @@ NAME = "zaklimot"
 # The name by which CMake finds it, and the files that it reads, with places for what is made.
 CMAKE_NAME = "Zaklimot"
 CMAKE = Path(__file__).resolve().parent / "cmake"
+# The file that `pkg-config` reads, with such places.
+PACKAGE = CMAKE.with_name(f"{NAME}.pc.in")
 # The names that are seen of the library.
 SEEN = "zak_*"
 FONTS = TOP / "fonts" / f"{NAME}.fnt"
@@ -61,28 +61,14 @@ def _upwards(library_folder: str, below: str) -> str:
 def package_text(prefix: str, library_folder: str, told: Version) -> str:
     """What `pkg-config` reads."""
     moving = "${pcfiledir}/" + _upwards(library_folder, "pkgconfig")
-    return (
-        f"prefix={prefix or moving}\n"
-        f"libdir=${{prefix}}/{library_folder}\n"
-        "includedir=${prefix}/include\n"
-        f"fonts=${{prefix}}/share/{NAME}/{FONTS.name}\n"
-        "\n"
-        f"Name: {NAME}\n"
-        "Description: A VGA display adapter with its video BIOS, proved\n"
-        f"Version: {told}\n"
-        f"Libs: -L${{libdir}} -l{NAME}\n"
-        "Cflags: -I${includedir}\n"
-    )
+    return filled(PACKAGE, PREFIX=prefix or moving, LIBRARY_FOLDER=library_folder, VERSION=str(told))
 
 
 def cmake_text(library_folder: str, told: Version) -> str:
     """What CMake's `find_package` reads. It finds the files from its own place, wherever that is."""
-    return filled(
-        CMAKE / "config.cmake.in", UPWARDS=_upwards(
-            library_folder, f"cmake/{CMAKE_NAME}"
-        ), LIBRARY_FOLDER=library_folder,
-        VERSION=str(told), MAJOR=str(told.major),
-    )
+    upwards = _upwards(library_folder, f"cmake/{CMAKE_NAME}")
+    numbers = {"VERSION": str(told), "MAJOR": str(told.major)}
+    return filled(CMAKE / "config.cmake.in", UPWARDS=upwards, LIBRARY_FOLDER=library_folder, **numbers)
 
 
 def cmake_version_text(told: Version) -> str:
@@ -127,9 +113,7 @@ def _written(path: Path, text: str) -> Path:
     return path
 
 
-def make_library(
-    archive: Path, memory: Path, place: Place, prefix: str, target: Target = X86_64
-) -> list[Path]:
+def make_library(archive: Path, memory: Path, place: Place, prefix: str, target: Target = X86_64) -> list[Path]:
     """Lays headers, libraries, fonts, and what `pkg-config` and CMake read. Answers what was laid.
 
     The archive and the functions that take its memory are for this processor. The file for `pkg-config`

@@ -1,7 +1,5 @@
 """The processors that the library is made for, and the programs that make it for each."""
 
-from __future__ import annotations
-
 import os
 from typing import NamedTuple
 

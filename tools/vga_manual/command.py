@@ -1,7 +1,5 @@
 """The words of the command line; the files that are made of the helps, and their places."""
 
-from __future__ import annotations
-
 import argparse
 from pathlib import Path
 from typing import Callable

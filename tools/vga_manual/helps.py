@@ -1,7 +1,5 @@
 """The helps that the program prints, read whole. A line of another form is told with its place."""
 
-from __future__ import annotations
-
 import re
 import tempfile
 import textwrap
@@ -35,8 +33,7 @@ STATUS, VERSION = re.compile(r"\bstatus is\b"), re.compile(rf"^{NAME} (\d+\.\d+)
 # A line with its number from 1, and lines between blank ones.
 Line = tuple[int, str]
 Block = list[Line]
-# A paragraph: lines of prose, which may be filled anew, and lines that stay as they are, which is
-# told.
+# A paragraph: lines of prose, which may be filled anew, and lines that stay as they are, which is told.
 Paragraph = tuple[tuple[bool, tuple[str, ...]], ...]
 
 

@@ -1,7 +1,5 @@
 """The manual page: sections in their usual order, each of what the helps tell."""
 
-from __future__ import annotations
-
 import re
 from typing import Iterator, Sequence
 
@@ -15,12 +13,9 @@ UNBROKEN = ".nh"
 # A page of the project.
 PAGE = re.compile(r"[\w./-]+\.md\b")
 # What roff would take for an escape, or would print as another letter than the one to be typed.
-ESCAPES = {
-    "\\": r"\e", "-": r"\-", "'": r"\(aq", '"': r"\(dq", "`": r"\(ga", "^": r"\(ha", "~": r"\(ti",
-}
+ESCAPES = {"\\": r"\e", "-": r"\-", "'": r"\(aq", '"': r"\(dq", "`": r"\(ga", "^": r"\(ha", "~": r"\(ti"}
 # What is typed is bold (B), and what stands for something else is italic (I). In prose these are
-# what
-# stands in grave accents, the name of a value, an option, and a page; in a usage, values and words.
+# what stands in grave accents, the name of a value, an option, and a page; in a usage, values and words.
 MARKED = re.compile(
     rf"`(?P<B>[^`]+)`|<(?P<I>{VALUE})>|(?<!\S)(?P<B_>--?[a-z][\w-]*)|(?P<I_>{PAGE.pattern})"
     r"|(?P<_>\s|.)"
@@ -30,9 +25,7 @@ SPELT = re.compile(rf"<?(?P<I>{VALUE})>?|(?P<B>-*\w[\w-]*)|(?P<_>.)")
 
 def _escaped(text: str, font: str = "") -> str:
     """A text in a font, whose letters mean themselves; one beyond ASCII is told by its number."""
-    letters = (
-        ESCAPES.get(one) or (one if one.isascii() else rf"\[u{ord(one):04X}]") for one in text
-    )
+    letters = (ESCAPES.get(one) or (one if one.isascii() else rf"\[u{ord(one):04X}]") for one in text)
     return rf"\f{font}{''.join(letters)}\fR" if font else "".join(letters)
 
 

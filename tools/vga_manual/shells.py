@@ -1,7 +1,5 @@
 """The completions for bash, zsh and fish, each filled into a file of `completions/`."""
 
-from __future__ import annotations
-
 import re
 import shlex
 from pathlib import Path, PurePosixPath
@@ -18,8 +16,7 @@ ENDING = re.compile(r"\.\w+")
 # What each completion says of itself, and the shells' files with places for what the help tells.
 COMMENT = "# Completes the words of vga. Made by vga-manual from the help of the program."
 COMPLETIONS = Path(__file__).resolve().parent / "completions"
-# What means more than its letter in a specification of zsh, and options behind which no word
-# follows.
+# What means more than its letter in a specification of zsh, and options behind which no word follows.
 SPECIAL, HELP = re.compile(r"[\\\[\]:]"), {"-h", "--help"}
 
 
@@ -115,9 +112,7 @@ def zsh_completion(helps: Helps) -> str:
         # With -S no option is offered after `--`.
         cases.append(f"        {command})\n            _arguments -S{words} ;;")
     options = [f"        {_zsh_options(option, helps)} \\" for option in helps[""].options]
-    return _filled(
-        "zsh", COMMANDS=[f"        {word}" for word in listed], OPTIONS=options, WORDS=cases
-    )
+    return _filled("zsh", COMMANDS=[f"        {word}" for word in listed], OPTIONS=options, WORDS=cases)
 
 
 def _fish_quoted(text: str) -> str:

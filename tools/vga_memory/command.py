@@ -1,7 +1,5 @@
 """Refuses growths to the calls of `vga_tests` and to the program `vga`, and tells how many were refused."""
 
-from __future__ import annotations
-
 import argparse
 from typing import NamedTuple, Sequence
 
@@ -9,8 +7,7 @@ from vga_report import TOP, cli
 from vga_report.progress import Progress
 
 from .judging import judge_calls, judge_program
-from .trying import growing_program
-from .trying import Answer, Case, try_cases
+from .trying import Answer, Case, growing_program, try_cases
 
 CRATES = TOP / "crates"
 TABLE = CRATES / "vga_suite" / "data" / "examples" / "palette-and-dac-services"

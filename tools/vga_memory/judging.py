@@ -1,7 +1,5 @@
 """What is wrong with the answers to growths that were refused, one after the other."""
 
-from __future__ import annotations
-
 from typing import Optional, Sequence
 
 from vga_report.trouble import Wrong
@@ -9,17 +7,8 @@ from vga_report.trouble import Wrong
 from .trying import Answer
 
 CALLS = (
-    "Bytes::copy",
-    "Bytes::zeros",
-    "Planes::new",
-    "Card::new",
-    "Fonts::from_bytes",
-    "Screen::read",
-    "decode",
-    "encode",
-    "assemble",
-    "print",
-    "run",
+    "Bytes::copy", "Bytes::zeros", "Planes::new", "Card::new", "Fonts::from_bytes", "Screen::read",
+    "decode", "encode", "assemble", "print", "run",
 )
 RIGHT, REFUSED, REFUSED_IN_STEP = "as in its example", "out of memory", "out of memory in a step"
 FAULT = "vga: F10 OutOfMemory\n"

@@ -1,7 +1,5 @@
 """Runs a program with one growth refused, by `rt try`; and a `vga` that makes growths first."""
 
-from __future__ import annotations
-
 import re
 import shutil
 import tempfile
@@ -55,9 +53,7 @@ class TryFailed(Wrong):
     """`rt try` did not run each case to its end."""
 
 
-def try_cases(
-    crate: Path, growth: int, cases: Mapping[str, Case], data: Mapping[str, Path]
-) -> dict[str, Answer]:
+def try_cases(crate: Path, growth: int, cases: Mapping[str, Case], data: Mapping[str, Path]) -> dict[str, Answer]:
     """What each case of a crate's program answers, with the growth of this number refused, where these files lie."""
     check_program("rt")
     with tempfile.TemporaryDirectory(prefix="vga-memory-") as name:

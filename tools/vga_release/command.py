@@ -1,18 +1,15 @@
 """The words of the command line, what the command does, and how it ends."""
 
-from __future__ import annotations
-
 import argparse
 import hashlib
 import os
 from pathlib import Path
 
-from vga_report import TOP
+from vga_report import TOP, cli
 from vga_report.version import version
 from vga_report.crates import phases
 from vga_library.building import built_archive
 from vga_library.targets import AARCH64, BACKENDS, X86_64, Target
-from vga_report import cli
 from vga_report.processes import Hearer, check_program, run
 from vga_report.progress import Progress
 from vga_report.streams import check_folder, to_read, write_file, writing

@@ -1,7 +1,5 @@
 """The commit that a release is made from: its number, its time, and its files."""
 
-from __future__ import annotations
-
 import io
 import tarfile
 from typing import NamedTuple, Sequence

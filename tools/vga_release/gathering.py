@@ -1,7 +1,5 @@
 """What a release holds, the package for Python as a wheel among it; and its pages' links."""
 
-from __future__ import annotations
-
 import hashlib
 import posixpath
 import re

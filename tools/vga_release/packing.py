@@ -1,7 +1,5 @@
 """An archive whose bytes hang on nothing but its files and the time of the commit."""
 
-from __future__ import annotations
-
 import gzip
 import io
 import tarfile

@@ -1,7 +1,5 @@
 """The answers of a run written into its script, and what a script would be with them."""
 
-from __future__ import annotations
-
 import difflib
 from typing import Iterator, NamedTuple
 

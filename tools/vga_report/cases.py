@@ -1,7 +1,5 @@
 """The suite's list of cases, and the script that each of them runs."""
 
-from __future__ import annotations
-
 import re
 from dataclasses import dataclass
 from io import BytesIO

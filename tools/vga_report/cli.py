@@ -1,7 +1,5 @@
 """How each tool begins and ends: its words and help, its streams, its signals, its exit status, and what it says at last."""
 
-from __future__ import annotations
-
 import argparse
 import os
 import signal

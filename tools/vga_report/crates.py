@@ -1,7 +1,5 @@
 """The repository's crates, and how far they are proved: their phases as one line on a terminal."""
 
-from __future__ import annotations
-
 import re
 import time
 from functools import cache

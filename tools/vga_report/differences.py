@@ -1,7 +1,5 @@
 """Where two reports differ, or a report and what is expected of it."""
 
-from __future__ import annotations
-
 from itertools import zip_longest
 from typing import Iterator, NamedTuple, Optional
 

@@ -24,9 +24,7 @@ NAMES = {
         "set/reset", "enable set/reset", "colour compare", "data rotate", "read map select", "graphics mode",
         "miscellaneous", "colour don't care", "bit mask",
     ],
-    "attr": [
-        *_PALETTE, "mode control", "overscan", "colour plane enable", "horizontal panning", "colour select",
-    ],
+    "attr": [*_PALETTE, "mode control", "overscan", "colour plane enable", "horizontal panning", "colour select"],
 }
 COLOURS = ("red", "green", "blue")
 # The words before the numbers of a line: of registers, of cells, of a DAC entry, of a plane from an offset on.

@@ -1,7 +1,5 @@
 """The report that is expected of a case, as the suite writes it."""
 
-from __future__ import annotations
-
 import re
 from typing import BinaryIO, Iterator, Optional
 

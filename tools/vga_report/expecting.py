@@ -1,7 +1,5 @@
 """Answers that a script expects, held against those that came."""
 
-from __future__ import annotations
-
 import hashlib
 import re
 

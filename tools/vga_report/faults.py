@@ -1,7 +1,5 @@
 """What a fault of the program means, in the file where it arose: the program judges, and this looks for the reason."""
 
-from __future__ import annotations
-
 from pathlib import Path
 from typing import NamedTuple, Optional
 

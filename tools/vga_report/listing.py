@@ -1,7 +1,5 @@
 """A run as a listing: each step with its line, its number, its words as they were understood, and its answer."""
 
-from __future__ import annotations
-
 import io
 import re
 import select
@@ -119,9 +117,7 @@ class Script:
     The steps are read anew each time from the text and from what the program prints, so that memory holds none of them.
     """
 
-    def __init__(
-        self, path: str, data: bytes, program: Union[Built, Tried], shown: str, printed: BinaryIO
-    ) -> None:
+    def __init__(self, path: str, data: bytes, program: Union[Built, Tried], shown: str, printed: BinaryIO) -> None:
         self.path = Path(path)
         self.shown = shown
         self.is_bytes = is_bytes(data)

@@ -1,7 +1,5 @@
 """A run, or two reports that differ, as a page that stands alone: nothing of it comes from elsewhere."""
 
-from __future__ import annotations
-
 import base64
 import io
 import json
@@ -15,6 +13,7 @@ from .differences import Difference
 from .expecting import answer_of
 from .listing import Row
 from .png import Shape, write_marked_png, write_png
+from .streams import filled
 from .trouble import Trouble
 
 HERE = Path(__file__).resolve().parent
@@ -108,40 +107,11 @@ class Page:
         captions = (f"<figcaption>{escape(caption)}</figcaption>" for caption in self._captions)
         figures = "".join(f"<figure><canvas></canvas>{caption}</figure>" for caption in captions)
         heads = "".join(f"<th>{escape(column)}</th>" for column in self._columns)
-        return f"""<!DOCTYPE html>
-<html lang="en">
-<head>
-<meta charset="utf-8">
-<meta http-equiv="Content-Security-Policy" content="{escape(POLICY)}">
-<title>{escape(title)}</title>
-<style>
-{(HERE / "page.css").read_text("utf-8")}</style>
-</head>
-<body>
-<h1>{escape(title)}</h1>
-<p>{_told(said, link)}</p>
-<section id="viewer" hidden>
-<div class="controls">
-<input id="frame" type="range" min="0" value="0" aria-label="frame">
-<output id="which"></output>
-<label><input id="aspect" type="checkbox"> 4:3</label>
-<label><select id="size">{SIZES}</select></label>
-</div>
-<div class="stage">{figures}</div>
-<div id="dot">Point at a dot.</div>
-</section>
-<table>
-<thead><tr>{heads}</tr></thead>
-<tbody>
-{chr(10).join(self._rows)}
-</tbody>
-</table>
-<script type="application/json" id="frames">{frames}</script>
-<script>
-{(HERE / "page.js").read_text("utf-8")}</script>
-</body>
-</html>
-"""
+        style, script = ((HERE / name).read_text("utf-8") for name in ("page.css", "page.js"))
+        return filled(
+            HERE / "page.html", POLICY=escape(POLICY), TITLE=escape(title), STYLE=style, TOLD=_told(said, link), SIZES=SIZES,
+            FIGURES=figures, HEADS=heads, ROWS="\n".join(self._rows), FRAMES=frames, SCRIPT=script,
+        )
 
 
 def run_page() -> Page:

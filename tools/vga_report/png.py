@@ -1,7 +1,5 @@
 """Pictures as PNG of eight bits, still and moving; and as blocks of colour in a terminal."""
 
-from __future__ import annotations
-
 import struct
 import zlib
 from dataclasses import dataclass

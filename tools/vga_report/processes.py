@@ -1,7 +1,5 @@
 """Runs other programs: each in a group of its own, within limits, and all that it has started ends with it."""
 
-from __future__ import annotations
-
 import ctypes
 import os
 import shutil
@@ -35,8 +33,7 @@ MEBIBYTE = 1 << 20
 MOST_MESSAGE = 1 << 20
 # So much of what a program says at last is told, and so much of each of its streams is kept.
 MOST_SAID, MOST_KEPT = 2000, 1 << 24
-# Where each program comes from that may be lacking: the toolchain's, and those of Debian's
-# packages.
+# Where each program comes from that may be lacking: the toolchain's, and those of Debian's packages.
 PACKAGES = {
     "ld": "binutils", "objcopy": "binutils", "ar": "binutils", "nm": "binutils", "cc": "gcc", "gcc": "gcc",
     "node": "nodejs", "qemu-system-x86_64": "qemu-system-x86",
@@ -317,9 +314,7 @@ def run(words: Words, folder: Optional[Path] = None, heard: Optional[Hearer] = N
     return ended_well(words, folder, heard, **given).output.decode("utf-8", "replace")
 
 
-def ended_well(
-    words: Words, folder: Optional[Path] = None, heard: Optional[Hearer] = None, **given: Any
-) -> Done:
+def ended_well(words: Words, folder: Optional[Path] = None, heard: Optional[Hearer] = None, **given: Any) -> Done:
     """The same, with its bytes, and with what it says on standard error."""
     name = str(words[0])
     check_program(name)

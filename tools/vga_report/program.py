@@ -1,7 +1,5 @@
 """The program `vga`, and how a script is run by it."""
 
-from __future__ import annotations
-
 import io
 import os
 import shutil

@@ -1,7 +1,5 @@
 """How far long work has come, as one line on a terminal."""
 
-from __future__ import annotations
-
 import shutil
 import sys
 import time

@@ -4,8 +4,6 @@ The words are those of page/refusals.js; page/tests/refusals.mjs and tests/test_
 The state is what the steps that were done have left, as far as a script tells it.
 """
 
-from __future__ import annotations
-
 from functools import lru_cache
 from typing import Callable, NamedTuple, Optional
 

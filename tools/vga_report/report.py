@@ -1,7 +1,5 @@
 """A report that a tool reads: its troubles name the file and the line, and a terminal shows how far it was read."""
 
-from __future__ import annotations
-
 import io
 from typing import Iterator, Optional
 

@@ -1,7 +1,5 @@
 """The commands over reports: `text`, `pictures`, `compare`, `compare-picture` and `check`."""
 
-from __future__ import annotations
-
 import argparse
 import os
 import sys

@@ -1,7 +1,5 @@
 """Runs a case with a command of the user's, judges its report, and keeps what doesn't agree."""
 
-from __future__ import annotations
-
 import io
 import re
 import shlex

@@ -1,7 +1,5 @@
 """The command `run`: a script beside its answers."""
 
-from __future__ import annotations
-
 import argparse
 import os
 import shutil

@@ -1,7 +1,5 @@
 """Scripts in files, and the answers that the comments of a text expect."""
 
-from __future__ import annotations
-
 from typing import Optional
 
 from zaklimot.format import MOST_BYTES, Script, ScriptFault, read

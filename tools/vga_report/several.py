@@ -1,7 +1,5 @@
 """Scripts of a folder, each run by a process of its own; and runs that begin anew when their files change."""
 
-from __future__ import annotations
-
 import argparse
 import os
 import shutil
@@ -120,13 +118,9 @@ def _write_json(path: str, ran: list[Ran]) -> None:
 def junit_text(name: str, ran: list[Ran]) -> str:
     """The results as JUnit's XML: a case for each script, whose failure has the answers that differ."""
     kinds = {DIFFERED: "failure", TROUBLE: "error"}
-    counts = {
-        f"{kind}s": str(sum(one.status == status for one in ran)) for status, kind in kinds.items()
-    }
+    counts = {f"{kind}s": str(sum(one.status == status for one in ran)) for status, kind in kinds.items()}
     time_of_all = f"{sum(one.seconds for one in ran):.3f}"
-    suite = Element(
-        "testsuite", name=_printable(name), tests=str(len(ran)), **counts, time=time_of_all
-    )
+    suite = Element("testsuite", name=_printable(name), tests=str(len(ran)), **counts, time=time_of_all)
     for one in ran:
         names = {
             "classname": _printable(name), "name": _printable(str(one.script)),

@@ -1,7 +1,5 @@
 """Files by their names, where `-` is standard input or standard output. An input is never an output."""
 
-from __future__ import annotations
-
 import io
 import os
 import re

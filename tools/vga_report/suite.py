@@ -1,7 +1,5 @@
 """The commands `suite` and `scripts` over the suite's cases, and what came of them by rules."""
 
-from __future__ import annotations
-
 import argparse
 import json
 from pathlib import Path
@@ -15,9 +13,7 @@ from .output import AGREED, DIFFERED, counted, name_of, write, write_name
 from .png import Shape, write_png
 from .processes import MEBIBYTE, Limits, in_parallel
 from .progress import Progress
-from .running import (
-    AGREES, DIFFERS, FAILED, SKIPPED, Command, Kind, Result, expected_pictures, run_case,
-)
+from .running import AGREES, DIFFERS, FAILED, SKIPPED, Command, Kind, Result, expected_pictures, run_case
 from .streams import STANDARD, write_file, writing
 from .trouble import Trouble
 
@@ -193,13 +189,9 @@ def table_lines(results: list[Result]) -> Iterator[str]:
 def _case_of(result: Result) -> dict[str, object]:
     """A case for machines. The step is 0 where a fault stands in the place of steps."""
     case: dict[str, object] = {
-        "name": result.case.name,
-        "rule": result.rule,
-        "answer": result.answer,
-        "steps": result.comparison.steps,
-        "skipped": result.comparison.skipped,
-        "answers": result.comparison.answers,
-        "differing": result.comparison.differing,
+        "name": result.case.name, "rule": result.rule, "answer": result.answer,
+        "steps": result.comparison.steps, "skipped": result.comparison.skipped,
+        "answers": result.comparison.answers, "differing": result.comparison.differing,
     }
     if result.difference is not None:
         number, answered, expected, _ = result.difference

@@ -1,7 +1,5 @@
 """What was seen of a run: its steps counted, its answers that differ, and all of it for machines."""
 
-from __future__ import annotations
-
 import json
 import tempfile
 from typing import Any, BinaryIO, Iterator, Optional
@@ -43,9 +41,7 @@ class Tally:
 
     def text(self) -> str:
         """What was seen, as a line."""
-        parts = [
-            counted(self.steps, "step"), *([f"{self.refused} refused"] if self.refused else [])
-        ]
+        parts = [counted(self.steps, "step"), *([f"{self.refused} refused"] if self.refused else [])]
         parts.append(counted(self.pictures, "picture"))
         if self.expected:
             parts.append(f"{self.met} of {self.expected} answers as expected")

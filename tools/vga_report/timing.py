@@ -1,7 +1,5 @@
 """How long frames last: their dots by the clock that a script has chosen."""
 
-from __future__ import annotations
-
 from typing import Optional
 
 from zaklimot.format import Step

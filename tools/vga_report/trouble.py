@@ -1,7 +1,5 @@
 """What ends the work, told with the file and the line where it stands."""
 
-from __future__ import annotations
-
 from typing import Optional
 
 

@@ -1,7 +1,5 @@
 """The library's header: the names of its calls, and its number, which is the release's."""
 
-from __future__ import annotations
-
 import re
 from typing import NamedTuple
 

@@ -1,15 +1,12 @@
 """The words of the command line."""
 
-from __future__ import annotations
-
 import argparse
 import math
 from typing import Callable
 
 from . import TOP, cli
 from .progress import Progress
-from .reports import check, compare, pictures, text
-from .reports import compare_picture
+from .reports import check, compare, compare_picture, pictures, text
 from .runs import DEFAULT_FONTS, run
 from .streams import to_read
 from .suite import scripts, suite
