@@ -4,7 +4,7 @@ from __future__ import annotations
 
 from pathlib import Path
 
-from vga_library.making import fonts_file
+from vga_library.making import FONTS
 from vga_report import TOP
 from vga_report.processes import captured
 from vga_report.trouble import Wrong
@@ -46,7 +46,7 @@ def _scripted_picture(built: Built, folder: Path) -> bytes:
     harness, script = folder / "harness", folder / "colours.vga"
     build(built.compilers[0].c, built, HARNESS, harness, "-O2")
     script.write_text(colours_script())
-    report = run([*built.runner, harness, script, fonts_file()]).encode("utf-8", "surrogateescape")
+    report = run([*built.runner, harness, script, FONTS]).encode("utf-8", "surrogateescape")
     return report[report.index(b"P6\n"):-1]
 
 
@@ -55,13 +55,13 @@ def check_examples(built: Built, folder: Path) -> str:
     wanted, made, ppm = _scripted_picture(built, folder), folder / "picture", folder / "picture.ppm"
     for compiler in built.compilers:
         build(compiler.c, built, [EXAMPLES / "c" / "picture.c"], made, "-O2")
-        run([*built.runner, made, fonts_file(), ppm])
+        run([*built.runner, made, FONTS, ppm])
         if ppm.read_bytes() != wanted:
             raise Wrong(f"the picture of C by {compiler.c} is not the script's")
         ppm.unlink()
     core, ppm = folder / "core", folder / "core.ppm"
     build(built.compilers[0].c, built, [EXAMPLES / "c" / "core.c"], core, "-O2")
-    run([*built.runner, core, fonts_file(), ppm])
+    run([*built.runner, core, FONTS, ppm])
     if Picture.of_ppm(ppm.read_bytes()) != Picture.of_dots(640, 480, bars()):
         raise Wrong("the core in miniature draws other bars")
     return f"pictures from C by {', '.join(compiler.c for compiler in built.compilers)}, and a core's"
@@ -69,7 +69,7 @@ def check_examples(built: Built, folder: Path) -> str:
 
 def _session(built: Built, debugger: Path, script: Path, commands: str) -> list[str]:
     """The lines that the debugger writes."""
-    words = [*built.runner, debugger, fonts_file(), script]
+    words = [*built.runner, debugger, FONTS, script]
     done = captured(words, given=commands.encode("ascii"))
     if done.status:
         said = done.errors.decode("utf-8", "replace")
@@ -88,7 +88,7 @@ def _check_debugger(built: Built, folder: Path) -> None:
     if told != [*wanted, "line 0, character 0, dot 0"]:
         raise Wrong(f"the debugger writes {told}")
     script.write_text(LONG, "ascii")
-    lines = run([*built.runner, harness, script, fonts_file()]).splitlines()
+    lines = run([*built.runner, harness, script, FONTS]).splitlines()
     told = _session(built, debugger, script, f"step {FROM}\nback {BACK}\nstep 1000\nback 1000\nstep {FROM}\n")
     again = [f"after step {FROM - BACK}", *lines[FROM - BACK:LONG_STEPS]]
     if told != [*lines[:FROM], *again, "after step 0", *lines[:FROM]]:

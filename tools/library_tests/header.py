@@ -4,7 +4,7 @@ from __future__ import annotations
 
 from pathlib import Path
 
-from vga_library.making import fonts_file
+from vga_library.making import FONTS
 from vga_report.version import HEADER, calls_of, version
 from vga_report.trouble import Wrong
 
@@ -51,7 +51,7 @@ def _check_objects(compiler: str, built: Built, folder: Path) -> int:
     for standard in OBJECT_STANDARDS:
         words = [compiler, f"-std={standard}", *STRICT, *SANITIZED, "-I", built.include]
         run([*words, OBJECTS, built.static, "-o", made])
-        run([*built.runner, made, fonts_file()])
+        run([*built.runner, made, FONTS])
     return len(OBJECT_STANDARDS)
 
 

@@ -9,7 +9,7 @@ from pathlib import Path
 
 from vga_report import TOP
 from vga_report.version import version
-from vga_library.making import MOVING, Place, fonts_file, make_library
+from vga_library.making import FONTS, MOVING, Place, make_library
 from vga_library.toolchain import kit_archive
 from vga_report.trouble import Wrong
 
@@ -50,7 +50,7 @@ def check_installing(built: Built, folder: Path) -> str:
     made, ppm = folder / "picture", folder / "picture.ppm"
     words = [COMPILERS[0].c, "-std=c99", *STRICT, PICTURE, *_flags(prefix), "-o", made]
     run(words)
-    run([made, fonts_file(), ppm], env={**os.environ, "LD_LIBRARY_PATH": str(prefix / LIBRARIES)})
+    run([made, FONTS, ppm], env={**os.environ, "LD_LIBRARY_PATH": str(prefix / LIBRARIES)})
     if not ppm.read_bytes().startswith(b"P6\n640 400\n63\n"):
         raise Wrong("the program that was built with the installed files draws no picture")
     ways = [_check_pkg_config(built, folder), _check_cmake(prefix, folder)]
@@ -83,7 +83,7 @@ def _check_cmake(prefix: Path, folder: Path) -> str:
     run([*words, f"-DCMAKE_PREFIX_PATH={prefix}"])
     run(["cmake", "--build", made])
     for name in ("picture", "picture_static"):
-        run([made / name, fonts_file(), ppm])
+        run([made / name, FONTS, ppm])
         if not ppm.read_bytes().startswith(b"P6\n640 400\n63\n"):
             raise Wrong(f"{name}, built by CMake, draws no picture")
         ppm.unlink()

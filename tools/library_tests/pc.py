@@ -9,7 +9,7 @@ from pathlib import Path
 from typing import Optional
 
 from vga_report import TOP
-from vga_library.making import fonts_file
+from vga_library.making import FONTS
 from vga_report.processes import captured
 from vga_report.trouble import Wrong
 
@@ -62,10 +62,10 @@ def _check_script(built: Built, pc: Path, folder: Path, name: str) -> None:
     """The answers that come back on the floppy are those of the harness, but for what a machine skips."""
     script, image, harness = TOP / "examples" / f"{name}.vga", folder / f"{name}.img", folder / "harness"
     _tool("vga-floppy", "make", script, image)
-    run([pc, image, fonts_file(), "--keys", " ", "--seconds", "5"])
+    run([pc, image, FONTS, "--keys", " ", "--seconds", "5"])
     came = _answers(_tool("vga-floppy", "read", image))
     build(COMPILERS[0].c, built, HARNESS, harness, "-O2")
-    wanted = run([harness, script, fonts_file()]).splitlines()
+    wanted = run([harness, script, FONTS]).splitlines()
     others = [line for line in came if line not in wanted]
     if others or not came:
         raise Wrong(f"{name}: on the PC these answers are others: {others[:5]}")
@@ -78,7 +78,7 @@ def _check_demo(pc: Path, folder: Path, *rom: str | Path) -> None:
     pictures.mkdir()
     image = folder / "demo.img"
     shutil.copyfile(PC / "demo.img", image)
-    run([pc, image, fonts_file(), "--seconds", "2", "--pictures", pictures, *rom])
+    run([pc, image, FONTS, "--seconds", "2", "--pictures", pictures, *rom])
     last = max(pictures.iterdir()).read_bytes()
     if not last.startswith(SIZE) or not last.endswith(BAR):
         raise Wrong(f"the PC's floppy shows another first screen{' with ' + str(rom[1]) if rom else ''}")
@@ -88,7 +88,7 @@ def _told(pc: Path, folder: Path, code: str, *words: str) -> tuple[int, int]:
     """How many instructions a boot sector runs, and how many frames are shown."""
     image, sector = folder / "boot.img", bytes.fromhex(code)
     image.write_bytes(sector.ljust(SECTOR - len(BOOTS), b"\0") + BOOTS + bytes(FLOPPY - SECTOR))
-    told = TOLD.match(run([pc, image, fonts_file(), *words]).strip())
+    told = TOLD.match(run([pc, image, FONTS, *words]).strip())
     if told is None:
         raise Wrong("the PC does not tell what it ran")
     return int(told[1]), int(told[2])
@@ -110,7 +110,7 @@ def _check_keys(pc: Path, folder: Path) -> None:
     pictures = folder / "screens"
     pictures.mkdir()
     shutil.copyfile(PC / "demo.img", folder / "demo.img")
-    run([pc, folder / "demo.img", fonts_file(), "--keys", "  ", "--pictures", pictures])
+    run([pc, folder / "demo.img", FONTS, "--keys", "  ", "--pictures", pictures])
     sizes = [path.read_bytes()[:len(SIZE)] for path in sorted(pictures.iterdir())]
     if list(dict.fromkeys(sizes)) != SCREENS:
         raise Wrong(f"of the floppy's screens the PC shows {sizes}")

@@ -6,7 +6,7 @@ import difflib
 import re
 from pathlib import Path
 
-from vga_library.making import fonts_file
+from vga_library.making import FONTS
 from vga_report.trouble import Wrong
 
 from .compilers import SANITIZED, Built, build, run
@@ -36,7 +36,7 @@ def check_misuse(built: Built, folder: Path) -> str:
     for compiler in built.compilers:
         made = folder / f"misuse-{compiler.c}"
         build(compiler.c, built, [SOURCES / "misuse.c"], made, *SANITIZED)
-        expect("misuse", run([*built.runner, made, fonts_file()]))
+        expect("misuse", run([*built.runner, made, FONTS]))
     count = len(CALL.findall((SOURCES / "misuse.txt").read_text("ascii")))
     return f"{count} calls answered as they should be, with sanitizers"
 
@@ -45,7 +45,7 @@ def check_state(built: Built, folder: Path) -> str:
     """What is read of the state and of the screen says what the dumps say, so that structs are the proved side's."""
     made = folder / "state"
     build(built.compilers[0].c, built, [SOURCES / "state.c"], made, *SANITIZED)
-    count = int(run([*built.runner, made, fonts_file()]))
+    count = int(run([*built.runner, made, FONTS]))
     return f"{count} readings are those of dumps and screens"
 
 
@@ -53,7 +53,7 @@ def check_clock(built: Built, folder: Path) -> str:
     """What zak_clock tells comes after just so many dots, over pseudo-random registers."""
     made = folder / "clock"
     build(built.compilers[0].c, built, [SOURCES / "clock.c"], made, "-O2")
-    count = int(run([*built.runner, made, fonts_file(), str(SETTINGS)]))
+    count = int(run([*built.runner, made, FONTS, str(SETTINGS)]))
     return f"{count} settings of registers, each with an event that comes when it is told"
 
 
@@ -61,7 +61,7 @@ def check_transfers(built: Built, folder: Path) -> str:
     """Calls for many bytes leave and answer what their single cycles do, over pseudo-random registers."""
     made = folder / "transfers"
     build(built.compilers[0].c, built, [SOURCES / "transfers.c"], made, *SANITIZED)
-    count = int(run([*built.runner, made, fonts_file(), str(TRANSFERS)]))
+    count = int(run([*built.runner, made, FONTS, str(TRANSFERS)]))
     return f"{count} transfers, each the same as its cycles"
 
 
@@ -69,7 +69,7 @@ def check_advances(built: Built, folder: Path) -> str:
     """Dots that are added up are those that are drawn one call after the other."""
     made = folder / "advances"
     build(built.compilers[0].c, built, [SOURCES / "advances.c"], made, *SANITIZED)
-    count = int(run([*built.runner, made, fonts_file(), str(ADVANCES)]))
+    count = int(run([*built.runner, made, FONTS, str(ADVANCES)]))
     return f"{count} advances, each the same with a look behind it"
 
 
@@ -77,7 +77,7 @@ def check_lines(built: Built, folder: Path) -> str:
     """Lines as they end are those of the whole frame, over pseudo-random registers."""
     made = folder / "lines"
     build(built.compilers[0].c, built, [SOURCES / "lines.c"], made, *SANITIZED)
-    count = int(run([*built.runner, made, fonts_file(), str(FRAMES)]))
+    count = int(run([*built.runner, made, FONTS, str(FRAMES)]))
     return f"{count} lines as they end, each that of its frame"
 
 
@@ -85,7 +85,7 @@ def check_pictures(built: Built, folder: Path) -> str:
     """Pictures in words are those in bytes, in each form, over pseudo-random registers."""
     made = folder / "pictures"
     build(built.compilers[0].c, built, [SOURCES / "pictures.c"], made, *SANITIZED)
-    count = int(run([*built.runner, made, fonts_file(), str(PICTURES)]))
+    count = int(run([*built.runner, made, FONTS, str(PICTURES)]))
     return f"{count} pictures in words, each that of the bytes"
 
 
@@ -93,7 +93,7 @@ def check_blocks(built: Built, folder: Path) -> str:
     """What zak_block tells is what interrupt 10 takes, over pseudo-random calls."""
     made = folder / "blocks"
     build(built.compilers[0].c, built, [SOURCES / "blocks.c"], made, *SANITIZED)
-    count = int(run([*built.runner, made, fonts_file(), str(BLOCKS)]))
+    count = int(run([*built.runner, made, FONTS, str(BLOCKS)]))
     return f"{count} calls of interrupt 10, each with its block or another"
 
 
@@ -101,7 +101,7 @@ def check_threads(built: Built, folder: Path) -> str:
     """Cards in two threads, and one that moves, draw what one draws alone."""
     made = folder / "threads"
     build(built.compilers[0].c, built, [SOURCES / "threads.c"], made, "-O2", "-pthread")
-    expect("threads", run([*built.runner, made, fonts_file()]))
+    expect("threads", run([*built.runner, made, FONTS]))
     return "two cards in two threads, by cycles and by slices of scripts, and one that moves"
 
 
@@ -109,5 +109,5 @@ def check_memory(built: Built, folder: Path) -> str:
     """Each growth of memory is refused in turn."""
     made = folder / "memory"
     build(built.compilers[0].c, built, [SOURCES / "memory.c"], made, "-g", WRAPPED)
-    counts = [line.split() for line in run([*built.runner, made, fonts_file()]).splitlines()]
+    counts = [line.split() for line in run([*built.runner, made, FONTS]).splitlines()]
     return "growths refused: " + ", ".join(f"{name} {count}" for name, count in counts)

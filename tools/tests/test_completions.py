@@ -10,9 +10,8 @@ import unittest
 from pathlib import Path
 from typing import Mapping
 
-from .test_manual import FISH, ZSH, Fakes, kept_helps, more_helps
+from .test_manual import BARS, COMMANDS, FISH, ZSH, Fakes, kept_helps, more_helps
 
-COMMANDS = ["asm", "dis", "go", "help", "run"]
 # Seconds that a shell may take for one answer.
 PATIENCE = 30
 # Where fish looks for completions below a user's folder.
@@ -25,10 +24,7 @@ class Shell(Fakes):
 
     def setUp(self) -> None:
         super().setUp()
-        self.files = self.folder / "files"
-        (self.files / "fonts").mkdir(parents=True)
-        for name in ("bars.vga", "bars.bin", "one two.vga", "zaklimot.fnt", "fonts/other.fnt"):
-            (self.files / name).touch()
+        self.files = self.lay_files()
         # Fish reads the completion of a command that there is.
         (self.folder / "bin").mkdir()
         (self.folder / "bin" / "vga").symlink_to("../fake")
@@ -40,6 +36,13 @@ class Shell(Fakes):
             "HOME": folder, "XDG_RUNTIME_DIR": folder, "PATH": path, "LANG": "C.UTF-8",
             "TERM": "dumb", **more,
         }
+
+    def assert_offered(self, helps: Mapping[str, str], table: Mapping[str, list[str]]) -> None:
+        """What is offered for lines, by the completion that is made of these helps."""
+        self.complete_by(helps)
+        for line, wanted in table.items():
+            with self.subTest(line):
+                self.assertEqual(self.offered(f"vga {line}"), wanted)
 
 
 @unittest.skipUnless(shutil.which("fish"), "fish isn't installed")
@@ -60,36 +63,26 @@ class Fish(Shell):
         self.assertEqual((done.returncode, done.stderr), (0, ""))
         return done.stdout.splitlines()
 
-    def assert_offered(self, table: Mapping[str, list[str]]) -> None:
-        for line, wanted in table.items():
-            with self.subTest(line):
-                self.assertEqual([told.partition("\t")[0] for told in self.lines(f"vga {line}")], wanted)
+    def offered(self, line: str) -> list[str]:
+        return [told.partition("\t")[0] for told in self.lines(line)]
 
-    def test_commands_and_arguments(self) -> None:
-        self.complete_by(kept_helps())
-        bars = ["bars.bin", "bars.vga"]
-        self.assert_offered({
+    def test_what_the_program_has(self) -> None:
+        self.assert_offered(kept_helps(), {
             "": COMMANDS, "g": ["go"], "help ": COMMANDS, "help d": ["dis"], "play ": [],
-            "asm ": self.FILES, "asm b": bars, "asm o": ["one two.vga"], "asm x b": bars,
-            "dis -- ": self.FILES, "run --until 5 b": bars, "run x --fonts z ": self.FILES,
-        })
-        self.assertEqual(self.lines("vga d"), ["dis\tPrints a script as text on standard output"])
-
-    def test_options_and_values(self) -> None:
-        self.complete_by(kept_helps())
-        self.assert_offered({
+            "asm ": self.FILES, "asm b": BARS, "asm o": ["one two.vga"], "asm x b": BARS,
+            "dis -- ": self.FILES, "run --until 5 b": BARS, "run x --fonts z ": self.FILES,
             "-": ["-h", "--help"], "--h": ["--help"], "dis -- -": [],
             "run -": ["-h", "--fonts", "--help", "--until"], "run --fonts ": self.FONTS,
-            "run x --fonts b": ["bars.bin", "bars.vga"], "run --fonts fonts/": ["fonts/other.fnt"],
+            "run x --fonts b": BARS, "run --fonts fonts/": ["fonts/other.fnt"],
             "run --fonts=": [f"--fonts={name}" for name in self.FONTS],
             "run --fonts=z": ["--fonts=zaklimot.fnt"],
             "run --fonts=fonts/o": ["--fonts=fonts/other.fnt"],
             "go --until ": [], "go --until b": [], "go --until=b": [],
         })
+        self.assertEqual(self.lines("vga d"), ["dis\tPrints a script as text on standard output"])
 
     def test_what_is_added(self) -> None:
-        self.complete_by(more_helps())
-        self.assert_offered({
+        self.assert_offered(more_helps(), {
             "t": ["try"], "help t": ["try"], "run --s": ["--sound"], "dis a z": ["zaklimot.fnt"],
             "try -": ["-h", "-q", "-s", "--help", "--quiet", "--sound"],
             "try -s z": ["zaklimot.fnt"], "try a b c z": ["zaklimot.fnt"],
@@ -134,10 +127,8 @@ class Zsh(Shell):
         self.answer.unlink()
         return told
 
-    def assert_offered(self, table: Mapping[str, list[str]]) -> None:
-        for line, wanted in table.items():
-            with self.subTest(line):
-                self.assertEqual(sorted(filter(None, self.answered(f"vga {line}\t")[1:])), wanted)
+    def offered(self, line: str) -> list[str]:
+        return sorted(filter(None, self.answered(f"{line}\t")[1:]))
 
     def assert_completed(self, table: Mapping[str, str]) -> None:
         """What a line becomes."""
@@ -145,36 +136,26 @@ class Zsh(Shell):
             with self.subTest(line):
                 self.assertEqual(self.answered(f"vga {line}\t")[0], f"vga {wanted}")
 
-    def test_commands_and_arguments(self) -> None:
-        self.complete_by(kept_helps())
-        bars = ["bars.bin", "bars.vga"]
-        self.assert_offered({
+    def test_what_the_program_has(self) -> None:
+        self.assert_offered(kept_helps(), {
             "": COMMANDS, "help ": COMMANDS, "help asm ": COMMANDS, "play ": [],
-            "asm ": self.FILES, "asm b": bars, "asm x ": self.FILES, "asm x y ": ["--help", "-h"],
-            "dis -- ": self.FILES, "dis -- -": [], "dis -- x ": [], "run --until 5 b": bars,
-        })
-        self.assert_completed({
-            "g": "go ", "help d": "help dis ", "asm o": "asm one\\ two.vga ", "asm b": "asm bars.",
-        })
-
-    def test_options_and_values(self) -> None:
-        self.complete_by(kept_helps())
-        self.assert_offered({
+            "asm ": self.FILES, "asm b": BARS, "asm x ": self.FILES, "asm x y ": ["--help", "-h"],
+            "dis -- ": self.FILES, "dis -- -": [], "dis -- x ": [], "run --until 5 b": BARS,
             "-": ["--help", "-h"], "-h ": [], "dis --help ": [], "help -": [],
             "run -": ["--fonts", "--help", "--until", "-h"], "run --fonts ": self.FONTS,
-            "run --fonts=": self.FONTS, "run x --fonts b": ["bars.bin", "bars.vga"],
+            "run --fonts=": self.FONTS, "run x --fonts b": BARS,
             "run x --fonts z -": ["--help", "--until", "-h"],
             "go --until ": [], "go --until b": [], "go --until=b": [],
         })
         self.assert_completed({
+            "g": "go ", "help d": "help dis ", "asm o": "asm one\\ two.vga ", "asm b": "asm bars.",
             "--": "--help ", "run --u": "run --until=", "run --fonts z": "run --fonts zaklimot.fnt ",
             "run --fonts=z": "run --fonts=zaklimot.fnt ",
             "run --fonts fonts/": "run --fonts fonts/other.fnt ",
         })
 
     def test_what_is_added(self) -> None:
-        self.complete_by(more_helps())
-        self.assert_offered({
+        self.assert_offered(more_helps(), {
             "try -": ["--help", "--quiet", "--sound", "-h", "-q", "-s"],
             "try -s x --": ["--help", "--quiet"], "try a b c z": ["zaklimot.fnt"],
         })

@@ -4,7 +4,6 @@ import contextlib
 import signal
 import subprocess
 import unittest
-from dataclasses import replace
 from pathlib import Path
 from random import Random
 from unittest import mock
@@ -57,7 +56,7 @@ WRONGS = {
 # A machine that has just started may take seconds for a program that ends at once.
 LIMITS = Limits(seconds=60, memory=1 << 28, output=1 << 16)
 # Those of a program that doesn't end.
-SHORT = replace(LIMITS, seconds=5)
+SHORT = LIMITS._replace(seconds=5)
 SCRIPT, TEXT = Input(False, b"VGAS\x01\x03\xda\x03", "script"), Input(True, b"in 3DA\n", "text")
 
 

@@ -4,6 +4,7 @@ import re
 import shutil
 import subprocess
 import unittest
+from pathlib import Path
 from typing import Mapping
 from unittest import mock
 
@@ -124,6 +125,12 @@ class Fakes(Folder):
         for name, text in helps.items():
             self.write(f"{name}.txt", text)
         return self.program("fake", FAKE)
+
+    def lay_files(self) -> Path:
+        """A folder with files, in which a shell completes."""
+        for name in (*BARS, "one two.vga", "zaklimot.fnt", "fonts/other.fnt"):
+            self.write(f"files/{name}", "")
+        return self.folder / "files"
 
     def made(self, helps: Mapping[str, str]) -> dict[str, str]:
         files = manual_files(self.printing(helps))
@@ -304,16 +311,14 @@ class Bash(Fakes):
     """What bash offers by the completion, in a folder with files."""
 
     def test_what_is_offered(self) -> None:
-        for name in (*BARS, "one two.vga", "zaklimot.fnt", "fonts/other.fnt"):
-            self.write(f"files/{name}", "")
+        files = self.lay_files()
         for helps, offered in OFFERED:
             completion = self.write("completion", self.made(helps())[BASH])
             for words, wanted in offered.items():
                 with self.subTest(words, helps=helps.__name__):
                     command = ["bash", "--norc", "--noprofile", COMPLETING, completion]
                     done = subprocess.run(
-                        [*command, "vga", *words.split(" ")], cwd=self.folder / "files",
-                        capture_output=True, text=True, timeout=60,
+                        [*command, "vga", *words.split(" ")], cwd=files, capture_output=True, text=True, timeout=60
                     )
                     self.assertEqual((done.returncode, done.stderr), (0, ""))
                     self.assertEqual(sorted(filter(None, done.stdout.split("\n"))), wanted)

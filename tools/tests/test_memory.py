@@ -7,7 +7,7 @@ from vga_memory.command import CRATES, ENDING, FILES, GROWTH, cases_of, jobs
 from vga_memory.judging import (
     CALLS, FAULT, IN_WORDS, REFUSED, REFUSED_IN_STEP, RIGHT, Wrong, judge_calls, judge_program
 )
-from vga_memory.trying import Answer, NoSuchMain, answers_of, growing
+from vga_memory.trying import Answer, answers_of, growing
 
 EARLY = Answer(1, b"", "Error: memory allocation failed\n")
 FRONTS = [b"", b"1 ok\n"]
@@ -96,7 +96,7 @@ class Growing(unittest.TestCase):
 
     def test_another_main_is_not_changed(self) -> None:
         for source in ("fn main() {}\n", 2 * "    ExitCode::from(status_of_job(&rt))\n"):
-            with self.subTest(source), self.assertRaises(NoSuchMain):
+            with self.subTest(source), self.assertRaisesRegex(Wrong, "^main.rt has [02] lines "):
                 growing(source)
 
 

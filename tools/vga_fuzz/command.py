@@ -10,6 +10,8 @@ from random import Random
 from typing import Any, Optional, Sequence
 
 from vga_report import TOP, cli
+from vga_report.processes import MEBIBYTE
+from vga_report.program import FONTS, PROGRAM
 from vga_report.progress import Progress
 from vga_report.streams import to_read, write_file
 from vga_report.suite import empty_folder
@@ -18,11 +20,9 @@ from vga_report.words import number_to, seconds
 from zaklimot.format import HEADERS
 
 from .feeding import Fed, Program, Wrong
-from .making import Input, make
 from .judging import Limits
+from .making import Input, make
 
-PROGRAM = TOP / "crates" / "vga" / "out" / "vga"
-FONTS = TOP / "fonts" / "zaklimot.fnt"
 # Where the texts are that are changed.
 TEXTS = (TOP / "examples", TOP / "crates" / "vga_suite" / "data")
 # Longer texts are left out: they are runs of many frames.
@@ -30,7 +30,6 @@ MOST_TEXT = 1 << 14
 # One of the first texts is a script.
 FIRST_TEXTS = 3
 EMPTY = HEADERS[1]
-MEBIBYTE = 1 << 20
 # The largest numbers of options: MiB that a run may take, and inputs.
 MOST_MEBIBYTES, MOST_NUMBER = 1 << 16, 1 << 62
 NOTHING_WRONG, SOMETHING_WRONG = 0, 1

@@ -1,18 +1,17 @@
 """Feeds the program with one input, in each way that it takes one, and holds the answers side by side."""
 
-from dataclasses import dataclass
 from pathlib import Path
-from typing import Optional
+from typing import NamedTuple, Optional
 
 from zaklimot.format import Script, decode, parse_text
 
-from .judging import DONE, DONE_ANSWER, OUT_OF_MEMORY, WRITE_FAULT, answer_of, meant_by, trouble_of
+from .judging import (
+    DONE, DONE_ANSWER, OUT_OF_MEMORY, WRITE_FAULT, Limits, Outcome, answer_of, meant_by, run, trouble_of,
+)
 from .making import Input
-from .judging import Limits, Outcome, run
 
 
-@dataclass(frozen=True)
-class Fed:
+class Fed(NamedTuple):
     """What came of an input: the answer of its run, and what was wrong, if anything was."""
 
     answer: str

@@ -1,13 +1,10 @@
 """Runs the program within limits of time, memory and output; and what is wrong with its end."""
 
-from __future__ import annotations
-
 import io
 import resource
 import subprocess
-from dataclasses import dataclass
 from pathlib import Path
-from typing import Callable, Optional, Sequence
+from typing import Callable, NamedTuple, Optional, Sequence
 
 from vga_report.processes import started
 from vga_report.report import Report
@@ -19,6 +16,23 @@ DONE_ANSWER = "done"
 WRITE_FAULT, OUT_OF_MEMORY = "F9 WriteFault", "F10 OutOfMemory"
 # So much of what a program says on standard error is read.
 MOST_SAID = 4096
+
+
+class Limits(NamedTuple):
+    """What one run of the program may take."""
+
+    seconds: float
+    memory: int
+    output: int
+
+
+class Outcome(NamedTuple):
+    """How a run ended: its status, or None where it took too long; its report and what it said."""
+
+    status: Optional[int]
+    report: bytes
+    said: bytes
+    is_report_full: bool
 
 
 def answer_of(outcome: Outcome) -> str:
@@ -84,25 +98,6 @@ def _trouble_of_fault(outcome: Outcome, script: Optional[Script]) -> Optional[st
     if line[1] == OUT_OF_MEMORY and script is not None:
         return _trouble_of_report(outcome.report, script, is_whole=False)
     return f"{len(outcome.report)} bytes are written before {line[1]}" if outcome.report else None
-
-
-@dataclass(frozen=True)
-class Limits:
-    """What one run of the program may take."""
-
-    seconds: float
-    memory: int
-    output: int
-
-
-@dataclass(frozen=True)
-class Outcome:
-    """How a run ended: its status, or None where it took too long; its report and what it said."""
-
-    status: Optional[int]
-    report: bytes
-    said: bytes
-    is_report_full: bool
 
 
 def _limit(limits: Limits) -> None:

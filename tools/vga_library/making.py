@@ -84,12 +84,6 @@ def joined_object(archive: Path, memory: Path, folder: Path, target: Target) -> 
     return made
 
 
-def make_archive(whole: Path, made: Path, target: Target) -> None:
-    """The static library. It has no times and no owners, so that it is the same each time."""
-    made.unlink(missing_ok=True)
-    run([target.tool("ar"), "rcsD", made, whole])
-
-
 def make_shared(whole: Path, folder: Path, told: Version, target: Target) -> None:
     """The shared library under its version, with the names by which programs and linkers look for it."""
     soname, file = f"lib{NAME}.so.{told.major}", f"lib{NAME}.so.{told}"
@@ -132,7 +126,8 @@ def make_library(archive: Path, memory: Path, place: Place, prefix: str, target:
         made = Path(name) / "lib"
         made.mkdir()
         whole = joined_object(archive, memory, Path(name), target)
-        make_archive(whole, made / f"lib{NAME}.a", target)
+        # The static library has no times and no owners, so that it is the same each time.
+        run([target.tool("ar"), "rcsD", made / f"lib{NAME}.a", whole])
         make_shared(whole, made, told, target)
         laid = {
             include / HEADER.name: HEADER, include / CPP_HEADER.name: CPP_HEADER,
@@ -147,11 +142,6 @@ def make_library(archive: Path, memory: Path, place: Place, prefix: str, target:
             path.parent.mkdir(parents=True, exist_ok=True)
             _lay(source, path)
     return list(laid)
-
-
-def fonts_file() -> Path:
-    """The project's font, which a card is opened with."""
-    return FONTS
 
 
 def _digest(data: bytes) -> str:

@@ -4,7 +4,6 @@ import re
 import shutil
 import tempfile
 from contextlib import contextmanager
-from dataclasses import dataclass
 from pathlib import Path
 from typing import Iterator, Mapping, NamedTuple, Sequence
 
@@ -40,17 +39,12 @@ class Case(NamedTuple):
     words: Sequence[str]
 
 
-@dataclass(frozen=True)
-class Answer:
+class Answer(NamedTuple):
     """How a case ended: its status, or -1 where it had none, and what it wrote on both outputs."""
 
     status: int
     written: bytes
     said: str
-
-
-class TryFailed(Wrong):
-    """`rt try` did not run each case to its end."""
 
 
 def try_cases(crate: Path, growth: int, cases: Mapping[str, Case], data: Mapping[str, Path]) -> dict[str, Answer]:
@@ -66,7 +60,7 @@ def try_cases(crate: Path, growth: int, cases: Mapping[str, Case], data: Mapping
         done = captured(command, crate)
     answers = answers_of(done.output, done.errors.decode("utf-8", "replace"))
     if answers.keys() != cases.keys():
-        raise TryFailed(done.errors.decode("utf-8", "replace")[-2000:])
+        raise Wrong(done.errors.decode("utf-8", "replace")[-2000:])
     return answers
 
 
@@ -86,14 +80,10 @@ def answers_of(output: bytes, errors: str) -> dict[str, Answer]:
     return answers
 
 
-class NoSuchMain(Wrong):
-    """The `main` of the program is not the one that is known here."""
-
-
 def growing(source: str) -> str:
     """The root file of the program, with the growths before what its `main` does."""
     if source.count(MAIN) != 1:
-        raise NoSuchMain(f"main.rt has {source.count(MAIN)} lines {MAIN.strip()!r}, and not one")
+        raise Wrong(f"main.rt has {source.count(MAIN)} lines {MAIN.strip()!r}, and not one")
     return source.replace(MAIN, FIRST + MAIN) + GROW
 
 

@@ -1,11 +1,10 @@
 """The suite's list of cases, and the script that each of them runs."""
 
 import re
-from dataclasses import dataclass
 from io import BytesIO
 from itertools import islice, takewhile
 from pathlib import Path
-from typing import Iterator, Optional, Sequence
+from typing import Iterator, NamedTuple, Optional, Sequence
 
 from zaklimot.format import FAULT, MOST_BYTES, STATE, Answer, lines_in, steps_in
 from zaklimot.format.report import REFUSAL, VALUE
@@ -24,8 +23,7 @@ CALLED = "ax="
 LOOKS = "".join(f"{step}\n" for step in STATE).encode()
 
 
-@dataclass(frozen=True)
-class Case:
+class Case(NamedTuple):
     """A case: a script, and the report that is expected of it."""
 
     name: str
@@ -97,7 +95,6 @@ class Case:
             return self.script()
         return _front_of(self.script(), self.until) + LOOKS
 
-
     def has_answers_of_machine(self) -> bool:
         """Whether a step before the first that is to be refused has an answer that a machine can give."""
         return not self.expects_fault() and any(
@@ -108,6 +105,12 @@ class Case:
         """Its script for a machine: text ends before the first step that is to be refused, and bytes are whole."""
         taken = sum(1 for _ in takewhile(_is_taken, self._expected_steps()))
         return self.script() if self.is_bytes else _front_of(self.stopped_script(), taken)
+
+    def handed(self, is_for_machine: bool, can_stop: bool) -> bytes:
+        """Its script as a command gets it, which can stop a run or not."""
+        if is_for_machine:
+            return self.machine_script()
+        return self.script() if can_stop else self.stopped_script()
 
     def _expected_steps(self) -> Iterator[Answer]:
         """The steps of the report that is expected."""

@@ -17,8 +17,6 @@ PIPE_CLOSED, INTERRUPTED, SIGNALLED = 141, 130, 128
 # The signals that end a tool, apart from the user's own.
 ENDING = ("SIGTERM", "SIGHUP")
 NO_MEMORY = "there is not enough memory for this"
-
-
 # How the exit status reads of a tool that tells differences, and of one that does a job or doesn't.
 DIFFERS = "Exit status: 0 done, and nothing differs; 1 something differs; 2 the work can't be done."
 DOES = "Exit status: 0 done; 2 the work can't be done."
@@ -142,11 +140,6 @@ def _done(name: str, work: Callable[[], int], progress: Optional[Progress]) -> i
     return status
 
 
-def _drop_output() -> None:
-    """Drops what can't be written, which would fail once more when Python ends."""
-    os.dup2(os.open(os.devnull, os.O_WRONLY), sys.stdout.fileno())
-
-
 def run(name: str, work: Callable[[], int], progress: Optional[Progress] = None) -> int:
     """Does a tool's work, which answers its exit status; the status with which the tool is to end.
 
@@ -171,7 +164,8 @@ def run(name: str, work: Callable[[], int], progress: Optional[Progress] = None)
         status = TROUBLE
     if progress is not None:
         progress.clear()
-    _drop_output()
+    # What can't be written would fail once more when Python ends.
+    os.dup2(os.open(os.devnull, os.O_WRONLY), sys.stdout.fileno())
     return status
 
 

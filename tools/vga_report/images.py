@@ -5,8 +5,7 @@ from __future__ import annotations
 import re
 import struct
 import zlib
-from dataclasses import dataclass
-from typing import Iterator, Sequence
+from typing import Iterator, NamedTuple, Sequence
 
 from zaklimot.format import Picture
 
@@ -21,8 +20,7 @@ MOST_BYTES = 1 << 26
 SAMPLES, PALETTE = {0: 1, 2: 3, 3: 1, 4: 2, 6: 4}, 3
 
 
-@dataclass(frozen=True)
-class Image:
+class Image(NamedTuple):
     """An image: its rows, three bytes a dot, each up to a most that is 63 or 255."""
 
     width: int

@@ -137,7 +137,7 @@ def _in_numbers(form: str, numbers: Sequence[Field], words: Sequence[Word], end:
     """The mistake in words that are to be these numbers, behind what a step begins with."""
     usage = " ".join((form, *(number.name for number in numbers)))
     for number, word in zip(numbers, words):
-        found = _in_number(number, word)
+        found = _in_digits(number, word) if number.digits else _in_decimal(number, word)
         if found is not None:
             return found
     if len(words) < len(numbers):
@@ -153,11 +153,6 @@ def _word_too_many(word: Word, usage: str) -> Mistake:
     if word.text.lower() in NAMES:
         return _wrong(word, "a word too many: one step stands on a line")
     return _wrong(word, f"a word too many: {usage}")
-
-
-def _in_number(number: Field, word: Word) -> Optional[Mistake]:
-    """Why a word is not such a number."""
-    return _in_digits(number, word) if number.digits else _in_decimal(number, word)
 
 
 def _cleaned(text: str) -> Optional[str]:

@@ -112,13 +112,3 @@ class Page:
             HERE / "page.html", POLICY=escape(POLICY), TITLE=escape(title), STYLE=style, TOLD=_told(said, link), SIZES=SIZES,
             FIGURES=figures, HEADS=heads, ROWS="\n".join(self._rows), FRAMES=frames, SCRIPT=script,
         )
-
-
-def run_page() -> Page:
-    """An empty page of a run."""
-    return Page([""], ["line", "step", "step as understood", "answer"])
-
-
-def compare_page(name: str, other: str) -> Page:
-    """An empty page of two reports."""
-    return Page([name, other, "where they differ"], ["step", name, other, "dots that differ"])

@@ -2,8 +2,7 @@
 
 import struct
 import zlib
-from dataclasses import dataclass
-from typing import BinaryIO, Iterable, Iterator, Optional
+from typing import BinaryIO, Iterable, Iterator, NamedTuple, Optional
 
 from zaklimot.format import Picture
 from zaklimot.format.picture import marks_in_row
@@ -26,8 +25,7 @@ UPPER_HALF, MONITOR = "\u2580", 4 / 3
 MOST_DOTS = 100_000_000
 
 
-@dataclass(frozen=True)
-class Shape:
+class Shape(NamedTuple):
     """How a picture is enlarged: each dot so often, and then to the shape of a monitor of 4 by 3."""
 
     scale: int = 1

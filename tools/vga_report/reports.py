@@ -12,7 +12,7 @@ from .differences import Comparison, Difference, told_dots
 from .expected import Expected
 from .images import Image, image_bytes, image_of, image_of_picture
 from .output import AGREED, DIFFERED, name_of, refuse_twice, say, write, write_name
-from .page import Page, compare_page
+from .page import Page
 from .png import Animation, Shape, write_marked_png, write_png
 from .progress import Progress
 from .report import Report
@@ -138,12 +138,13 @@ def compare(words: argparse.Namespace, progress: Progress) -> int:
     refuse_twice(words.report, words.other)
     name, other_name = name_of(words.report), name_of(words.other)
     comparison = Comparison()
-    page = compare_page(name, other_name) if words.html else None
+    names = name, other_name
+    page = Page([*names, "where they differ"], ["step", *names, "dots that differ"]) if words.html else None
     with reading(words.report) as stream, reading(words.other) as other_stream:
         steps = Report(stream, name, progress).steps()
         others = Report(other_stream, other_name).steps()
         differences = comparison.differences(steps, others)
-        count = _tell_differences(differences, (name, other_name), words, progress, page)
+        count = _tell_differences(differences, names, words, progress, page)
         if page is not None:
             said = f"{count} step{'s differ' if count != 1 else ' differs'}; {comparison.text()}"
             write_file(words.html, page.text(f"{name} and {other_name}", said).encode("utf-8", "replace"))

@@ -4,7 +4,6 @@ import io
 import re
 import shlex
 import tempfile
-from dataclasses import dataclass
 from pathlib import Path
 from threading import Event
 from typing import Iterator, NamedTuple, Optional
@@ -30,8 +29,7 @@ NO_ANSWERS = "all that it asks is a picture, a dump, a refusal or a fault of the
 SHOWN_LINES = 10
 
 
-@dataclass(frozen=True)
-class Result:
+class Result(NamedTuple):
     """What came of a case."""
 
     case: Case
@@ -99,7 +97,7 @@ def run_case(case: Case, command: Optional[Command], keep: Optional[Path] = None
     with tempfile.TemporaryDirectory(prefix="vga-report-") as name:
         folder = Path(name)
         script, report, messages = folder / f"script{case.suffix}", folder / "report", folder / "messages"
-        script.write_bytes(_script_for(case, command))
+        script.write_bytes(case.handed(command.kind.is_machine, command.can_stop))
         outcome = command.run(case, script, report, messages)
         comparison = Comparison(*command.kind)
         if outcome.status is None:
@@ -110,13 +108,6 @@ def run_case(case: Case, command: Optional[Command], keep: Optional[Path] = None
         if keep is not None and result.answer in (DIFFERS, FAILED):
             keep_case(keep, case, script, report, messages)
     return result
-
-
-def _script_for(case: Case, command: Command) -> bytes:
-    """The script that a command gets."""
-    if command.kind.is_machine:
-        return case.machine_script()
-    return case.script() if command.can_stop else case.stopped_script()
 
 
 def _judged(case: Case, rule: str, comparison: Comparison, status: int, report: Path, messages: Path) -> Result:

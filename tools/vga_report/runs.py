@@ -15,9 +15,9 @@ from .blessing import Blessing
 from .debugging import debug_page, link_to
 from .listing import Choice, Row, Script, heading, listed
 from .output import AGREED, DIFFERED, counted, name_of, write
-from .page import run_page
+from .page import Page
 from .png import Shape, block_lines, write_png
-from .program import FONTS, Built, Tried, build_program, found_program
+from .program import Built, Tried, build_program, found_program
 from .progress import Progress
 from .script import read_script
 from .several import run_several, watched
@@ -209,7 +209,7 @@ class _Shower:
         self._words = words
         self._progress = progress
         self._is_listed = not (words.bless or words.html or words.quiet or words.diff or words.json == STANDARD)
-        self._page = run_page()
+        self._page = Page([""], ["line", "step", "step as understood", "answer"])
         self._whys: set[str] = set()
         self._width = 0
 
@@ -267,6 +267,3 @@ def _bless(words: argparse.Namespace, script: Script, blessing: Optional[Blessin
     done = "would be written" if words.dry_run else "written"
     write(f"{path}: {counted(len(changes), 'answer')} {done}\n")
     return AGREED
-
-
-DEFAULT_FONTS = str(FONTS)

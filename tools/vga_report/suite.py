@@ -110,19 +110,13 @@ def scripts(words: argparse.Namespace, progress: Progress) -> int:
             continue
         path = folder / (case.name + case.suffix)
         path.parent.mkdir(parents=True, exist_ok=True)
-        write_file(str(path), _script_of(case, words.machine))
+        # Nothing but its end stops a text.
+        write_file(str(path), case.handed(words.machine, case.is_bytes))
         write_name(path)
         lines.append(f"{case.name}{case.suffix} {_copied_font(case.fonts, folder, fonts)}\n")
     write_file(str(folder / LIST), "".join(lines).encode("utf-8", "surrogateescape"))
     write_name(folder / LIST)
     return AGREED
-
-
-def _script_of(case: Case, is_for_machine: bool) -> bytes:
-    """The script of a case, which nothing but its end stops."""
-    if is_for_machine:
-        return case.machine_script()
-    return case.script() if case.is_bytes else case.stopped_script()
 
 
 def _copied_font(font: Optional[Path], folder: Path, fonts: dict[Path, str]) -> str:

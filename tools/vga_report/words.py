@@ -5,9 +5,10 @@ import math
 from typing import Callable
 
 from . import TOP, cli
+from .program import FONTS
 from .progress import Progress
 from .reports import check, compare, compare_picture, pictures, text
-from .runs import DEFAULT_FONTS, run
+from .runs import run
 from .streams import to_read
 from .suite import scripts, suite
 
