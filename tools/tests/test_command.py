@@ -231,14 +231,8 @@ REFUSING = (
 )
 SUITES: list[tuple[tuple[tuple[str, str], ...], str, list[str]]] = [
     # A skipped step, and damage behind a difference, hide none.
-    (
-        (("frame\nget A0000\n", "1 ragged\n2 55\n"),), "",
-        ["c/0: step 2: FF, not 55 (`get A0000`, c/0.vga:2)\n"],
-    ),
-    (
-        (("get A0000\ncut\n", "1 55\n2 ok\n"),), "",
-        ["c/0: step 1: FF, not 55 (`get A0000`, c/0.vga:1)\n"],
-    ),
+    ((("frame\nget A0000\n", "1 ragged\n2 55\n"),), "", ["c/0: step 2: FF, not 55 (`get A0000`, c/0.vga:2)\n"]),
+    ((("get A0000\ncut\n", "1 55\n2 ok\n"),), "", ["c/0: step 1: FF, not 55 (`get A0000`, c/0.vga:1)\n"]),
     # A bus may refuse nothing.
     (REFUSING, "", ["\n2 cases: 2 differ\n"]),
     (REFUSING, "--no-refusals", [
@@ -264,10 +258,7 @@ SUITES: list[tuple[tuple[tuple[str, str], ...], str, list[str]]] = [
         f"  failed   c/0\n           c/0: {ENDED}\n", f"  failed   c/1\n           c/1: {ENDED}\n",
         "  failed   c/2\n           c/2: its report:1: the report ends within a line\n",
     ]),
-    (
-        (("wait\n", "1 FF\n"),), "--timeout 1",
-        ["  failed   c/0\n           c/0: the command took too long\n"],
-    ),
+    ((("wait\n", "1 FF\n"),), "--timeout 1", ["  failed   c/0\n           c/0: the command took too long\n"]),
 ]
 
 
@@ -531,11 +522,16 @@ class Scripts(Cases):
             self.write(name.replace("_", "."), text)
         return self.cases(line)[-1].stopped_script()
 
-    def test_the_text_as_it_stands(self) -> None:
-        self.assertEqual(self.script("one\n", one_vga="; é\nframe\n"), "; é\nframe\n".encode())
-
-    def test_a_front_stands_before_it(self) -> None:
-        self.assertEqual(self.script("front f\none\n", f="out 3C2 01\n", one_vga="frame\n"), b"out 3C2 01\nframe\n")
+    def test_the_bytes_that_a_case_stands_for(self) -> None:
+        for line, files, script in [
+            ("one\n", {"one_vga": "; é\nframe\n"}, "; é\nframe\n".encode()),
+            ("front f\none\n", {"f": "out 3C2 01\n", "one_vga": "frame\n"}, b"out 3C2 01\nframe\n"),
+            # A script with a mistake stays whole.
+            ("one until 0\n", {"one_vga": "fram\n", "one_txt": "F7 BadLine(1)\n"}, b"fram\n"),
+            ("bytes one\n", {"one_hex": "; x\n56 47\t4a*3\n00*2 ; 11\n"}, b"VGJJJ\0\0"),
+        ]:
+            with self.subTest(line):
+                self.assertEqual(self.script(line, **files), script)
 
     def test_a_run_that_is_stopped_shows_the_state(self) -> None:
         looks = b"show regs\nshow beam\nshow latches\nshow bda\n"
@@ -550,15 +546,9 @@ class Scripts(Cases):
             with self.subTest(steps):
                 self.assertEqual(self.script(f"one until {steps}\n", one_vga=text), front + looks)
 
-    def test_a_script_with_a_mistake_stays_whole(self) -> None:
-        self.assertEqual(self.script("one until 0\n", one_vga="fram\n", one_txt="F7 BadLine(1)\n"), b"fram\n")
-
     def test_a_front_counts_among_the_steps(self) -> None:
         script = self.script("front f\none until 2\n", f="frame\n", one_vga="in 3CC\nin 3CD\n")
         self.assertTrue(script.startswith(b"frame\nin 3CC\nshow regs\n"), script)
-
-    def test_digits_of_bytes(self) -> None:
-        self.assertEqual(self.script("bytes one\n", one_hex="; x\n56 47\t4a*3\n00*2 ; 11\n"), b"VGJJJ\0\0")
 
     def test_digits_that_are_none(self) -> None:
         for word in ("5", "567", "GG", "56*", "56*0", "56*x"):

@@ -14,9 +14,8 @@ from vga_report.program import FONTS
 
 from .test_page import Alone
 from .test_run import Fake
-from .tools import Folder
+from .tools import TOOLS, Folder
 
-TOOLS = Path(__file__).resolve().parents[1]
 TEXT = "; A script.\nint ax=3 ; = ax=0003\nframe ; <!-- </script> \u00e9\n"
 OTHER_FONTS = bytes(9728)
 

@@ -1,11 +1,10 @@
 """The page that runs scripts: how its scripts are joined, what it is given, what its module is held to."""
 
+from __future__ import annotations
+
 import base64
-import contextlib
 import gzip
-import io
 import json
-import tempfile
 import unittest
 from pathlib import Path
 from unittest import mock
@@ -21,6 +20,8 @@ from vga_page.retargeting import LAYOUTS, TRIPLES, retargeted
 from vga_page.wasm import check_module, exports_of, kit_of, with_kit
 from vga_report.trouble import TROUBLE, Trouble, Wrong
 from vga_report.debugging import page_data
+
+from .tools import Folder, call
 
 FRAME = f"<!DOCTYPE html>\n{STYLE}\n{DATA}\n{SCRIPT}\n"
 
@@ -292,12 +293,11 @@ class Running(unittest.TestCase):
         self.assertEqual(run(["sh", "-c", 'printf "$ONE"'], environment={"ONE": "1"}), "1")
 
 
-class Commands(unittest.TestCase):
-    def said(self, *words: str) -> str:
-        said = io.StringIO()
-        with contextlib.redirect_stderr(said):
-            self.assertEqual(command.main(words), TROUBLE)
-        return said.getvalue()
+class Commands(Folder):
+    def said(self, *words: str | Path) -> str:
+        status, output, said = call(command.main, *words)
+        self.assertEqual((status, output), (TROUBLE, ""))
+        return said
 
     def test_words_that_cannot_be_meant(self) -> None:
         for words, reason in (
@@ -309,21 +309,17 @@ class Commands(unittest.TestCase):
                 self.assertTrue(self.said(*words).startswith(f"vga-page: {reason}"))
 
     def test_a_module_that_was_made_already(self) -> None:
-        with tempfile.TemporaryDirectory() as name, mock.patch.object(command, "read_sources", small_sources):
-            module, made = Path(name) / "module", Path(name) / "page"
-            module.write_bytes(module_of(Modules.right))
-            output = io.StringIO()
-            with contextlib.redirect_stdout(output):
-                self.assertEqual(command.main(["make", str(made), "--module", str(module)]), 0)
-            self.assertEqual(built.module_in(made.read_bytes()), module.read_bytes())
-            self.assertIn(f"{made}: {made.stat().st_size:,} bytes; its module has", output.getvalue())
-            self.assertIn("so it isn't written", self.said("make", str(module), "--module", str(module)))
-            module.write_bytes(b"no module")
-            said = self.said("make", str(made), "--module", str(module))
-            self.assertIn("it is no WebAssembly module", said)
+        self.patch(mock.patch.object(command, "read_sources", small_sources))
+        module, made = Path(self.write("module", module_of(Modules.right))), self.folder / "page"
+        status, output, _ = call(command.main, "make", made, "--module", module)
+        self.assertEqual((status, built.module_in(made.read_bytes())), (0, module.read_bytes()))
+        self.assertIn(f"{made}: {made.stat().st_size:,} bytes; its module has", output)
+        self.assertIn("so it isn't written", self.said("make", module, "--module", module))
+        module.write_bytes(b"no module")
+        self.assertIn("it is no WebAssembly module", self.said("make", made, "--module", module))
 
 
-class Tests(unittest.TestCase):
+class Tests(Folder):
     """That the page's tests can fail."""
 
     def test_a_page_of_other_sources(self) -> None:
@@ -385,14 +381,12 @@ class Tests(unittest.TestCase):
         with mock.patch("shutil.which", return_value="node"), old:
             told = refused(node.node_words)
         self.assertEqual(told, "node: it is v18.19.0, and the tests need 20 or newer: the package nodejs")
-        said = io.StringIO()
-        with mock.patch("shutil.which", return_value=None), contextlib.redirect_stderr(said):
-            self.assertEqual(tests_command.main([]), TROUBLE)
-        self.assertTrue(said.getvalue().startswith("vga-page-tests: node: "))
+        with mock.patch("shutil.which", return_value=None):
+            status, _, said = call(tests_command.main)
+        self.assertEqual((status, said[:22]), (TROUBLE, "vga-page-tests: node: "))
 
     def test_the_files_of_tests(self) -> None:
-        with tempfile.TemporaryDirectory() as name:
-            text = 'import test from "node:test";\n'
-            for file, content in (("a.mjs", text), ("browser.mjs", text), ("b.mjs", "")):
-                (Path(name) / file).write_text(content)
-            self.assertEqual([path.name for path in scripts.test_files(Path(name))], ["a.mjs"])
+        text = 'import test from "node:test";\n'
+        for file, content in (("a.mjs", text), ("browser.mjs", text), ("b.mjs", "")):
+            self.write(file, content)
+        self.assertEqual([path.name for path in scripts.test_files(self.folder)], ["a.mjs"])

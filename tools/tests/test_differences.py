@@ -2,9 +2,9 @@
 
 import hashlib
 import unittest
-from typing import Optional
+from typing import Iterator, Optional
 
-from vga_report.differences import Comparison, Difference
+from vga_report.differences import Comparison
 from vga_report.dumps import NAMES, differing
 from vga_report.expected import Expected
 from vga_report.report import Report
@@ -20,28 +20,21 @@ CRTC = "crtc 00: " + " ".join(["00"] * 25)
 REGISTERS = "misc 00\nseq 00: 00\ncrtc 00: 00\ngfx 00: 00\nattr 00 i: 00\ndac 00 r FF 00 00"
 
 
-def first(data: bytes, other: bytes) -> Optional[Difference]:
-    steps, others = Report(stream(data), "a").steps(), Report(stream(other), "b").steps()
-    return next(Comparison().differences(steps, others), None)
+def first(data: bytes, others: Iterator[Answer]) -> Optional[str]:
+    """How a report differs from other answers first."""
+    difference = next(Comparison().differences(Report(stream(data), "a").steps(), others), None)
+    return difference and difference.text()
 
 
 def against(data: bytes, expected: str) -> Optional[str]:
     """How a report differs from an expected one."""
-    steps = Report(stream(data), "a").steps()
-    others = Expected(stream(expected.encode()), "e").steps()
-    difference = next(Comparison().differences(steps, others), None)
-    return difference and difference.text()
+    return first(data, Expected(stream(expected.encode()), "e").steps())
 
 
 class Reports(unittest.TestCase):
-    def assert_differs(self, data: bytes, other: bytes, text: str) -> None:
-        difference = first(data, other)
-        assert difference is not None
-        self.assertEqual(difference.text(), text)
-
     def test_alike(self) -> None:
         for data in (b"", report("ok", "55", DUMP, PICTURE, "E1 NotDecoded"), b"F2 BadMagic\n"):
-            self.assertIsNone(first(data, data))
+            self.assertIsNone(first(data, Report(stream(data), "b").steps()))
 
     def test_the_first_difference(self) -> None:
         for data, other, text in [
@@ -56,18 +49,14 @@ class Reports(unittest.TestCase):
             (b"F2 BadMagic\n", b"F3 BadVersion\n", "the run: F2 BadMagic, not F3 BadVersion"),
             (b"F2 BadMagic\n", report("ok"), "step 1: F2 BadMagic (fault), not ok"),
             (b"", b"F2 BadMagic\n", "the run: the end, not F2 BadMagic"),
+            (report(PICTURE), report(ppm(3, 2, RED * 2 + BLACK * 2 + WHITE * 2)),
+             "step 1: 2 of 6 dots differ, the first is dot 1 of row 1: 000000, not 3F3F3F"),
+            (report(PICTURE), report(ppm(3, 2, RED * 2 + WHITE + BLACK + WHITE * 2)),
+             "step 1: 3 of 6 dots differ, the first is dot 2 of row 0: 000000, not 3F3F3F"),
+            (report(PICTURE), report(ppm(2, 3, BLACK * 6)), "step 1: picture 28 3x2, not picture 28 2x3"),
         ]:
             with self.subTest(text):
-                self.assert_differs(data, other, text)
-
-    def test_pictures(self) -> None:
-        other = ppm(3, 2, RED * 2 + BLACK * 2 + WHITE * 2)
-        text = "step 1: 2 of 6 dots differ, the first is dot 1 of row 1: 000000, not 3F3F3F"
-        self.assert_differs(report(PICTURE), report(other), text)
-        other = ppm(3, 2, RED * 2 + WHITE + BLACK + WHITE * 2)
-        text = "step 1: 3 of 6 dots differ, the first is dot 2 of row 0: 000000, not 3F3F3F"
-        self.assert_differs(report(PICTURE), report(other), text)
-        self.assert_differs(report(PICTURE), report(ppm(2, 3, BLACK * 6)), "step 1: picture 28 3x2, not picture 28 2x3")
+                self.assertEqual(first(data, Report(stream(other), "b").steps()), text)
 
     def test_all_differences_and_what_was_skipped(self) -> None:
         comparison = Comparison()
@@ -178,8 +167,6 @@ class Answers(unittest.TestCase):
         self.assertEqual([step.answer for step in steps], answers)
         self.assertEqual([step.number for step in steps], list(range(1, 9)))
         self.assertEqual([step.line for step in steps], list(range(1, 9)))
-
-    def test_no_bytes_are_no_steps(self) -> None:
         self.assertEqual(steps_of(b""), [])
 
     def test_a_dump_has_all_its_lines(self) -> None:

@@ -130,15 +130,11 @@ class Page(unittest.TestCase):
     def test_its_program_is_the_example(self) -> None:
         self.assertIn((TOP / "examples" / "c" / "picture.c").read_text("ascii"), PAGE.read_text("utf-8"))
 
-    def test_its_way_of_settling_is_the_core_s(self) -> None:
-        core = (TOP / "examples" / "c" / "core.c").read_text("ascii")
-        for name in ("take_frame", "settle"):
-            function = core[core.index(f"static void {name}(void)\n{{"):]
-            self.assertIn(function[:function.index("\n}\n") + 3], PAGE.read_text("utf-8"))
-
-    def test_its_way_through_scripts_is_the_debugger_s(self) -> None:
+    def test_its_functions_are_those_of_the_examples(self) -> None:
         for name, begins in (
-            ("debugger", "/* Takes the next steps,"), ("debugger", "static void back("), ("script", "zak_status script_assemble("),
+            ("core", "static void take_frame(void)\n{"), ("core", "static void settle(void)\n{"),
+            ("debugger", "/* Takes the next steps,"), ("debugger", "static void back("),
+            ("script", "zak_status script_assemble("),
         ):
             source = (TOP / "examples" / "c" / f"{name}.c").read_text("ascii")
             function = source[source.index(begins):]

@@ -56,14 +56,10 @@ class Judged(Folder):
 
 
 class Faults(Folder):
-    def told(self, fault: str, data: bytes, fonts: bytes = bytes(9728)) -> str:
-        """What is told of a fault of these files."""
-        (self.folder / "s").write_bytes(data)
-        (self.folder / "f").write_bytes(fonts)
-        return explained("vga: " + fault, Files(str(self.folder / "s"), str(self.folder / "f")))
-
     def assert_told(self, fault: str, name: str, reason: str, data: bytes, fonts: bytes = bytes(9728)) -> None:
-        self.assertEqual(self.told(fault, data, fonts), f"{self.folder / name}: {fault}: {reason}")
+        """What is told of a fault of these files."""
+        files = Files(self.write("s", data), self.write("f", fonts))
+        self.assertEqual(explained("vga: " + fault, files), f"{self.folder / name}: {fault}: {reason}")
 
     def test_texts(self) -> None:
         for text, reason in TEXTS:

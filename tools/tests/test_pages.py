@@ -6,7 +6,8 @@ import unittest
 from pathlib import Path
 from typing import Iterator
 
-ROOT = Path(__file__).resolve().parents[2]
+from .tools import TOP as ROOT
+
 # A link or a picture: what stands between its round brackets, without a title.
 LINK = re.compile(r"\]\(([^()\s]+)\)")
 HEADING, ANCHOR = re.compile(r"#{1,6} +(.*?)\s*$"), re.compile(r'<a (?:id|name)="([^"]+)">')
@@ -113,7 +114,3 @@ class References(unittest.TestCase):
                     for word, file in defined:
                         said = (ROOT / file).read_text("utf-8")
                         self.assertRegex(said, rf"(?m)^(\w+ )?pub (record |data )?{word}\b")
-
-
-if __name__ == "__main__":
-    unittest.main()

@@ -3,6 +3,7 @@
 import json
 import unittest
 from pathlib import Path
+from typing import Sequence
 
 from vga_report.refusals import OF_CALLS, State, step_of, why_refused
 from zaklimot.format import REFUSALS
@@ -13,27 +14,30 @@ from .program import run_texts
 CASES = json.loads(Path(__file__).with_name("refusals.json").read_text("utf-8"))
 
 
+def state_behind(lines: Sequence[str]) -> State:
+    """The state that steps leave."""
+    state = State()
+    for line in lines:
+        step = step_of(line)
+        assert step is not None
+        state.take(step)
+    return state
+
+
 class Refusals(unittest.TestCase):
     def test_each_is_told_as_the_page_tells_it(self) -> None:
         for case in CASES:
             with self.subTest(case["text"]):
-                state, (*before, last) = State(), case["text"].split("\n")
-                for line in before:
-                    step = step_of(line)
-                    assert step is not None
-                    state.take(step)
-                self.assertEqual(why_refused(last, int(case["answer"][1:].split()[0]), state), case["told"])
+                *before, last = case["text"].split("\n")
+                number = int(case["answer"][1:].split()[0])
+                self.assertEqual(why_refused(last, number, state_behind(before)), case["told"])
 
     def test_there_is_one_of_each(self) -> None:
         self.assertEqual({case["answer"] for case in CASES}, {f"E{number} {name}" for number, name in REFUSALS.items()})
         self.assertEqual({1, 2, 12} | set(OF_CALLS), set(REFUSALS))
 
     def test_what_an_index_hangs_on(self) -> None:
-        state = State()
-        for line in ("int ax=3", "out 3C0 1F", "in 3DA"):
-            step = step_of(line)
-            assert step is not None
-            state.take(step)
+        state = state_behind(["int ax=3", "out 3C0 1F", "in 3DA"])
         self.assertEqual(why_refused("out 3C0 1F", 1, state), "")
         self.assertEqual(why_refused("move 1", 1, state), "")
         self.assertIn("The index of the attribute controller is 1F", why_refused("in 3C1", 2, state))

@@ -75,22 +75,21 @@ class Made(unittest.TestCase):
 
 
 class Settling(unittest.TestCase):
-    def setUp(self) -> None:
-        self.pages = Pages(["docs/A.md", "README.md", "src/low/x.rs"], {"docs/B.md": "README.md"})
-
-    def test_links_to_what_is_there(self) -> None:
-        self.assertEqual(self.pages.settled("[a](A.md#c) ![b](../src/low)", "docs/C.md"), "[a](A.md#c) ![b](../src/low)")
-
-    def test_links_to_what_is_not_there_are_words(self) -> None:
-        self.assertEqual(self.pages.settled("[of\ntwo](../src/high/) and `x`", "docs/C.md"), "of\ntwo and `x`")
-
-    def test_links_of_and_to_pages_that_lie_elsewhere(self) -> None:
-        self.assertEqual(self.pages.settled("[b](B.md#d)", "docs/C.md"), "[b](../README.md#d)")
-        self.assertEqual(self.pages.settled("[a](A.md) [c](#e) [f](https://g.h/)", "docs/B.md"), "[a](docs/A.md) [c](#e) [f](https://g.h/)")
-
-    def test_what_stands_between_fences_stays(self) -> None:
-        text = "```\n[a](Z.md)\n```\n[b](Z.md)\n```\n[c](Z.md)\n```\n"
-        self.assertEqual(self.pages.settled(text, "docs/C.md"), "```\n[a](Z.md)\n```\nb\n```\n[c](Z.md)\n```\n")
+    def test_the_links_of_pages(self) -> None:
+        for page, text, settled_text in (
+            ("docs/C.md", "[a](A.md#c) ![b](../src/low)", "[a](A.md#c) ![b](../src/low)"),
+            # Links to what is not there are words.
+            ("docs/C.md", "[of\ntwo](../src/high/) and `x`", "of\ntwo and `x`"),
+            # Pages may lie elsewhere.
+            ("docs/C.md", "[b](B.md#d)", "[b](../README.md#d)"),
+            ("docs/B.md", "[a](A.md) [c](#e) [f](https://g.h/)", "[a](docs/A.md) [c](#e) [f](https://g.h/)"),
+            # What stands between fences stays.
+            ("docs/C.md", "```\n[a](Z.md)\n```\n[b](Z.md)\n```\n[c](Z.md)\n```\n",
+             "```\n[a](Z.md)\n```\nb\n```\n[c](Z.md)\n```\n"),
+        ):
+            with self.subTest(text):
+                pages = Pages(["docs/A.md", "README.md", "src/low/x.rs"], {"docs/B.md": "README.md"})
+                self.assertEqual(pages.settled(text, page), settled_text)
 
 
 def sources() -> dict[str, Entry]:

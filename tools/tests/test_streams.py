@@ -3,7 +3,6 @@
 import io
 import os
 import stat
-import unittest
 from unittest import mock
 
 from vga_report.crates import Phases
@@ -23,11 +22,9 @@ class Writing(Folder):
                 stream.flush()
                 self.assertEqual((self.folder / "a").read_text(), "old")
                 raise KeyboardInterrupt
-        self.assertEqual([file.name for file in self.folder.iterdir()], ["a"])
-        self.assertEqual((self.folder / "a").read_text(), "old")
+        self.assertEqual((self.names(), (self.folder / "a").read_text()), (["a"], "old"))
         write_file(path, b"new")
-        self.assertEqual([file.name for file in self.folder.iterdir()], ["a"])
-        self.assertEqual((self.folder / "a").read_text(), "new")
+        self.assertEqual((self.names(), (self.folder / "a").read_text()), (["a"], "new"))
 
     def test_a_reader_of_the_old_file_reads_on(self) -> None:
         path = self.write("a", "old")
@@ -58,9 +55,8 @@ class Writing(Folder):
 
     def test_a_folder_that_is_not_there(self) -> None:
         path = str(self.folder / "none" / "a")
-        with self.assertRaises(Trouble) as caught:
+        with self.assertRaisesRegex(Trouble, f"^{path}: No such file or directory$"):
             write_file(path, b"new")
-        self.assertEqual(str(caught.exception), f"{path}: No such file or directory")
 
     def test_an_input_is_no_output(self) -> None:
         path = self.write("a", "old")
@@ -78,14 +74,11 @@ class Terminal(io.StringIO):
         return True
 
 
-class Lines(unittest.TestCase):
+class Lines(Folder):
     def setUp(self) -> None:
-        self.terminal = Terminal()
-        self.now = 100.0
-        for target, value in [("sys.stderr", self.terminal), ("time.monotonic", lambda: self.now)]:
-            patch = mock.patch(target, value)
-            patch.start()
-            self.addCleanup(patch.stop)
+        super().setUp()
+        self.terminal, self.now = Terminal(), 100.0
+        self.patch(mock.patch("sys.stderr", self.terminal), mock.patch("time.monotonic", lambda: self.now))
 
     def test_short_work_shows_nothing(self) -> None:
         progress = Progress()

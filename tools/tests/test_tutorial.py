@@ -85,7 +85,6 @@ class Texts(unittest.TestCase):
         listed = {one["name"] for one in examples()}
         self.assertEqual({path.stem for path in SCRIPTS.iterdir()} & listed, set())
 
-
     def test_the_check_in_a_browser_does_what_it_says(self) -> None:
         fakes = {"run_node": lambda words, *_: f"{words[0].name}\n", "CHROMIUM": [sys.executable]}
         with mock.patch.multiple(scripts, **fakes):
@@ -157,7 +156,3 @@ class Pictures(Folder):
         status, output, said = run_tool("vga-report", "pictures", *words, given=report)
         self.assertEqual(status, 0, said)
         return path.read_bytes() if moves else output
-
-
-if __name__ == "__main__":
-    unittest.main()
