@@ -59,30 +59,21 @@ class Faults(Program):
         self.assert_fault("asm bad new", "F7 BadLine(2)")
         self.assertEqual((self.folder / "new").read_bytes(), b"old")
 
-    def test_what_comes_first(self) -> None:
+    def test_files_that_can_not_be_had_and_what_comes_first(self) -> None:
         self.write("bad", "frame\nfram\n")
+        unread = (
+            "go bad --fonts none", "run none --fonts short", "go none --fonts fonts", "asm no/such/file new",
+            "dis no/such/file",
+            # Those that are opened, and can't be read.
+            "asm . new", "dis .", "run . --fonts fonts", "run script --fonts .", "go . --fonts fonts",
+        )
         for words, line in [
-            ("go bad --fonts none", "F8 ReadFault"),
-            ("run none --fonts short", "F8 ReadFault"),
-            ("run text --fonts short", "F1 FontSize"),
-            ("run text --fonts fonts", "F2 BadMagic"),
+            *((words, "F8 ReadFault") for words in unread),
+            ("run text --fonts short", "F1 FontSize"), ("run text --fonts fonts", "F2 BadMagic"),
             ("go bad --fonts short", "F7 BadLine(2)"),
-            ("go none --fonts fonts", "F8 ReadFault"),
+            ("asm text no/such/file", "F9 WriteFault"), ("asm text .", "F9 WriteFault"),
         ]:
             self.assert_fault(words, line)
-
-    def test_files_that_can_not_be_had(self) -> None:
-        for words, line in [
-            ("asm no/such/file new", "F8 ReadFault"),
-            ("dis no/such/file", "F8 ReadFault"),
-            ("asm text no/such/file", "F9 WriteFault"),
-            ("asm text .", "F9 WriteFault"),
-        ]:
-            self.assert_fault(words, line)
-
-    def test_a_file_that_is_opened_and_can_not_be_read(self) -> None:
-        for words in ("asm . new", "dis .", "run . --fonts fonts", "run script --fonts .", "go . --fonts fonts"):
-            self.assert_fault(words, "F8 ReadFault")
         self.assertFalse((self.folder / "new").exists())
 
 

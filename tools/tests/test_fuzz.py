@@ -84,38 +84,31 @@ class Judging(Fuzzed):
                     self.assertEqual(fed.answer, "wrong")
                     self.assertIn(fed.trouble, (f"vga {name}: {said}", f"vga {name} {said}"))
 
-    def test_faults_of_one_command_alone(self) -> None:
-        refused = "sys.exit('vga: F7 BadLine(1)')"
-        fed = self.fed(SCRIPT, self.program_that(f"{refused} if command == 'run' else None"))
-        self.assertEqual(fed.trouble, "vga run answers F7 BadLine(1), and not done")
+    def test_commands_that_do_not_agree(self) -> None:
         bad = Input(True, b"move 1\n", "text")
-        self.assertEqual(
-            self.fed(bad, self.program_that()).trouble,
-            "vga go: step 1 is answered, and the script has none",
-        )
-        self.assertEqual(
-            self.fed(bad, self.program_that("pass")).trouble,
-            "vga go answers done, and not F7 BadLine(1)",
-        )
-
-    def test_reports_that_differ(self) -> None:
-        fed = self.fed(TEXT, self.program_that("print('1 55' if command == 'go' else '1 FF')"))
-        self.assertEqual(fed.trouble, "vga go and vga run have reports that differ")
+        for given, wrong, trouble in (
+            (SCRIPT, "sys.exit('vga: F7 BadLine(1)') if command == 'run' else None",
+             "vga run answers F7 BadLine(1), and not done"),
+            (bad, "", "vga go: step 1 is answered, and the script has none"),
+            (bad, "pass", "vga go answers done, and not F7 BadLine(1)"),
+            (TEXT, "print('1 55' if command == 'go' else '1 FF')", "vga go and vga run have reports that differ"),
+            # A printed text may answer otherwise.
+            (SCRIPT, "print('1 54' if command == 'go' else '1 55')",
+             "vga run and vga go of what vga dis prints have reports that differ"),
+        ):
+            with self.subTest(wrong):
+                self.assertEqual(self.fed(given, self.program_that(wrong)).trouble, trouble)
 
     def test_a_text_that_spells_another_script(self) -> None:
-        path = self.program(
-            "program", GOOD.replace("stdout.buffer.write(data)", "stdout.buffer.write(data + b'x')")
-        )
+        path = self.program("program", GOOD.replace("buffer.write(data)", "buffer.write(data + b'x')"))
         self.assertEqual(self.fed(SCRIPT, path).trouble, "vga asm: what vga dis prints spells another script")
 
     def test_a_report_that_fills_its_room(self) -> None:
         full = "\n    try:\n        for n in range(1, 100000): sys.stdout.buffer.write(b'%d 55\\n' % n)\n"
         full += "        sys.stdout.flush()\n    except OSError: os.dup2(os.open('/dev/null', os.O_WRONLY), 1);"
         long = Input(False, b"VGAS\x02\x0d\xff\xff\x03\xda\x03\x0e", "script")
-        self.assertEqual(
-            self.fed(long, self.program_that(full + " sys.exit('vga: F9 WriteFault')")),
-            Fed("F9 WriteFault"),
-        )
+        path = self.program_that(full + " sys.exit('vga: F9 WriteFault')")
+        self.assertEqual(self.fed(long, path), Fed("F9 WriteFault"))
 
     def test_reports_that_change(self) -> None:
         seen = self.folder / "seen"
@@ -124,10 +117,6 @@ class Judging(Fuzzed):
             seen.unlink(missing_ok=True)
             trouble = f"vga {name} and vga {name} once more have reports that differ"
             self.assertEqual(self.fed(given, self.program_that(wrong)).trouble, trouble)
-
-    def test_a_printed_text_that_answers_otherwise(self) -> None:
-        fed = self.fed(SCRIPT, self.program_that("print('1 54' if command == 'go' else '1 55')"))
-        self.assertEqual(fed.trouble, "vga run and vga go of what vga dis prints have reports that differ")
 
     def test_want_of_memory_behind_whole_lines(self) -> None:
         for written, trouble in ((b"", None), (b"1 55\n", None), (b"1 55", "report:1: the report ends within a line")):

@@ -46,13 +46,10 @@ class Program(Folder):
 
 class Jobs(Program):
     def test_asm_writes_the_script_and_prints_nothing(self) -> None:
-        self.assertEqual(self.ran("asm", "text", "new"), (0, b"", ""))
-        self.assertEqual((self.folder / "new").read_bytes(), SCRIPT)
-
-    def test_asm_empties_a_file_that_is_there(self) -> None:
-        (self.folder / "new").write_bytes(SCRIPT + b"more")
-        self.assertEqual(self.ran("asm", "text", "new"), (0, b"", ""))
-        self.assertEqual((self.folder / "new").read_bytes(), SCRIPT)
+        # The second file is there, and longer.
+        for name in ("new", self.write("old", SCRIPT + b"more")):
+            self.assertEqual(self.ran("asm", "text", name), (0, b"", ""))
+            self.assertEqual((self.folder / name).read_bytes(), SCRIPT)
 
     def test_each_order_of_words(self) -> None:
         for words, output in [
@@ -70,11 +67,7 @@ class Jobs(Program):
 
     def test_a_run_stops_after_the_number_behind_until(self) -> None:
         for number, answers in [
-            ("0", b""),
-            ("1", b"1 ok\n"),
-            ("12", REPORT),
-            ("0012", REPORT),
-            ("4294967295", REPORT),
+            ("0", b""), ("1", b"1 ok\n"), ("12", REPORT), ("0012", REPORT), ("4294967295", REPORT),
             ("00000000000000000004294967295", REPORT),
         ]:
             state = b"%d misc " % (answers.count(b"\n") + 1)
