@@ -7,6 +7,7 @@ import sys
 import tempfile
 import unittest
 from pathlib import Path
+from typing import Callable, Optional
 from unittest import mock
 
 from bindings_tests import command, needs, python, rust
@@ -37,6 +38,13 @@ class Words(unittest.TestCase):
 
 
 class Judging(unittest.TestCase):
+    def assert_judged(self, check: Callable[[Path, Path], str], told: Optional[str]) -> None:
+        """What a check tells first, or that it finds something wrong."""
+        if told is None:
+            self.assertRaises(Wrong, check, TOP, TOP)
+        else:
+            self.assertEqual(check(TOP, TOP)[:len(told)], told)
+
     def test_a_program_that_ends_badly_is_wrong(self) -> None:
         self.assertEqual(tested([sys.executable, "-c", "print(7)"]), Done(0, b"7\n", b""))
         with self.assertRaisesRegex(Wrong, "it ended with status 1\n(?s:.*)no such test"):
@@ -48,21 +56,13 @@ class Judging(unittest.TestCase):
             ("a ... skipped 'ZAKLIMOT_DIR is not set'\nRan 9 tests in 1s\n", False), ("", False),
         ):
             with mock.patch.object(python, "tested", lambda *_, **__: Done(0, b"", said.encode())):
-                if is_right:
-                    self.assertTrue(python.check_python(TOP, TOP).startswith("9 tests"))
-                else:
-                    with self.assertRaises(Wrong):
-                        python.check_python(TOP, TOP)
+                self.assert_judged(python.check_python, "9 tests" if is_right else None)
 
     def test_too_few_tests_of_rust_are_wrong(self) -> None:
         line = "test result: ok. {} passed; 0 failed; 0 ignored\n"
         for counts, is_right in (((4, 1, 10, 0, 8), True), ((0, 0, 0, 0, 0), False), ((30,), False)):
             with mock.patch.object(rust, "_cargo", lambda *_: "".join(line.format(count) for count in counts)):
-                if is_right:
-                    self.assertEqual(rust.check_rust(TOP, TOP), "23 tests")
-                else:
-                    with self.assertRaises(Wrong):
-                        rust.check_rust(TOP, TOP)
+                self.assert_judged(rust.check_rust, "23 tests" if is_right else None)
 
     def test_the_page_has_its_programs(self) -> None:
         self.assertEqual(list(rust.programs_of_page()), ["src/main.rs", "src/bin/program_1.rs", "src/bin/program_2.rs"])

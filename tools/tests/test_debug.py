@@ -66,9 +66,7 @@ class Pages(Release):
     def test_a_text(self) -> None:
         status, output, said = self.ran(self.script, "--debug", str(self.made))
         self.assertEqual((status, said), (0, ""))
-        self.assertEqual(output, (
-            f"{self.made}: open it in Chromium or Firefox, for instance as {self.made.as_uri()}\n"
-        ))
+        self.assertEqual(output, f"{self.made}: open it in Chromium or Firefox, for instance as {self.made.as_uri()}\n")
         page = self.made.read_text("utf-8")
         self.assertEqual(self.opened(page), {"name": self.script, "text": TEXT, "fonts": None})
         # No character of the script ends the element of the data.
@@ -108,8 +106,7 @@ class Pages(Release):
         link = self.folder / "link"
         link.symlink_to(self.script)
         self.assertIn("so it isn't written", self.ran(self.script, "--debug", str(link))[2])
-        names = sorted(path.name for path in self.folder.iterdir())
-        self.assertEqual(names, ["a release", "fonts", "link", "script.vga"])
+        self.assertEqual(self.names(), ["a release", "fonts", "link", "script.vga"])
 
     def test_what_can_not_be_done(self) -> None:
         def said(*words: str, given: bytes = b"") -> str:
@@ -121,14 +118,13 @@ class Pages(Release):
         debug = ["--debug", str(self.made)]
         self.assertEqual(said("none", *debug), "none: No such file or directory\n")
         self.assertEqual(said("-", *debug, given=bytes(16_777_217)), "standard input: F6 TooLong: a script has at most 16,777,216 bytes\n")
-        for words in (["--only", "1"], ["--try"], ["--vga", "x"]):
-            told = said(self.script, *debug, *words)
-            self.assertTrue(told.startswith("--debug runs nothing here: "), words)
-        for words in (["--bless"], ["--show"], ["--pictures", "p"]):
-            told = said(self.script, *debug, *words)
-            self.assertTrue(told.startswith("--debug writes a page that runs the script: "), words)
-        self.assertIn("both want files", said(self.script, *debug, "--html", "-"))
-        self.assertIn("want two files", said(self.script, *debug, "--html", str(self.made)))
+        nothing, page = "^--debug runs nothing here: ", "^--debug writes a page that runs the script: "
+        for words, told in (
+            (["--only", "1"], nothing), (["--try"], nothing), (["--vga", "x"], nothing),
+            (["--bless"], page), (["--show"], page), (["--pictures", "p"], page),
+            (["--html", "-"], "both want files"), (["--html", str(self.made)], "want two files"),
+        ):
+            self.assertRegex(said(self.script, *debug, *words), told, words)
         self.fonts.write_bytes(bytes(9727))
         told = f"{self.fonts}: the font file has 9,727 bytes, and 9,728 are right\n"
         self.assertEqual(said(self.script, *debug), told)

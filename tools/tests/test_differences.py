@@ -217,7 +217,9 @@ class Damage(unittest.TestCase):
                 seen += 1
         self.assertEqual((str(caught.exception), seen), ("r:" + message, good))
 
-    def test_lines(self) -> None:
+    def test_lines_and_lengths_of_pictures(self) -> None:
+        lengths = ("99999999999999", "0", "037", "-1", "3x", "", "37 9x1", "37 9x1 0123")
+        pictures = [f"picture {length}".rstrip() for length in lengths]
         for data, message, good in [
             (b"1 ok\n2 o", "2: the report ends within a line", 1),
             (b"1 ok\n3 ok\n", "2: step 2 is to come, and not '3 ok'", 1),
@@ -230,16 +232,11 @@ class Damage(unittest.TestCase):
             (b"1 ok\r\n", "1: the line ends with a carriage return: a report is bytes, not a system's text", 0),
             (b"1 " + bytes([0x30]) * 300000, "1: the line is longer than any answer", 0),
             (b"F2 BadMagic\n1 ok\n", "2: something stands behind a fault", 0),
+            *((f"1 ok\n2 {picture}\n3 ok\n".encode(), f"2: step 2 has a picture of no length: '{picture}'", 1)
+              for picture in pictures),
         ]:
             with self.subTest(data[:20]):
                 self.assert_trouble(data, message, good)
-
-    def test_lengths_of_pictures(self) -> None:
-        for length in ("99999999999999", "0", "037", "-1", "3x", "", "37 9x1", "37 9x1 0123"):
-            with self.subTest(length):
-                line = f"2 picture {length}".rstrip()
-                message = f"2: step 2 has a picture of no length: '{line[2:]}'"
-                self.assert_trouble(f"1 ok\n{line}\n3 ok\n".encode(), message, 1)
 
     def test_pictures(self) -> None:
         good = ppm(2, 1, 6 * b"\x01")

@@ -48,33 +48,25 @@ class Commands(Folder):
         words = [sys.executable, "-c", program, str(self.folder / "child")]
         return run_command(words, self.folder / "out", self.folder / "said", limits, is_ended or Event())
 
-    def assert_child_ends(self) -> None:
-        self.assert_ended(int(self.wait_for(self.folder / "child")))
-
     def test_what_is_written_and_said(self) -> None:
         outcome = self.run_python("import sys; print('written'); print('said', file=sys.stderr); sys.exit(3)")
         self.assertEqual(outcome, Outcome(3))
         self.assertEqual(((self.folder / "out").read_text(), (self.folder / "said").read_text()), ("written\n", "said\n"))
 
-    def test_a_child_that_stays_ends_too(self) -> None:
-        self.assertEqual(self.run_python(PARENT), Outcome(0))
-        self.assert_child_ends()
-
-    def test_a_command_that_takes_too_long_ends_with_its_children(self) -> None:
-        outcome = self.run_python(PARENT + "time.sleep(600)", Limits(2))
-        self.assertEqual(outcome, Outcome(None, "the command took too long"))
-        self.assert_child_ends()
-
-    def test_an_output_without_an_end(self) -> None:
-        endless = PARENT + "\nwhile True: sys.stdout.buffer.write(bytes(1 << 16))"
-        outcome = self.run_python(endless, Limits(60, MEBIBYTE))
-        self.assertEqual(outcome, Outcome(None, "the command wrote more than 1 MiB"))
+    def test_children_end_with_their_command(self) -> None:
+        too_much = Outcome(None, "the command wrote more than 1 MiB")
+        for behind, limits, outcome in (
+            ("", Limits(), Outcome(0)),
+            ("time.sleep(600)", Limits(2), Outcome(None, "the command took too long")),
+            ("while True: sys.stdout.buffer.write(bytes(1 << 16))", Limits(60, MEBIBYTE), too_much),
+        ):
+            with self.subTest(behind):
+                (self.folder / "child").unlink(missing_ok=True)
+                self.assertEqual(self.run_python(PARENT + behind, limits), outcome)
+                self.assert_ended(int(self.wait_for(self.folder / "child")))
         self.assertEqual((self.folder / "out").stat().st_size, MEBIBYTE)
-        self.assert_child_ends()
-
-    def test_a_short_output_that_is_too_long(self) -> None:
-        outcome = self.run_python("print('x' * (1 << 20))", Limits(60, MEBIBYTE))
-        self.assertEqual(outcome, Outcome(None, "the command wrote more than 1 MiB"))
+        # An output that is too long may be short.
+        self.assertEqual(self.run_python("print('x' * (1 << 20))", Limits(60, MEBIBYTE)), too_much)
 
     def test_a_user_who_ends_it(self) -> None:
         is_ended = Event()
@@ -94,10 +86,7 @@ class Signals(Folder):
         self.write("one.txt", "1 ok\n")
         harness = self.write("harness.py", PARENT + "time.sleep(600)")
         self.program("bin/rt", RT)
-        self.program(
-            "bin/dosbox",
-            f"#!/bin/sh\nexec {sys.executable} {TOOLS / 'tests' / 'floppy.py'} wait $CHILD\n",
-        )
+        self.program("bin/dosbox", f"#!/bin/sh\nexec {sys.executable} {TOOLS / 'tests' / 'floppy.py'} wait $CHILD\n")
         places = {
             "harness": f"{sys.executable} {harness} {self.folder}/child {{script}}",
             "list": self.write("list.txt", "fonts two.fnt\none\n"), "script": str(self.folder / "one.vga"),
@@ -115,9 +104,7 @@ class Signals(Folder):
         temporary.mkdir(exist_ok=True)
         child.unlink(missing_ok=True)
         path = f"{self.folder / 'bin'}:{os.environ['PATH']}"
-        with begin(
-            *words, env={**os.environ, "TMPDIR": str(temporary), "PATH": path, "CHILD": str(child)}
-        ) as process:
+        with begin(*words, env={**os.environ, "TMPDIR": str(temporary), "PATH": path, "CHILD": str(child)}) as process:
             numbers = [int(word) for word in self.wait_for(child, process).split()]
             self.assertNotEqual(list(temporary.iterdir()), [])
             process.send_signal(number)

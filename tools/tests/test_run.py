@@ -148,9 +148,7 @@ class Listings(Fake):
         )
         environment = {**os.environ, "PATH": str(self.folder)}
         self.assertEqual(run("run", self.path, "--try", env=environment), (2, b"", told))
-        with mock.patch.dict(os.environ, environment), mock.patch(
-            "vga_report.program.PROGRAM", self.folder / "none"
-        ):
+        with mock.patch.dict(os.environ, environment), mock.patch("vga_report.program.PROGRAM", self.folder / "none"):
             with self.assertRaisesRegex(Trouble, "^rt: it is not in the path: "):
                 build_program(Progress())
         self.assertIn("## Build it\n", (TOP / "README.md").read_text("utf-8"))
@@ -181,9 +179,7 @@ class Listings(Fake):
     def test_long_scripts_take_no_longer_a_step(self) -> None:
         path = self.write("long.vga", "out 3c4 02\n" * 50_000)
         output = self.run_script("--only", "50000", path=path)[1]
-        self.assertEqual(output.splitlines()[1:], [
-            " 50000  50000  OUT 3C4 02          ok", "50000 steps, 0 pictures",
-        ])
+        self.assertEqual(output.splitlines()[1:], [" 50000  50000  OUT 3C4 02          ok", "50000 steps, 0 pictures"])
 
     def test_a_script_whose_name_is_no_text(self) -> None:
         path, fonts = (os.fsencode(self.folder / name) + b"\xff" for name in ("s", "f"))

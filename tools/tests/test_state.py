@@ -130,18 +130,18 @@ class Registers(unittest.TestCase):
                 steps = [Step(OUTW, port, value << 8 | index), Step(OUT, port, index), Step(IN, port + 1)]
                 self.assertEqual(self.read(*steps), [kept])
 
-    def test_a_refused_word_leaves_its_index(self) -> None:
-        self.assertEqual(self.read(Step(OUT, 0x3CE, 8), Step(OUTW, 0x3CE, 0x2005), Step(INW, 0x3CE)), [8])
-        self.assertEqual(self.read(Step(OUTW, 0x3C8, 0x1102), Step(OUTW, 0x3C9, 0x11), Step(IN, 0x3C8)), [2])
-        self.assertEqual(self.read(Step(OUTW, 0x3C2, 0x67), Step(IN, 0x3CC)), [0])
-
-    def test_protected_registers(self) -> None:
-        written = [Step(OUTW, 0x3B4, value) for value in (0x8011, 0xFF00, 0xFF07)]
-        self.assertEqual(self.read(*written, Step(INW, 0x3B4), Step(OUT, 0x3B4, 0), Step(IN, 0x3B5)), [0x1007, 0])
-
-    def test_where_the_controller_is(self) -> None:
-        steps = [Step(IN, 0x3D4), Step(IN, 0x3B4), Step(OUT, 0x3C2, 1), Step(IN, 0x3D4), Step(IN, 0x3BA)]
-        self.assertEqual(self.read(*steps), [None, 0, 0, None])
+    def test_indexes_protection_and_places(self) -> None:
+        protected = [Step(OUTW, 0x3B4, value) for value in (0x8011, 0xFF00, 0xFF07)]
+        for steps, read in (
+            # A refused word leaves its index.
+            ([Step(OUT, 0x3CE, 8), Step(OUTW, 0x3CE, 0x2005), Step(INW, 0x3CE)], [8]),
+            ([Step(OUTW, 0x3C8, 0x1102), Step(OUTW, 0x3C9, 0x11), Step(IN, 0x3C8)], [2]),
+            ([Step(OUTW, 0x3C2, 0x67), Step(IN, 0x3CC)], [0]),
+            ([*protected, Step(INW, 0x3B4), Step(OUT, 0x3B4, 0), Step(IN, 0x3B5)], [0x1007, 0]),
+            # The CRT controller is at 3B4 or at 3D4.
+            ([Step(IN, 0x3D4), Step(IN, 0x3B4), Step(OUT, 0x3C2, 1), Step(IN, 0x3D4), Step(IN, 0x3BA)], [None, 0, 0, None]),
+        ):
+            self.assertEqual(self.read(*steps), read)
 
     def test_attributes(self) -> None:
         def out(*values: int) -> list[Step]:

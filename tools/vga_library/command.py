@@ -82,9 +82,7 @@ def _wanted_target(words: argparse.Namespace) -> Target:
     return target
 
 
-def _lay(
-    words: argparse.Namespace, place: Place, prefix: str, progress: Progress, takes_made: bool = False
-) -> None:
+def _lay(words: argparse.Namespace, place: Place, prefix: str, progress: Progress, takes_made: bool = False) -> None:
     """Makes the library, and tells its files."""
     if words.archive is not None and not os.path.isfile(words.archive):
         raise Trouble("there is no such file", words.archive)

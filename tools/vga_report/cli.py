@@ -53,8 +53,7 @@ def tool_parser(name: str, does: str, example: str, page: str, statuses: str = D
 
 
 def add_checks(
-    parser: argparse.ArgumentParser, checks: Iterable[str],
-    given: Optional[argparse._ActionsContainer] = None,
+    parser: argparse.ArgumentParser, checks: Iterable[str], given: Optional[argparse._ActionsContainer] = None,
 ) -> None:
     """The options of a tool that checks the library's crate; `given` gets that of the gate."""
     (given or parser).add_argument(
@@ -64,8 +63,7 @@ def add_checks(
         "--proof", type=Path, metavar="FOLDER", help="with --gated: keeps the crate's proof there, or takes it from there"
     )
     parser.add_argument(
-        "--only", action="append", default=[], choices=checks,
-        help="this check alone; again and again",
+        "--only", action="append", default=[], choices=checks, help="this check alone; again and again",
     )
 
 

@@ -167,9 +167,7 @@ def _shrunk_row(picture: Picture, top: int, bottom: int, columns: int) -> list[t
         left = column * picture.width // columns
         right = max(left + 1, (column + 1) * picture.width // columns)
         count = len(rows) * (right - left)
-        red, green, blue = (
-            sum(sum(row[3 * left + part:3 * right:3]) for row in rows) // count for part in range(3)
-        )
+        red, green, blue = (sum(sum(row[3 * left + part:3 * right:3]) for row in rows) // count for part in range(3))
         colours.append((red, green, blue))
     return colours
 

@@ -95,10 +95,7 @@ def build_program(progress: Progress) -> None:
     if os.access(PROGRAM, os.X_OK):
         return
     try:
-        run(
-            ["rt", "run", "--", "--help"], _crate(),
-            phases(progress, "vga")("proving and building the program"),
-        )
+        run(["rt", "run", "--", "--help"], _crate(), phases(progress, "vga")("proving and building the program"))
     finally:
         progress.clear()
 
