@@ -34,8 +34,8 @@ def stream(data: bytes) -> io.BufferedReader:
     return io.BufferedReader(io.BytesIO(data))  # type: ignore[arg-type]
 
 
-def png_rows(data: bytes) -> tuple[int, int, list[bytes]]:
-    """Width, height and rows of a truecolour PNG of eight bits, each of whose checks must hold."""
+def png_chunks(data: bytes) -> list[tuple[bytes, bytes]]:
+    """The chunks of a PNG, each of whose checks must hold: their kinds and data."""
     assert data[:8] == b"\x89PNG\r\n\x1a\n"
     at, chunks = 8, []
     while at < len(data):
@@ -45,6 +45,12 @@ def png_rows(data: bytes) -> tuple[int, int, list[bytes]]:
         assert check == zlib.crc32(kind + body)
         chunks.append((kind, body))
         at += 12 + length
+    return chunks
+
+
+def png_rows(data: bytes) -> tuple[int, int, list[bytes]]:
+    """Width, height and rows of a truecolour PNG of eight bits."""
+    chunks = png_chunks(data)
     assert chunks[0][0] == b"IHDR" and chunks[-1] == (b"IEND", b"")
     width, height, *form = struct.unpack(">IIBBBBB", chunks[0][1])
     assert form == [8, 2, 0, 0, 0]

@@ -106,9 +106,9 @@ class Made(Folder):
         self.assertIsNone(making.kept("llvm", X86_64))
         kept[0].unlink()
         self.assertIsNone(making.kept("llvm", X86_64))
-
-    def test_a_new_source(self) -> None:
+        # A new source is another too.
         making.keep("llvm", X86_64, *self.parts)
+        self.assertIsNotNone(making.kept("llvm", X86_64))
         self.low.with_name("more.rt").write_text("")
         self.assertIsNone(making.kept("llvm", X86_64))
 

@@ -45,15 +45,13 @@ class Specimens(Folder):
         self.assertEqual(said, "preview.py: specimen-8.png is not written: step 2: 2 E4 BadFunction\n")
         self.assertEqual((self.folder / "out" / "specimen-8.png").stat(), old)
 
-    def test_a_program_that_fails(self) -> None:
-        status, output, said = self.run_preview(more="sys.exit(3)\n")
-        self.assertEqual((status, output), (1, ""))
-        self.assertIn("preview.py: specimen-8.png is not written: the program ended with status 3\n", said)
-
-    def test_a_frame_without_a_picture(self) -> None:
-        status, _, said = self.run_preview(frame="False")
-        self.assertEqual(status, 1)
-        self.assertIn("specimen-8.png is not written: step 3810 has no picture\n", said)
+    def test_a_program_that_fails_or_gives_no_picture(self) -> None:
+        for otherwise, why in (
+            ({"more": "sys.exit(3)\n"}, "the program ended with status 3"), ({"frame": "False"}, "step 3810 has no picture"),
+        ):
+            status, output, said = self.run_preview(**otherwise)
+            self.assertEqual((status, output), (1, ""))
+            self.assertIn(f"preview.py: specimen-8.png is not written: {why}\n", said)
 
 
 class Fonts(Folder):

@@ -4,7 +4,6 @@ from __future__ import annotations
 
 import os
 import re
-import struct
 import subprocess
 import sys
 import unittest
@@ -18,6 +17,7 @@ from vga_page.page import examples
 from vga_report.program import FONTS
 from zaklimot import Script, format
 
+from .making import png_chunks
 from .program import run_program, want_program
 from .tools import EXAMPLES, TOP, Folder, run_tool
 
@@ -53,11 +53,8 @@ def printed(text: str | bytes) -> list[str]:
 
 def unpacked(png: bytes) -> list[bytes]:
     """The header of a PNG, and the dots of each of its frames, however they are packed."""
-    header, packed, at = b"", [b""], 8
-    while at < len(png):
-        length, kind = struct.unpack_from(">I4s", png, at)
-        data = png[at + 8:at + 8 + length]
-        at += 12 + length
+    header, packed = b"", [b""]
+    for kind, data in png_chunks(png):
         if kind == b"IHDR":
             header = data
         elif kind == b"fcTL" and packed[-1]:

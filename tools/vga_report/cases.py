@@ -160,11 +160,8 @@ def read_cases(path: str) -> list[Case]:
 
 def chosen_cases(cases: list[Case], wanted: Sequence[str], unwanted: Sequence[str]) -> list[Case]:
     """The cases whose names begin with a wanted word, or all, but for those that begin with an unwanted one."""
-    return [
-        case
-        for case in cases
-        if case.name.startswith(tuple(wanted) or "") and not case.name.startswith(tuple(unwanted))
-    ]
+    fronts, others = tuple(wanted) or "", tuple(unwanted)
+    return [case for case in cases if case.name.startswith(fronts) and not case.name.startswith(others)]
 
 
 def _cases(lines: list[str], folder: Path, name: str) -> Iterator[Case]:
