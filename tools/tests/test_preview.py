@@ -47,7 +47,8 @@ class Specimens(Folder):
 
     def test_a_program_that_fails_or_gives_no_picture(self) -> None:
         for otherwise, why in (
-            ({"more": "sys.exit(3)\n"}, "the program ended with status 3"), ({"frame": "False"}, "step 3810 has no picture"),
+            ({"more": "sys.exit(3)\n"}, "the program ended with status 3"),
+            ({"frame": "False"}, "step 3810 has no picture"),
         ):
             status, output, said = self.run_preview(**otherwise)
             self.assertEqual((status, output), (1, ""))

@@ -8,7 +8,6 @@ import subprocess
 import sys
 import unittest
 import zlib
-from pathlib import Path
 from typing import Iterator
 from unittest import mock
 

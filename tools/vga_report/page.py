@@ -109,6 +109,6 @@ class Page:
         heads = "".join(f"<th>{escape(column)}</th>" for column in self._columns)
         style, script = ((HERE / name).read_text("utf-8") for name in ("page.css", "page.js"))
         return filled(
-            HERE / "page.html", POLICY=escape(POLICY), TITLE=escape(title), STYLE=style, TOLD=_told(said, link), SIZES=SIZES,
-            FIGURES=figures, HEADS=heads, ROWS="\n".join(self._rows), FRAMES=frames, SCRIPT=script,
+            HERE / "page.html", POLICY=escape(POLICY), TITLE=escape(title), STYLE=style, TOLD=_told(said, link),
+            SIZES=SIZES, FIGURES=figures, HEADS=heads, ROWS="\n".join(self._rows), FRAMES=frames, SCRIPT=script,
         )

@@ -44,7 +44,9 @@ def seconds(word: str) -> float:
 def add_program(parser: argparse.ArgumentParser) -> None:
     """The options of a command that runs the program."""
     parser.add_argument("--vga", metavar="PROGRAM", help="the program; else the one that is built here, or in the path")
-    parser.add_argument("--fonts", type=to_read, default=DEFAULT_FONTS, metavar="FILE", help="the font file; else the project's")
+    parser.add_argument(
+        "--fonts", type=to_read, default=str(FONTS), metavar="FILE", help="the font file; else the project's"
+    )
 
 
 def add_shape(parser: argparse.ArgumentParser) -> None:
