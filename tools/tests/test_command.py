@@ -75,7 +75,7 @@ class Pictures(Folder):
 
     def test_an_enlarged_picture_has_at_most_100_million_dots(self) -> None:
         path, folder = self.report("r", ppm(100, 101, BLACK * 10100)), self.folder / "a"
-        message = f"vga-report: a picture of 100x101 dots would get 10000x10100, and 100,000,000 dots are the most\n"
+        message = "vga-report: a picture of 100x101 dots would get 10000x10100, and 100,000,000 dots are the most\n"
         self.assertEqual(run("pictures", path, folder, "--scale", "100"), (2, b"", message))
         self.assertEqual(list(folder.iterdir()), [])
         path = self.report("r", ppm(5000, 1, BLACK * 5000))
@@ -191,22 +191,18 @@ class Words(Folder):
 class Closed(Folder):
     """Standard streams that are closed."""
 
-    def shell(self, rest: str, *words: str) -> tuple[int, bytes, bytes]:
-        line = shlex.join([sys.executable, str(PROGRAM), *words]) + " " + rest
-        done = subprocess.run(line, shell=True, capture_output=True)
-        return done.returncode, done.stdout, done.stderr
-
-    def test_a_closed_output_is_told(self) -> None:
-        message = b"vga-report: standard output: it is closed\n"
-        self.assertEqual(self.shell(">&-", "text", self.report("r", "ok")), (2, b"", message))
-
-    def test_a_closed_input_is_told(self) -> None:
-        message = b"vga-report: standard input: it is closed\n"
-        self.assertEqual(self.shell("<&-", "text", "-"), (2, b"", message))
-        self.assertEqual(self.shell("<&-", "text", self.report("r", "ok")), (0, b"1 ok\n", b""))
-
-    def test_nothing_is_said_on_standard_output_in_place_of_a_closed_error(self) -> None:
-        self.assertEqual(self.shell("2>&-", "text", str(self.folder / "none")), (2, b"", b""))
+    def test_each_is_told_or_not_wanted(self) -> None:
+        path, told = self.report("r", "ok"), "vga-report: standard {}put: it is closed\n"
+        for closing, word, status, output, said in (
+            (">&-", path, 2, b"", told.format("out")),
+            ("<&-", "-", 2, b"", told.format("in")), ("<&-", path, 0, b"1 ok\n", ""),
+            # Nothing is said on standard output in the place of a closed error.
+            ("2>&-", str(self.folder / "none"), 2, b"", ""),
+        ):
+            with self.subTest(closing, word=word):
+                line = shlex.join([sys.executable, str(PROGRAM), "text", word]) + " " + closing
+                done = subprocess.run(line, shell=True, capture_output=True)
+                self.assertEqual((done.returncode, done.stdout, done.stderr.decode()), (status, output, said))
 
 
 class Inputs(Folder):
@@ -427,9 +423,9 @@ class Suite(Folder):
         self.assertEqual(shown, [*map(str, range(10)), ".. 30 lines ..", *map(str, range(40, 50))])
 
     def test_reports_and_pictures_are_kept(self) -> None:
-        self.case("a/one", "frame\n", f"1 picture 37 9x1\n3F0000*9\n")
+        self.case("a/one", "frame\n", "1 picture 37 9x1\n3F0000*9\n")
         self.case("a/two", "frame\n", f"1 picture 37 9x1 {hashlib.md5(PICTURE).hexdigest()}\n")
-        self.case("a/three", "frame\n", f"1 ok\n")
+        self.case("a/three", "frame\n", "1 ok\n")
         harness = self.write("harness.py", f"import sys; sys.stdout.buffer.write({report(PICTURE)!r}); print('said', file=sys.stderr)")
         kept = self.folder / "kept"
         command = f"{shlex.quote(sys.executable)} {harness} {{script}}"
