@@ -386,6 +386,7 @@ class Commands(Folder):
             self.assertEqual(run("make", "-", self.folder / "image", given=script), (2, b"", "vga-floppy: " + message))
         self.assertEqual(list(self.folder.iterdir()), [])
 
+
 @unittest.skipUnless(Path("/proc/self/stat").exists(), "processes are looked at as Linux shows them")
 class Runs(Folder):
     """Runs on an emulator that is a program of these tests."""
@@ -459,6 +460,7 @@ class Runs(Folder):
         self.assert_ended(int(emulators[0]))
         # What the emulator itself has started no signal reaches then.
         os.kill(int(child), signal.SIGKILL)
+
 
 class Pages(Folder):
     """Tables of the suite's results, and the cases that a page names."""

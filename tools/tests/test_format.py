@@ -108,6 +108,7 @@ class Table(unittest.TestCase):
     def test_the_copy_in_c(self) -> None:
         header, source = ((TOP / "examples" / "c" / f"script.{end}").read_text("ascii") for end in "hc")
         words = {"_WORD": "w", "INT10": "int"}
+
         def name_of(given: str) -> str:
             for word, name in words.items():
                 given = given.replace(word, name)

@@ -641,6 +641,7 @@ class Refusals(Folder):
         status, _, said = run("script", "-", "-", "--mode", "3", "--fonts", fonts, given=self.GOOD)
         self.assertEqual((status, said), (2, f"vga-picture: {fonts}: a font file has 9,728 bytes, and this has 9\n"))
 
+
 class Examples(unittest.TestCase):
     """The examples are what the tool makes of the test card."""
 

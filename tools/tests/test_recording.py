@@ -22,7 +22,7 @@ from vga_trace.state import State
 from vga_trace.step import ADVANCE, FRAME, IN, OUT, PUT, Step
 from vga_trace.trace import SCREEN
 
-from .making import BLACK, RED, WHITE, ppm, report
+from .making import BLACK, RED, WHITE, ppm
 from .test_trace import BEGIN, listed, qemu, registers
 from .tools import SIGNALS, TOP, Folder, begin, call, is_running, run_tool
 

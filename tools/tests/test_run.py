@@ -277,6 +277,7 @@ class Listings(Fake):
         told = json.loads(output)
         self.assertEqual((status, told["answers"], "F7 BadLine(1)" in told["trouble"]), (2, [], True))
 
+
 class Expectations(unittest.TestCase):
     def test_what_is_as_expected(self) -> None:
         picture = next(Report(stream(b"1 picture 37\n" + ppm(9, 1, BLACK * 9) + b"\n"), "r").steps())

@@ -454,7 +454,6 @@ class Kinds(unittest.TestCase):
             "write memory B0000 size 1": 1, "write memory B8000 size 1": 1, "write memory elsewhere size 1": 1,
         })
 
-
     def test_the_cycles_between_two(self) -> None:
         data = BEGIN + b"- w p 3C4 1 1\n- w p 3C5 1 1\n- w p 3CE 1 1\n"
         counted = b"           1 write port 3C4 size 1\n           1 write port 3C5 size 1\n"

@@ -78,5 +78,3 @@ def debug_page(name: str, script: bytes, fonts: str, page: str) -> bytes:
     data["pages"] = link_to(DOCS, page) + "/"
     element = data_element(data)
     return ELEMENT.sub(lambda _: element, text).encode("utf-8")
-
-

@@ -41,6 +41,7 @@ SCREEN = b"screen of 'vga-trace'"
 # A line of the plain form without a cycle: blanks, and a comment.
 PASSED = re.compile(rb"\s*(?:;.*)?", re.DOTALL)
 
+
 class Cycle(NamedTuple):
     """A cycle of 1, 2, 4 or 8 bytes. The value is what was written or read; the time is in microseconds, if known."""
 
