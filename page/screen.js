@@ -97,7 +97,6 @@ export class Screen {
     for (const row of shape.rows) row.light = this.isSoFar ? Math.min(row.drawn, row.width) : row.width;
     this.rows = shape.rows;
     this.paint(shape, picture.rgb);
-    this.canvas.classList.toggle("sharp", byId("sharp").checked);
     setAll(this.canvas, { ariaLabel: this.description() });
     this.shape();
     this.drawHairs();
@@ -138,12 +137,15 @@ export class Screen {
     return this.isSoFar ? `${size}, drawn to line ${beam.line}, dot ${this.beamPlace().x}` : size;
   }
 
-  /** How large the picture stands on its stage: as a monitor of 4:3 shows it, or with square dots. */
+  /** How large the picture stands on its stage, as a monitor of 4:3 shows it or with square dots, and how. */
   shape() {
     const { canvas, room } = this, ratio = byId("aspect").checked ? 4 / 3 : canvas.width / canvas.height;
     const wide = Math.min(room.width, room.height * ratio);
     const width = Math.floor(wide) + "px", height = Math.floor(wide / ratio) + "px";
     setAll(byId("frame").style, { width, height });
+    // Hard edges would drop dots of a picture that stands smaller than it is.
+    const isRoom = wide * devicePixelRatio >= canvas.width && wide / ratio * devicePixelRatio >= canvas.height;
+    canvas.classList.toggle("sharp", isRoom && byId("sharp").checked);
   }
 
   beamPlace() {

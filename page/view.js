@@ -359,7 +359,7 @@ export class View {
   /** Holds the run to one by zak_run. */
   hold() {
     const { session } = this, steps = grouped(session.length);
-    this.sayCompared(`Holding the ${steps} answers of this run to those of one run by zak_run …`, "", true);
+    this.sayCompared(`Checking the ${steps} answers against those of one whole run …`, "", true);
     this.comparer.start(session.whole, told => {
       if (this.session !== session) return;
       if (told?.trouble) return this.sayCompared(`${NOT_HELD}. ${told.trouble}`);

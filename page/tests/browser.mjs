@@ -524,7 +524,7 @@ await check("while a long run is held, the page goes on; another script ends it"
     Worker.prototype.terminate = function () { window.ended++; end.call(this); };
   }`;
   await openAfter(source, "version 2\nint ax=3\nrepeat 500\nint ax=E41\nframe\nend\n");
-  await says("#compared", "Holding the 1,001 answers of this run to those of one run by zak_run");
+  await says("#compared", "Checking the 1,001 answers against those of one whole run");
   await browser.click("#back");
   await stepIs(1000);
   assert.equal(await browser.value("document.getElementById('compared').ariaBusy"), "true");
