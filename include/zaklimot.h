@@ -41,7 +41,7 @@ enum {
     ZAK_NO_MODE = 3,         /* no mode is set yet */
     ZAK_BAD_FUNCTION = 4,
     ZAK_BAD_MODE = 5,
-    ZAK_WRONG_KIND = 6,      /* of text in graphics, or of pixels in text */
+    ZAK_WRONG_KIND = 6,      /* a call for text in graphics, or for pixels in text */
     ZAK_BAD_PAGE = 7,
     ZAK_OUTSIDE = 8,
     ZAK_COUNT_PAST = 9,
@@ -239,7 +239,7 @@ zak_status zak_show_dac(zak_card *card, uint8_t index, uint8_t *text, size_t tex
 zak_status zak_show_plane(zak_card *card, uint8_t plane, uint16_t offset, uint16_t count,
                           uint8_t *text, size_t text_cap, size_t *text_len);
 
-/* The state as it is. Nothing changes, also no index, latch or flip-flop. */
+/* The state as it is. Nothing changes, not even an index, a latch or the flip-flop. */
 typedef struct zak_registers {
     uint8_t misc;                         /* miscellaneous output register */
     uint8_t seq_index, seq[5];            /* sequencer */
