@@ -22,8 +22,8 @@ from .packing import Entry
 TOOLS = tuple(f"tools/vga{mark}{name}" for name in ("floppy", "fuzz", "picture", "report", "trace") for mark in "-_")
 # What of the commit goes into a release, where it lies in the repository.
 PATHS = (
-    "CHANGELOG.md", "LICENSE", "README.md", "bindings", "crates/vga_suite/data", "docs", "examples", "fonts", "include",
-    "page/zaklimot.html", "tools/README.md", *TOOLS,
+    "CHANGELOG.md", "LICENSE", "README.md", "SECURITY.md", "bindings", "crates/vga_suite/data", "docs", "examples", "fonts",
+    "include", "page/zaklimot.html", "tools/README.md", *TOOLS,
 )
 # The front page of a release is this one of its pages, and the repository's lies beside the others.
 PAGE, FRONT = "docs/RELEASE.md", "README.md"
