@@ -84,15 +84,15 @@ class Table(unittest.TestCase):
     def test_the_sources_of_the_program(self) -> None:
         opcodes = (CRATES / "vga_script" / "src" / "opcode.rt").read_text("utf-8")
         constants = {name: int(value, 16) for name, value in re.findall(r"const (\w+): u8 = (0x\w+);", opcodes)}
-        own = {name.upper(): code for code, name in OPCODES.items() if name in ("int", "frame", "show", "repeat", "end")}
+        own = {re.sub("^(out|in|put|get)w$", r"\1_word", name).upper(): code for code, name in OPCODES.items()}
         words = {"regs": "REGISTERS", "bda": "BIOS_DATA"}
         own.update({f"SHOW_{words.get(name, name.upper())}": form.code[1] for name, form in SHOWN.items()})
         self.assertEqual(constants, own)
         reading = (CRATES / "vga_script" / "src" / "step_bytes.rt").read_text("utf-8")
-        arms = re.findall(r"(0x0\w) => (\w+) \{ (.*?) \}", reading)
+        arms = re.findall(r"([A-Z_]+) => (\w+) \{ (.*?) \},", reading)
         sizes = {"one": 1, "two": 2, "four": 4}
         for opcode, name, fields in arms:
-            form = CODES[bytes([int(opcode, 16)])]
+            form = CODES[bytes([constants[opcode]])]
             self.assertEqual(name.replace("Word", "w").lower(), form.name)
             self.assertEqual([sizes[one] for one in re.findall(r": (\w+)", fields)], [one.size for one in form.fields])
         self.assertEqual(len(arms), 9)

@@ -8,22 +8,22 @@ use Rattle.vga_bits.proofs.SavedLemmas.{word_is_back, words_are_back, length-wor
 use Rattle.bios_modes.specs.Bda.{BiosData}
 use Rattle.bios_modes.specs.Bounds.{IsBda}
 use Rattle.bios_modes.specs.Valid.{IsValid}
-use Rattle.bios_modes.specs.Saved.{saved_back, saved_bda, past_front, past_places, bda_from, IsSavedBda}
+use Rattle.bios_modes.specs.Saved.{saved_back, saved_bda, past_prefix, past_places, bda_from, IsSavedBda}
 
 module _ (d : BiosData) (is : IsBda d) where
-  front_past : past_front (saved_bda d) ≡ flat_map word_bytes d.cursor_places ++ saved_back d
+  prefix_past : past_prefix (saved_bda d) ≡ flat_map word_bytes d.cursor_places ++ saved_back d
   unfolding saved_bda
-  front_past = refl
+  prefix_past = refl
 
   places_len : length (flat_map word_bytes d.cursor_places) ≡ 16
   places_len = omega (arith, length-word_bytes d.cursor_places, is.places)
 
   places_past : past_places (saved_bda d) ≡ saved_back d
-  places_past = ap (drop 16) front_past ∙ drop_at (flat_map word_bytes d.cursor_places) (saved_back d) 16 places_len
+  places_past = ap (drop 16) prefix_past ∙ drop_at (flat_map word_bytes d.cursor_places) (saved_back d) 16 places_len
 
-  places_are : words_in 8 (past_front (saved_bda d)) ≡ d.cursor_places
+  places_are : words_in 8 (past_prefix (saved_bda d)) ≡ d.cursor_places
   places_are =
-      ap (words_in 8) front_past ∙ ap (λ (n : ℕ). words_in n (flat_map word_bytes d.cursor_places ++ saved_back d)) (sym is.places)
+      ap (words_in 8) prefix_past ∙ ap (λ (n : ℕ). words_in n (flat_map word_bytes d.cursor_places ++ saved_back d)) (sym is.places)
       ∙ words_are_back d.cursor_places (saved_back d)
 
   pub bda_len : length (saved_bda d) ≡ 31

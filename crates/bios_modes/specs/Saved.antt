@@ -7,8 +7,9 @@ use Rattle.bios_modes.specs.Bda.{BiosData}
 use Rattle.bios_modes.specs.Valid.{IsValid}
 
 -- the bytes before the places of the cursor: mode, columns, size and start
-abbrev pub saved_front : BiosData → List ℕ
-saved_front d = (d.mode ∷ []) ++ (word_bytes d.columns ++ (word_bytes d.size ++ word_bytes d.start))
+abbrev pub saved_prefix : BiosData → List ℕ
+saved_prefix d =
+    (d.mode ∷ []) ++ (word_bytes d.columns ++ (word_bytes d.size ++ word_bytes d.start))
 
 -- the bytes behind them: the cursor's type, the page, the CRT controller's address, the last row
 -- and the height
@@ -18,14 +19,14 @@ saved_back d = word_bytes d.cursor_type ++ ((d.page ∷ []) ++ (word_bytes d.crt
 
 -- the bytes of BIOS data
 unfoldable pub saved_bda : BiosData → List ℕ
-saved_bda d = saved_front d ++ (flat_map word_bytes d.cursor_places ++ saved_back d)
+saved_bda d = saved_prefix d ++ (flat_map word_bytes d.cursor_places ++ saved_back d)
 
--- what follows the front, and what follows the places of the cursor
-abbrev pub past_front : List ℕ → List ℕ
-past_front bytes = drop 7 bytes
+-- what follows the prefix, and what follows the places of the cursor
+abbrev pub past_prefix : List ℕ → List ℕ
+past_prefix bytes = drop 7 bytes
 
 abbrev pub past_places : List ℕ → List ℕ
-past_places bytes = drop 16 (past_front bytes)
+past_places bytes = drop 16 (past_prefix bytes)
 
 -- the BIOS data that have these bytes
 unfoldable pub bda_from : List ℕ → BiosData
@@ -34,7 +35,7 @@ bda_from bytes = record {
   columns = word_at bytes 1;
   size = word_at bytes 3;
   start = word_at bytes 5;
-  cursor_places = words_in 8 (past_front bytes);
+  cursor_places = words_in 8 (past_prefix bytes);
   cursor_type = word_at (past_places bytes) 0;
   page = slice_index (past_places bytes) 2;
   crtc_address = word_at (past_places bytes) 3;

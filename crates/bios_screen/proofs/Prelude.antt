@@ -12,7 +12,7 @@ pub use Rattle.bios_screen.specs.Listing.{listing}
 pub use Rattle.bios_screen.specs.Picture.{shade}
 pub use Rattle.bios_screen.specs.Raster.{Draws, Raster}
 pub use Rattle.bios_screen.specs.Screen.{Cell, Screen}
-pub use Rattle.bios_screen.specs.Served.{IsServed}
+pub use Rattle.bios_screen.specs.AfterCall.{IsServed}
 pub use Rattle.bios_screen.specs.Shown.{all_cells, cell_in, crtc_registers, packed_pixel, page_pixels, pixel_in, pixel_screen, planar_pixel, shown}
 pub use Rattle.bios_screen.specs.Shown.{shows_attribute}
 pub use Rattle.bios_screen.specs.Step.{page_meant, pixel_of, with_pixels}

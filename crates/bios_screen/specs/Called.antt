@@ -15,14 +15,14 @@ use Rattle.bios_services.specs.declared.tables.TableService.{TableService}
 use Rattle.bios_services.specs.declared.call.Service.{Service}
 use Rattle.bios_services.specs.declared.glyph_load.GlyphLoad.{GlyphLoad}
 use Rattle.bios_services.specs.Tables.{table_refusal}
-use Rattle.bios_services.specs.Service.{service as whole_service, Serves as MayAnswer}
+use Rattle.bios_services.specs.Service.{service as whole_service, MayAnswer}
 use Rattle.vga_card.specs.Bus.{card_meaning}
 use Rattle.bios_screen.specs.Screen.{Screen}
 use Rattle.bios_screen.specs.Shown.{shown}
 use Rattle.bios_screen.specs.Colours.{table_answer}
 use Rattle.bios_screen.specs.Step.{refusal_on, next, answer_on}
 use Rattle.bios_screen.specs.Loaded.{load_refusal_on, load_glyphs}
-use Rattle.bios_screen.specs.Served.{after_call}
+use Rattle.bios_screen.specs.AfterCall.{after_call}
 
 -- the registers of a call are words
 pub record AreWords (r : Regs) : Type 0 where

@@ -17,7 +17,7 @@ ghost use Rattle.bios_services.specs.Cursor.{start_address};
 ghost use Rattle.bios_services.specs.Calls.{call_of};
 ghost use Rattle.bios_screen.specs.Screen.{Screen};
 ghost use Rattle.bios_screen.specs.Shown.{shown};
-ghost use Rattle.bios_screen.specs.Served.{after_call};
+ghost use Rattle.bios_screen.specs.AfterCall.{after_call};
 ghost use Rattle.bios_screen.specs.Step.{next, refusal_on};
 ghost use Rattle.bios_screen.specs.Loaded.{load_refusal_on, load_glyphs};
 ghost use Rattle.bios_screen.specs.Called.{AreWords, screen_unless};

@@ -30,7 +30,7 @@ ghost use Rattle.bios_modes.specs.Modes.{mode_row};
 ghost use Rattle.bios_modes.specs.Bounds.{IsBda};
 ghost use Rattle.bios_screen.specs.Screen.{Screen};
 ghost use Rattle.bios_screen.specs.Shown.{shown};
-ghost use Rattle.bios_screen.specs.Served.{FitsBytes, Serves, ServesText, SetsFresh, after_call};
+ghost use Rattle.bios_screen.specs.AfterCall.{FitsBytes, Serves, ServesText, SetsFresh, after_call};
 ghost use Rattle.bios_modes.specs.Bounds.{AreBytes, AreFonts};
 ghost use Rattle.bios_screen.specs.Called.{AreWords, IsCalled, IsLoaded, IsRead, WantsMemory};
 ghost use Rattle.bios_screen.specs.Called.{IsLeft};

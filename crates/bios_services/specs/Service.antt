@@ -208,11 +208,11 @@ takes_memory _ d = false
 -- What a call answers and leaves that asks for this plan, where the bus was s and is t, and the
 -- BIOS data were d and are `after`:
 -- what the plan does; or there was no memory, and nothing has changed.
-abbrev pub Serves : {S : Type 0} → Meaning S → Plan Answered → S → BiosData →
+abbrev pub MayAnswer : {S : Type 0} → Meaning S → Plan Answered → S → BiosData →
     Result Reply ServiceError → S → BiosData → Type 0
-Serves m plan s d (Ok reply) t after = (t, (Ok reply, after)) ≡ run m plan s
-Serves m plan s d (Err (Refused why)) t after = (t, (Err why, after)) ≡ run m plan s
-Serves m plan s d (Err OutOfMemory) t after = (t ≡ s) × (after ≡ d)
+MayAnswer m plan s d (Ok reply) t after = (t, (Ok reply, after)) ≡ run m plan s
+MayAnswer m plan s d (Err (Refused why)) t after = (t, (Err why, after)) ≡ run m plan s
+MayAnswer m plan s d (Err OutOfMemory) t after = (t ≡ s) × (after ≡ d)
 
 -- on this bus a service that is refused leaves bus and BIOS data
 abbrev pub RefusedDoNothing : {S : Type 0} → Meaning S → Type 0

@@ -15,7 +15,7 @@ ghost use Rattle.bios_services.specs.Service.{set_mode_plan, load_at, load_in_mo
 ghost use Rattle.bios_services.specs.Service.{in_mode_plan, read_cursor_of, read_mode_of};
 ghost use Rattle.bios_services.specs.Service.{read_adapter_of, read_display_of, read_cell_service};
 ghost use Rattle.bios_services.specs.Service.{read_pixel_service, plan_of, table_in_mode_plan};
-ghost use Rattle.bios_services.specs.Service.{service, takes_memory, Serves};
+ghost use Rattle.bios_services.specs.Service.{service, takes_memory, MayAnswer};
 
 use crate::band::Direction;
 use crate::call::{Call, Service, decode};
@@ -279,7 +279,7 @@ fn table_in_mode<B: Bus>(
     regs: Regs,
 ) -> Result<Reply, ServiceError>
     requires { IsValid bda.now }
-    ensures answer { Serves B.meaning (table_in_mode_plan service bda.now regs) bus.old bda.now
+    ensures answer { MayAnswer B.meaning (table_in_mode_plan service bda.now regs) bus.old bda.now
         result bus.new bda.now }
     ensures memory { result ≡ Err OutOfMemory → takes_memory (Some (ReadTable service)) bda.now
         ≡ true }
@@ -319,7 +319,7 @@ pub fn int10<B: Bus>(
     requires { IsValid bda.old }
     // The cycles of the service in order, its answer, and the BIOS data afterwards; or no memory,
     // and nothing.
-    ensures answer { Serves B.meaning (service fonts.now bda.old regs block.now) bus.old bda.old
+    ensures answer { MayAnswer B.meaning (service fonts.now bda.old regs block.now) bus.old bda.old
         result bus.new bda.new }
     // Some entries of the DAC as a table alone take memory.
     ensures memory { result ≡ Err OutOfMemory → takes_memory (call_of regs) bda.old ≡ true }

@@ -9,7 +9,7 @@ use Rattle.std.specs.Result.{result_ok}
 use Rattle.std.specs.Str.Parse.{AllDigits, IsNumeral, ParsesUnsigned, digits_value, without_leading_plus}
 use Rattle.clap.specs.Words.{Text}
 use Rattle.clap.proofs.WalkLemmas.{both}
-use Rattle.vga.specs.Words.{begins_with_hyphen, count_of, is_bad_count, is_count}
+use Rattle.vga.specs.Arguments.{begins_with_hyphen, count_of, is_bad_count, is_count}
 
 -- digits alone, as a test
 digits_from : (word : Text) → list_all (λ d. nat_lt (digit_value d) 10) word ≡ true → AllDigits 10 word

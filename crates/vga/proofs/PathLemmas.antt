@@ -14,8 +14,8 @@ use Rattle.clap.specs.declared.parser.matches.ValueSource.TheVariants.{CommandLi
 use Rattle.clap.proofs.OnLiterals.{clap_on_literals}
 use Rattle.vga.specs.CommandLine.{asm_command, command_line, dis_command, go_command, run_command}
 use Rattle.vga.specs.Job.{Request, request_of, asm, dis, run, go}
-use Rattle.vga.specs.Words.{HasPlainPaths, JobAnswers, NamesPaths, asked, asm_asked, bad_count, begins_with_hyphen, count_of, dis_asked, go_asked, is_bad_count}
-use Rattle.vga.specs.Words.{run_asked, until_in, until_words, words_of}
+use Rattle.vga.specs.Arguments.{HasPlainPaths, JobAnswers, NamesPaths, asked, asm_asked, bad_count, begins_with_hyphen, count_of, dis_asked, go_asked, is_bad_count}
+use Rattle.vga.specs.Arguments.{run_asked, until_in, until_words, words_of}
 use Rattle.vga.proofs.CountLemmas.{count_is_plain, good_count}
 use Rattle.vga_bits.specs.declared.fault.Fault.TheVariants.{OutOfMemory}
 use Rattle.vga.specs.declared.failure.Failure.{Failure}

@@ -12,7 +12,7 @@ use Rattle.clap.proofs.OnLiterals.{clap_on_literals}
 use Rattle.clap.proofs.WalkLemmas.{first_value-rows}
 use Rattle.vga.specs.Failure.{failure_of, is_out_of_memory, out_of_memory}
 use Rattle.vga.specs.CommandLine.{command_line}
-use Rattle.vga.specs.Words.{Finds, JobAnswers, RefusesCount, asked, asked_of, bad_count, has_bad_count, is_bad_count}
+use Rattle.vga.specs.Arguments.{Finds, JobAnswers, RefusesCount, asked, asked_of, bad_count, has_bad_count, is_bad_count}
 use Rattle.vga.specs.declared.failure.Failure.{Failure}
 use Rattle.vga.specs.declared.failure.Failure.TheVariants.{Words, Fault}
 use Rattle.vga.specs.declared.words_error.WordsError.TheVariants.{Refused, Missing}

@@ -3,7 +3,7 @@
 use Rattle.std.specs.Prelude.{ℕ, ⊤, ◌≡◌, ◌≢◌, ◌⊎◌, List, length, Option, Result, Ok, Err, Vec}
 use Rattle.std.specs.declared.alloc.Global.{Global}
 use Rattle.std.specs.Io.KnownBytes.{Appends}
-use Rattle.vga_bits.specs.Tracked.{AppendsFront}
+use Rattle.vga_bits.specs.Tracked.{AppendsPrefix}
 use Rattle.vga_bits.specs.declared.fault.Fault.{Fault}
 use Rattle.vga_bits.specs.declared.fault.Fault.TheVariants.{FontSize, TooLong, BadLine, ReadFault}
 use Rattle.vga_bits.specs.declared.fault.Fault.TheVariants.{WriteFault, OutOfMemory}
@@ -39,13 +39,13 @@ Assembles input (Ok bytes) = (script : Listing) × InputSpellsText input script
 Assembles input (Err fault) = IsAssemblingFault input fault
 
 -- What printing a script as text answers, over a writer that holds what is before and after: it has
--- written the printed text of the script, or a front of it where the writer fails; or the first
+-- written the printed text of the script, or a prefix of it where the writer fails; or the first
 -- fault of the bytes.
 abbrev pub Prints : Option (List ℕ) → Option (List ℕ) → Option (List ℕ) → Result Unit Fault → Type 0
 Prints input before after (Ok done) = (script : Listing) × InputSpells input script
     × Appends before after (printed script)
 Prints input before after (Err WriteFault) = (script : Listing) × InputSpells input script
-    × AppendsFront before after (printed script)
+    × AppendsPrefix before after (printed script)
 Prints input before after (Err TooLong) = IsTooLong input
 Prints input before after (Err ReadFault) = ⊤
 Prints input before after (Err OutOfMemory) = ⊤
@@ -53,7 +53,7 @@ Prints input before after (Err fault) = InputHasFault input fault
 
 -- What running a text answers that is stopped after so many steps, or not, over a font file, and a
 -- writer that holds what is before and after: it has written the report of the script that the text
--- spells, or a front of it where the writer fails; or why the text is not assembled; or the fault
+-- spells, or a prefix of it where the writer fails; or why the text is not assembled; or the fault
 -- of the fonts, which is judged after the text.
 abbrev pub RunsText : Option ℕ → List ℕ → Option (List ℕ) → Option (List ℕ) → Option (List ℕ) →
     Result Unit Fault → Type 0
@@ -62,7 +62,7 @@ RunsText until file input before after (Ok done) = (length file ≡ file_len)
     × Appends before after (report_of (fonts_of file) (steps_until until (expanded script.items))))
 RunsText until file input before after (Err WriteFault) = (length file ≡ file_len)
     × ((script : Listing) × InputSpellsText input script
-    × AppendsFront before after (report_of (fonts_of file)
+    × AppendsPrefix before after (report_of (fonts_of file)
     (steps_until until (expanded script.items))))
 RunsText until file input before after (Err FontSize) = (length file ≢ file_len)
     × ((script : Listing) × InputSpellsText input script)

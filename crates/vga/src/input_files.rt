@@ -1,13 +1,13 @@
 //! Files that are read.
 ghost use Rattle.std.specs.Prelude.{◌≡◌, ◌≤◌, ◌+◌, false, IfOk, IsOkUnless};
 ghost use Rattle.vga_bits.specs.Tracked.{inner_of, has_failed, taken_of};
-ghost use Rattle.vga_bits.specs.LimitedReading.{ReadsFront};
+ghost use Rattle.vga_bits.specs.LimitedReading.{ReadsPrefix};
 
 use std::alloc::Global;
 use std::fs;
 use std::io::Read;
 use std::rt::Files;
-use vga_bits::{Fault, Tracked, read_front};
+use vga_bits::{Fault, Tracked, read_prefix};
 
 /// One byte more than a font file has, so that one that is too long is told from a whole one.
 const FONTS_ROOM: usize = 9_729;
@@ -34,9 +34,9 @@ pub fn open<F: Files>(files: &F, path: &str) -> Result<Tracked<F::File>, Fault>
 /// `ReadFault` where the file fails in this call, and `OutOfMemory`.
 pub fn read_fonts<R: Read>(alloc: Global, file: &mut Tracked<R>) -> Result<Vec<u8>, Fault>
     requires { has_failed file.old ≡ false }
-    ensures front { ReadsFront 9729 (R.remaining (inner_of file.old))
+    ensures prefix { ReadsPrefix 9729 (R.remaining (inner_of file.old))
         (R.remaining (inner_of file.new)) (has_failed file.new) result }
     ensures counted { taken_of file.new ≤ taken_of file.old + 9729 }
 {
-    read_front(alloc, file, FONTS_ROOM)
+    read_prefix(alloc, file, FONTS_ROOM)
 }

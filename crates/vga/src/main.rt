@@ -3,6 +3,7 @@
 //! of its first steps, and write the report on standard output.
 #![tactic(auto)]
 
+mod arguments;
 mod command_line;
 mod failure;
 mod input_files;
@@ -11,7 +12,6 @@ mod lines;
 mod output_files;
 mod scripts;
 mod status;
-mod words;
 mod words_error;
 
 use failure::Failure;
@@ -71,9 +71,9 @@ fn run_text_file<R: Files + Print + AllocGlobal>(
 
 /// Does the job that the words of the command line name.
 fn do_job<R: Env + Files + Print + AllocGlobal>(rt: &R) -> Result<(), Failure> {
-    let args = env::args(rt).map_err(|error| words::unread(&error))?;
+    let args = env::args(rt).map_err(|error| arguments::unread(&error))?;
     let words: Vec<String> = args.collect(rt.alloc())?;
-    match words::job(rt.alloc(), words.as_slice())? {
+    match arguments::job(rt.alloc(), words.as_slice())? {
         Job::Asm { text, script } => assemble_file(rt, text, script)?,
         Job::Dis { script } => print_file(rt, script)?,
         Job::Run {

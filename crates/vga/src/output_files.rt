@@ -48,7 +48,7 @@ pub fn buffered<W: Write + Drop>(alloc: Global, writer: W) -> Result<Tracked<Buf
 }
 
 /// Writes all the bytes, and flushes the writer. It fails with `WriteFault` alone, where the writer
-/// does, which then has a front of the bytes.
+/// does, which then has a prefix of the bytes.
 #[tactic(auto, using(vga_bits::proofs::WritingLemmas::writes_more))]
 pub fn write_all<W: Write>(out: &mut Tracked<W>, bytes: &[u8]) -> Result<(), Fault>
     requires { has_failed out.old ≡ false }

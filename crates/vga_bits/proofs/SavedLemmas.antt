@@ -16,13 +16,13 @@ pub put_after : {old mid new : List ℕ} {at next end : ℕ} {xs ys : List ℕ} 
     → IsPut old new at end (xs ++ ys)
 put_after {old} {mid} {new} {at} {next} {end} {xs} {ys} a b = record {
   end = omega (arith, a.end, b.end, length-append xs ys);
-  front = b.front ∙ ap (λ (l : List ℕ). l ++ ys) a.front ∙ append_assoc (take at old) xs ys;
+  prefix = b.prefix ∙ ap (λ (l : List ℕ). l ++ ys) a.prefix ∙ append_assoc (take at old) xs ys;
   back = b.back ∙ stays_later mid old next (length ys) end b.end a.back;
 }
 
 -- a slice that was put from its first byte to its last
 pub put_whole : {old new : List ℕ} {end : ℕ} {bytes : List ℕ} → IsPut old new 0 end bytes → length new ≡ end → new ≡ bytes
-put_whole {old} {new} {end} {bytes} is e = sym (take_all end new (omega (arith, e))) ∙ is.front
+put_whole {old} {new} {end} {bytes} is e = sym (take_all end new (omega (arith, e))) ∙ is.prefix
 
 -- a flag is read back
 pub flag_back : (b : Bool) → (flag_byte b == 1) ≡ b
@@ -86,7 +86,7 @@ words_taken ws bytes n w within before value =
 
 -- nothing was put
 pub put_none : (old : List ℕ) (at : ℕ) → IsPut old old at at []
-put_none old at = record { end = omega arith; front = sym (append-nil (take at old)); back = refl }
+put_none old at = record { end = omega arith; prefix = sym (append-nil (take at old)); back = refl }
 
 -- one word more of a list was put
 pub put_word_more : {old mid new : List ℕ} {at next end : ℕ} (ws : List ℕ) (k w : ℕ) → k < length ws → w ≡ slice_index ws k
@@ -99,6 +99,6 @@ put_word_more {old} {mid} {new} {at} {next} {end} ws k w within value before las
     ∙ ap (flat_map word_bytes) (sym (take_more ws k 0 within)) in
     record {
       end = joined.end ∙ ap (λ (l : List ℕ). at + length l) e;
-      front = joined.front ∙ ap (λ (l : List ℕ). take at old ++ l) e;
+      prefix = joined.prefix ∙ ap (λ (l : List ℕ). take at old ++ l) e;
       back = joined.back;
     }

@@ -5,7 +5,7 @@ use Rattle.std.proofs.lemmas.Bool.Decides.{nat_tests}
 use Rattle.std.specs.Io.KnownBytes.{Appends, Keeps}
 use Rattle.std.proofs.KnownBytes.{Appends-nil, Appends-trans, Appends-kept}
 use Rattle.vga_bits.specs.declared.fault.Fault.{Fault}
-use Rattle.vga_bits.specs.Tracked.{AppendsFront, Writes}
+use Rattle.vga_bits.specs.Tracked.{AppendsPrefix, Writes}
 
 -- of all the bytes the rest is still to be written
 pub record Written (old new : Option (List ℕ)) (failed : Bool) (all rest : List ℕ) : Type 0 where
@@ -29,13 +29,13 @@ written_more old mid new was failed all rest n w a e = record {
 pub written_all : (old new : Option (List ℕ)) (failed : Bool) (all rest : List ℕ) → Written old new failed all rest → rest ≡ [] → Appends old new all
 written_all old new failed all rest w e = subst (Appends old new) (sym (w.whole ∙ ap (λ l. w.done ++ l) e ∙ append-nil w.done)) w.appended
 
-pub written_front : (old mid new : Option (List ℕ)) (failed : Bool) (all rest : List ℕ) → Written old mid failed all rest → Keeps mid new →
-    AppendsFront old new all
-written_front old mid new failed all rest w k = (w.done, rest, w.whole, Appends-kept old mid new w.done w.appended k)
+pub written_prefix : (old mid new : Option (List ℕ)) (failed : Bool) (all rest : List ℕ) → Written old mid failed all rest → Keeps mid new →
+    AppendsPrefix old new all
+written_prefix old mid new failed all rest w k = (w.done, rest, w.whole, Appends-kept old mid new w.done w.appended k)
 
-pub written_front_nothing : (old mid new : Option (List ℕ)) (failed : Bool) (all rest : List ℕ) → Written old mid failed all rest → Appends mid new [] →
-    AppendsFront old new all
-written_front_nothing old mid new failed all rest w a = (
+pub written_prefix_nothing : (old mid new : Option (List ℕ)) (failed : Bool) (all rest : List ℕ) → Written old mid failed all rest → Appends mid new [] →
+    AppendsPrefix old new all
+written_prefix_nothing old mid new failed all rest w a = (
   w.done,
   rest,
   w.whole,
@@ -54,26 +54,26 @@ kept_is_nothing (Some x) None k = absurd k
 kept_is_nothing (Some x) (Some y) k = k ∙ sym (append-nil x)
 
 -- of some bytes none is written
-pub front_is_none : (old new : Option (List ℕ)) (all : List ℕ) → Keeps old new → AppendsFront old new all
-front_is_none old new all k = ([], all, refl, kept_is_nothing old new k)
+pub prefix_is_none : (old new : Option (List ℕ)) (all : List ℕ) → Keeps old new → AppendsPrefix old new all
+prefix_is_none old new all k = ([], all, refl, kept_is_nothing old new k)
 
-pub front_is_nothing : (old new : Option (List ℕ)) (all : List ℕ) → Appends old new [] → AppendsFront old new all
-front_is_nothing old new all a = ([], all, refl, a)
+pub prefix_is_nothing : (old new : Option (List ℕ)) (all : List ℕ) → Appends old new [] → AppendsPrefix old new all
+prefix_is_nothing old new all a = ([], all, refl, a)
 
 -- ---- one text after another
 
--- a front of the first text is a front of both
-pub front_of_more : (old new : Option (List ℕ)) (first second : List ℕ) → AppendsFront old new first → AppendsFront old new (first ++ second)
-front_of_more old new first second (front, back, parts, a) = (front, back ++ second, ap (λ (l : List ℕ). l ++ second) parts ∙ append_assoc front back second, a)
+-- a prefix of the first text is a prefix of both
+pub prefix_of_more : (old new : Option (List ℕ)) (first second : List ℕ) → AppendsPrefix old new first → AppendsPrefix old new (first ++ second)
+prefix_of_more old new first second (prefix, back, parts, a) = (prefix, back ++ second, ap (λ (l : List ℕ). l ++ second) parts ∙ append_assoc prefix back second, a)
 
 -- behind the first text a call writes the second
 pub writes_after : {U : Type 0} (old mid new : Option (List ℕ)) (failed : Bool) (result : Result U Fault) (first second : List ℕ)
     → Appends old mid first → Writes mid new failed result second → Writes old new failed result (first ++ second)
 writes_after old mid new failed (Ok u) first second a w = (Appends-trans old mid new first second a w.0, w.1)
-writes_after old mid new failed (Err e) first second a (is, bad, (front, back, parts, more)) = (
+writes_after old mid new failed (Err e) first second a (is, bad, (prefix, back, parts, more)) = (
   is,
   bad,
-  (first ++ front, back, ap (λ (l : List ℕ). first ++ l) parts ∙ simp append_assoc, Appends-trans old mid new first front a more),
+  (first ++ prefix, back, ap (λ (l : List ℕ). first ++ l) parts ∙ simp append_assoc, Appends-trans old mid new first prefix a more),
 )
 
 -- a first call takes so many of the bytes, and others write the rest
@@ -88,4 +88,4 @@ pub writes_more : {U : Type 0} (old mid new : Option (List ℕ)) (failed : Bool)
 writes_more old mid new failed (Ok u) bytes a w = (subst (Appends old new) (append-nil bytes) (Appends-trans old mid new bytes [] a w.0), w.1)
 writes_more old mid new failed (Err e) bytes a (is, bad, ([], back, parts, more)) =
     (is, bad, (bytes ++ [], [], sym (simp append-nil), Appends-trans old mid new bytes [] a more))
-writes_more old mid new failed (Err e) bytes a (is, bad, (x ∷ front, back, parts, more)) = absurd (cc)
+writes_more old mid new failed (Err e) bytes a (is, bad, (x ∷ prefix, back, parts, more)) = absurd (cc)

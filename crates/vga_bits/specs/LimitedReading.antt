@@ -6,25 +6,26 @@ use Rattle.std.specs.Io.KnownBytes.{Consumes}
 use Rattle.vga_bits.specs.declared.fault.Fault.{Fault}
 use Rattle.vga_bits.specs.declared.fault.Fault.TheVariants.{ReadFault, OutOfMemory}
 
--- what was taken of a reader is a front of what it had, of at most n bytes
+-- what was taken of a reader is a prefix of what it had, of at most n bytes
 abbrev pub TakesAtMost : ℕ → Option (List ℕ) → Option (List ℕ) → Type 0
 TakesAtMost n old new = (bytes : List ℕ) × Consumes old new bytes × (length bytes ≤ n)
 
 -- the bytes are the first `most` of a reader's, where it tells them
-abbrev pub IsFront : ℕ → Option (List ℕ) → List ℕ → Type 0
-IsFront most input bytes = IfSome input (λ all. bytes ≡ take most all)
+abbrev pub IsPrefix : ℕ → Option (List ℕ) → List ℕ → Type 0
+IsPrefix most input bytes = IfSome input (λ all. bytes ≡ take most all)
 
 -- What reading the first `most` bytes answers, over a reader that has these bytes before and after:
 -- those bytes, which alone were taken; a fault, where the reader has failed; or that memory ran
 -- out, where it has not.
-abbrev pub ReadsFront : ℕ → Option (List ℕ) → Option (List ℕ) → Bool → Result (Vec ℕ Global) Fault →
+abbrev pub ReadsPrefix : ℕ → Option (List ℕ) → Option (List ℕ) → Bool →
+    Result (Vec ℕ Global) Fault →
     Type 0
-ReadsFront most old new failed (Ok bytes) =
-    (length bytes.items ≤ most) × IsFront most old bytes.items × Consumes old new bytes.items
+ReadsPrefix most old new failed (Ok bytes) =
+    (length bytes.items ≤ most) × IsPrefix most old bytes.items × Consumes old new bytes.items
     × (failed ≡ false)
-ReadsFront most old new failed (Err ReadFault) = (failed ≡ true) × TakesAtMost most old new
-ReadsFront most old new failed (Err OutOfMemory) = (failed ≡ false) × TakesAtMost most old new
-ReadsFront most old new failed (Err _) = ⊥
+ReadsPrefix most old new failed (Err ReadFault) = (failed ≡ true) × TakesAtMost most old new
+ReadsPrefix most old new failed (Err OutOfMemory) = (failed ≡ false) × TakesAtMost most old new
+ReadsPrefix most old new failed (Err _) = ⊥
 
 -- the answer is ReadFault
 abbrev pub is_read_fault : {A : Type 0} → Result A Fault → Bool

@@ -30,5 +30,5 @@ flag_at bytes at = slice_index bytes at == 1
 -- and those from `next` on
 pub record IsPut (old new : List ℕ) (at next : ℕ) (bytes : List ℕ) : Type 0 where
   pub end : next ≡ at + length bytes
-  pub front : take next new ≡ take at old ++ bytes
+  pub prefix : take next new ≡ take at old ++ bytes
   pub back : drop next new ≡ drop next old

@@ -29,18 +29,18 @@ abbrev pub write_fails : {E : Type 0} → Result ℕ E → List ℕ → Bool
 write_fails (Ok n) bytes = (n == 0) && nat_lt 0 (length bytes)
 write_fails (Err e) bytes = true
 
--- the bytes of a writer, where it tells them, have grown by a front of these
-abbrev pub AppendsFront : Option (List ℕ) → Option (List ℕ) → List ℕ → Type 0
-AppendsFront old new bytes = (front : List ℕ) × (back : List ℕ) × (bytes ≡ front ++ back)
-    × Appends old new front
+-- the bytes of a writer, where it tells them, have grown by a prefix of these
+abbrev pub AppendsPrefix : Option (List ℕ) → Option (List ℕ) → List ℕ → Type 0
+AppendsPrefix old new bytes = (prefix : List ℕ) × (back : List ℕ) × (bytes ≡ prefix ++ back)
+    × Appends old new prefix
 
 -- what a call that writes bytes answers: it has written them all, or the writer has failed and has
--- a front of them
+-- a prefix of them
 abbrev pub Writes : {U : Type 0} → Option (List ℕ) → Option (List ℕ) → Bool → Result U Fault →
     List ℕ → Type 0
 Writes old new failed (Ok u) bytes = Appends old new bytes × (failed ≡ false)
 Writes old new failed (Err e) bytes = (e ≡ WriteFault) × (failed ≡ true)
-    × AppendsFront old new bytes
+    × AppendsPrefix old new bytes
 
 -- the answer is WriteFault
 abbrev pub is_write_fault : {A : Type 0} → Result A Fault → Bool

@@ -43,13 +43,13 @@ const NAME_LEN: usize = 34;
 pub type FaultName = ArrayString<NAME_LEN>;
 
 /// A name that ends with a number in parentheses, which is to be put at its end.
-fn with_number(front: &str, number: usize) -> FaultName
-    requires { length front.now ≤ 13 }
-    ensures { result.bytes ≡ front.now ++ (decimal number ++ codes ")") }
+fn with_number(prefix: &str, number: usize) -> FaultName
+    requires { length prefix.now ≤ 13 }
+    ensures { result.bytes ≡ prefix.now ++ (decimal number ++ codes ")") }
 {
     let mut name = FaultName::new();
     let mut digits = Buffer::new();
-    name.push_str(front);
+    name.push_str(prefix);
     name.push_str(digits.format(number));
     name.push_str(")");
     name

@@ -18,7 +18,7 @@ pub mod tracked;
 pub use bits::is_set;
 pub use bytes::Bytes;
 pub use fault::{Fault, FaultName};
-pub use limited_reading::read_front;
+pub use limited_reading::read_prefix;
 pub use refusal::Refusal;
 pub use reg_file::RegFile;
 pub use saved::{are_kept, flag_byte, high_byte, low_byte, put_byte, put_bytes, put_word, word_at};

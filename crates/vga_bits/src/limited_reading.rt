@@ -1,7 +1,7 @@
 //! Reading up to a limit.
 ghost use Rattle.std.specs.Prelude.{◌≡◌, ◌≤◌, ◌+◌, false};
 ghost use Rattle.vga_bits.specs.Tracked.{inner_of, has_failed, taken_of};
-ghost use Rattle.vga_bits.specs.LimitedReading.{ReadsFront};
+ghost use Rattle.vga_bits.specs.LimitedReading.{ReadsPrefix};
 
 use super::fault::Fault;
 use super::tracked::Tracked;
@@ -16,13 +16,13 @@ const PIECE_LEN: usize = 65_536;
 /// # Errors
 ///
 /// `ReadFault` where the reader fails in this call, and `OutOfMemory`.
-pub fn read_front<R: Read>(
+pub fn read_prefix<R: Read>(
     alloc: Global,
     reader: &mut Tracked<R>,
     most: usize,
 ) -> Result<Vec<u8>, Fault>
     requires { has_failed reader.old ≡ false }
-    ensures front { ReadsFront most (R.remaining (inner_of reader.old))
+    ensures prefix { ReadsPrefix most (R.remaining (inner_of reader.old))
         (R.remaining (inner_of reader.new)) (has_failed reader.new) result }
     ensures counted { taken_of reader.new ≤ taken_of reader.old + most }
 {

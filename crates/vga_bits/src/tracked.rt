@@ -115,7 +115,7 @@ impl<T: Write> Write for Tracked<T> {
 
 /// Writes what a call has left of some bytes, by as many calls as the writer needs. It fails as
 /// `write_whole` does.
-#[tactic(auto, using(crate::proofs::WritingLemmas::written_none, crate::proofs::WritingLemmas::written_more, crate::proofs::WritingLemmas::written_all, crate::proofs::WritingLemmas::written_front, crate::proofs::WritingLemmas::written_front_nothing))]
+#[tactic(auto, using(crate::proofs::WritingLemmas::written_none, crate::proofs::WritingLemmas::written_more, crate::proofs::WritingLemmas::written_all, crate::proofs::WritingLemmas::written_prefix, crate::proofs::WritingLemmas::written_prefix_nothing))]
 #[cold]
 #[inline(never)]
 fn write_rest<W: Write>(out: &mut Tracked<W>, bytes: &[u8]) -> Result<(), Fault>
@@ -135,8 +135,8 @@ fn write_rest<W: Write>(out: &mut Tracked<W>, bytes: &[u8]) -> Result<(), Fault>
 }
 
 /// Writes all the bytes, by as many calls as the writer needs. It fails, with `WriteFault`, only
-/// where the writer does, which then has a front of the bytes.
-#[tactic(auto, using(crate::proofs::WritingLemmas::front_is_none, crate::proofs::WritingLemmas::front_is_nothing))]
+/// where the writer does, which then has a prefix of the bytes.
+#[tactic(auto, using(crate::proofs::WritingLemmas::prefix_is_none, crate::proofs::WritingLemmas::prefix_is_nothing))]
 #[inline(always)]
 pub fn write_whole<W: Write>(out: &mut Tracked<W>, bytes: &[u8]) -> Result<(), Fault>
     requires { has_failed out.old ≡ false }

@@ -4,7 +4,7 @@ use Rattle.vga_card.specs.Card.{CardState}
 use Rattle.vga_card.specs.Bus.{card_meaning}
 use Rattle.bios_modes.specs.Bda.{BiosData}
 use Rattle.bios_services.specs.Calls.{call_of}
-use Rattle.bios_services.specs.Service.{Answered, Serves, service, takes_memory}
+use Rattle.bios_services.specs.Service.{Answered, MayAnswer, service, takes_memory}
 use Rattle.bios_services.specs.declared.regs.Regs.{Regs}
 use Rattle.bios_services.specs.declared.reply.Reply.{Reply}
 use Rattle.bios_services.specs.declared.reply.ServiceError.{ServiceError}
@@ -31,7 +31,7 @@ abbrev Known : Machine → CardState → BiosData → Told → Told → ℕ → 
 Known m c d before after status x = (with m c d ≡ with m x.0 x.1.1) × HasAnswer (of_service x.1.0) before after status
 
 pub told_service : (m : Machine) (c : CardState) (d : BiosData) (block : List ℕ) (before after : Told) (status : ℕ) (outcome : Result Reply ServiceError)
-    → Serves card_meaning (service m.fonts m.bda (regs_of before) block) m.card m.bda outcome c d
+    → MayAnswer card_meaning (service m.fonts m.bda (regs_of before) block) m.card m.bda outcome c d
     → (outcome ≡ Err OutOfMemory → takes_memory (call_of (regs_of before)) m.bda ≡ true)
     → HasOutcome outcome before after status
     → IsCalled m (with m c d) (call_step before.registers block) before after status

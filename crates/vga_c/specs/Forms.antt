@@ -5,7 +5,7 @@ use Rattle.vga_card.specs.Card.{CardState}
 use Rattle.vga_card.specs.Pixels.{pixel_height, pixel_width}
 use Rattle.vga_script.specs.declared.step.Step.TheVariants.{Frame}
 use Rattle.vga_run.specs.declared.machine.Machine.{Machine}
-use Rattle.vga_run.specs.Answer.{Reply, Picture, Ragged}
+use Rattle.vga_run.specs.Answer.{StepAnswer, Picture, Ragged}
 use Rattle.vga_run.specs.Step.{after_step, answer_to}
 use Rattle.vga_c.specs.declared.forms.Form.{Form}
 use Rattle.vga_c.specs.declared.forms.WordPicture.{WordPicture}
@@ -88,7 +88,8 @@ picture_of form width height = record {
 
 -- the caller has a picture in this form, or only what is told of it where there was no room; or it
 -- is told that rows differ in width, and has what it had
-abbrev pub HasForm : Form → Reply → ℕ → WordPicture → WordPicture → List ℕ → List ℕ → ℕ → Type 0
+abbrev pub HasForm : Form → StepAnswer → ℕ → WordPicture → WordPicture → List ℕ → List ℕ → ℕ →
+    Type 0
 HasForm form (Picture width height bytes) pitch told_old told old new status =
     (told ≡ picture_of form width height) × AreInRows (every form.across width)
     (every form.down height) pitch (form_word form width bytes) old new status

@@ -6,12 +6,12 @@ use Rattle.vga_card.specs.Lines.{line_widths}
 use Rattle.vga_card.specs.Picture.{Dot, bytes_of}
 use Rattle.vga_script.specs.declared.step.Step.TheVariants.{Frame}
 use Rattle.vga_run.specs.declared.machine.Machine.{Machine}
-use Rattle.vga_run.specs.Answer.{Reply, Picture, Ragged}
+use Rattle.vga_run.specs.Answer.{StepAnswer, Picture, Ragged}
 use Rattle.vga_run.specs.Step.{after_step, answer_to}
 use Rattle.vga_c.specs.declared.frames.Size.{Size}
 use Rattle.vga_c.specs.Handle.{HandleState, machine_of}
 use Rattle.vga_c.specs.Forms.{AreInRows, dot_word}
-use Rattle.vga_c.specs.Buffers.{IsCopied, room_status, with_front}
+use Rattle.vga_c.specs.Buffers.{IsCopied, room_status, with_prefix}
 use Rattle.vga_c.specs.Cards.{Holds}
 use Rattle.vga_c.specs.Status.{ragged}
 
@@ -27,9 +27,9 @@ size_of width height = record { width = width; height = height }
 
 -- the caller has size and bytes of a picture, or only its size where there was no room; or it is
 -- told that rows differ in width, and has what it had
-abbrev pub HasBytes : Reply → Size → Size → List ℕ → List ℕ → ℕ → Type 0
+abbrev pub HasBytes : StepAnswer → Size → Size → List ℕ → List ℕ → ℕ → Type 0
 HasBytes (Picture width height bytes) size_old size old new status =
-    (size ≡ size_of width height) × ((new ≡ with_front bytes old)
+    (size ≡ size_of width height) × ((new ≡ with_prefix bytes old)
     × (status ≡ room_status (length bytes) (length old)))
 HasBytes Ragged size_old size old new status =
     (size ≡ size_old) × ((new ≡ old) × (status ≡ ragged))
@@ -44,7 +44,7 @@ DrawsBytes card size_old size old new status = card.is_open ≡ true →
 
 -- the caller has size and words of a picture, or only its size where there was no room; or it is
 -- told that rows differ in width, and has what it had
-abbrev pub HasWords : Reply → ℕ → Size → Size → List ℕ → List ℕ → ℕ → Type 0
+abbrev pub HasWords : StepAnswer → ℕ → Size → Size → List ℕ → List ℕ → ℕ → Type 0
 HasWords (Picture width height bytes) pitch size_old size old new status =
     (size ≡ size_of width height) × AreInRows width height pitch
     (λ x y. dot_word bytes (width * y + x)) old new status

@@ -10,7 +10,7 @@ use Rattle.vga_script.specs.declared.step.Step.{Step}
 use Rattle.vga_script.specs.declared.step.Step.TheVariants.{Int}
 use Rattle.vga_run.specs.declared.machine.Machine.{Machine}
 use Rattle.vga_run.specs.declared.answer.Answer.TheVariants.{Refused}
-use Rattle.vga_run.specs.Answer.{Reply, Plain, Served, of_service}
+use Rattle.vga_run.specs.Answer.{StepAnswer, Plain, Served, of_service}
 use Rattle.vga_run.specs.Step.{TakesMemory, after_step, answer_to}
 use Rattle.vga_c.specs.Handle.{HandleState, machine_of}
 use Rattle.vga_c.specs.declared.services.CallRegisters.{CallRegisters}
@@ -36,7 +36,7 @@ registers_of r = record { ax = r.ax; bx = r.bx; cx = r.cx; dx = r.dx }
 
 -- the caller has the registers and the table of an answer; or the number of a refusal, and all else
 -- as before
-abbrev pub HasAnswer : Reply → Told → Told → ℕ → Type 0
+abbrev pub HasAnswer : StepAnswer → Told → Told → ℕ → Type 0
 HasAnswer (Served regs table) before after status = (after.registers ≡ registers_of regs)
     × IsCopied table before.table after.table after.len status
 HasAnswer (Plain (Refused why)) before after status = (status ≡ refusal_status why)

@@ -8,7 +8,7 @@ use Rattle.vga_bits.specs.declared.refusal.Refusal.TheVariants.{BadPage, Outside
 use Rattle.vga_bits.specs.declared.refusal.Refusal.TheVariants.{BadRegister, BadBlock, TooFar}
 use Rattle.vga_bits.specs.declared.refusal.Refusal.TheVariants.{BadHeight}
 use Rattle.vga_run.specs.declared.answer.Answer.TheVariants.{Byte, Word, Refused}
-use Rattle.vga_run.specs.Answer.{Reply, Plain}
+use Rattle.vga_run.specs.Answer.{StepAnswer, Plain}
 
 -- the number of a refusal is its own
 abbrev pub refusal_status : Refusal → ℕ
@@ -27,12 +27,12 @@ refusal_status TooFar = 12
 refusal_status BadHeight = 13
 
 -- the number of a step's answer: 0, or that of the refusal
-abbrev pub status_of : Reply → ℕ
+abbrev pub status_of : StepAnswer → ℕ
 status_of (Plain (Refused why)) = refusal_status why
 status_of reply = 0
 
 -- what a step leaves in the caller's variable: what it read, or what was there
-abbrev pub value_of : Reply → ℕ → ℕ
+abbrev pub value_of : StepAnswer → ℕ → ℕ
 value_of (Plain (Byte value)) before = value
 value_of (Plain (Word value)) before = value
 value_of reply before = before

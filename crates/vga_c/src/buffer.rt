@@ -1,26 +1,26 @@
 //! The caller's buffers.
 ghost use Rattle.std.specs.Prelude.{◌≡◌, length};
-ghost use Rattle.vga_c.specs.Buffers.{IsCopied, room_status, with_front};
+ghost use Rattle.vga_c.specs.Buffers.{IsCopied, room_status, with_prefix};
 
 use crate::status::{DONE, NO_ROOM};
 
-/// Writes bytes to the front of the caller's, if there is room.
-pub(crate) fn write_front(to: &mut [u8], bytes: &[u8]) -> u32
-    ensures after { to.new ≡ with_front bytes.now to.old }
+/// Writes bytes to the beginning of the caller's, if there is room.
+pub(crate) fn write_prefix(to: &mut [u8], bytes: &[u8]) -> u32
+    ensures after { to.new ≡ with_prefix bytes.now to.old }
     ensures status { result ≡ room_status (length bytes.now) (length to.old) }
 {
     if to.len() < bytes.len() {
         return NO_ROOM;
     }
-    let (front, _) = to.split_at_mut(bytes.len());
-    front.copy_from_slice(bytes);
+    let (prefix, _) = to.split_at_mut(bytes.len());
+    prefix.copy_from_slice(bytes);
     DONE
 }
 
 /// The same, and tells how many bytes they are.
-pub(crate) fn copy_front(to: &mut [u8], len: &mut usize, bytes: &[u8]) -> u32
+pub(crate) fn copy_prefix(to: &mut [u8], len: &mut usize, bytes: &[u8]) -> u32
     ensures { IsCopied bytes.now to.old to.new len.new result }
 {
     *len = bytes.len();
-    write_front(to, bytes)
+    write_prefix(to, bytes)
 }

@@ -7,7 +7,7 @@ ghost use Rattle.vga_run.specs.Step.{dump_text as dump_text_of};
 ghost use Rattle.vga_c.specs.Dumps.{Dumps, is_plane_part as is_plane_part_of, Shows, ShowsPart};
 ghost use Rattle.vga_c.specs.Dumps.{told};
 
-use crate::buffer::copy_front;
+use crate::buffer::copy_prefix;
 use crate::handle::{Handle, on_open_card};
 use crate::status::{BAD_ARGUMENT, BAD_CARD, NO_CARD, OUT_OF_MEMORY, refusal_status};
 use std::alloc::Global;
@@ -39,7 +39,7 @@ fn dump(alloc: Global, machine: &Machine, shown: Shown, text: &mut [u8], len: &m
         return refusal_status(why);
     }
     match dump_text(alloc, machine, shown) {
-        Ok(bytes) => copy_front(text, len, bytes.as_slice()),
+        Ok(bytes) => copy_prefix(text, len, bytes.as_slice()),
         Err(_) => OUT_OF_MEMORY,
     }
 }

@@ -11,7 +11,7 @@ ghost use Rattle.vga_c.specs.Buffers.{IsCopied};
 ghost use Rattle.vga_c.specs.Frames.{CopiesDots, CountsLines, frame_dots};
 ghost use Rattle.vga_c.specs.Frames.{DrawsBytes, DrawsWords, EndsFrame, HasBytes, HasWords};
 
-use crate::buffer::{copy_front, write_front};
+use crate::buffer::{copy_prefix, write_prefix};
 use crate::forms::{Form, has_room, write_rows};
 use crate::handle::{Handle, on_open_card};
 use crate::status::{DONE, NO_ROOM, RAGGED};
@@ -41,7 +41,7 @@ fn tell_bytes(drawn: Drawn<'_>, size: &mut Size, rgb: &mut [u8]) -> u32
     match drawn {
         Drawn::Picture(width, height, bytes) => {
             *size = Size { width, height };
-            write_front(rgb, bytes)
+            write_prefix(rgb, bytes)
         }
         Drawn::Ragged => RAGGED,
     }
@@ -137,7 +137,7 @@ fn frame_lines(
 {
     let lines = machine.card.frame_lines();
     widths.copy_from_slice(lines.widths);
-    copy_front(rgb, len, lines.bytes)
+    copy_prefix(rgb, len, lines.bytes)
 }
 
 /// Lets the clock run to the end of the frame under way, and tells how many dots each of its lines

@@ -3,7 +3,7 @@ ghost use Rattle.std.specs.Prelude.{◌≡◌, IfErr, IfOk};
 ghost use Rattle.vga_c.specs.Outcome.{told};
 ghost use Rattle.vga_c.specs.Runs.{IsFirstFault, IsReport, Runs};
 
-use crate::buffer::copy_front;
+use crate::buffer::copy_prefix;
 use crate::outcome::tell_fault;
 use std::alloc::Global;
 use vga_bits::{Fault, Tracked};
@@ -33,7 +33,7 @@ pub extern "C" fn zak_run(
         (told out.new len.new place.new) result }
 {
     match report(alloc, script, fonts) {
-        Ok(report) => copy_front(out, len, report.as_slice()),
+        Ok(report) => copy_prefix(out, len, report.as_slice()),
         Err(fault) => tell_fault(fault, place),
     }
 }

@@ -26,7 +26,7 @@ pub extern "C" fn zak_save_size(alloc: Global, card: &mut Handle, len: &mut usiz
     })
 }
 
-/// Saves a machine to the front of the caller's bytes, if there is room.
+/// Saves a machine to the beginning of the caller's bytes, if there is room.
 fn save(machine: &Machine, bytes: &mut [u8], len: &mut usize) -> u32
     ensures { IsCopied (saved_machine machine.now) bytes.old bytes.new len.new result }
 {
@@ -35,8 +35,8 @@ fn save(machine: &Machine, bytes: &mut [u8], len: &mut usize) -> u32
     if bytes.len() < size {
         return NO_ROOM;
     }
-    let (front, _) = bytes.split_at_mut(size);
-    machine.save(front);
+    let (prefix, _) = bytes.split_at_mut(size);
+    machine.save(prefix);
     DONE
 }
 

@@ -20,7 +20,7 @@ pub struct ScanLine {
     pub ends_frame: bool,
 }
 
-/// Writes words of so many dots, from dot `first` on, to the front of the caller's, if there is
+/// Writes words of so many dots, from dot `first` on, to the beginning of the caller's, if there is
 /// room.
 fn write_words(bytes: &[u8], first: usize, count: usize, above: u32, pixels: &mut [u32]) -> u32
     requires { 3 * (first + count) ≤ length bytes.now }

@@ -5,7 +5,7 @@ ghost use Rattle.vga_c.specs.Cards.{LeavesClosed, Spares};
 ghost use Rattle.vga_c.specs.Services.{call_step, Calls, HasOutcome, IsCalled, IsLeftBad};
 ghost use Rattle.vga_c.specs.Services.{LeavesBad, told};
 
-use crate::buffer::copy_front;
+use crate::buffer::copy_prefix;
 use crate::handle::{Handle, on_open_card};
 use crate::status::{BAD_CARD, OUT_OF_MEMORY, refusal_status};
 use bios_services::{Regs, Reply, ServiceError, int10};
@@ -36,7 +36,7 @@ fn tell(
         Ok(reply) => {
             let Regs { ax, bx, cx, dx } = reply.regs;
             *registers = CallRegisters { ax, bx, cx, dx };
-            copy_front(table, len, reply.table.as_slice())
+            copy_prefix(table, len, reply.table.as_slice())
         }
         Err(ServiceError::Refused(refusal)) => refusal_status(refusal),
         Err(ServiceError::OutOfMemory) => OUT_OF_MEMORY,

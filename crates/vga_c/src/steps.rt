@@ -5,7 +5,7 @@ ghost use Rattle.vga_c.specs.Cards.{LeavesClosed, Spares};
 ghost use Rattle.vga_c.specs.Services.{IsLeftBad, LeavesBad};
 ghost use Rattle.vga_c.specs.Steps.{AreTakenOrCutOff, IsRunOn, RunsOn, told};
 
-use crate::buffer::copy_front;
+use crate::buffer::copy_prefix;
 use crate::handle::{Handle, on_open_card};
 use crate::outcome::tell_fault;
 use crate::status::{BAD_CARD, OUT_OF_MEMORY};
@@ -38,7 +38,7 @@ fn take_steps(
     match machine.take_steps(alloc, steps, most, &mut next, &mut report) {
         Ok(()) => {
             *taken = next - number;
-            copy_front(out, len, report.into_inner().as_slice())
+            copy_prefix(out, len, report.into_inner().as_slice())
         }
         Err(_) => OUT_OF_MEMORY, // The report is written into memory.
     }

@@ -4,7 +4,7 @@ ghost use Rattle.vga_c.specs.Outcome.{told};
 ghost use Rattle.vga_c.specs.Texts.{Assembles, IsAssembled, IsFaultOfBytes, IsFaultOfText};
 ghost use Rattle.vga_c.specs.Texts.{IsPrinted, Prints};
 
-use crate::buffer::copy_front;
+use crate::buffer::copy_prefix;
 use crate::outcome::tell_fault;
 use std::alloc::Global;
 use vga_bits::Fault;
@@ -33,7 +33,7 @@ pub extern "C" fn zak_assemble(
         result }
 {
     match bytes_of_text(alloc, text) {
-        Ok(bytes) => copy_front(out, len, bytes.as_slice()),
+        Ok(bytes) => copy_prefix(out, len, bytes.as_slice()),
         Err(fault) => tell_fault(fault, line),
     }
 }
@@ -61,7 +61,7 @@ pub extern "C" fn zak_print(
         result }
 {
     match text_of_bytes(alloc, script) {
-        Ok(text) => copy_front(out, len, text.as_slice()),
+        Ok(text) => copy_prefix(out, len, text.as_slice()),
         Err(fault) => tell_fault(fault, place),
     }
 }

@@ -212,8 +212,8 @@ pub line_appended : (cw : ℕ) (d : DisplayState) (old mid new : List ℕ) (used
     → take (length old) mid ≡ old → used + len ≤ length new → take used new ≡ take used mid →
     IsLineDrawn cw (shown_characters d.crtc.registers) d (drop used mid) (drop used new)
     → IsLineAppended cw d (take used old) (take (used + len) new)
-line_appended cw d old mid new used len within count longer room front drawn =
-    let kept : take used new ≡ take used old = front ∙ sym (take-take used (length old) mid within) ∙ ap (take used) longer in
+line_appended cw d old mid new used len within count longer room prefix drawn =
+    let kept : take used new ≡ take used old = prefix ∙ sym (take-take used (length old) mid within) ∙ ap (take used) longer in
     record {
       blank = drop used mid;
       row = drop used new;

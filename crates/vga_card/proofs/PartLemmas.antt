@@ -257,8 +257,8 @@ few_started stays cw n c few =
 pub part_appended : (cw n : ℕ) (d : DisplayState) (old mid new : List ℕ) (used : ℕ) → used ≤ length old
     → take (length old) mid ≡ old → used + 3 * n ≤ length new → take used new ≡ take used mid → IsPartDrawn cw n d (drop used mid) (drop used new)
     → IsPartAppended cw n d (take used old) (take (used + 3 * n) new)
-part_appended cw n d old mid new used within longer room front drawn =
-    let kept : take used new ≡ take used old = front ∙ sym (take-take used (length old) mid within) ∙ ap (take used) longer in
+part_appended cw n d old mid new used within longer room prefix drawn =
+    let kept : take used new ≡ take used old = prefix ∙ sym (take-take used (length old) mid within) ∙ ap (take used) longer in
     record {
       blank = drop used mid;
       row = drop used new;

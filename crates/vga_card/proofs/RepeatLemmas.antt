@@ -115,11 +115,11 @@ module _ (repeat : LinesRepeat) (d : DisplayState) (b : Beam) (again : ShowsAgai
       (n ≤ length dots) × (last_on_line d.crtc.beam.line n dots ≡ line_dots d)
   line_again dots n ends count =
       let line = line_dots (with_beam d b) in
-      let long = ap length ends.whole ∙ length-append ends.front line in
-      let before : length dots - n ≡ length ends.front = omega (arith, long, line_length, count) in (
+      let long = ap length ends.whole ∙ length-append ends.prefix line in
+      let before : length dots - n ≡ length ends.prefix = omega (arith, long, line_length, count) in (
         omega (arith, long, line_length, count),
-        ap (map (on_line d.crtc.beam.line)) (ap (λ (k : ℕ). drop k dots) before ∙ ap (drop (length ends.front)) ends.whole
-            ∙ drop-append_seam ends.front line)
+        ap (map (on_line d.crtc.beam.line)) (ap (λ (k : ℕ). drop k dots) before ∙ ap (drop (length ends.prefix)) ends.whole
+            ∙ drop-append_seam ends.prefix line)
             ∙ same_line,
       )
 
@@ -146,11 +146,11 @@ unfolding after_start after_dots
 beam_back cw old new line = ap (λ (x : CrtcState). record (after_start x) { beam = old.beam }) line.taken
 
 -- after a whole line its dots are the last
-pub line_drawn : (cw : ℕ) (h : HostState) (a : AttrState) (dac : DacState) (old new : CrtcState) (front drawn : List Dot) (b : Beam) → IsLineTaken cw old new →
-    b ≡ old.beam → drawn ≡ front ++ line_dots (record { host = h; crtc = old; attr = a; dac = dac })
+pub line_drawn : (cw : ℕ) (h : HostState) (a : AttrState) (dac : DacState) (old new : CrtcState) (prefix drawn : List Dot) (b : Beam) → IsLineTaken cw old new →
+    b ≡ old.beam → drawn ≡ prefix ++ line_dots (record { host = h; crtc = old; attr = a; dac = dac })
     → EndsWithLine (record { host = h; crtc = after_start new; attr = a; dac = dac }) drawn b
-line_drawn cw h a dac old new front drawn b line e draws = record {
-  front = front;
-  whole = draws ∙ ap (λ (x : CrtcState). front ++ line_dots (record { host = h; crtc = x; attr = a; dac = dac }))
+line_drawn cw h a dac old new prefix drawn b line e draws = record {
+  prefix = prefix;
+  whole = draws ∙ ap (λ (x : CrtcState). prefix ++ line_dots (record { host = h; crtc = x; attr = a; dac = dac }))
       (sym (ap (λ (y : Beam). record (after_start new) { beam = y }) e ∙ beam_back cw old new line));
 }

@@ -22,7 +22,7 @@ use Rattle.vga_card.specs.Card.{CardState}
 use Rattle.vga_card.specs.Port.{port_of}
 use Rattle.vga_card.specs.Cycles.{Written, Answered, written_unless, answered_unless, written_where, answered_where, out_at, inp_at, out_cycle, inp_cycle}
 use Rattle.vga_card.specs.Cycles.{put_cycle, get_cycle}
-use Rattle.vga_card.specs.Words.{both_written, both_read, out_word_cycle, inp_word_cycle, put_word_cycle, get_word_cycle}
+use Rattle.vga_card.specs.WordCycles.{both_written, both_read, out_word_cycle, inp_word_cycle, put_word_cycle, get_word_cycle}
 use Rattle.vga_card.specs.Dots.{character_width, fresh_dots, fresh, display_dot, dot, dots}
 use Rattle.vga_card.specs.Frames.{frame_count, frame}
 use Rattle.vga_card.specs.Settled.{settled, settled_after, CannotBeTold}

@@ -21,8 +21,8 @@ with_beam d b = record d { crtc = record d.crtc { beam = b } }
 
 -- some dots end with those of the whole line that has this beam
 pub record EndsWithLine (d : DisplayState) (dots : List Dot) (b : Beam) : Type 0 where
-  pub front : List Dot
-  pub whole : dots ≡ front ++ line_dots (with_beam d b)
+  pub prefix : List Dot
+  pub whole : dots ≡ prefix ++ line_dots (with_beam d b)
 
 -- the beam's line shows in graphics what an earlier line of the frame showed, which has this beam
 pub record ShowsAgain (d : DisplayState) (b : Beam) : Type 0 where

@@ -4,7 +4,8 @@ use Rattle.std.specs.Prelude.{ℕ, ◌≡◌, ◌<◌, false}
 use Rattle.vga_crtc.specs.Beam.{is_first_dot}
 use Rattle.vga_card.specs.Card.{CardState}
 use Rattle.vga_card.specs.Cycles.{out_cycle, inp_cycle, put_cycle, get_cycle}
-use Rattle.vga_card.specs.Words.{out_word_cycle, inp_word_cycle, put_word_cycle, get_word_cycle}
+use Rattle.vga_card.specs.WordCycles.{out_word_cycle, inp_word_cycle, put_word_cycle}
+use Rattle.vga_card.specs.WordCycles.{get_word_cycle}
 use Rattle.vga_card.specs.Dots.{fresh, dots}
 use Rattle.vga_card.specs.Frames.{frame}
 

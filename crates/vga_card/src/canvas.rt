@@ -110,7 +110,7 @@ fn push_colour(buffer: &mut Vec<u8>, colour: [u8; 3])
 /// Gives a buffer at least `len` bytes, for which it has memory.
 fn lengthen(buffer: &mut Vec<u8>, len: usize)
     requires { len ≤ vec_capacity buffer.old }
-    ensures front { take (length buffer.old.items) buffer.new.items ≡ buffer.old.items }
+    ensures prefix { take (length buffer.old.items) buffer.new.items ≡ buffer.old.items }
     ensures len { len ≤ length buffer.new.items }
     ensures capacity { vec_capacity buffer.old ≤ vec_capacity buffer.new }
 {
@@ -127,7 +127,7 @@ fn lengthen(buffer: &mut Vec<u8>, len: usize)
 fn draw_at<const CW: usize>(display: &Display<'_>, bytes: &mut [u8], at: usize)
     requires width { CW ≡ character_width display.now.host }
     requires room { at + 3 * (shown_characters display.now.crtc.registers * CW) ≤ length bytes.old }
-    ensures front { take at bytes.new ≡ take at bytes.old }
+    ensures prefix { take at bytes.new ≡ take at bytes.old }
     ensures drawn { IsLineDrawn CW (shown_characters display.now.crtc.registers) display.now
         (drop at bytes.old) (drop at bytes.new) }
 {
@@ -163,7 +163,7 @@ fn draw_part_at<const CW: usize>(display: &Display<'_>, count: usize, bytes: &mu
     requires count { count ≤ 128 }
     requires width { CW ≡ character_width display.now.host }
     requires room { at + 3 * count ≤ length bytes.old }
-    ensures front { take at bytes.new ≡ take at bytes.old }
+    ensures prefix { take at bytes.new ≡ take at bytes.old }
     ensures drawn { IsPartDrawn CW count display.now (drop at bytes.old) (drop at bytes.new) }
 {
     draw_part::<CW>(display, count, &mut bytes[at..]);

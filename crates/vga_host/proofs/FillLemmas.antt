@@ -5,18 +5,18 @@ use Rattle.std.specs.Prelude.{not}
 use Rattle.std.proofs.lemmas.Bool.Decides.{nat_tests}
 use Rattle.vga_bits.proofs.FourLemmas.{by_plane}
 use Rattle.vga_bits.specs.Four.{Four, four, of_plane}
-use Rattle.vga_host.specs.declared.host.aim.Aim.{Aim}
+use Rattle.vga_host.specs.declared.host.memory_access.MemoryAccess.{MemoryAccess}
 use Rattle.vga_host.specs.Host.{HostState}
 use Rattle.vga_host.specs.Address.{is_decoded, window_offset, plane_offset, is_reached}
 use Rattle.vga_host.specs.Fields.{is_in_map_mask, is_chain_four, is_chain_odd_even, is_odd_even_off}
 use Rattle.vga_host.specs.MemoryWrite.{written_bit, combined_bit, written_byte, after_put, IsPlain}
 use Rattle.vga_host.specs.Runs.{put_where, after_puts, in_turn, with_memory}
-use Rattle.vga_host.specs.Aim.{IsAim}
-use Rattle.vga_host.specs.Words.{word_put, alternating, grouped, ArePutWithin, FillsPlanes, FillsFours, FillsPairs, PutsWords}
+use Rattle.vga_host.specs.MemoryAccess.{IsAccess}
+use Rattle.vga_host.specs.PlaneWords.{word_put, alternating, grouped, ArePutWithin, FillsPlanes, FillsFours, FillsPairs, PutsWords}
 use Rattle.vga_bits.proofs.BitLemmas.{byte_from_bits}
 use Rattle.vga_host.proofs.PlainLemmas.{plain_bit}
 use Rattle.vga_host.proofs.RunLemmas.{even_in_turn, odd_in_turn, Turns}
-use Rattle.vga_host.proofs.WordLemmas.{plane_is, plane_alone, alone_is, and_turned, in_four, of_four, in_two, of_two, next_place, aim_over}
+use Rattle.vga_host.proofs.WordLemmas.{plane_is, plane_alone, alone_is, and_turned, in_four, of_four, in_two, of_two, next_place, access_over}
 
 -- ---- one write
 
@@ -90,20 +90,20 @@ four_put h misc first n f i g w within chain ef ei room own0 own1 own2 own3 =
     let s1 : HostState = word_put h (plane_alone h 0) b w in
     let s2 : HostState = word_put s1 (plane_alone h 1) b w in
     let s3 : HostState = word_put s2 (plane_alone h 2) b w in
-    let place : (k j : ℕ) → k ≡ i + j → j < 4 → (f + k) % 65536 ≡ b + j =
+    let in_window : (k j : ℕ) → k ≡ i + j → j < 4 → (f + k) % 65536 ≡ b + j =
     λ k j e l. ap (λ n. (f + n) % 65536) e ∙ next_place f i j (omega (arith, ef, ei)) l in
     let l0 : i < n = omega (arith, room) in
     let l1 : i + 1 < n = omega (arith, room) in
     let l2 : i + 1 + 1 < n = omega (arith, room) in
     let l3 : i + 1 + 1 + 1 < n = omega (arith, room) in
     let e0 = put_chained h misc (first + i) (g i) b 0 w (omega arith) chain (within.written i l0)
-    (within.place i l0 ∙ place i 0 (omega arith) (omega arith)) bf own0 in
+    (within.in_window i l0 ∙ in_window i 0 (omega arith) (omega arith)) bf own0 in
     let e1 = put_chained s1 misc (first + (i + 1)) (g (i + 1)) b 1 w (omega arith) chain (within.written (i + 1) l1)
-    (within.place (i + 1) l1 ∙ place (i + 1) 1 (omega arith) (omega arith)) bf (written_over h s1.memory (g (i + 1)) 1 ∙ own1) in
+    (within.in_window (i + 1) l1 ∙ in_window (i + 1) 1 (omega arith) (omega arith)) bf (written_over h s1.memory (g (i + 1)) 1 ∙ own1) in
     let e2 = put_chained s2 misc (first + (i + 1 + 1)) (g (i + 1 + 1)) b 2 w (omega arith) chain (within.written (i + 1 + 1) l2)
-    (within.place (i + 1 + 1) l2 ∙ place (i + 1 + 1) 2 (omega arith) (omega arith)) bf (written_over h s2.memory (g (i + 1 + 1)) 2 ∙ own2) in
+    (within.in_window (i + 1 + 1) l2 ∙ in_window (i + 1 + 1) 2 (omega arith) (omega arith)) bf (written_over h s2.memory (g (i + 1 + 1)) 2 ∙ own2) in
     let e3 = put_chained s3 misc (first + (i + 1 + 1 + 1)) (g (i + 1 + 1 + 1)) b 3 w (omega arith) chain (within.written (i + 1 + 1 + 1) l3)
-    (within.place (i + 1 + 1 + 1) l3 ∙ place (i + 1 + 1 + 1) 3 (omega arith) (omega arith)) bf (written_over h s3.memory (g (i + 1 + 1 + 1)) 3 ∙ own3) in
+    (within.in_window (i + 1 + 1 + 1) l3 ∙ in_window (i + 1 + 1 + 1) 3 (omega arith) (omega arith)) bf (written_over h s3.memory (g (i + 1 + 1 + 1)) 3 ∙ own3) in
     ap (after_puts misc first g 3 (i + 1)) e0 ∙ ap (after_puts misc first g 2 (i + 1 + 1)) e1 ∙ ap (after_puts misc first g 1 (i + 1 + 1 + 1)) e2 ∙ e3
 
 -- and so do four writes of two bytes in turn
@@ -143,8 +143,8 @@ two_put h misc first n f i g w within chain pairs off ef ei room own0 own1 =
     let l1 : i + 1 < n = omega (arith, room) in
     let place1 : (f + (i + 1)) % 65536 ≡ b + 1 = omega (arith, ef, ei) in
     let place0 : (f + i) % 65536 ≡ b + 0 = omega arith in
-    let e0 = put_paired h misc (first + i) (g i) b 0 w (omega arith) chain pairs off (within.written i l0) (within.place i l0 ∙ place0) bf own0 in
-    let e1 = put_paired s1 misc (first + (i + 1)) (g (i + 1)) b 1 w (omega arith) chain pairs off (within.written (i + 1) l1) (within.place (i + 1) l1
+    let e0 = put_paired h misc (first + i) (g i) b 0 w (omega arith) chain pairs off (within.written i l0) (within.in_window i l0 ∙ place0) bf own0 in
+    let e1 = put_paired s1 misc (first + (i + 1)) (g (i + 1)) b 1 w (omega arith) chain pairs off (within.written (i + 1) l1) (within.in_window (i + 1) l1
     ∙ place1) bf (λ p l e. written_over h s1.memory (g (i + 1)) p ∙ own1 p l e) in
     ap (after_puts misc first g 1 (i + 1)) e0 ∙ e1
 
@@ -164,7 +164,7 @@ one_filled : (h : HostState) (misc first n f v i : ℕ) → ArePutWithin h misc 
     → is_odd_even_off h ≡ true → i < n → put_where h misc (first + i) v ≡ word_put h (is_in_map_mask h) ((f + i) % 65536) (four (λ p. written_byte h v p))
 one_filled h misc first n f v i within chain pairs off less =
     let d = window_offset h (first + i) in
-    let offset : plane_offset h d ≡ (f + i) % 65536 = (λ s. if chain s then d / 4 * 4 else if pairs s then d / 2 * 2 else d) ∙ within.place i less in
+    let offset : plane_offset h d ≡ (f + i) % 65536 = (λ s. if chain s then d / 4 * 4 else if pairs s then d / 2 * 2 else d) ∙ within.in_window i less in
     let all : (e : Bool) → (e && true) ≡ e = λ e. and_turned e true in
     let w = four (λ p. written_byte h v p) in
     one_put h misc (first + i) v ((f + i) % 65536) (is_in_map_mask h) w (within.written i less) offset
@@ -175,7 +175,7 @@ one_filled h misc first n f v i within chain pairs off less =
 
 put_within : (h : HostState) (m : Four (List ℕ)) (misc first n f : ℕ) → ArePutWithin h misc first n f →
     (let s : HostState = record h { memory = m } in ArePutWithin s misc first n f)
-put_within h m misc first n f is = record { written = is.written; place = is.place }
+put_within h m misc first n f is = record { written = is.written; in_window = is.in_window }
 
 -- a word of what the writes make over any memory
 word_over : (h : HostState) (m : Four (List ℕ)) (v : ℕ) → (let s : HostState = record h { memory = m } in
@@ -188,7 +188,7 @@ four_fills h misc first n f even odd within is = record {
   some = omega arith;
   next = λ i e. omega (arith, e);
   put = λ m i e room. let s : HostState = record h { memory = m } in
-      four_filled s misc first n f even odd i (put_within h m misc first n f within) is.chain is.place e room
+      four_filled s misc first n f even odd i (put_within h m misc first n f within) is.chain_four is.in_window e room
       ∙ (λ j. word_put s (is_in_map_mask h) ((f + i) % 65536) (alternating (word_over h m even j) (word_over h m odd j)));
 }
 
@@ -198,7 +198,7 @@ pair_fills h misc first n f even odd within is = record {
   some = omega arith;
   next = λ i e. omega (arith, e);
   put = λ m i e room. let s : HostState = record h { memory = m } in
-      two_filled s misc first n f even odd i (put_within h m misc first n f within) is.chain is.pairs is.off is.place e room
+      two_filled s misc first n f even odd i (put_within h m misc first n f within) is.chain_four is.chain_odd_even is.odd_even_off is.in_window e room
       ∙ (λ j. word_put s (is_in_map_mask h) ((f + i) % 65536) (alternating (word_over h m even j) (word_over h m odd j)));
 }
 
@@ -213,7 +213,7 @@ plane_fills h misc first n f v within is = record {
   next = λ i e. omega (arith, e);
   put = λ m i e room. let s : HostState = record h { memory = m } in
       ap (put_where s misc (first + i)) (same_turn v i (i % 2 == 0))
-      ∙ one_filled s misc first n f v i (put_within h m misc first n f within) is.chain is.pairs is.off (omega (arith, room))
+      ∙ one_filled s misc first n f v i (put_within h m misc first n f within) is.chain_four is.chain_odd_even is.odd_even_off (omega (arith, room))
       ∙ (λ j. word_put s (is_in_map_mask h) ((f + i) % 65536) (word_over h m v j));
 }
 
@@ -259,12 +259,12 @@ puts_rest misc first n done g h s few is =
     ∙ sym (puts_add misc first g done (n - done) 0 h) ∙ ap (λ (k : ℕ). after_puts misc first g k 0 h) all
 
 -- what the loop over the writes that are left begins with
-pub fill_leaves : (aim : Aim) (bytes others : Four ℕ) (misc first even odd n done : ℕ) (h s : HostState) → IsAim aim h
+pub fill_leaves : (access : MemoryAccess) (bytes others : Four ℕ) (misc first even odd n done : ℕ) (h s : HostState) → IsAccess access h
     → bytes ≡ four (λ p. written_byte h even p) → others ≡ four (λ p. written_byte h odd p) → done ≤ n → with_memory h s.memory ≡ s
-    → s ≡ after_puts misc first (in_turn even odd) done 0 h → Turns aim bytes others misc first even odd n done s
+    → s ≡ after_puts misc first (in_turn even odd) done 0 h → Turns access bytes others misc first even odd n done s
     (after_puts misc first (in_turn even odd) n 0 h)
-fill_leaves aim bytes others misc first even odd n done h s is be bo few kept put = (
-  subst (IsAim aim) kept (aim_over aim h s.memory h.latches is),
+fill_leaves access bytes others misc first even odd n done h s is be bo few kept put = (
+  subst (IsAccess access) kept (access_over access h s.memory h.latches is),
   be ∙ sym (word_over h s.memory even) ∙ ap (λ (x : HostState). four (λ p. written_byte x even p)) kept,
   bo ∙ sym (word_over h s.memory odd) ∙ ap (λ (x : HostState). four (λ p. written_byte x odd p)) kept,
   puts_rest misc first n done (in_turn even odd) h s few put,
@@ -287,7 +287,7 @@ four_grouped h misc first n f g within is plain bytes = record {
   put = λ m i e room. let s : HostState = record h { memory = m } in
       let own : (p k : ℕ) → p < 4 → k ≡ i + p → written_byte s (g k) p ≡ g (i + p) =
       λ p k l at. plain_byte s (g k) p (plain_over h m plain) l (bytes k) ∙ ap g at in
-      four_put s misc first n f i g (grouped 4 g i) (put_within h m misc first n f within) is.chain is.place e room
+      four_put s misc first n f i g (grouped 4 g i) (put_within h m misc first n f within) is.chain_four is.in_window e room
       (own 0 i (omega arith) (omega arith)) (own 1 (i + 1) (omega arith) refl) (own 2 (i + 1 + 1) (omega arith) (omega arith))
       (own 3 (i + 1 + 1 + 1) (omega arith) (omega arith));
 }
@@ -300,7 +300,7 @@ pair_grouped h misc first n f g within is plain bytes = record {
   put = λ m i e room. let s : HostState = record h { memory = m } in
       let kept = plain_over h m plain in
       let zero_is : i ≡ i + 0 = omega arith in
-      two_put s misc first n f i g (grouped 2 g i) (put_within h m misc first n f within) is.chain is.pairs is.off is.place e room
+      two_put s misc first n f i g (grouped 2 g i) (put_within h m misc first n f within) is.chain_four is.chain_odd_even is.odd_even_off is.in_window e room
       (λ p l odd. plain_byte s (g i) p kept l (bytes i) ∙ by_plane (λ q. q % 2 ≡ 0 → g i ≡ of_plane (grouped 2 g i) q)
       (λ x. ap g zero_is) (λ x. absurd (cc)) (λ x. ap g zero_is) (λ x. absurd (cc)) p l odd)
       (λ p l odd. plain_byte s (g (i + 1)) p kept l (bytes (i + 1)) ∙ by_plane (λ q. q % 2 ≡ 1 → g (i + 1) ≡ of_plane (grouped 2 g i) q)
@@ -316,7 +316,7 @@ plane_grouped h misc first n f g within is plain bytes = record {
       let kept = plain_over h m plain in
       let zero_is : i ≡ i + 0 = omega arith in
       let own : (p : ℕ) → p < 4 → written_byte s (g i) p ≡ g (i + 0) = λ p l. plain_byte s (g i) p kept l (bytes i) ∙ ap g zero_is in
-      one_filled s misc first n f (g i) i (put_within h m misc first n f within) is.chain is.pairs is.off (omega (arith, room))
+      one_filled s misc first n f (g i) i (put_within h m misc first n f within) is.chain_four is.chain_odd_even is.odd_even_off (omega (arith, room))
       ∙ (λ j. word_put s (is_in_map_mask h) ((f + i) % 65536) (record {
         plane0 = own 0 (omega arith) j;
         plane1 = own 1 (omega arith) j;
@@ -330,5 +330,5 @@ not_false true e = refl
 not_false false e = absurd (cc)
 
 -- what the registers say stays where memory alone changes
-pub aim_kept : (aim : Aim) (h s : HostState) → IsAim aim h → with_memory h s.memory ≡ s → IsAim aim s
-aim_kept aim h s is kept = subst (IsAim aim) kept (aim_over aim h s.memory h.latches is)
+pub access_kept : (access : MemoryAccess) (h s : HostState) → IsAccess access h → with_memory h s.memory ≡ s → IsAccess access s
+access_kept access h s is kept = subst (IsAccess access) kept (access_over access h s.memory h.latches is)

@@ -11,7 +11,7 @@ use Rattle.std.proofs.lemmas.List.{get_or-set_other, get_or-set_same}
 use Rattle.vga_bits.specs.Bits.{is_set, byte_of}
 use Rattle.vga_bits.specs.Four.{Four, four, of_plane}
 use Rattle.vga_planes.specs.Planes.{with_bytes, bytes_at, byte_at}
-use Rattle.vga_host.specs.declared.host.aim.Aim.{Aim}
+use Rattle.vga_host.specs.declared.host.memory_access.MemoryAccess.{MemoryAccess}
 use Rattle.vga_host.specs.Host.{HostState}
 use Rattle.vga_host.specs.Address.{is_decoded, decoded_among, window_offset, plane_offset, is_reached, window_start, window_len}
 use Rattle.vga_host.specs.MemoryWrite.{written_bit, combined_bit, written_byte, after_put}
@@ -20,28 +20,28 @@ use Rattle.std.specs.Int.{bit_at}
 use Rattle.vga_bits.proofs.BitLemmas.{byte_from_bits}
 use Rattle.vga_bits.proofs.FourLemmas.{by_plane}
 use Rattle.vga_host.specs.Runs.{put_where, put_bytes, get_where, byte_where, move_where, after_puts, after_gets, after_moves, in_turn}
-use Rattle.vga_host.specs.Aim.{IsAim}
+use Rattle.vga_host.specs.MemoryAccess.{IsAccess}
 use Rattle.vga_host.specs.Fields.{write_mode, is_memory_enabled, is_read_compare}
 
 -- ---- what the registers say stays
 
-aim_where : (d : Bool) (aim : Aim) (h : HostState) (misc a v : ℕ) → IsAim aim h → IsAim aim (if d then after_put h a v else h)
-aim_where true aim h misc a v is = record {
+access_where : (d : Bool) (access : MemoryAccess) (h : HostState) (misc a v : ℕ) → IsAccess access h → IsAccess access (if d then after_put h a v else h)
+access_where true access h misc a v is = record {
   start = is.start;
   len = is.len;
   small = is.small;
-  four = is.four;
-  pairs = is.pairs;
-  all = is.all;
-  mask = is.mask;
-  plain = λ e. let p = is.plain e in record { mode = p.mode; rotate = p.rotate; function = p.function; own = p.own; mask = p.mask };
-  latched = is.latched;
+  chain_four = is.chain_four;
+  chain_odd_even = is.chain_odd_even;
+  odd_even_off = is.odd_even_off;
+  map_mask = is.map_mask;
+  stores_byte = λ e. let p = is.stores_byte e in record { mode = p.mode; rotate = p.rotate; function = p.function; own = p.own; mask = p.mask };
+  stores_latches = is.stores_latches;
 }
-aim_where false aim h misc a v is = is
+access_where false access h misc a v is = is
 
 -- a write changes nothing that the registers say
-pub aim_stays : (aim : Aim) (h : HostState) (misc a v : ℕ) → IsAim aim h → IsAim aim (put_where h misc a v)
-aim_stays aim h misc a v is = aim_where (is_decoded h misc a) aim h misc a v is
+pub access_stays : (access : MemoryAccess) (h : HostState) (misc a v : ℕ) → IsAccess access h → IsAccess access (put_where h misc a v)
+access_stays access h misc a v is = access_where (is_decoded h misc a) access h misc a v is
 
 written_where : (d : Bool) (bytes : Four ℕ) (h : HostState) (a v b : ℕ) → bytes ≡ four (λ p. written_byte h b p) →
     bytes ≡ four (λ p. written_byte (if d then after_put h a v else h) b p)
@@ -65,18 +65,18 @@ if_true : {A : Type 0} (d : Bool) (x y : A) → IsTrue d → x ≡ (if d then x 
 if_true true x y is = refl
 if_true false x y is = absurd (cc)
 
-module _ (aim : Aim) (h : HostState) (misc a : ℕ) (is : IsAim aim h) where
-  aimed_planes : (w set : ℕ) (bytes : Four ℕ) → w ≡ (a - aim.start) % 65536
-      → (reach : (p : ℕ) → p < 4 → is_set set p ≡ (is_set aim.mask p && (if aim.four then p == w % 4 else aim.all || (p % 2 == w % 2))))
-      → with_bytes h.memory (if aim.four then w / 4 * 4 else if aim.pairs then w / 2 * 2 else w) bytes set
+module _ (access : MemoryAccess) (h : HostState) (misc a : ℕ) (is : IsAccess access h) where
+  access_planes : (w set : ℕ) (bytes : Four ℕ) → w ≡ (a - access.start) % 65536
+      → (reach : (p : ℕ) → p < 4 → is_set set p ≡ (is_set access.map_mask p && (if access.chain_four then p == w % 4 else access.odd_even_off || (p % 2 == w % 2))))
+      → with_bytes h.memory (if access.chain_four then w / 4 * 4 else if access.chain_odd_even then w / 2 * 2 else w) bytes set
       ≡ four (λ p. if is_reached h (window_offset h a) p then slice_set (of_plane h.memory p) (plane_offset h (window_offset h a)) (of_plane bytes p)
       else of_plane h.memory p)
-  aimed_planes w set bytes place reach =
-      let at : w ≡ window_offset h a = place ∙ ap (λ s. (a - s) % 65536) is.start in
-      let o : (if aim.four then w / 4 * 4 else if aim.pairs then w / 2 * 2 else w) ≡ plane_offset h (window_offset h a) =
-      λ j. if is.four j then at j / 4 * 4 else if is.pairs j then at j / 2 * 2 else at j in
-      let through : (p : ℕ) → (is_set aim.mask p && (if aim.four then p == w % 4 else aim.all || (p % 2 == w % 2))) ≡ is_reached h (window_offset h a) p =
-      λ p. λ j. is.mask p j && (if is.four j then p == at j % 4 else is.all j || (p % 2 == at j % 2)) in
+  access_planes w set bytes in_window reach =
+      let at : w ≡ window_offset h a = in_window ∙ ap (λ s. (a - s) % 65536) is.start in
+      let o : (if access.chain_four then w / 4 * 4 else if access.chain_odd_even then w / 2 * 2 else w) ≡ plane_offset h (window_offset h a) =
+      λ j. if is.chain_four j then at j / 4 * 4 else if is.chain_odd_even j then at j / 2 * 2 else at j in
+      let through : (p : ℕ) → (is_set access.map_mask p && (if access.chain_four then p == w % 4 else access.odd_even_off || (p % 2 == w % 2))) ≡ is_reached h (window_offset h a) p =
+      λ p. λ j. is.map_mask p j && (if is.chain_four j then p == at j % 4 else is.odd_even_off j || (p % 2 == at j % 2)) in
       let r0 = reach 0 (omega arith) ∙ through 0 in
       let r1 = reach 1 (omega arith) ∙ through 1 in
       let r2 = reach 2 (omega arith) ∙ through 2 in
@@ -88,58 +88,58 @@ module _ (aim : Aim) (h : HostState) (misc a : ℕ) (is : IsAim aim h) where
         plane3 = if r3 j then slice_set h.memory.plane3 (o j) bytes.plane3 else h.memory.plane3;
       }
 
-  decoded_as : (is_memory_enabled misc && (nat_le aim.start a && nat_lt a (aim.start + aim.len))) ≡ is_decoded h misc a
+  decoded_as : (is_memory_enabled misc && (nat_le access.start a && nat_lt a (access.start + access.len))) ≡ is_decoded h misc a
   decoded_as = λ j. is_memory_enabled misc && (nat_le (is.start j) a && nat_lt a (is.start j + is.len j))
 
   -- a write by what the registers say is a write
-  pub put_as : (w set : ℕ) (bytes : Four ℕ) → IsTrue (is_memory_enabled misc && (nat_le aim.start a && nat_lt a (aim.start + aim.len)))
-      → w ≡ (a - aim.start) % 65536
-      → (reach : (p : ℕ) → p < 4 → is_set set p ≡ (is_set aim.mask p && (if aim.four then p == w % 4 else aim.all || (p % 2 == w % 2))))
-      → (let after : HostState = record h { memory = with_bytes h.memory (if aim.four then w / 4 * 4 else if aim.pairs then w / 2 * 2 else w) bytes set } in
+  pub put_as : (w set : ℕ) (bytes : Four ℕ) → IsTrue (is_memory_enabled misc && (nat_le access.start a && nat_lt a (access.start + access.len)))
+      → w ≡ (a - access.start) % 65536
+      → (reach : (p : ℕ) → p < 4 → is_set set p ≡ (is_set access.map_mask p && (if access.chain_four then p == w % 4 else access.odd_even_off || (p % 2 == w % 2))))
+      → (let after : HostState = record h { memory = with_bytes h.memory (if access.chain_four then w / 4 * 4 else if access.chain_odd_even then w / 2 * 2 else w) bytes set } in
       after ≡ put_bytes h misc a bytes)
-  put_as w set bytes decoded place reach =
-      ap (λ m. let after : HostState = record h { memory = m } in after) (aimed_planes w set bytes place reach)
+  put_as w set bytes decoded in_window reach =
+      ap (λ m. let after : HostState = record h { memory = m } in after) (access_planes w set bytes in_window reach)
       ∙ if_true (is_decoded h misc a) _ h (sym decoded_as ∙ decoded)
 
   -- a load by what they say is a read
-  pub get_as : (w : ℕ) → IsTrue (is_memory_enabled misc && (nat_le aim.start a && nat_lt a (aim.start + aim.len))) → w ≡ (a - aim.start) % 65536
-      → (let after : HostState = record h { latches = bytes_at h.memory (if aim.four then w / 4 * 4 else if aim.pairs then w / 2 * 2 else w) } in after
+  pub get_as : (w : ℕ) → IsTrue (is_memory_enabled misc && (nat_le access.start a && nat_lt a (access.start + access.len))) → w ≡ (a - access.start) % 65536
+      → (let after : HostState = record h { latches = bytes_at h.memory (if access.chain_four then w / 4 * 4 else if access.chain_odd_even then w / 2 * 2 else w) } in after
       ≡ get_where h misc a)
-  get_as w decoded place =
-      let at : w ≡ window_offset h a = place ∙ ap (λ s. (a - s) % 65536) is.start in
-      let o : (if aim.four then w / 4 * 4 else if aim.pairs then w / 2 * 2 else w) ≡ plane_offset h (window_offset h a) =
-      λ j. if is.four j then at j / 4 * 4 else if is.pairs j then at j / 2 * 2 else at j in
+  get_as w decoded in_window =
+      let at : w ≡ window_offset h a = in_window ∙ ap (λ s. (a - s) % 65536) is.start in
+      let o : (if access.chain_four then w / 4 * 4 else if access.chain_odd_even then w / 2 * 2 else w) ≡ plane_offset h (window_offset h a) =
+      λ j. if is.chain_four j then at j / 4 * 4 else if is.chain_odd_even j then at j / 2 * 2 else at j in
       ap (λ o. let after : HostState = record h { latches = bytes_at h.memory o } in after) o
       ∙ if_true (is_decoded h misc a) (after_get h a) h (sym decoded_as ∙ decoded)
 
   -- and so is its byte
-  pub byte_as : (w : ℕ) → IsTrue (is_memory_enabled misc && (nat_le aim.start a && nat_lt a (aim.start + aim.len))) → w ≡ (a - aim.start) % 65536
-      → byte_of (λ i. read_bit h w (bytes_at h.memory (if aim.four then w / 4 * 4 else if aim.pairs then w / 2 * 2 else w)) i) ≡ byte_where h misc a
-  byte_as w decoded place =
-      let at : w ≡ window_offset h a = place ∙ ap (λ s. (a - s) % 65536) is.start in
-      let o : (if aim.four then w / 4 * 4 else if aim.pairs then w / 2 * 2 else w) ≡ plane_offset h (window_offset h a) =
-      λ j. if is.four j then at j / 4 * 4 else if is.pairs j then at j / 2 * 2 else at j in
+  pub byte_as : (w : ℕ) → IsTrue (is_memory_enabled misc && (nat_le access.start a && nat_lt a (access.start + access.len))) → w ≡ (a - access.start) % 65536
+      → byte_of (λ i. read_bit h w (bytes_at h.memory (if access.chain_four then w / 4 * 4 else if access.chain_odd_even then w / 2 * 2 else w)) i) ≡ byte_where h misc a
+  byte_as w decoded in_window =
+      let at : w ≡ window_offset h a = in_window ∙ ap (λ s. (a - s) % 65536) is.start in
+      let o : (if access.chain_four then w / 4 * 4 else if access.chain_odd_even then w / 2 * 2 else w) ≡ plane_offset h (window_offset h a) =
+      λ j. if is.chain_four j then at j / 4 * 4 else if is.chain_odd_even j then at j / 2 * 2 else at j in
       ap (λ o. byte_of (λ i. read_bit h w (bytes_at h.memory o) i)) o
       ∙ ap (λ x. byte_of (λ i. read_bit h x (loaded h a) i)) at
       ∙ if_true (is_decoded h misc a) (read_byte h a) 0xFF (sym decoded_as ∙ decoded)
 
-aim_loaded : (d : Bool) (aim : Aim) (h : HostState) (misc a : ℕ) → IsAim aim h → IsAim aim (if d then after_get h a else h)
-aim_loaded true aim h misc a is = record {
+access_loaded : (d : Bool) (access : MemoryAccess) (h : HostState) (misc a : ℕ) → IsAccess access h → IsAccess access (if d then after_get h a else h)
+access_loaded true access h misc a is = record {
   start = is.start;
   len = is.len;
   small = is.small;
-  four = is.four;
-  pairs = is.pairs;
-  all = is.all;
-  mask = is.mask;
-  plain = λ e. let p = is.plain e in record { mode = p.mode; rotate = p.rotate; function = p.function; own = p.own; mask = p.mask };
-  latched = is.latched;
+  chain_four = is.chain_four;
+  chain_odd_even = is.chain_odd_even;
+  odd_even_off = is.odd_even_off;
+  map_mask = is.map_mask;
+  stores_byte = λ e. let p = is.stores_byte e in record { mode = p.mode; rotate = p.rotate; function = p.function; own = p.own; mask = p.mask };
+  stores_latches = is.stores_latches;
 }
-aim_loaded false aim h misc a is = is
+access_loaded false access h misc a is = is
 
 -- nor does a read change what the registers say
-pub aim_read : (aim : Aim) (h : HostState) (misc a : ℕ) → IsAim aim h → IsAim aim (get_where h misc a)
-aim_read aim h misc a is = aim_loaded (is_decoded h misc a) aim h misc a is
+pub access_read : (access : MemoryAccess) (h : HostState) (misc a : ℕ) → IsAccess access h → IsAccess access (get_where h misc a)
+access_read access h misc a is = access_loaded (is_decoded h misc a) access h misc a is
 
 mode_loaded : (d : Bool) (h : HostState) (a : ℕ) → write_mode (if d then after_get h a else h) ≡ write_mode h
 mode_loaded true h a = refl
@@ -150,29 +150,29 @@ pub mode_read : (h : HostState) (misc a : ℕ) → write_mode (get_where h misc 
 mode_read h misc a = mode_loaded (is_decoded h misc a) h a
 
 -- what a loop of moves keeps
-pub move_kept : (aim : Aim) (misc from to n i : ℕ) (h t r : HostState) → i < n → t ≡ move_where h misc (from + i) (to + i)
-    → (IsAim aim h × (after_moves misc from to (n - i) i h ≡ r)) → (IsAim aim t × (after_moves misc from to (n - (i + 1)) (i + 1) t ≡ r))
-move_kept aim misc from to n i h t r less now kept =
+pub move_kept : (access : MemoryAccess) (misc from to n i : ℕ) (h t r : HostState) → i < n → t ≡ move_where h misc (from + i) (to + i)
+    → (IsAccess access h × (after_moves misc from to (n - i) i h ≡ r)) → (IsAccess access t × (after_moves misc from to (n - (i + 1)) (i + 1) t ≡ r))
+move_kept access misc from to n i h t r less now kept =
     let k : n - i ≡ suc (n - (i + 1)) = omega arith in
     let u = get_where h misc (from + i) in (
-      subst (IsAim aim) (sym now) (aim_stays aim u misc (to + i) (byte_where h misc (from + i)) (aim_read aim h misc (from + i) kept.0)),
+      subst (IsAccess access) (sym now) (access_stays access u misc (to + i) (byte_where h misc (from + i)) (access_read access h misc (from + i) kept.0)),
       ap (after_moves misc from to (n - (i + 1)) (i + 1)) now ∙ sym (ap (λ k. after_moves misc from to k i h) k) ∙ kept.1,
     )
 
 -- what a loop over two bytes in turn keeps
-abbrev pub Turns : Aim → Four ℕ → Four ℕ → ℕ → ℕ → ℕ → ℕ → ℕ → ℕ → HostState → HostState → Type 0
-Turns aim bytes others misc first even odd n i h r =
-    IsAim aim h
+abbrev pub Turns : MemoryAccess → Four ℕ → Four ℕ → ℕ → ℕ → ℕ → ℕ → ℕ → ℕ → HostState → HostState → Type 0
+Turns access bytes others misc first even odd n i h r =
+    IsAccess access h
     × (bytes ≡ four (λ p. written_byte h even p))
     × (others ≡ four (λ p. written_byte h odd p))
     × (after_puts misc first (in_turn even odd) (n - i) i h ≡ r)
 
-pub turn_kept : (aim : Aim) (bytes others : Four ℕ) (misc first even odd n i v : ℕ) (h t r : HostState) → i < n → v ≡ in_turn even odd i →
+pub turn_kept : (access : MemoryAccess) (bytes others : Four ℕ) (misc first even odd n i v : ℕ) (h t r : HostState) → i < n → v ≡ in_turn even odd i →
     t ≡ put_where h misc (first + i) v
-    → Turns aim bytes others misc first even odd n i h r → Turns aim bytes others misc first even odd n (i + 1) t r
-turn_kept aim bytes others misc first even odd n i v h t r less which now kept =
+    → Turns access bytes others misc first even odd n i h r → Turns access bytes others misc first even odd n (i + 1) t r
+turn_kept access bytes others misc first even odd n i v h t r less which now kept =
     let at : t ≡ put_where h misc (first + i) (in_turn even odd i) = now ∙ ap (put_where h misc (first + i)) which in (
-      subst (IsAim aim) (sym now) (aim_stays aim h misc (first + i) v kept.0),
+      subst (IsAccess access) (sym now) (access_stays access h misc (first + i) v kept.0),
       subst (λ x. bytes ≡ four (λ p. written_byte x even p)) (sym now) (written_stays bytes h misc (first + i) v even kept.1),
       subst (λ x. others ≡ four (λ p. written_byte x odd p)) (sym now) (written_stays others h misc (first + i) v odd kept.2),
       next_put misc first (in_turn even odd) i n h t r less at kept.3,
@@ -274,12 +274,12 @@ among_window h misc first (suc n) on =
 pub byte_there : (h : HostState) (misc a w k o : ℕ) → is_decoded h misc a ≡ true → window_offset h a ≡ w → is_read_compare h ≡ false → k ≡ picked_plane h w
     → k < 4 → o ≡ plane_offset h w → byte_at h.memory k o < 256 → byte_at h.memory k o ≡ byte_where h misc a
 unfolding read_bit
-byte_there h misc a w k o decoded place compare picked low at byte =
+byte_there h misc a w k o decoded in_window compare picked low at byte =
     let m = h.memory in
     let v = window_offset h a in
     let bytes = bytes_at m (plane_offset h v) in
-    let offset : plane_offset h v ≡ o = ap (plane_offset h) place ∙ sym at in
-    let plane : picked_plane h v ≡ k = ap (picked_plane h) place ∙ sym picked in
+    let offset : plane_offset h v ≡ o = ap (plane_offset h) in_window ∙ sym at in
+    let plane : picked_plane h v ≡ k = ap (picked_plane h) in_window ∙ sym picked in
     let same : of_plane bytes k ≡ byte_at m k o =
     by_plane (λ q. of_plane bytes q ≡ byte_at m q o) (ap (byte_at m 0) offset) (ap (byte_at m 1) offset) (ap (byte_at m 2) offset)
     (ap (byte_at m 3) offset) k low in

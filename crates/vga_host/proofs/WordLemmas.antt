@@ -16,9 +16,9 @@ use Rattle.vga_host.specs.Fields.{read_map_pair, read_map_select}
 use Rattle.vga_host.specs.MemoryRead.{compared_bit, read_bit, read_byte, picked_plane, after_get, loaded}
 use Rattle.vga_host.specs.MemoryWrite.{written_bit, written_byte, after_put, IsPlain}
 use Rattle.vga_host.specs.Runs.{put_where, move_where, after_moves}
-use Rattle.vga_host.specs.Aim.{IsAim}
-use Rattle.vga_host.specs.declared.host.aim.Aim.{Aim}
-use Rattle.vga_host.specs.Words.{word_moved, AreWithin, MovesLatches, MovesFours, MovesPairs, MovesWords}
+use Rattle.vga_host.specs.MemoryAccess.{IsAccess}
+use Rattle.vga_host.specs.declared.host.memory_access.MemoryAccess.{MemoryAccess}
+use Rattle.vga_host.specs.PlaneWords.{word_moved, AreWithin, MovesLatches, MovesFours, MovesPairs, MovesWords}
 use Rattle.vga_host.proofs.PlainLemmas.{plain_bit, latched_bit}
 
 -- ---- one move
@@ -236,7 +236,7 @@ four_moved h misc from to n f t i within chain plain compare ef et ei room bytes
     let p1 = plain_kept h (plane_alone h 0) a b plain in
     let p2 = plain_kept s1 (plane_alone h 1) a b p1 in
     let p3 = plain_kept s2 (plane_alone h 2) a b p2 in
-    let place : (x k j : ℕ) → k ≡ i + j → j < 4 → (x + i) % 4 ≡ 0 → (x + k) % 65536 ≡ (x + i) % 65536 + j =
+    let in_window : (x k j : ℕ) → k ≡ i + j → j < 4 → (x + i) % 4 ≡ 0 → (x + k) % 65536 ≡ (x + i) % 65536 + j =
     λ x k j e l m. ap (λ n. (x + n) % 65536) e ∙ next_place x i j m l in
     let fi : (f + i) % 4 ≡ 0 = omega (arith, ef, ei) in
     let ti : (t + i) % 4 ≡ 0 = omega (arith, et, ei) in
@@ -245,20 +245,20 @@ four_moved h misc from to n f t i within chain plain compare ef et ei room bytes
     let l2 : i + 1 + 1 < n = omega (arith, room) in
     let l3 : i + 1 + 1 + 1 < n = omega (arith, room) in
     let e0 = chained h misc (from + i) (to + i) a b 0 (omega arith) chain plain compare (within.read i l0) (within.written i l0)
-    (within.from_place i l0 ∙ place f i 0 (omega arith) (omega arith) fi) (within.to_place i l0
-    ∙ place t i 0 (omega arith) (omega arith) ti) af bf (bytes 0 (omega arith)) in
+    (within.from_place i l0 ∙ in_window f i 0 (omega arith) (omega arith) fi) (within.to_place i l0
+    ∙ in_window t i 0 (omega arith) (omega arith) ti) af bf (bytes 0 (omega arith)) in
     let e1 = chained s1 misc (from + (i + 1)) (to + (i + 1)) a b 1 (omega arith) chain p1 compare (within.read (i + 1) l1) (within.written (i + 1) l1)
-    (within.from_place (i + 1) l1 ∙ place f (i + 1) 1 (omega arith) (omega arith) fi) (within.to_place (i + 1) l1
-    ∙ place t (i + 1) 1 (omega arith) (omega arith) ti) af bf
+    (within.from_place (i + 1) l1 ∙ in_window f (i + 1) 1 (omega arith) (omega arith) fi) (within.to_place (i + 1) l1
+    ∙ in_window t (i + 1) 1 (omega arith) (omega arith) ti) af bf
     (bytes 1 (omega arith)) in
     let e2 = chained s2 misc (from + (i + 1 + 1)) (to + (i + 1 + 1)) a b 2 (omega arith) chain p2 compare (within.read (i + 1 + 1) l2)
     (within.written (i + 1 + 1) l2)
-    (within.from_place (i + 1 + 1) l2 ∙ place f (i + 1 + 1) 2 (omega arith) (omega arith) fi)
-    (within.to_place (i + 1 + 1) l2 ∙ place t (i + 1 + 1) 2 (omega arith) (omega arith) ti) af bf (bytes 2 (omega arith)) in
+    (within.from_place (i + 1 + 1) l2 ∙ in_window f (i + 1 + 1) 2 (omega arith) (omega arith) fi)
+    (within.to_place (i + 1 + 1) l2 ∙ in_window t (i + 1 + 1) 2 (omega arith) (omega arith) ti) af bf (bytes 2 (omega arith)) in
     let e3 = chained s3 misc (from + (i + 1 + 1 + 1)) (to + (i + 1 + 1 + 1)) a b 3 (omega arith) chain p3 compare (within.read (i + 1 + 1 + 1) l3)
     (within.written (i + 1 + 1 + 1) l3)
-    (within.from_place (i + 1 + 1 + 1) l3 ∙ place f (i + 1 + 1 + 1) 3 (omega arith) (omega arith) fi)
-    (within.to_place (i + 1 + 1 + 1) l3 ∙ place t (i + 1 + 1 + 1) 3 (omega arith) (omega arith) ti) af bf (bytes 3 (omega arith)) in
+    (within.from_place (i + 1 + 1 + 1) l3 ∙ in_window f (i + 1 + 1 + 1) 3 (omega arith) (omega arith) fi)
+    (within.to_place (i + 1 + 1 + 1) l3 ∙ in_window t (i + 1 + 1 + 1) 3 (omega arith) (omega arith) ti) af bf (bytes 3 (omega arith)) in
     ap (after_moves misc from to 3 (i + 1)) e0 ∙ ap (after_moves misc from to 2 (i + 1 + 1)) e1 ∙ ap (after_moves misc from to 1 (i + 1 + 1 + 1)) e2
     ∙ e3 ∙ four_alone h a b
 
@@ -313,7 +313,7 @@ latch_words h misc from to n f t within is = record {
   some = omega arith;
   next = λ i e. omega (arith, e);
   moved = λ m l i e room bytes. let s : HostState = record h { memory = m; latches = l } in
-      latch_moved s misc from to n f t i (within_kept h m l misc from to n f t within) is.mode is.chain is.pairs is.off (omega (arith, room)) bytes;
+      latch_moved s misc from to n f t i (within_kept h m l misc from to n f t within) is.mode is.chain_four is.chain_odd_even is.odd_even_off (omega (arith, room)) bytes;
 }
 
 plain_over : (h : HostState) (m : Four (List ℕ)) (l : Four ℕ) → IsPlain h → (let s : HostState = record h { memory = m; latches = l } in IsPlain s)
@@ -324,7 +324,7 @@ four_words h misc from to n f t within is = record {
   some = omega arith;
   next = λ i e. omega (arith, e);
   moved = λ m l i e room bytes. let s : HostState = record h { memory = m; latches = l } in
-      four_moved s misc from to n f t i (within_kept h m l misc from to n f t within) is.chain (plain_over h m l is.plain) is.compare is.from_place is.to_place
+      four_moved s misc from to n f t i (within_kept h m l misc from to n f t within) is.chain_four (plain_over h m l is.plain) is.compare is.from_place is.to_place
       e room bytes;
 }
 
@@ -333,7 +333,7 @@ pair_words h misc from to n f t within is = record {
   some = omega arith;
   next = λ i e. omega (arith, e);
   moved = λ m l i e room bytes. let s : HostState = record h { memory = m; latches = l } in
-      two_moved s misc from to n f t i (within_kept h m l misc from to n f t within) is.writes.chain is.writes.pairs is.writes.off is.reads.apart is.reads.pair
+      two_moved s misc from to n f t i (within_kept h m l misc from to n f t within) is.writes.chain_four is.writes.chain_odd_even is.writes.odd_even_off is.reads.apart is.reads.pair
       is.writes.plane2 is.writes.plane3 (plain_over h m l is.writes.plain) is.reads.compare is.from_place is.to_place e room bytes;
 }
 
@@ -354,17 +354,17 @@ moves_add misc from to (suc k) r i h =
 abbrev pub over : HostState → Four (List ℕ) → Four ℕ → HostState
 over h m l = record h { memory = m; latches = l }
 
-pub aim_over : (aim : Aim) (h : HostState) (m : Four (List ℕ)) (l : Four ℕ) → IsAim aim h → IsAim aim (over h m l)
-aim_over aim h m l is = record {
+pub access_over : (access : MemoryAccess) (h : HostState) (m : Four (List ℕ)) (l : Four ℕ) → IsAccess access h → IsAccess access (over h m l)
+access_over access h m l is = record {
   start = is.start;
   len = is.len;
   small = is.small;
-  four = is.four;
-  pairs = is.pairs;
-  all = is.all;
-  mask = is.mask;
-  plain = λ e. plain_over h m l (is.plain e);
-  latched = is.latched;
+  chain_four = is.chain_four;
+  chain_odd_even = is.chain_odd_even;
+  odd_even_off = is.odd_even_off;
+  map_mask = is.map_mask;
+  stores_byte = λ e. plain_over h m l (is.stores_byte e);
+  stores_latches = is.stores_latches;
 }
 
 -- what a loop over words keeps

@@ -13,7 +13,7 @@ use Rattle.vga_bits.proofs.BitLemmas.{byte_from_bits}
 use Rattle.vga_bits.proofs.FourLemmas.{by_plane}
 use Rattle.vga_bits.proofs.WordLemmas.{byte_below, word_bit_byte}
 use Rattle.vga_planes.specs.Planes.{byte_at, with_bytes, zero_planes, IsMemory}
-use Rattle.vga_planes.specs.Words.{planes_of}
+use Rattle.vga_planes.specs.PlaneWords.{planes_of}
 
 read_below : (p : ℕ) (ws : List ℕ) (i : ℕ) → get_or (map (byte_in p) ws) i 0 < 256
 read_below p [] i = omega arith

@@ -9,25 +9,25 @@ use Rattle.vga_bits.specs.Four.{Four}
 use Rattle.vga_bits.specs.Saved.{IsPut}
 use Rattle.vga_bits.specs.Words.{byte_in, bytes_of}
 use Rattle.vga_planes.specs.Planes.{IsMemory}
-use Rattle.vga_planes.specs.Words.{planes_of}
+use Rattle.vga_planes.specs.PlaneWords.{planes_of}
 use Rattle.vga_planes.specs.Saved.{saved_memory, planes_from, memory_from}
 
 -- one byte more of a list
 pub one_more : (out old plane : List ℕ) (at i v : ℕ) → take (at + i) out ≡ take at old ++ take i plane → at + i < length out → i < length plane
     → v ≡ slice_index plane i → take (at + (i + 1)) (slice_set out (at + i) v) ≡ take at old ++ take (i + 1) plane
-one_more out old plane at i v front room within value =
+one_more out old plane at i v prefix room within value =
     let place : at + (i + 1) ≡ at + i + 1 = omega arith in
     ap (λ (n : ℕ). take n (slice_set out (at + i) v)) place ∙ take_more_set out (at + i) v room
-    ∙ ap (λ (l : List ℕ). l ++ v ∷ []) front ∙ ap (λ (x : ℕ). (take at old ++ take i plane) ++ x ∷ []) value
+    ∙ ap (λ (l : List ℕ). l ++ v ∷ []) prefix ∙ ap (λ (x : ℕ). (take at old ++ take i plane) ++ x ∷ []) value
     ∙ append_assoc (take at old) (take i plane) (slice_index plane i ∷ [])
     ∙ ap (λ (l : List ℕ). take at old ++ l) (sym (take_more plane i 0 within))
 
 -- all bytes of a list, and none behind them
 pub all_put : (out old plane : List ℕ) (at n : ℕ) → length plane ≡ n → take (at + n) out ≡ take at old ++ take n plane
     → drop (at + n) out ≡ drop (at + n) old → IsPut old out at (at + n) plane
-all_put out old plane at n size front back = record {
+all_put out old plane at n size prefix back = record {
   end = omega (arith, size);
-  front = front ∙ ap (λ (l : List ℕ). take at old ++ l) (take_all n plane (omega (arith, size)));
+  prefix = prefix ∙ ap (λ (l : List ℕ). take at old ++ l) (take_all n plane (omega (arith, size)));
   back = back;
 }
 

@@ -2,8 +2,8 @@
 #![tactic(auto)]
 
 pub mod latch;
+pub mod plane_words;
 pub mod planes;
-pub mod words;
 
 pub use latch::Latch;
 pub use planes::{PlaneSet, Planes};

@@ -7,7 +7,7 @@ ghost use Rattle.vga_bits.specs.Words.{bytes_of};
 mod saved;
 
 use super::latch::Latch;
-use super::words::{filled, selected};
+use super::plane_words::{filled, selected};
 use std::alloc::Global;
 use std::marker::Model;
 use vga_bits::Fault;
@@ -32,7 +32,7 @@ impl Model for Planes {
 
     ghost Value = { Four (List ℕ) };
 
-    ghost use Rattle.vga_planes.specs.Words.{planes_of};
+    ghost use Rattle.vga_planes.specs.PlaneWords.{planes_of};
 
     ghost view = { λ p. planes_of p.words.items };
 

@@ -21,21 +21,21 @@ use Rattle.vga_script.specs.Decoding.{IsSpellingFault, IsFault}
 pub report_answers : (until : Option ℕ) (fonts : FontSet) (steps : List Step) (before after : Option (List ℕ)) (failed : Bool) (result : Result Unit Fault)
     → WritesReport before after failed result (power_on_machine fonts) 1 (steps_until until steps) → ReportsSteps until fonts steps before after result
 report_answers until fonts steps before after failed (Ok u) w = w.0
-report_answers until fonts steps before after failed (Err e) (inl (is, bad, front)) =
-    subst (λ (f : Fault). ReportsSteps until fonts steps before after (Err f)) (sym is) front
+report_answers until fonts steps before after failed (Err e) (inl (is, bad, prefix)) =
+    subst (λ (f : Fault). ReportsSteps until fonts steps before after (Err f)) (sym is) prefix
 report_answers until fonts steps before after failed (Err e) (inr (is, sound, stops)) =
     subst (λ (f : Fault). ReportsSteps until fonts steps before after (Err f)) (sym is) tt
 
 pub report_fails : (before after : Option (List ℕ)) (failed : Bool) (result : Result Unit Fault) (machine : Machine) (n : ℕ) (steps : List Step)
     → WritesReport before after failed result machine n steps → failed ≡ is_write_fault result
 report_fails before after failed (Ok u) machine n steps w = w.1
-report_fails before after failed (Err e) machine n steps (inl (is, bad, front)) = bad ∙ ap (λ (f : Fault). is_write_fault {A = Unit} (Err f)) (sym is)
+report_fails before after failed (Err e) machine n steps (inl (is, bad, prefix)) = bad ∙ ap (λ (f : Fault). is_write_fault {A = Unit} (Err f)) (sym is)
 report_fails before after failed (Err e) machine n steps (inr (is, sound, stops)) = sound ∙ ap (λ (f : Fault). is_write_fault {A = Unit} (Err f)) (sym is)
 
 pub report_stops : (before after : Option (List ℕ)) (failed : Bool) (result : Result Unit Fault) (machine : Machine) (n : ℕ) (steps : List Step)
     → WritesReport before after failed result machine n steps → result ≡ Err OutOfMemory → StopsIn machine n steps before after
 report_stops before after failed (Ok u) machine n steps w out = absurd (cc)
-report_stops before after failed (Err e) machine n steps (inl (is, bad, front)) out = absurd (cc)
+report_stops before after failed (Err e) machine n steps (inl (is, bad, prefix)) out = absurd (cc)
 report_stops before after failed (Err e) machine n steps (inr (is, sound, stops)) out = stops
 
 -- where memory runs out in the run of a script, it does in that of bytes that spell it

@@ -28,7 +28,7 @@ use Rattle.bios_services.specs.Data.{AreData}
 use Rattle.bios_services.specs.Service.{Answered}
 use Rattle.bios_screen.specs.Screen.{Screen}
 use Rattle.bios_screen.specs.Shown.{shown}
-use Rattle.bios_screen.specs.Served.{after_call}
+use Rattle.bios_screen.specs.AfterCall.{after_call}
 use Rattle.bios_screen.specs.Step.{refusal_on, next}
 use Rattle.bios_screen.specs.Loaded.{load_refusal_on, load_glyphs}
 use Rattle.bios_screen.specs.Called.{AreWords, screen_unless}

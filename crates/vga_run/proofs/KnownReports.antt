@@ -1,7 +1,7 @@
 -- Why a run writes the report of its steps that is known in other words.
 use Rattle.std.proofs.Common.{◌≡◌, ◌∙◌, inl, inr, ℕ, List, Option, Some, None, IfSome, Result, Ok, Err, sym, ap, subst}
 use Rattle.std.specs.Io.KnownBytes.{Appends}
-use Rattle.vga_bits.specs.Tracked.{AppendsFront}
+use Rattle.vga_bits.specs.Tracked.{AppendsPrefix}
 use Rattle.vga_bits.specs.declared.fault.Fault.{Fault}
 use Rattle.vga_bits.specs.declared.fault.Fault.TheVariants.{FontSize, WriteFault}
 use Rattle.bios_modes.specs.Bounds.{AreBytes, AreFonts}
@@ -41,7 +41,7 @@ module _ (Are : FontSet → List Step → Type 0) (report : FontSet → List Ste
   steps_known law until fonts steps before after (Ok u) glyphs range whole are w =
       subst (Appends before after) (ap (λ (n : Option ℕ). report_of fonts (steps_until n steps)) whole ∙ law fonts steps glyphs range are) w
   steps_known law until fonts steps before after (Err WriteFault) glyphs range whole are w =
-      subst (AppendsFront before after) (ap (λ (n : Option ℕ). report_of fonts (steps_until n steps)) whole ∙ law fonts steps glyphs range are) w
+      subst (AppendsPrefix before after) (ap (λ (n : Option ℕ). report_of fonts (steps_until n steps)) whole ∙ law fonts steps glyphs range are) w
   steps_known law until fonts steps before after (Err _) glyphs range whole are w = tt
 
   pub script_known : ReportsAlike → (until : Option ℕ) (file : List ℕ) (steps : List Step) (before after : Option (List ℕ)) (result : Result Unit Fault)
@@ -65,7 +65,7 @@ module _ (Are : FontSet → List Step → Type 0) (report : FontSet → List Ste
       λ bytes steps whole e spelled are.
       let same = input_script one input bytes read steps found e is.0 spelled others in
       steps_known law until (fonts_of file) steps before after (Err WriteFault) (glyph_bytes file glyphs) (fit bytes steps spelled) whole are
-      (subst (λ (l : List Step). AppendsFront before after (report_of (fonts_of file) (steps_until until l))) same w)
+      (subst (λ (l : List Step). AppendsPrefix before after (report_of (fonts_of file) (steps_until until l))) same w)
   run_known law one fit until file input before after (Err _) glyphs h = λ bytes steps whole e spelled are. tt
 
   -- an unread input has no such report

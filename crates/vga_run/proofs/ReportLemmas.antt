@@ -6,7 +6,7 @@ use Rattle.std.proofs.lemmas.List.{take_all, length-take-le}
 use Rattle.std.specs.Prelude.{OnOk}
 use Rattle.std.specs.Io.KnownBytes.{Appends}
 use Rattle.std.proofs.KnownBytes.{Appends-nil, Appends-trans}
-use Rattle.vga_bits.specs.Tracked.{AppendsFront, Writes}
+use Rattle.vga_bits.specs.Tracked.{AppendsPrefix, Writes}
 use Rattle.vga_bits.specs.declared.fault.Fault.{Fault}
 use Rattle.vga_bits.specs.Refusal.{refusal_name}
 use Rattle.vga_bits.specs.declared.refusal.Refusal.{Refusal}
@@ -21,14 +21,14 @@ use Rattle.bios_modes.specs.Valid.{IsValid}
 use Rattle.vga_run.specs.Step.{TakesMemory, answer_to, after_step, after_steps, called}
 use Rattle.vga_run.specs.Run.{WritesStep, StopsIn, WritesReport, IsTakenOrNot, IsOnTheWay}
 use Rattle.vga_show.specs.Ppm.{ppm}
-use Rattle.vga_bits.proofs.WritingLemmas.{writes_after, writes_more, front_of_more}
+use Rattle.vga_bits.proofs.WritingLemmas.{writes_after, writes_more, prefix_of_more}
 use Rattle.vga_card.specs.Card.{CardState}
 use Rattle.vga_card.specs.Bus.{card_meaning}
 use Rattle.bios_modes.specs.Bda.{BiosData}
 use Rattle.bios_services.specs.declared.reply.ServiceError.{ServiceError}
 use Rattle.bios_services.specs.declared.reply.ServiceError.TheVariants as service
 use Rattle.bios_services.specs.Tables.{table_bytes}
-use Rattle.bios_services.specs.Service.{Answered, Serves}
+use Rattle.bios_services.specs.Service.{Answered, MayAnswer}
 use Rattle.bios_services.specs.Service.{service as asked_service}
 use Rattle.vga_run.specs.declared.answer.Answer.TheVariants.{Refused}
 use Rattle.vga_run.specs.Answer.{Plain, Served, Picture, of_service}
@@ -58,7 +58,7 @@ step_is_written before after failed (Err e) machine n step w = inl w
 
 -- what interrupt 10 answers and leaves
 abbrev pub Answers : Machine → ℕ → ℕ → ℕ → ℕ → List ℕ → Result ServiceReply ServiceError → CardState → BiosData → Type 0
-Answers m ax bx cx dx block result next bios = Serves card_meaning (asked_service m.fonts m.bda (record { ax = ax; bx = bx; cx = cx; dx = dx }) block) m.card
+Answers m ax bx cx dx block result next bios = MayAnswer card_meaning (asked_service m.fonts m.bda (record { ax = ax; bx = bx; cx = cx; dx = dx }) block) m.card
     m.bda result next bios
 
 -- and so is what one answers that writes the line of a service
@@ -102,23 +102,23 @@ report_joined machine n (step ∷ steps) others =
     ∙ sym (append_assoc here (report_from later (n + 1) steps) (report_from (after_steps later steps) (n + 1 + length steps) others))
     ∙ ap (λ (k : ℕ). (here ++ report_from later (n + 1) steps) ++ report_from (after_steps later steps) k others) same
 
--- a front of the lines of some steps is one of those of more
-front_of_steps : (old new : Option (List ℕ)) (machine : Machine) (n : ℕ) (steps others : List Step) → AppendsFront old new (report_from machine n steps) →
-    AppendsFront old new (report_from machine n (steps ++ others))
-front_of_steps old new machine n steps others a =
-    subst (AppendsFront old new) (sym (report_joined machine n steps others)) (front_of_more old new (report_from machine n steps)
+-- a prefix of the lines of some steps is one of those of more
+prefix_of_steps : (old new : Option (List ℕ)) (machine : Machine) (n : ℕ) (steps others : List Step) → AppendsPrefix old new (report_from machine n steps) →
+    AppendsPrefix old new (report_from machine n (steps ++ others))
+prefix_of_steps old new machine n steps others a =
+    subst (AppendsPrefix old new) (sym (report_joined machine n steps others)) (prefix_of_more old new (report_from machine n steps)
     (report_from (after_steps machine steps) (n + length steps) others) a)
 
--- a front of what is written behind some bytes is, with these, one of both
-pub front_behind : (old mid new : Option (List ℕ)) (first second : List ℕ) → Appends old mid first → AppendsFront mid new second →
-    AppendsFront old new (first ++ second)
-front_behind old mid new first second a (front, back, parts, more) =
-    (first ++ front, back, ap (λ (l : List ℕ). first ++ l) parts ∙ simp append_assoc, Appends-trans old mid new first front a more)
+-- a prefix of what is written behind some bytes is, with these, one of both
+pub prefix_behind : (old mid new : Option (List ℕ)) (first second : List ℕ) → Appends old mid first → AppendsPrefix mid new second →
+    AppendsPrefix old new (first ++ second)
+prefix_behind old mid new first second a (prefix, back, parts, more) =
+    (first ++ prefix, back, ap (λ (l : List ℕ). first ++ l) parts ∙ simp append_assoc, Appends-trans old mid new first prefix a more)
 
 -- memory that runs out among some steps runs out among more
-stops_in_front : (old new : Option (List ℕ)) (machine : Machine) (n : ℕ) (steps others : List Step) → StopsIn machine n steps old new →
+stops_in_prefix : (old new : Option (List ℕ)) (machine : Machine) (n : ℕ) (steps others : List Step) → StopsIn machine n steps old new →
     StopsIn machine n (steps ++ others) old new
-stops_in_front old new machine n steps others (done, step, rest, parts, takes, a) =
+stops_in_prefix old new machine n steps others (done, step, rest, parts, takes, a) =
     (done, step, rest ++ others, ap (λ (l : List Step). l ++ others) parts ∙ append_assoc done (step ∷ rest) others, takes, a)
 
 -- and memory that runs out among the others does so behind the first
@@ -138,8 +138,8 @@ stops_behind old mid new machine n steps others a (done, step, rest, parts, take
 -- so what ends the first steps early ends them all
 pub err_of_more : (old new : Option (List ℕ)) (failed : Bool) (e : Fault) (machine : Machine) (n : ℕ) (steps others : List Step)
     → WritesReport old new failed (Err e) machine n steps → WritesReport old new failed (Err e) machine n (steps ++ others)
-err_of_more old new failed e machine n steps others (inl (is, bad, front)) = inl (is, bad, front_of_steps old new machine n steps others front)
-err_of_more old new failed e machine n steps others (inr (is, sound, stops)) = inr (is, sound, stops_in_front old new machine n steps others stops)
+err_of_more old new failed e machine n steps others (inl (is, bad, prefix)) = inl (is, bad, prefix_of_steps old new machine n steps others prefix)
+err_of_more old new failed e machine n steps others (inr (is, sound, stops)) = inr (is, sound, stops_in_prefix old new machine n steps others stops)
 
 -- and the others are taken behind the first
 others_behind : (old mid new : Option (List ℕ)) (failed : Bool) (result : Result Unit Fault) (machine : Machine) (n : ℕ) (steps others : List Step)
@@ -148,13 +148,13 @@ others_behind : (old mid new : Option (List ℕ)) (failed : Bool) (result : Resu
 others_behind old mid new failed (Ok u) machine n steps others a (more, sound) =
     let rest = report_from (after_steps machine steps) (n + length steps) others in
     (subst (Appends old new) (sym (report_joined machine n steps others)) (Appends-trans old mid new (report_from machine n steps) rest a more), sound)
-others_behind old mid new failed (Err e) machine n steps others a (inl (is, bad, front)) =
+others_behind old mid new failed (Err e) machine n steps others a (inl (is, bad, prefix)) =
     let rest = report_from (after_steps machine steps) (n + length steps) others in
     inl (
       is,
       bad,
-      subst (AppendsFront old new) (sym (report_joined machine n steps others))
-          (front_behind old mid new (report_from machine n steps) rest a front),
+      subst (AppendsPrefix old new) (sym (report_joined machine n steps others))
+          (prefix_behind old mid new (report_from machine n steps) rest a prefix),
     )
 others_behind old mid new failed (Err e) machine n steps others a (inr (is, sound, stops)) =
     inr (is, sound, stops_behind old mid new machine n steps others a stops)
@@ -245,24 +245,24 @@ reported_more old mid new was failed start machine next first steps i n d step h
       valid = v;
     }
 
--- a front of one more line
-reported_front : (old mid new : Option (List ℕ)) (was : Bool) (start machine : Machine) (first : ℕ) (steps : List Step) (i : ℕ) (d step : Step)
+-- a prefix of one more line
+reported_prefix : (old mid new : Option (List ℕ)) (was : Bool) (start machine : Machine) (first : ℕ) (steps : List Step) (i : ℕ) (d step : Step)
     → Reported old mid was start machine first steps i → i < length steps → step ≡ get_or steps i d
-    → AppendsFront mid new (line (first + i) (answer_to machine step)) → AppendsFront old new (report_from start first steps)
-reported_front old mid new was start machine first steps i d step h within is a =
+    → AppendsPrefix mid new (line (first + i) (answer_to machine step)) → AppendsPrefix old new (report_from start first steps)
+reported_prefix old mid new was start machine first steps i d step h within is a =
     let lines = report_from start first (take i steps) in
     let here = line (first + i) (answer_to machine step) in
-    let front = subst (AppendsFront old new) (lines_to start machine first steps i d step within is h.state)
-    (front_behind old mid new lines here h.appended a) in
-    subst (λ (l : List Step). AppendsFront old new (report_from start first l)) (take-append-drop (i + 1) steps)
-    (front_of_steps old new start first (take (i + 1) steps) (drop (i + 1) steps) front)
+    let prefix = subst (AppendsPrefix old new) (lines_to start machine first steps i d step within is h.state)
+    (prefix_behind old mid new lines here h.appended a) in
+    subst (λ (l : List Step). AppendsPrefix old new (report_from start first l)) (take-append-drop (i + 1) steps)
+    (prefix_of_steps old new start first (take (i + 1) steps) (drop (i + 1) steps) prefix)
 
 -- what ends one more step early ends them all
 err_reported : (old mid new : Option (List ℕ)) (was failed : Bool) (e : Fault) (start machine : Machine) (first : ℕ) (steps : List Step) (i : ℕ) (d step : Step)
     → Reported old mid was start machine first steps i → i < length steps → step ≡ get_or steps i d
     → WritesStep mid new failed (Err e) machine (first + i) step → WritesReport old new failed (Err e) start first steps
-err_reported old mid new was failed e start machine first steps i d step h within is (inl (fails, bad, front)) =
-    inl (fails, bad, reported_front old mid new was start machine first steps i d step h within is front)
+err_reported old mid new was failed e start machine first steps i d step h within is (inl (fails, bad, prefix)) =
+    inl (fails, bad, reported_prefix old mid new was start machine first steps i d step h within is prefix)
 err_reported old mid new was failed e start machine first steps i d step h within is (inr (wants, sound, takes, same)) =
     inr (
       wants,
@@ -322,10 +322,10 @@ writes_picture {U} old mid new failed result n width height len bytes whole a w 
     let head = subst (λ (k : ℕ). Appends old mid (picture_line n k)) whole a in
     writes_after old mid new failed result (picture_line n (length (ppm width height bytes))) (ppm width height bytes ++ codes "\n") head w
 
--- a front of its line is a front of both
-pub front_of_picture : (old new : Option (List ℕ)) (n width height len : ℕ) (bytes : List ℕ)
-    → len ≡ length (ppm width height bytes) → AppendsFront old new (picture_line n len) → AppendsFront old new (line n (Picture width height bytes))
+-- a prefix of its line is a prefix of both
+pub prefix_of_picture : (old new : Option (List ℕ)) (n width height len : ℕ) (bytes : List ℕ)
+    → len ≡ length (ppm width height bytes) → AppendsPrefix old new (picture_line n len) → AppendsPrefix old new (line n (Picture width height bytes))
 unfolding line
-front_of_picture old new n width height len bytes whole a =
-    let head = subst (λ (k : ℕ). AppendsFront old new (picture_line n k)) whole a in
-    front_of_more old new (picture_line n (length (ppm width height bytes))) (ppm width height bytes ++ codes "\n") head
+prefix_of_picture old new n width height len bytes whole a =
+    let head = subst (λ (k : ℕ). AppendsPrefix old new (picture_line n k)) whole a in
+    prefix_of_more old new (picture_line n (length (ppm width height bytes))) (ppm width height bytes ++ codes "\n") head

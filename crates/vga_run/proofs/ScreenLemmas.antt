@@ -33,7 +33,7 @@ use Rattle.bios_services.specs.Plan.{run}
 use Rattle.bios_services.specs.Service.{Answered, service}
 use Rattle.bios_screen.specs.Screen.{Screen}
 use Rattle.bios_screen.specs.Shown.{shown, shown_by, shows, screen_of}
-use Rattle.bios_screen.specs.Served.{SetsFresh, after_call}
+use Rattle.bios_screen.specs.AfterCall.{SetsFresh, after_call}
 use Rattle.bios_screen.specs.Called.{AreWords, IsCalled, IsLoaded, IsRead}
 use Rattle.bios_screen.specs.Framed.{IsFramed}
 use Rattle.bios_screen.specs.Fresh.{fresh_screen}

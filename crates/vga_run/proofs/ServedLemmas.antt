@@ -6,9 +6,9 @@ use Rattle.std.specs.List.{flat_map}
 use Rattle.std.specs.Io.KnownBytes.{Appends}
 use Rattle.std.proofs.KnownBytes.{Appends-trans}
 use Rattle.vga_bits.specs.Hex.{hex_byte}
-use Rattle.vga_bits.specs.Tracked.{AppendsFront}
-use Rattle.vga_bits.proofs.WritingLemmas.{front_of_more}
-use Rattle.vga_run.proofs.ReportLemmas.{items_to, front_behind}
+use Rattle.vga_bits.specs.Tracked.{AppendsPrefix}
+use Rattle.vga_bits.proofs.WritingLemmas.{prefix_of_more}
+use Rattle.vga_run.proofs.ReportLemmas.{items_to, prefix_behind}
 
 -- the digits of some bytes
 abbrev pub digits : List ℕ → List ℕ
@@ -24,15 +24,15 @@ pub digits_more : (old mid new : Option (List ℕ)) (bytes : List ℕ) (i d byte
 digits_more old mid new bytes i d byte within is a more =
     subst (Appends old new) (digits_to bytes i d byte within is) (Appends-trans old mid new (digits (take i bytes)) (hex_byte byte) a more)
 
--- a front of one more byte
-pub digits_front : (old mid new : Option (List ℕ)) (bytes : List ℕ) (i d byte : ℕ) → i < length bytes → byte ≡ get_or bytes i d
-    → Appends old mid (digits (take i bytes)) → AppendsFront mid new (hex_byte byte) → AppendsFront old new (digits bytes)
-digits_front old mid new bytes i d byte within is a more =
+-- a prefix of one more byte
+pub digits_prefix : (old mid new : Option (List ℕ)) (bytes : List ℕ) (i d byte : ℕ) → i < length bytes → byte ≡ get_or bytes i d
+    → Appends old mid (digits (take i bytes)) → AppendsPrefix mid new (hex_byte byte) → AppendsPrefix old new (digits bytes)
+digits_prefix old mid new bytes i d byte within is a more =
     let rest = digits (drop (i + 1) bytes) in
-    let front = subst (AppendsFront old new) (digits_to bytes i d byte within is) (front_behind old mid new (digits (take i bytes)) (hex_byte byte) a more) in
+    let prefix = subst (AppendsPrefix old new) (digits_to bytes i d byte within is) (prefix_behind old mid new (digits (take i bytes)) (hex_byte byte) a more) in
     let whole : digits (take (i + 1) bytes) ++ rest ≡ digits bytes = sym (flat_map-append hex_byte (take (i + 1) bytes) (drop (i + 1) bytes))
     ∙ ap digits (take-append-drop (i + 1) bytes) in
-    subst (AppendsFront old new) whole (front_of_more old new (digits (take (i + 1) bytes)) rest front)
+    subst (AppendsPrefix old new) whole (prefix_of_more old new (digits (take (i + 1) bytes)) rest prefix)
 
 -- all bytes
 pub digits_all : (old new : Option (List ℕ)) (bytes : List ℕ) (i : ℕ) → length bytes ≤ i → Appends old new (digits (take i bytes)) →

@@ -21,7 +21,7 @@ use Rattle.bios_services.proofs.CardLemmas.{plan_settled}
 use Rattle.vga_show.specs.Beam.{beam_line}
 use Rattle.vga_show.specs.Cells.{row_text, rows_text, cells_refusal, cells_text}
 use Rattle.vga_run.specs.declared.machine.Machine.{Machine}
-use Rattle.vga_run.specs.Answer.{Reply, Plain, of_write, of_byte, of_word, of_service, of_frame, of_dump}
+use Rattle.vga_run.specs.Answer.{StepAnswer, Plain, of_write, of_byte, of_word, of_service, of_frame, of_dump}
 use Rattle.vga_run.specs.Step.{dump_text, dump_refusal, called, advance_cycle, answer_to, after_step}
 use Rattle.vga_run.specs.Report.{line, report_from}
 use Rattle.vga_run.specs.Saved.{settled_machine}
@@ -140,7 +140,7 @@ alike m other n [] same = refl
 alike m other n (step ∷ steps) same =
     let answers = sym (answer_same m step) ∙ ap (λ (x : Machine). answer_to x step) same ∙ answer_same other step in
     let leaves = sym (after_same m step) ∙ ap (λ (x : Machine). settled_machine (after_step x step)) same ∙ after_same other step in
-    ap (λ (r : Reply). line n r ++ report_from (after_step m step) (n + 1) steps) answers
+    ap (λ (r : StepAnswer). line n r ++ report_from (after_step m step) (n + 1) steps) answers
     ∙ ap (λ (l : List ℕ). line n (answer_to other step) ++ l) (alike (after_step m step) (after_step other step) (n + 1) steps leaves)
 
 pub report_same : (m : Machine) (n : ℕ) (steps : List Step) → report_from (settled_machine m) n steps ≡ report_from m n steps

@@ -5,7 +5,7 @@ use Rattle.vga_bits.specs.declared.refusal.Refusal.TheVariants.{TooFar}
 use Rattle.vga_card.specs.declared.shape.Shape.{Shape}
 use Rattle.vga_card.specs.Card.{CardState}
 use Rattle.vga_card.specs.Cycles.{Written, out_cycle, inp_cycle, put_cycle, get_cycle}
-use Rattle.vga_card.specs.Words.{out_word_cycle, inp_word_cycle, put_word_cycle, get_word_cycle}
+use Rattle.vga_card.specs.WordCycles.{out_word_cycle, inp_word_cycle, put_word_cycle, get_word_cycle}
 use Rattle.vga_card.specs.Dots.{dots, most_dots}
 use Rattle.vga_card.specs.Frames.{frame}
 use Rattle.vga_card.specs.Picture.{shape, bytes_of}

@@ -29,33 +29,33 @@ of_word (Err refusal) = Refused refusal
 -- what a step answers: on its own line; or with four registers and the bytes of a table; or with a
 -- picture of so many dots in width and height, red, green and blue of each; or that a frame is
 -- ragged; or the lines of a dump
-pub data Reply : Type 0 where
-  Plain : Answer → Reply
-  Served : Regs → List ℕ → Reply
-  Picture : ℕ → ℕ → List ℕ → Reply
-  Ragged : Reply
-  Dump : List ℕ → Reply
+pub data StepAnswer : Type 0 where
+  Plain : Answer → StepAnswer
+  Served : Regs → List ℕ → StepAnswer
+  Picture : ℕ → ℕ → List ℕ → StepAnswer
+  Ragged : StepAnswer
+  Dump : List ℕ → StepAnswer
 
 -- what a service answers
-abbrev pub of_service : Result ServiceReply Refusal → Reply
+abbrev pub of_service : Result ServiceReply Refusal → StepAnswer
 of_service (Ok reply) = Served reply.regs (table_bytes reply.table)
 of_service (Err refusal) = Plain (Refused refusal)
 
 -- a picture of some shape, if there is one
-abbrev pub of_shape : Option Shape → List ℕ → Reply
+abbrev pub of_shape : Option Shape → List ℕ → StepAnswer
 of_shape (Some s) bytes = Picture s.width s.height bytes
 of_shape None bytes = Ragged
 
 -- what a frame answers that has drawn these dots
-abbrev pub of_frame : List Dot → Reply
+abbrev pub of_frame : List Dot → StepAnswer
 of_frame dots = of_shape (shape dots) (bytes_of dots)
 
 -- what the picture of a frame, or a ragged one, answers
-abbrev pub of_drawn : Drawn → Reply
+abbrev pub of_drawn : Drawn → StepAnswer
 of_drawn (drawn.Picture width height bytes) = Picture width height bytes.now
 of_drawn drawn.Ragged = Ragged
 
 -- what a dump answers: its dump, unless it is refused
-abbrev pub of_dump : Option Refusal → List ℕ → Reply
+abbrev pub of_dump : Option Refusal → List ℕ → StepAnswer
 of_dump None text = Dump text
 of_dump (Some why) text = Plain (Refused why)

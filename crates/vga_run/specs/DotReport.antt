@@ -16,14 +16,14 @@ use Rattle.bios_screen.specs.Picture.{picture_width, picture_height}
 use Rattle.vga_script.specs.declared.step.Step.{Step}
 use Rattle.vga_script.specs.declared.step.Step.TheVariants.{Int, Advance, Frame}
 use Rattle.vga_run.specs.declared.answer.Answer.TheVariants.{Done, Refused}
-use Rattle.vga_run.specs.Answer.{Reply, Plain, Picture, Ragged, of_service}
+use Rattle.vga_run.specs.Answer.{StepAnswer, Plain, Picture, Ragged, of_service}
 use Rattle.vga_run.specs.ScreenReport.{Clears, registers_of, called_on}
 use Rattle.vga_run.specs.KnownReport.{ReportsAs, RunsAs}
 use Rattle.vga_run.specs.Report.{line}
 
 -- what a step answers: a call as on the screen as it stands, and a frame the picture whose last dot
 -- it takes. No other step is of dots.
-unfoldable pub reply_to : FontSet → Drawing → Step → Reply
+unfoldable pub reply_to : FontSet → Drawing → Step → StepAnswer
 reply_to fonts b (Int ax bx cx dx block) = let r = registers_of ax bx cx dx in
     of_service (called_on (call_of r) fonts r block b.screen).1
 reply_to fonts b (Advance count) = Plain (if nat_le count most_dots then Done else Refused TooFar)

@@ -1,7 +1,7 @@
 -- What runs answer whose steps have a report that is known in other words: those of plain screens.
 use Rattle.std.specs.Prelude.{ℕ, ◌≡◌, List, Option, None, Some, Result, Ok, Err}
 use Rattle.std.specs.Io.KnownBytes.{Appends}
-use Rattle.vga_bits.specs.Tracked.{AppendsFront}
+use Rattle.vga_bits.specs.Tracked.{AppendsPrefix}
 use Rattle.vga_bits.specs.declared.fault.Fault.{Fault}
 use Rattle.vga_bits.specs.declared.fault.Fault.TheVariants.{WriteFault}
 use Rattle.bios_modes.specs.Fonts.{FontSet, fonts_of}
@@ -9,10 +9,10 @@ use Rattle.vga_script.specs.declared.step.Step.{Step}
 use Rattle.vga_script.specs.Spelled.{SpellsExpanded}
 
 -- What the run of steps answers that have this report, over a writer that holds what is before and
--- after: it has written the report, or a front of it where the writer fails.
+-- after: it has written the report, or a prefix of it where the writer fails.
 abbrev pub ReportsAs : List ℕ → Option (List ℕ) → Option (List ℕ) → Result Unit Fault → Type 0
 ReportsAs report before after (Ok u) = Appends before after report
-ReportsAs report before after (Err WriteFault) = AppendsFront before after report
+ReportsAs report before after (Err WriteFault) = AppendsPrefix before after report
 ReportsAs report before after (Err _) = Unit {0}
 
 -- What a run over a font file answers that is not stopped: that, where its input spells steps of a

@@ -15,7 +15,7 @@ use Rattle.bios_services.specs.declared.regs.Regs.{Regs}
 use Rattle.vga_run.specs.declared.machine.Machine.{Machine}
 use Rattle.vga_run.specs.Machine.{power_on_machine}
 use Rattle.vga_show.specs.Ppm.{ppm}
-use Rattle.vga_run.specs.Answer.{Reply, Plain, Served, Picture, Ragged, Dump}
+use Rattle.vga_run.specs.Answer.{StepAnswer, Plain, Served, Picture, Ragged, Dump}
 use Rattle.vga_run.specs.Step.{answer_to, after_step}
 
 -- the text of four registers
@@ -40,10 +40,10 @@ answer_text (Refused refusal) = refusal_name refusal
 unfoldable pub number_text : ℕ → List ℕ
 number_text n = decimal n ++ codes " "
 
--- a line has the number of a step and a blank at its front, which is so long
-pub record HasNumber (text : List ℕ) (front n : ℕ) : Type 0 where
-  pub is : take front text ≡ number_text n
-  pub whole : front ≡ length (number_text n)
+-- a line has the number of a step and a blank at its beginning, which is so long
+pub record HasNumber (text : List ℕ) (prefix n : ℕ) : Type 0 where
+  pub is : take prefix text ≡ number_text n
+  pub whole : prefix ≡ length (number_text n)
 
 -- the line of step n that stands before a picture of so many bytes
 unfoldable pub picture_line : ℕ → ℕ → List ℕ
@@ -52,7 +52,7 @@ picture_line n len = decimal n ++ (codes " picture " ++ (decimal len ++ codes "\
 -- the line of step n: its number in decimal, a blank, what it answers, and a newline; a picture
 -- stands behind the line that tells how many bytes it has, with a newline of its own, and a dump
 -- has its own lines
-unfoldable pub line : ℕ → Reply → List ℕ
+unfoldable pub line : ℕ → StepAnswer → List ℕ
 line n (Plain answer) = decimal n ++ (codes " " ++ (answer_text answer ++ codes "\n"))
 line n (Served regs table) = (number_text n ++ registers_text regs)
     ++ (table_text table ++ codes "\n")

@@ -3,7 +3,7 @@ use Rattle.std.specs.Prelude.{ℕ, ⊤, ◌⊎◌, ◌≡◌, ◌≢◌, ◌≤�
 use Rattle.std.specs.Prelude.{take}
 use Rattle.std.specs.Prelude.{Option, Some, IsOkUnless, Result, Ok, Err}
 use Rattle.std.specs.Io.KnownBytes.{Appends}
-use Rattle.vga_bits.specs.Tracked.{AppendsFront}
+use Rattle.vga_bits.specs.Tracked.{AppendsPrefix}
 use Rattle.vga_bits.specs.declared.fault.Fault.{Fault}
 use Rattle.vga_bits.specs.declared.fault.Fault.TheVariants.{FontSize, TooLong, ReadFault}
 use Rattle.vga_bits.specs.declared.fault.Fault.TheVariants.{WriteFault, OutOfMemory}
@@ -18,14 +18,14 @@ use Rattle.vga_run.specs.Step.{TakesMemory, answer_to, after_step, after_steps}
 use Rattle.vga_run.specs.Report.{line, report_from, report_of, steps_until}
 
 -- What taking step n on this machine answers, over a writer that holds what is before and after,
--- and may have failed: its line is written; or a front of it where the writer failed; or there was
+-- and may have failed: its line is written; or a prefix of it where the writer failed; or there was
 -- no memory, and nothing is written.
 abbrev pub WritesStep : Option (List ℕ) → Option (List ℕ) → Bool → Result Unit Fault → Machine → ℕ →
     Step → Type 0
 WritesStep before after failed (Ok u) m n step = Appends before after (line n (answer_to m step))
     × (failed ≡ false)
 WritesStep before after failed (Err e) m n step =
-    ((e ≡ WriteFault) × (failed ≡ true) × AppendsFront before after (line n (answer_to m step)))
+    ((e ≡ WriteFault) × (failed ≡ true) × AppendsPrefix before after (line n (answer_to m step)))
     ⊎ ((e ≡ OutOfMemory) × (failed ≡ false) × TakesMemory m step × (after ≡ before))
 
 -- Where memory runs out while these steps are taken from this machine on, of which the first has
@@ -35,14 +35,14 @@ StopsIn m n steps before after =
     (done : List Step) × (step : Step) × (others : List Step) × (steps ≡ done ++ step ∷ others)
     × TakesMemory (after_steps m done) step × Appends before after (report_from m n done)
 
--- What taking these steps answers: their report is written; or a front of it where the writer
+-- What taking these steps answers: their report is written; or a prefix of it where the writer
 -- failed; or memory ran out.
 abbrev pub WritesReport : Option (List ℕ) → Option (List ℕ) → Bool → Result Unit Fault → Machine →
     ℕ → List Step → Type 0
 WritesReport before after failed (Ok u) m n steps = Appends before after (report_from m n steps)
     × (failed ≡ false)
 WritesReport before after failed (Err e) m n steps =
-    ((e ≡ WriteFault) × (failed ≡ true) × AppendsFront before after (report_from m n steps))
+    ((e ≡ WriteFault) × (failed ≡ true) × AppendsPrefix before after (report_from m n steps))
     ⊎ ((e ≡ OutOfMemory) × (failed ≡ false) × StopsIn m n steps before after)
 
 -- a machine that has taken this step, or has not
@@ -65,14 +65,14 @@ StopsRun until fonts input before after = (steps : List Step) × InputMeans inpu
     × StopsSteps until fonts steps before after
 
 -- What the run of these steps over some fonts answers that is stopped after so many, or not, over a
--- writer that holds what is before and after: it has written their report, or a front of it where
+-- writer that holds what is before and after: it has written their report, or a prefix of it where
 -- the writer fails; or memory ran out.
 abbrev pub ReportsSteps : Option ℕ → FontSet → List Step → Option (List ℕ) → Option (List ℕ) →
     Result Unit Fault → Type 0
 ReportsSteps until fonts steps before after (Ok u) =
     Appends before after (report_of fonts (steps_until until steps))
 ReportsSteps until fonts steps before after (Err WriteFault) =
-    AppendsFront before after (report_of fonts (steps_until until steps))
+    AppendsPrefix before after (report_of fonts (steps_until until steps))
 ReportsSteps until fonts steps before after (Err OutOfMemory) = ⊤
 ReportsSteps until fonts steps before after (Err _) = ⊥
 
@@ -86,14 +86,15 @@ RunsScript until file steps before after result = (length file ≡ file_len)
 
 -- What a run over some fonts answers that is stopped after so many steps, or not, over a reader
 -- that has this input, and a writer that holds what is before and after: it has written the report
--- of the input's script, or a front of it where the writer fails; or there is a fault of the input,
--- the first in order.
+-- of the input's script, or a prefix of it where the writer fails; or there is a fault of the
+-- input, the first in order.
 abbrev pub Reports : Option ℕ → FontSet → Option (List ℕ) → Option (List ℕ) → Option (List ℕ) →
     Result Unit Fault → Type 0
 Reports until fonts input before after (Ok u) = (steps : List Step) × InputMeans input steps
     × Appends before after (report_of fonts (steps_until until steps))
 Reports until fonts input before after (Err WriteFault) = (steps : List Step)
-    × InputMeans input steps × AppendsFront before after (report_of fonts (steps_until until steps))
+    × InputMeans input steps
+    × AppendsPrefix before after (report_of fonts (steps_until until steps))
 Reports until fonts input before after (Err FontSize) = ⊥
 Reports until fonts input before after (Err ReadFault) = ⊤
 Reports until fonts input before after (Err TooLong) = IsTooLong input

@@ -29,7 +29,7 @@ use Rattle.bios_screen.specs.Raster.{picture_bytes}
 use Rattle.vga_script.specs.declared.step.Step.{Step}
 use Rattle.vga_script.specs.declared.step.Step.TheVariants.{Int, Frame}
 use Rattle.vga_run.specs.KnownReport.{ReportsAs, RunsAs}
-use Rattle.vga_run.specs.Answer.{Reply, Served, Picture, Ragged, of_service}
+use Rattle.vga_run.specs.Answer.{StepAnswer, Served, Picture, Ragged, of_service}
 use Rattle.vga_run.specs.Report.{line}
 
 -- ---- which steps
@@ -89,7 +89,7 @@ called_on (Some (InMode service)) fonts r block s =
     )
 
 -- what a call answers; a frame answers the picture of the active page. No other step is of screens.
-unfoldable pub reply_on : FontSet → Screen → Step → Reply
+unfoldable pub reply_on : FontSet → Screen → Step → StepAnswer
 reply_on fonts s (Int ax bx cx dx block) = let r = registers_of ax bx cx dx in
     of_service (called_on (call_of r) fonts r block s).1
 reply_on fonts s Frame = Picture (picture_width s) (picture_height s)

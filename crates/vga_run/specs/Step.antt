@@ -7,7 +7,8 @@ use Rattle.vga_bits.specs.declared.refusal.Refusal.TheVariants.{TooFar}
 use Rattle.vga_card.specs.Card.{CardState}
 use Rattle.vga_card.specs.Bus.{card_meaning}
 use Rattle.vga_card.specs.Cycles.{Written, out_cycle, inp_cycle, put_cycle, get_cycle}
-use Rattle.vga_card.specs.Words.{out_word_cycle, inp_word_cycle, put_word_cycle, get_word_cycle}
+use Rattle.vga_card.specs.WordCycles.{out_word_cycle, inp_word_cycle, put_word_cycle}
+use Rattle.vga_card.specs.WordCycles.{get_word_cycle}
 use Rattle.vga_card.specs.Dots.{dots, most_dots}
 use Rattle.vga_card.specs.Frames.{frame}
 use Rattle.bios_services.specs.Plan.{run}
@@ -26,7 +27,8 @@ use Rattle.vga_script.specs.declared.step.Step.{Step}
 use Rattle.vga_script.specs.declared.step.Step.TheVariants.{Out, OutWord, In, InWord, Put, PutWord}
 use Rattle.vga_script.specs.declared.step.Step.TheVariants.{Get, GetWord, Int, Advance, Frame, Show}
 use Rattle.vga_run.specs.declared.machine.Machine.{Machine}
-use Rattle.vga_run.specs.Answer.{Reply, Plain, of_write, of_byte, of_word, of_service, of_frame}
+use Rattle.vga_run.specs.Answer.{StepAnswer, Plain, of_write, of_byte, of_word, of_service}
+use Rattle.vga_run.specs.Answer.{of_frame}
 use Rattle.vga_run.specs.Answer.{of_dump}
 
 -- the dump of what a step shows
@@ -62,7 +64,7 @@ TakesMemory m (Int ax bx cx dx block) = takes_memory
 TakesMemory m _ = ⊥
 
 -- what a step answers
-unfoldable pub answer_to : Machine → Step → Reply
+unfoldable pub answer_to : Machine → Step → StepAnswer
 answer_to m (Out port value) = Plain (of_write (out_cycle m.card port value).1)
 answer_to m (OutWord port value) = Plain (of_write (out_word_cycle m.card port value).1)
 answer_to m (In port) = Plain (of_byte (inp_cycle m.card port).1)

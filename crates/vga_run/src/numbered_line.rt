@@ -10,7 +10,7 @@ use std::io::Write;
 use std::marker::Model;
 use vga_bits::{Fault, Tracked};
 
-/// The line of a step. Its number and a blank stand at its front, and stay there from step to step:
+/// The line of a step. It begins with the step's number and a blank, which stay from step to step:
 /// to print a number anew takes longer than many a step.
 ///
 /// Contracts see the number.
@@ -18,7 +18,7 @@ use vga_bits::{Fault, Tracked};
 pub(crate) struct NumberedLine {
     number: usize,
     line: Line,
-    front: usize,
+    prefix: usize,
 }
 
 impl Model for NumberedLine {
@@ -29,7 +29,7 @@ impl Model for NumberedLine {
 
     ghost view = { λ l. l.number };
 
-    ghost invariant = { λ l. HasNumber l.line l.front l.number };
+    ghost invariant = { λ l. HasNumber l.line l.prefix l.number };
 }
 
 impl NumberedLine {
@@ -39,11 +39,11 @@ impl NumberedLine {
         ensures { result ≡ number }
     {
         let line = numbered(number);
-        let front = line.len();
+        let prefix = line.len();
         NumberedLine {
             number,
             line,
-            front,
+            prefix,
         }
     }
 
@@ -55,27 +55,27 @@ impl NumberedLine {
     }
 
     /// Goes on to the next step. Only where the last two digits are 99 are all printed anew.
-    #[tactic(auto, using(crate::proofs::NumberLemmas::front_is_long, crate::proofs::NumberLemmas::front_is_within))]
+    #[tactic(auto, using(crate::proofs::NumberLemmas::prefix_is_long, crate::proofs::NumberLemmas::prefix_is_within))]
     pub(crate) fn count_up(&mut self)
         requires { self.old + 1 < 2 ^ 64 }
         ensures { self.new ≡ self.old + 1 }
     {
-        let last = self.line.as_slice()[self.front - 2];
+        let last = self.line.as_slice()[self.prefix - 2];
         self.number += 1;
         if last < b'9' {
-            self.line.set(self.front - 2, last + 1);
-        } else if self.front > 2 && self.line.as_slice()[self.front - 3] < b'9' {
-            let tens = self.line.as_slice()[self.front - 3];
-            self.line.set(self.front - 3, tens + 1);
-            self.line.set(self.front - 2, b'0');
+            self.line.set(self.prefix - 2, last + 1);
+        } else if self.prefix > 2 && self.line.as_slice()[self.prefix - 3] < b'9' {
+            let tens = self.line.as_slice()[self.prefix - 3];
+            self.line.set(self.prefix - 3, tens + 1);
+            self.line.set(self.prefix - 2, b'0');
         } else {
             put_number(&mut self.line, self.number);
-            self.front = self.line.len();
+            self.prefix = self.line.len();
         }
     }
 
     /// Writes the line with this answer.
-    #[tactic(auto, unfolding(crate::specs::Report::line, crate::specs::Report::number_text), using(std::proofs::lemmas::List::append_assoc, crate::proofs::NumberLemmas::front_is_short, crate::proofs::NumberLemmas::front_is_within, crate::proofs::NumberLemmas::number_behind))]
+    #[tactic(auto, unfolding(crate::specs::Report::line, crate::specs::Report::number_text), using(std::proofs::lemmas::List::append_assoc, crate::proofs::NumberLemmas::prefix_is_short, crate::proofs::NumberLemmas::prefix_is_within, crate::proofs::NumberLemmas::number_behind))]
     #[inline(always)]
     pub(crate) fn write<W: Write>(
         &mut self,
@@ -87,7 +87,7 @@ impl NumberedLine {
             (has_failed out.new) result (line_of self.old (Plain answer)) }
         ensures number { self.new ≡ self.old }
     {
-        put_answer(&mut self.line, self.front, answer);
+        put_answer(&mut self.line, self.prefix, answer);
         write_text(out, self.line.as_slice())
     }
 }

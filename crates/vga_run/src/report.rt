@@ -19,7 +19,7 @@ use super::answer::Answer;
 use super::machine::Machine;
 use super::numbered_line::NumberedLine;
 use super::served::write_reply;
-use super::step_line::{Line, numbered, write_line};
+use super::step_line::{Line, numbered};
 use bios_services::{Regs, ServiceError, int10};
 use std::alloc::Global;
 use std::io::Write;
@@ -44,7 +44,7 @@ fn picture_line(n: usize, length: u32) -> Line
 }
 
 /// Writes a picture, of so many dots in width and height, and a newline.
-#[tactic(auto, using(vga_bits::proofs::WritingLemmas::writes_after, vga_bits::proofs::WritingLemmas::front_of_more))]
+#[tactic(auto, using(vga_bits::proofs::WritingLemmas::writes_after, vga_bits::proofs::WritingLemmas::prefix_of_more))]
 fn write_ppm_line<W: Write>(
     out: &mut Tracked<W>,
     width: u32,
@@ -137,7 +137,7 @@ pub fn write_dump<W: Write>(
 }
 
 /// Writes the number of step n, and the dump of what it shows.
-#[tactic(auto, unfolding(crate::specs::Report::line), using(vga_bits::proofs::WritingLemmas::writes_after, vga_bits::proofs::WritingLemmas::front_of_more))]
+#[tactic(auto, unfolding(crate::specs::Report::line), using(vga_bits::proofs::WritingLemmas::writes_after, vga_bits::proofs::WritingLemmas::prefix_of_more))]
 #[inline(never)]
 fn write_shown<W: Write>(
     out: &mut Tracked<W>,
@@ -155,13 +155,13 @@ fn write_shown<W: Write>(
     write_dump(out, machine, shown)
 }
 
-/// Calls the video BIOS, and writes what it answers as step n.
+/// Calls the video BIOS, and writes what it answers, in the line of its number.
 #[tactic(auto, unfolding(crate::specs::Step::called, crate::specs::Step::answer_to, crate::specs::Step::after_step))]
 #[inline(never)]
 fn write_service<W: Write>(
     alloc: Global,
     out: &mut Tracked<W>,
-    n: usize,
+    line: &mut NumberedLine,
     machine: &mut Machine,
     regs: Regs,
     block: &[u8],
@@ -169,7 +169,9 @@ fn write_service<W: Write>(
     requires writer { has_failed out.old ≡ false }
     requires valid { IsValid machine.old.bda }
     ensures text { WritesStep (W.contents (inner_of out.old)) (W.contents (inner_of out.new))
-        (has_failed out.new) result machine.old n (Int regs.ax regs.bx regs.cx regs.dx block.now) }
+        (has_failed out.new) result machine.old line.old
+        (Int regs.ax regs.bx regs.cx regs.dx block.now) }
+    ensures number { line.new ≡ line.old }
     ensures after { OnOk result (machine.new ≡ after_step machine.old
         (Int regs.ax regs.bx regs.cx regs.dx block.now)) }
     ensures either { IsTakenOrNot machine.old
@@ -185,8 +187,8 @@ fn write_service<W: Write>(
         block,
     );
     match outcome {
-        Ok(reply) => write_reply(out, n, &reply),
-        Err(ServiceError::Refused(refusal)) => write_line(out, n, Answer::Refused(refusal)),
+        Ok(reply) => write_reply(out, line.number(), &reply),
+        Err(ServiceError::Refused(refusal)) => line.write(out, Answer::Refused(refusal)),
         Err(ServiceError::OutOfMemory) => Err(Fault::OutOfMemory),
     }
 }
@@ -235,7 +237,7 @@ pub(crate) fn write_step<W: Write>(
                 cx: *cx,
                 dx: *dx,
             };
-            return write_service(alloc, out, line.number(), machine, regs, block.as_slice());
+            return write_service(alloc, out, line, machine, regs, block.as_slice());
         }
         Step::Advance { dots } => Answer::of_write(machine.card.advance(*dots)),
         Step::Frame => return write_drawn(out, line.number(), machine.card.frame()),

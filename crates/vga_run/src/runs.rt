@@ -33,7 +33,7 @@ use vga_script::{Script, Steps, one_fault, one_list, read_script, steps_fit};
 /// - `ReadFault`: the reader failed.
 /// - `TooLong`: the reader had more than 16,777,216 bytes. One more is read, and none behind it.
 /// - `BadMagic`, `BadVersion`, `BadStep`, `Truncated`, `TooMany`: the bytes are no script.
-/// - `WriteFault`: the writer failed, and has a front of the report.
+/// - `WriteFault`: the writer failed, and has a prefix of the report.
 ///
 /// `OutOfMemory` comes where a request for memory was refused: before the first byte is written, or
 /// in a step that takes memory, and then the answers of the steps before it are written, whole.

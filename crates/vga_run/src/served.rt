@@ -44,7 +44,7 @@ fn write_digits<W: Write>(out: &mut Tracked<W>, bytes: &[u8]) -> Result<(), Faul
 }
 
 /// Writes a table that is not empty.
-#[tactic(auto, using(vga_bits::proofs::WritingLemmas::writes_after, vga_bits::proofs::WritingLemmas::front_of_more))]
+#[tactic(auto, using(vga_bits::proofs::WritingLemmas::writes_after, vga_bits::proofs::WritingLemmas::prefix_of_more))]
 fn write_block<W: Write>(out: &mut Tracked<W>, bytes: &[u8]) -> Result<(), Fault>
     requires { has_failed out.old ≡ false }
     ensures { Writes (W.contents (inner_of out.old)) (W.contents (inner_of out.new))
@@ -67,7 +67,7 @@ fn write_table<W: Write>(out: &mut Tracked<W>, bytes: &[u8]) -> Result<(), Fault
 }
 
 /// Writes a table, where it is not empty, and ends the line.
-#[tactic(auto, using(vga_bits::proofs::WritingLemmas::writes_after, vga_bits::proofs::WritingLemmas::front_of_more))]
+#[tactic(auto, using(vga_bits::proofs::WritingLemmas::writes_after, vga_bits::proofs::WritingLemmas::prefix_of_more))]
 fn end_line<W: Write>(out: &mut Tracked<W>, bytes: &[u8]) -> Result<(), Fault>
     requires { has_failed out.old ≡ false }
     ensures { Writes (W.contents (inner_of out.old)) (W.contents (inner_of out.new))
@@ -87,7 +87,7 @@ fn registers_line(n: usize, regs: Regs) -> Line
 }
 
 /// Writes the line of step n: the registers that a service answers, and a table.
-#[tactic(auto, unfolding(crate::specs::Report::line), using(vga_bits::proofs::WritingLemmas::writes_after, vga_bits::proofs::WritingLemmas::front_of_more))]
+#[tactic(auto, unfolding(crate::specs::Report::line), using(vga_bits::proofs::WritingLemmas::writes_after, vga_bits::proofs::WritingLemmas::prefix_of_more))]
 pub(crate) fn write_reply<W: Write>(
     out: &mut Tracked<W>,
     n: usize,

@@ -15,47 +15,47 @@ const LINE_LEN: usize = 52;
 /// The line of a step, or its first piece.
 pub(crate) type Line = TextBuffer<LINE_LEN>;
 
-/// Puts three bytes behind the first `front` bytes of a line, in the place of the others: at once
+/// Puts three bytes behind the first `prefix` bytes of a line, in the place of the others: at once
 /// where those are three, as they mostly are.
 #[tactic(auto, using(crate::proofs::NumberLemmas::three_put))]
 #[inline(always)]
-fn put_three(line: &mut Line, front: usize, bytes: [u8; 3])
-    requires within { front ≤ length line.old }
-    requires short { front ≤ 21 }
-    ensures { line.new ≡ take front line.old ++ bytes }
+fn put_three(line: &mut Line, prefix: usize, bytes: [u8; 3])
+    requires within { prefix ≤ length line.old }
+    requires short { prefix ≤ 21 }
+    ensures { line.new ≡ take prefix line.old ++ bytes }
 {
-    if line.len() == front + 3 {
-        line.set(front, bytes[0]);
-        line.set(front + 1, bytes[1]);
-        line.set(front + 2, bytes[2]);
+    if line.len() == prefix + 3 {
+        line.set(prefix, bytes[0]);
+        line.set(prefix + 1, bytes[1]);
+        line.set(prefix + 2, bytes[2]);
     } else {
-        line.replace_end(front, &bytes);
+        line.replace_end(prefix, &bytes);
     }
 }
 
-/// Puts the text of an answer and a newline behind the first `front` bytes of a line, in the place
+/// Puts the text of an answer and a newline behind the first `prefix` bytes of a line, in the place
 /// of the others: at once where it has two digits or letters, as most have.
 #[tactic(auto, using(crate::proofs::ReportLemmas::name_is_short, vga_bits::proofs::HexLemmas::hex_of_byte))]
 #[inline(always)]
-pub(crate) fn put_answer(line: &mut Line, front: usize, answer: Answer)
-    requires within { front ≤ length line.old }
-    requires short { front ≤ 21 }
-    ensures { line.new ≡ take front line.old ++ (answer_text answer ++ codes "\n") }
+pub(crate) fn put_answer(line: &mut Line, prefix: usize, answer: Answer)
+    requires within { prefix ≤ length line.old }
+    requires short { prefix ≤ 21 }
+    ensures { line.new ≡ take prefix line.old ++ (answer_text answer ++ codes "\n") }
 {
     match answer {
-        Answer::Done => put_three(line, front, *b"ok\n"),
+        Answer::Done => put_three(line, prefix, *b"ok\n"),
         Answer::Byte(value) => put_three(
             line,
-            front,
+            prefix,
             [hex_digit(value / 16), hex_digit(value % 16), b'\n'],
         ),
         Answer::Word(value) => {
-            line.truncate(front);
+            line.truncate(prefix);
             line.push_hex_word(value);
             line.push(b"\n");
         }
         Answer::Refused(refusal) => {
-            line.replace_end(front, refusal.name().as_bytes());
+            line.replace_end(prefix, refusal.name().as_bytes());
             line.push(b"\n");
         }
     }
@@ -108,21 +108,4 @@ pub(crate) fn write_text<W: Write>(out: &mut Tracked<W>, text: &[u8]) -> Result<
         12 => write_exact::<12, W>(out, text),
         _ => write_whole(out, text),
     }
-}
-
-/// Writes the line of step n.
-#[tactic(auto, unfolding(crate::specs::Report::line, crate::specs::Report::number_text), using(std::proofs::lemmas::List::append_assoc))]
-pub(crate) fn write_line<W: Write>(
-    out: &mut Tracked<W>,
-    n: usize,
-    answer: Answer,
-) -> Result<(), Fault>
-    requires { has_failed out.old ≡ false }
-    ensures { Writes (W.contents (inner_of out.old)) (W.contents (inner_of out.new))
-        (has_failed out.new) result (line n (Plain answer)) }
-{
-    let mut line = numbered(n);
-    let front = line.len();
-    put_answer(&mut line, front, answer);
-    write_whole(out, line.as_slice())
 }

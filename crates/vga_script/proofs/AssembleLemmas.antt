@@ -10,14 +10,14 @@ use Rattle.vga_script.specs.declared.step.Step.{Step}
 use Rattle.vga_script.specs.Item.{Item, Once, Repeated, Listing, listing, repeated, expanded, step_limit}
 use Rattle.vga_script.specs.declared.version.Version.{Version}
 use Rattle.vga_script.specs.declared.version.Version.TheVariants.{One}
-use Rattle.vga_script.specs.Version.{AllowsBlocks, version_byte}
+use Rattle.vga_script.specs.Version.{AllowsRepeats, version_byte}
 use Rattle.byteorder.specs.Endian.{little_bytes}
 use Rattle.vga_script.specs.Spelling.{magic, opcode_repeat, opcode_end, header, spelling, item_spelling, encoding}
-use Rattle.vga_script.specs.Words.{lines, lines_left, left_len, words}
+use Rattle.vga_script.specs.Tokens.{lines, lines_left, left_len, words}
 use Rattle.vga_script.specs.Text.{SpellsLine, SpellsLines, SpellsRepeat, IsEnd, IsVersionTwo, Group, IsGroup, SpellsGroups, SaysVersionTwo, StandFrom}
 use Rattle.vga_script.specs.Text.{SpellsText, IsBadOutside, IsBadInside, OpensLines, IsGroupFault, IsBadLine, IsLineFault}
-use Rattle.vga_script.specs.Assembling.{HasBody, IsBodyFault, HasGroup, IsGroupFaultOf, AppendsLine, AppendsBody, AppendsBlock, AppendsGroup}
-use Rattle.vga_script.proofs.ItemLemmas.{length-expanded-append, steps_of_block}
+use Rattle.vga_script.specs.Assembling.{HasBody, IsBodyFault, HasGroup, IsGroupFaultOf, AppendsLine, AppendsBody, AppendsRepeat, AppendsGroup}
+use Rattle.vga_script.proofs.ItemLemmas.{length-expanded-append, steps_of_repeat}
 
 -- a test that failed did not pass
 pub never : (b : Bool) → b ≡ false → b ≡ true → ⊥
@@ -32,7 +32,7 @@ pub left_shorter : (left : Option (Bor (List ℕ))) (len : ℕ) → IfSome left 
 left_shorter None len h = omega arith
 left_shorter (Some rest) len h = omega arith
 
--- ---- the body of a block
+-- ---- the body of a repeat
 
 -- one more line
 spells_more : (before : List (List ℕ)) (steps : List Step) (line : List ℕ) (here : List Step) → SpellsLines before steps → SpellsLine (words line) here →
@@ -41,7 +41,7 @@ spells_more [] steps line here none is = (here, [], ap (λ (l : List Step). l ++
 spells_more (b ∷ before) steps line here (first, after, e, is, more) new =
     (first, after ++ here, ap (λ (l : List Step). l ++ here) e ∙ append_assoc first after here, is, spells_more before after line here more new)
 
--- the lines of a block so far spell the steps so far
+-- the lines of a repeat so far spell the steps so far
 pub record HasReadBody (start : Option (List ℕ)) (first : ℕ) (steps : List Step) (n : ℕ) (left : Option (List ℕ)) : Type 0 where
   pub body : List (List ℕ)
   pub good : SpellsLines body steps
@@ -132,17 +132,17 @@ pub body_open : (start : Option (List ℕ)) (before now : List ℕ) (first len n
     IsBodyFault first start (fault.BadLine first)
 body_open start before now first len n h = steps_open start first n h.steps h.read
 
--- a block with its opcodes and its count
-pub block_appended : (n : ℕ) (left behind : Option (List ℕ)) (count len next : ℕ) (before marked counted full after : List ℕ) → marked ≡ before
+-- a repeat with its opcodes and its count
+pub repeat_appended : (n : ℕ) (left behind : Option (List ℕ)) (count len next : ℕ) (before marked counted full after : List ℕ) → marked ≡ before
     ++ opcode_repeat ∷ [] → counted ≡ marked ++ little_bytes 2 count
-    → AppendsBody n left counted full len next behind → after ≡ full ++ opcode_end ∷ [] → AppendsBlock n left count before after (count * len) next behind
-block_appended n left behind count len next before marked counted full after m c a e =
+    → AppendsBody n left counted full len next behind → after ≡ full ++ opcode_end ∷ [] → AppendsRepeat n left count before after (count * len) next behind
+repeat_appended n left behind count len next before marked counted full after m c a e =
     let steps = flat_map spelling a.steps in
     let field = little_bytes 2 count in
     record {
       steps = a.steps;
       body = a.body;
-      means = steps_of_block count len a.steps a.count;
+      means = steps_of_repeat count len a.steps a.count;
       bytes = e ∙ ap (λ (l : List ℕ). l ++ opcode_end ∷ []) (a.bytes ∙ ap (λ (l : List ℕ). l ++ steps) (c ∙ ap (λ (l : List ℕ). l ++ field) m))
           ∙ append_assoc ((before ++ opcode_repeat ∷ []) ++ field) steps (opcode_end ∷ [])
           ∙ append_assoc (before ++ opcode_repeat ∷ []) field (steps ++ opcode_end ∷ [])
@@ -176,11 +176,11 @@ group_of_line version n text line before after others len e a = record {
   bytes = a.bytes ∙ ap (λ (l : List ℕ). before ++ l) (spelled a.steps);
 }
 
--- a block
-pub group_of_block : (version : Version) (n : ℕ) (text line before after : List ℕ) (others behind : Option (List ℕ)) (count len next : ℕ) →
-    AllowsBlocks version → lines text ≡ line ∷ lines_left others → SpellsRepeat (words line) count
-    → AppendsBlock (n + 1) others count before after len next behind → AppendsGroup version n (lines text) before after len next behind
-group_of_block version n text line before after others behind count len next allowed e begins a =
+-- a repeat
+pub group_of_repeat : (version : Version) (n : ℕ) (text line before after : List ℕ) (others behind : Option (List ℕ)) (count len next : ℕ) →
+    AllowsRepeats version → lines text ≡ line ∷ lines_left others → SpellsRepeat (words line) count
+    → AppendsRepeat (n + 1) others count before after len next behind → AppendsGroup version n (lines text) before after len next behind
+group_of_repeat version n text line before after others behind count len next allowed e begins a =
     let h = a.body in
     let items = Repeated count a.steps ∷ [] in
     record {
@@ -196,19 +196,19 @@ group_of_block version n text line before after others behind count len next all
       bytes = a.bytes ∙ ap (λ (l : List ℕ). before ++ l) (sym (append-nil (item_spelling (Repeated count a.steps))));
     }
 
--- a bad line outside blocks
+-- a bad line outside repeats
 pub group_bad : (version : Version) (n : ℕ) (text line : List ℕ) (others : Option (List ℕ)) → lines text ≡ line ∷ lines_left others →
     IsBadOutside version line → IsGroupFaultOf version n (lines text) (fault.BadLine n)
 group_bad version n text line others e bad taken = inl (refl, (line, lines_left others, e, bad))
 
--- the fault of a block
-block_open : (version : Version) (n place : ℕ) (ls : List (List ℕ)) → OpensLines version ls place [] → IsGroupFaultOf version n ls (fault.BadLine n)
-block_open version n place ls h taken = inr (inr (inl (refl, (place, h))))
+-- the fault of a repeat
+repeat_open : (version : Version) (n place : ℕ) (ls : List (List ℕ)) → OpensLines version ls place [] → IsGroupFaultOf version n ls (fault.BadLine n)
+repeat_open version n place ls h taken = inr (inr (inl (refl, (place, h))))
 
-pub block_bad : (version : Version) (n : ℕ) (text line : List ℕ) (others : Option (List ℕ)) (count : ℕ) (f : Fault) → AllowsBlocks version →
+pub repeat_bad : (version : Version) (n : ℕ) (text line : List ℕ) (others : Option (List ℕ)) (count : ℕ) (f : Fault) → AllowsRepeats version →
     lines text ≡ line ∷ lines_left others → SpellsRepeat (words line) count
     → IsBodyFault n others f → IsGroupFaultOf version n (lines text) f
-block_bad version n text line others count (fault.BadLine bad) allowed e begins (inl (is, (steps, good))) = λ taken.
+repeat_bad version n text line others count (fault.BadLine bad) allowed e begins (inl (is, (steps, good))) = λ taken.
     inr (inr (inl (
       is,
       (
@@ -222,11 +222,11 @@ block_bad version n text line others count (fault.BadLine bad) allowed e begins 
           begins = begins;
           good = good;
           whole = e ∙ ap (λ (l : List (List ℕ)). line ∷ l) (sym (append-nil (lines_left others)));
-          place_is = refl;
+          distance_is = refl;
         },
       ),
     )))
-block_bad version n text line others count (fault.BadLine bad) allowed e begins (inr (body, steps, other, behind, is, whole, good, wrong)) = λ taken.
+repeat_bad version n text line others count (fault.BadLine bad) allowed e begins (inr (body, steps, other, behind, is, whole, good, wrong)) = λ taken.
     inr (inl (
       length body + 1,
       other,
@@ -241,22 +241,22 @@ block_bad version n text line others count (fault.BadLine bad) allowed e begins 
         begins = begins;
         good = good;
         whole = e ∙ ap (λ (l : List (List ℕ)). line ∷ l) whole;
-        place_is = refl;
+        distance_is = refl;
       },
       wrong,
     ))
-block_bad version n text line others count _ allowed e begins h = absurd h
+repeat_bad version n text line others count _ allowed e begins h = absurd h
 
 -- or memory ran out
-pub group_fault : (version : Version) (n : ℕ) (text line : List ℕ) (others : Option (List ℕ)) (count : ℕ) (f : Fault) → AllowsBlocks version →
+pub group_fault : (version : Version) (n : ℕ) (text line : List ℕ) (others : Option (List ℕ)) (count : ℕ) (f : Fault) → AllowsRepeats version →
     lines text ≡ line ∷ lines_left others → SpellsRepeat (words line) count
     → (f ≡ fault.OutOfMemory) ⊎ IsBodyFault n others f → (f ≡ fault.OutOfMemory) ⊎ IsGroupFaultOf version n (lines text) f
 group_fault version n text line others count f allowed e begins (inl memory) = inl memory
-group_fault version n text line others count f allowed e begins (inr h) = inr (block_bad version n text line others count f allowed e begins h)
+group_fault version n text line others count f allowed e begins (inr h) = inr (repeat_bad version n text line others count f allowed e begins h)
 
 -- and where it has one
 pub group_faults : {A : Type 0} (version : Version) (n : ℕ) (text line : List ℕ) (others : Option (List ℕ)) (count : ℕ) (r : Result A Fault) →
-    AllowsBlocks version → lines text ≡ line ∷ lines_left others → SpellsRepeat (words line) count
+    AllowsRepeats version → lines text ≡ line ∷ lines_left others → SpellsRepeat (words line) count
     → IfErr r (λ f. (f ≡ fault.OutOfMemory) ⊎ IsBodyFault n others f) → IfErr r (λ f. (f ≡ fault.OutOfMemory) ⊎ IsGroupFaultOf version n (lines text) f)
 group_faults version n text line others count (Ok x) allowed e begins h = tt
 group_faults version n text line others count (Err f) allowed e begins h = group_fault version n text line others count f allowed e begins h
@@ -343,9 +343,9 @@ all_groups : (version : Version) (groups : List Group) (group : Group) → AllBy
 all_groups version [] group all good = (good, tt)
 all_groups version (g ∷ groups) group (first, all) good = (first, all_groups version groups group all good)
 
-groups_more : (version : Version) (front : List (List ℕ)) (items : List Item) (group : Group) → SpellsGroups version front items → IsGroup version group →
-    SpellsGroups version (front ++ group.lines) (items ++ group.items)
-groups_more version front items group (groups, e, f, all) good = (
+groups_more : (version : Version) (prefix : List (List ℕ)) (items : List Item) (group : Group) → SpellsGroups version prefix items → IsGroup version group →
+    SpellsGroups version (prefix ++ group.lines) (items ++ group.items)
+groups_more version prefix items group (groups, e, f, all) good = (
   groups ++ group ∷ [],
   ap (λ (l : List (List ℕ)). l ++ group.lines) e ∙ ap (λ (l : List (List ℕ)). flat_map (λ (g : Group). g.lines) groups ++ l) (sym (append-nil group.lines))
       ∙ sym (flat_map-append (λ (g : Group). g.lines) groups (group ∷ [])),
@@ -358,12 +358,12 @@ groups_more version front items group (groups, e, f, all) good = (
 pub record HasRead (text : List ℕ) (version : Version) (items : List Item) (taken : ℕ) (n : ℕ) (left : Option (List ℕ)) : Type 0 where
   pub start : ℕ
   pub rest : List (List ℕ)
-  pub front : List (List ℕ)
+  pub prefix : List (List ℕ)
   pub from : StandFrom version (lines text) start rest
   pub one : version ≡ One → (m : ℕ) (others : List (List ℕ)) → SaysVersionTwo (lines text) m others → ⊥
-  pub good : SpellsGroups version front items
-  pub whole : rest ≡ front ++ lines_left left
-  pub number : n ≡ start + length front
+  pub good : SpellsGroups version prefix items
+  pub whole : rest ≡ prefix ++ lines_left left
+  pub number : n ≡ start + length prefix
   pub count : taken ≡ length (expanded items)
   pub few : taken ≤ step_limit
   pub short : n + left_len left ≤ length text + 2
@@ -375,7 +375,7 @@ pub read_none : (text : List ℕ) (version : Version) (n : ℕ) (left : Option (
 read_none text version n left from one short = record {
   start = n;
   rest = lines_left left;
-  front = [];
+  prefix = [];
   from = from;
   one = one;
   good = ([], refl, refl, tt);
@@ -392,7 +392,7 @@ pub read_more : (text rest : List ℕ) (version : Version) (items here : List It
     → more ≡ taken + length (expanded here) → more ≤ step_limit → next + left_len behind ≤ n + (length rest + 1) →
     HasRead text version (items ++ here) more next behind
 read_more text rest version items here taken more n next behind h g sum few shorter =
-    let lens = length-append h.front g.group.lines in
+    let lens = length-append h.prefix g.group.lines in
     let counts = length-expanded-append items here in
     let so_far = h.count in
     let number = h.number in
@@ -401,12 +401,12 @@ read_more text rest version items here taken more n next behind h g sum few shor
     record {
       start = h.start;
       rest = h.rest;
-      front = h.front ++ g.group.lines;
+      prefix = h.prefix ++ g.group.lines;
       from = h.from;
       one = h.one;
-      good = subst (λ (l : List Item). SpellsGroups version (h.front ++ g.group.lines) (items ++ l)) g.items_are
-          (groups_more version h.front items g.group h.good g.good);
-      whole = h.whole ∙ ap (λ (l : List (List ℕ)). h.front ++ l) g.whole ∙ sym (append_assoc h.front g.group.lines (lines_left behind));
+      good = subst (λ (l : List Item). SpellsGroups version (h.prefix ++ g.group.lines) (items ++ l)) g.items_are
+          (groups_more version h.prefix items g.group h.good g.good);
+      whole = h.whole ∙ ap (λ (l : List (List ℕ)). h.prefix ++ l) g.whole ∙ sym (append_assoc h.prefix g.group.lines (lines_left behind));
       number = omega arith;
       count = omega arith;
       few = few;
@@ -419,7 +419,7 @@ pub read_all : (text : List ℕ) (version : Version) (items : List Item) (taken 
 read_all text version items taken n h =
     let count = h.count in
     let few = h.few in
-    (h.start, h.rest, h.from, subst (λ (l : List (List ℕ)). SpellsGroups version l items) (sym (h.whole ∙ append-nil h.front)) h.good, omega arith)
+    (h.start, h.rest, h.from, subst (λ (l : List (List ℕ)). SpellsGroups version l items) (sym (h.whole ∙ append-nil h.prefix)) h.good, omega arith)
 
 -- the fault of the next group is that of the text
 bad_line : (text rest : List ℕ) (version : Version) (items : List Item) (taken n bad : ℕ) → HasRead text version items taken n (Some rest) →
@@ -433,7 +433,7 @@ bad_line text rest version items taken n bad h wrong =
       record {
         start = h.start;
         rest = h.rest;
-        front = h.front;
+        prefix = h.prefix;
         from = h.from;
         one = h.one;
         whole = h.whole;

@@ -46,10 +46,10 @@ pub cut_int : (fields : List ℕ) → length fields < 10 + little_number 2 (drop
 cut_int fields short = (opcode_int, fields, 10 + little_number 2 (drop 8 fields), refl, refl, short)
 
 -- a call whose block is not all there
-pub cut_block : (fields r1 r2 r3 r4 rest : List ℕ) (ax bx cx dx len : ℕ) → fields ≡ little_bytes 2 ax ++ r1 → r1 ≡ little_bytes 2 bx ++ r2 →
+pub cut_repeat : (fields r1 r2 r3 r4 rest : List ℕ) (ax bx cx dx len : ℕ) → fields ≡ little_bytes 2 ax ++ r1 → r1 ≡ little_bytes 2 bx ++ r2 →
     r2 ≡ little_bytes 2 cx ++ r3 → r3 ≡ little_bytes 2 dx ++ r4 → r4 ≡ little_bytes 2 len ++ rest
     → len < 2 ^ 16 → length rest < len → StartsWithCutStep (opcode_int ∷ fields)
-cut_block fields r1 r2 r3 r4 rest ax bx cx dx len ha hb hc hd hl small short =
+cut_repeat fields r1 r2 r3 r4 rest ax bx cx dx len ha hb hc hd hl small short =
     let whole : fields ≡ little_bytes 2 ax ++ (little_bytes 2 bx ++ (little_bytes 2 cx ++ (little_bytes 2 dx ++ (little_bytes 2 len ++ rest)))) =
     rw (ha, hb, hc, hd, hl) refl in
     let count : little_number 2 (drop 8 fields) ≡ len = ap (λ (l : List ℕ). little_number 2 (drop 8 l)) whole ∙ two_back len rest small in
@@ -96,10 +96,10 @@ bad_range bytes h = inr h
 -- ---- the items of a script
 
 -- one more item behind some
-items_more : (version : Version) (front : List ℕ) (items : List Item) (i : Item) → SpellsItems version front items → IsItemOf version i →
-    SpellsItems version (front ++ item_spelling i) (items ++ i ∷ [])
-items_more version front [] i none fits = ([], (fits, ap (λ (l : List ℕ). l ++ item_spelling i) none ∙ sym (append-nil (item_spelling i))), refl)
-items_more version front (j ∷ items) i (rest, (fits, whole), more) last = (
+items_more : (version : Version) (prefix : List ℕ) (items : List Item) (i : Item) → SpellsItems version prefix items → IsItemOf version i →
+    SpellsItems version (prefix ++ item_spelling i) (items ++ i ∷ [])
+items_more version prefix [] i none fits = ([], (fits, ap (λ (l : List ℕ). l ++ item_spelling i) none ∙ sym (append-nil (item_spelling i))), refl)
+items_more version prefix (j ∷ items) i (rest, (fits, whole), more) last = (
   rest ++ item_spelling i,
   (fits, ap (λ (l : List ℕ). l ++ item_spelling i) whole ∙ append_assoc (item_spelling j) rest (item_spelling i)),
   items_more version rest items i more last,
@@ -107,9 +107,9 @@ items_more version front (j ∷ items) i (rest, (fits, whole), more) last = (
 
 -- the items so far, which mean so many steps, stand before the rest of a script
 pub record HasDecoded (bytes : List ℕ) (version : Version) (items : List Item) (taken : ℕ) (rest : List ℕ) : Type 0 where
-  pub front : List ℕ
-  pub good : Spells front (listing version items)
-  pub whole : bytes ≡ front ++ rest
+  pub prefix : List ℕ
+  pub good : Spells prefix (listing version items)
+  pub whole : bytes ≡ prefix ++ rest
   pub short : length rest ≤ length bytes
   pub count : taken ≡ length (expanded items)
   pub few : taken ≤ step_limit
@@ -117,7 +117,7 @@ pub record HasDecoded (bytes : List ℕ) (version : Version) (items : List Item)
 -- no item is decoded
 decoded_nothing : (bytes rest : List ℕ) (version : Version) → bytes ≡ header version ++ rest → HasDecoded bytes version [] 0 rest
 decoded_nothing bytes rest version e = record {
-  front = header version;
+  prefix = header version;
   good = ([], refl, refl, omega arith);
   whole = e;
   short = let l = ap length e in omega arith;
@@ -133,14 +133,14 @@ decoded_more bytes rest others version items taken more i h (fits, e) sum few =
     let pushed = length-expanded-push items i in
     let so_far = h.count in
     record {
-      front = h.front ++ item_spelling i;
+      prefix = h.prefix ++ item_spelling i;
       good = (
         h.good.0 ++ item_spelling i,
         ap (λ (l : List ℕ). l ++ item_spelling i) h.good.1 ∙ append_assoc (header version) h.good.0 (item_spelling i),
         items_more version h.good.0 items i h.good.2 fits,
         omega arith,
       );
-      whole = h.whole ∙ ap (λ (l : List ℕ). h.front ++ l) e ∙ sym (append_assoc h.front (item_spelling i) others);
+      whole = h.whole ∙ ap (λ (l : List ℕ). h.prefix ++ l) e ∙ sym (append_assoc h.prefix (item_spelling i) others);
       short = let l = ap length e ∙ length-append (item_spelling i) others in let s = h.short in omega arith;
       count = omega arith;
       few = few;
@@ -155,16 +155,16 @@ nothing (x ∷ xs) e = absurd (omega arith)
 pub decoded_all : (bytes rest : List ℕ) (version : Version) (items : List Item) (taken : ℕ) → HasDecoded bytes version items taken rest → rest ≡ [] →
     Spells bytes (listing version items)
 decoded_all bytes rest version items taken h none =
-    subst (λ (l : List ℕ). Spells l (listing version items)) (sym (h.whole ∙ ap (λ (l : List ℕ). h.front ++ l) none ∙ append-nil h.front)) h.good
+    subst (λ (l : List ℕ). Spells l (listing version items)) (sym (h.whole ∙ ap (λ (l : List ℕ). h.prefix ++ l) none ∙ append-nil h.prefix)) h.good
 
 -- the rest stands where the items so far end
 up_to : (bytes rest : List ℕ) (version : Version) (items : List Item) (taken offset : ℕ) → HasDecoded bytes version items taken rest →
     offset ≡ length bytes - length rest → SpellsUpTo bytes (listing version items) offset rest
 up_to bytes rest version items taken offset h e = record {
-  front = h.front;
+  prefix = h.prefix;
   whole = h.whole;
   good = h.good;
-  place = let l = ap length h.whole ∙ length-append h.front rest in omega arith;
+  place = let l = ap length h.whole ∙ length-append h.prefix rest in omega arith;
 }
 
 -- a fault of the next item is that of the script

@@ -14,7 +14,7 @@ use Rattle.vga_script.proofs.ItemLemmas.{length-repeated, length-expanded-cons}
 
 -- no item stands before what follows the header
 pub begins : (version : Version) (rest : List ℕ) → SpellsUpTo (header version ++ rest) (listing version []) 5 rest
-begins version rest = record { front = header version; whole = refl; good = ([], refl, refl, omega arith); place = refl }
+begins version rest = record { prefix = header version; whole = refl; good = ([], refl, refl, omega arith); place = refl }
 
 -- frames are in range, and spelled one after the other
 frames_range : (n : ℕ) → AreInRange (frames n)
@@ -31,7 +31,7 @@ length-frames : (n : ℕ) → length (frames n) ≡ n
 unfolding frames
 length-frames n = length-replicate n Frame
 
--- a block of them
+-- a repeat of them
 pub frames_start : (n : ℕ) → StartsWithItem Two (0x0D ∷ 0xFF ∷ 0xFF ∷ (frame_bytes n ++ 0x0E ∷ [])) (Repeated 0xFFFF (frames n)) []
 frames_start n = (
   (tt, omega arith, omega arith, frames_range n),

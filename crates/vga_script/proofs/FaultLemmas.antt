@@ -31,7 +31,7 @@ stands_at bytes script offset rest h = record {
       ++ l) (spelled_items script.version h.good.0 script.items h.good.2)) ∙ append_assoc (header script.version) (flat_map item_spelling script.items) rest;
   fits = items_fit script.version h.good.0 script.items h.good.2;
   few = h.good.3;
-  place = let whole = ap length h.whole ∙ length-append h.front rest in let place = h.place in omega arith;
+  place = let whole = ap length h.whole ∙ length-append h.prefix rest in let place = h.place in omega arith;
 }
 
 -- items that go on with one more stay within the limit with it
@@ -80,8 +80,8 @@ one_item_fault bytes f g (script, offset, rest, up, bad) (script', offset', rest
     (kind script.version (length (expanded script.items)) offset rest f bad) (kind script'.version (length (expanded script'.items)) offset' rest' g bad')
 
 -- bytes with a fault of an item begin with a header
-item_front : (bytes : List ℕ) (f : Fault) → HasItemFault bytes f → (version : Version) × (rest : List ℕ) × (bytes ≡ magic ++ version_byte version ∷ rest)
-item_front bytes f (script, offset, rest, up, bad) = (script.version, _, (stands_at bytes script offset rest up).whole)
+item_prefix : (bytes : List ℕ) (f : Fault) → HasItemFault bytes f → (version : Version) × (rest : List ℕ) × (bytes ≡ magic ++ version_byte version ∷ rest)
+item_prefix bytes f (script, offset, rest, up, bad) = (script.version, _, (stands_at bytes script offset rest up).whole)
 
 -- ---- the faults of bytes
 
@@ -104,8 +104,8 @@ faults bytes _ h = absurd h
 -- a byte of no version is that of none
 no_version : (bytes rest more : List ℕ) (other : ℕ) (version : Version) → bytes ≡ magic ++ other ∷ rest → ((v : Version) → other ≢ version_byte v) →
     bytes ≡ magic ++ version_byte version ∷ more → ⊥
-no_version bytes rest more other version e none front =
-    let both : magic ++ other ∷ rest ≡ magic ++ version_byte version ∷ more = sym e ∙ front in
+no_version bytes rest more other version e none prefix =
+    let both : magic ++ other ∷ rest ≡ magic ++ version_byte version ∷ more = sym e ∙ prefix in
     let same : other ≡ version_byte version = cc in
     none version same
 
@@ -118,22 +118,22 @@ one_of_faults : (bytes : List ℕ) (f g : Fault) → Faults bytes f → Faults b
 one_of_faults bytes f g (inl (is, none)) (inl (is', none')) = is ∙ sym is'
 one_of_faults bytes f g (inl (is, none)) (inr (inl (is', (other, rest, e, unknown)))) = absurd (none (other ∷ rest) e)
 one_of_faults bytes f g (inl (is, none)) (inr (inr (inl (is', short)))) = absurd (none [] short)
-one_of_faults bytes f g (inl (is, none)) (inr (inr (inr h))) = let front = item_front bytes g h in absurd (none _ front.2)
+one_of_faults bytes f g (inl (is, none)) (inr (inr (inr h))) = let prefix = item_prefix bytes g h in absurd (none _ prefix.2)
 one_of_faults bytes f g (inr (inl (is, (other, rest, e, unknown)))) (inl (is', none)) = absurd (none (other ∷ rest) e)
 one_of_faults bytes f g (inr (inl (is, bad))) (inr (inl (is', bad'))) = is ∙ sym is'
 one_of_faults bytes f g (inr (inl (is, (other, rest, e, unknown)))) (inr (inr (inl (is', short)))) = absurd (goes_on bytes rest other e short)
-one_of_faults bytes f g (inr (inl (is, (other, rest, e, unknown)))) (inr (inr (inr h))) = let front = item_front bytes g h in
-    absurd (no_version bytes rest front.1 other front.0 e unknown front.2)
+one_of_faults bytes f g (inr (inl (is, (other, rest, e, unknown)))) (inr (inr (inr h))) = let prefix = item_prefix bytes g h in
+    absurd (no_version bytes rest prefix.1 other prefix.0 e unknown prefix.2)
 one_of_faults bytes f g (inr (inr (inl (is, short)))) (inl (is', none)) = absurd (none [] short)
 one_of_faults bytes f g (inr (inr (inl (is, short)))) (inr (inl (is', (other, rest, e, unknown)))) = absurd (goes_on bytes rest other e short)
 one_of_faults bytes f g (inr (inr (inl (is, short)))) (inr (inr (inl (is', short')))) = is ∙ sym is'
-one_of_faults bytes f g (inr (inr (inl (is, short)))) (inr (inr (inr h))) = let front = item_front bytes g h in
-    absurd (goes_on bytes front.1 (version_byte front.0) front.2 short)
-one_of_faults bytes f g (inr (inr (inr h))) (inl (is', none)) = let front = item_front bytes f h in absurd (none _ front.2)
-one_of_faults bytes f g (inr (inr (inr h))) (inr (inl (is', (other, rest, e, unknown)))) = let front = item_front bytes f h in
-    absurd (no_version bytes rest front.1 other front.0 e unknown front.2)
-one_of_faults bytes f g (inr (inr (inr h))) (inr (inr (inl (is', short)))) = let front = item_front bytes f h in
-    absurd (goes_on bytes front.1 (version_byte front.0) front.2 short)
+one_of_faults bytes f g (inr (inr (inl (is, short)))) (inr (inr (inr h))) = let prefix = item_prefix bytes g h in
+    absurd (goes_on bytes prefix.1 (version_byte prefix.0) prefix.2 short)
+one_of_faults bytes f g (inr (inr (inr h))) (inl (is', none)) = let prefix = item_prefix bytes f h in absurd (none _ prefix.2)
+one_of_faults bytes f g (inr (inr (inr h))) (inr (inl (is', (other, rest, e, unknown)))) = let prefix = item_prefix bytes f h in
+    absurd (no_version bytes rest prefix.1 other prefix.0 e unknown prefix.2)
+one_of_faults bytes f g (inr (inr (inr h))) (inr (inr (inl (is', short)))) = let prefix = item_prefix bytes f h in
+    absurd (goes_on bytes prefix.1 (version_byte prefix.0) prefix.2 short)
 one_of_faults bytes f g (inr (inr (inr h))) (inr (inr (inr h'))) = one_item_fault bytes f g h h'
 
 -- a script has no item with a fault

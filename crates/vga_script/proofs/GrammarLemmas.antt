@@ -8,7 +8,7 @@ use Rattle.vga_script.specs.declared.step.Step.TheVariants.{Out, OutWord, In, In
 use Rattle.vga_script.specs.declared.dump_range.Shown.TheVariants as shown
 use Rattle.vga_script.specs.Item.{Item, Once, Repeated, Listing, expanded, step_limit, IsItemOf, AreItemsOf}
 use Rattle.vga_script.specs.declared.version.Version.{Version}
-use Rattle.vga_script.specs.Front.{call_at, step_with, step_of}
+use Rattle.vga_script.specs.Beginning.{call_at, step_with, step_of}
 use Rattle.vga_script.specs.Step.{IsInRange, AreInRange}
 use Rattle.vga_script.specs.Version.{version_byte}
 use Rattle.vga_script.specs.Spelling.{header, opcode_repeat, opcode_end, spelling, item_spelling, encoding, SpellsSteps, SpellsItems, Spells}
@@ -17,7 +17,7 @@ use Rattle.vga_script.proofs.ItemLemmas.{one_version, one_listing}
 use Rattle.vga_script.proofs.FieldLemmas.{two_back, four_back}
 use Rattle.vga_script.proofs.OptionLemmas.{just, some_is, not_both}
 
--- ---- the step at the front of some bytes
+-- ---- the step at the prefix of some bytes
 
 -- no step begins where no byte is
 no_step : (p : Step × List ℕ) → step_of [] ≡ just p → ⊥
@@ -69,7 +69,7 @@ step_back (Show (shown.Plane plane offset count)) x (four, some, most, within) =
 step_back (Show shown.BiosData) x fits = refl
 step_back (Show shown.Cells) x fits = refl
 
--- the front of some bytes tells the step that it spells
+-- the prefix of some bytes tells the step that it spells
 pub one_step : (s t : Step) (x y : List ℕ) → IsInRange s → IsInRange t → spelling s ++ x ≡ spelling t ++ y → (s ≡ t) × (x ≡ y)
 one_step s t x y fits fits' e =
     let same : (s, x) ≡ (t, y) = some_is (s, x) (t, y) (sym (step_back s x fits) ∙ ap step_of e ∙ step_back t y fits') in
@@ -96,9 +96,9 @@ pub encoded_steps : (steps : List Step) → AreInRange steps → SpellsSteps (fl
 encoded_steps [] all = refl
 encoded_steps (s ∷ steps) (fits, others) = (flat_map spelling steps, (fits, refl), encoded_steps steps others)
 
--- ---- the item at the front of some bytes
+-- ---- the item at the prefix of some bytes
 
--- the front of some bytes tells the item that it spells
+-- the prefix of some bytes tells the item that it spells
 pub one_item : (version : Version) (a b : Item) (x y : List ℕ) → IsItemOf version a → IsItemOf version b → item_spelling a ++ x ≡ item_spelling b ++ y → (a ≡ b)
     × (x ≡ y)
 one_item version (Once s) (Once t) x y fits fits' e = let same = one_step s t x y fits fits' e in (ap Once same.0, same.1)

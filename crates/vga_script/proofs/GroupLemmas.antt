@@ -1,12 +1,12 @@
--- The group at the front of some lines, and the faults that exclude it and one another.
+-- The group at the prefix of some lines, and the faults that exclude it and one another.
 use Rattle.std.proofs.Common.{◌≡◌, ℕ, ◌+◌, ◌≤◌, List, [], ◌∷◌, ◌++◌, length, map, refl, sym, ap, ◌∙◌, subst, arith, append_assoc, inl, inr}
 use Rattle.vga_script.specs.declared.step.Step.{Step}
 use Rattle.vga_script.specs.Item.{Item, Once, Repeated, expanded, step_limit}
 use Rattle.vga_script.specs.declared.version.Version.{Version}
-use Rattle.vga_script.specs.Words.{words}
+use Rattle.vga_script.specs.Tokens.{words}
 use Rattle.vga_script.specs.Text.{SpellsLine, SpellsLines, SpellsRepeat, IsEnd, Group, IsGroup, IsBadOutside, IsBadInside, OpensLines, IsGroupFault}
 use Rattle.vga_script.proofs.LineLemmas.{one_line, one_lines}
-use Rattle.vga_script.proofs.BlockLineLemmas.{one_count, step_or_repeat, step_or_end}
+use Rattle.vga_script.proofs.RepeatLineLemmas.{one_count, step_or_repeat, step_or_end}
 
 -- a group is its lines and its items
 abbrev group_of : List (List ℕ) → List Item → Group
@@ -15,9 +15,9 @@ group_of l i = record { lines = l; items = i }
 one_record : (g h : Group) → g.lines ≡ h.lines → g.items ≡ h.items → g ≡ h
 one_record g h p q = ap (λ (l : List (List ℕ)). group_of l g.items) p ∙ ap (λ (i : List Item). group_of h.lines i) q
 
--- ---- what stops the body of a block
+-- ---- what stops the body of a repeat
 
--- neither a step nor the end of a block stands in the first of these lines, or there is none
+-- neither a step nor the end of a repeat stands in the first of these lines, or there is none
 pub record StopsLines (ls : List (List ℕ)) : Type 0 where
   pub no_end : (line : List ℕ) (others : List (List ℕ)) → ls ≡ line ∷ others → IsEnd (words line) → ⊥
   pub no_start : (line : List ℕ) (others : List (List ℕ)) (steps : List Step) → ls ≡ line ∷ others → SpellsLine (words line) steps → ⊥
@@ -37,7 +37,7 @@ nothing line rest e = absurd (cc)
 end_stops : StopsLines []
 end_stops = record { no_end = λ line rest e is. nothing line rest e; no_start = λ line rest steps e is. nothing line rest e }
 
--- two bodies of blocks that end are one
+-- two bodies of repeats that end are one
 one_body : (body body' : List (List ℕ)) (steps steps' : List Step) (last last' : List ℕ) (x y : List (List ℕ)) → SpellsLines body steps →
     SpellsLines body' steps' → IsEnd (words last) → IsEnd (words last')
     → body ++ last ∷ x ≡ body' ++ last' ∷ y → (body ≡ body') × (last ≡ last') × (x ≡ y)
@@ -84,13 +84,13 @@ both_stop (b ∷ body) (c ∷ body') steps steps' rest rest' (here, after, is, l
 goes : (g : Group) (ls x y : List (List ℕ)) → g.lines ≡ ls → y ≡ g.lines ++ x → y ≡ ls ++ x
 goes g ls x y is e = e ∙ ap (λ (l : List (List ℕ)). l ++ x) is
 
--- a line and a block begin differently
-line_or_block : (line first : List ℕ) (x y : List (List ℕ)) (steps : List Step) (count : ℕ) → line ∷ x ≡ first ∷ y → SpellsLine (words line) steps →
+-- a line and a repeat begin differently
+line_or_repeat : (line first : List ℕ) (x y : List (List ℕ)) (steps : List Step) (count : ℕ) → line ∷ x ≡ first ∷ y → SpellsLine (words line) steps →
     SpellsRepeat (words first) count → ⊥
-line_or_block line first x y steps count e good begins =
+line_or_repeat line first x y steps count e good begins =
     let same : first ≡ line = cc in step_or_repeat (words line) steps count good (subst (λ (l : List ℕ). SpellsRepeat (words l) count) same begins)
 
--- the front of some lines tells the group that it spells
+-- the prefix of some lines tells the group that it spells
 pub one_group : (version : Version) (g h : Group) (x y : List (List ℕ)) → IsGroup version g → IsGroup version h → g.lines ++ x ≡ h.lines ++ y → (g ≡ h)
     × (x ≡ y)
 one_group version g h x y (inl (line, steps, ls, is, good)) (inl (line', steps', ls', is', good')) e =
@@ -101,10 +101,10 @@ one_group version g h x y (inl (line, steps, ls, is, good)) (inl (line', steps',
     (one_record g h (ls ∙ ap (λ (l : List ℕ). l ∷ []) same ∙ sym ls') (is ∙ ap (map Once) read ∙ sym is'), rest)
 one_group version g h x y (inl (line, steps, ls, is, good)) (inr (allowed, (first, count, body, steps', last, ls', is', begins, good', ends))) e =
     let both : line ∷ x ≡ first ∷ ((body ++ last ∷ []) ++ y) = ap (λ (l : List (List ℕ)). l ++ x) (sym ls) ∙ e ∙ ap (λ (l : List (List ℕ)). l ++ y) ls' in
-    absurd (line_or_block line first x ((body ++ last ∷ []) ++ y) steps count both good begins)
+    absurd (line_or_repeat line first x ((body ++ last ∷ []) ++ y) steps count both good begins)
 one_group version g h x y (inr (allowed, (first, count, body, steps', last, ls', is', begins, good', ends))) (inl (line, steps, ls, is, good)) e =
     let both : line ∷ y ≡ first ∷ ((body ++ last ∷ []) ++ x) = ap (λ (l : List (List ℕ)). l ++ y) (sym ls) ∙ sym e ∙ ap (λ (l : List (List ℕ)). l ++ x) ls' in
-    absurd (line_or_block line first y ((body ++ last ∷ []) ++ x) steps count both good begins)
+    absurd (line_or_repeat line first y ((body ++ last ∷ []) ++ x) steps count both good begins)
 one_group version g h x y (inr (allowed, (first, count, body, steps, last, ls, is, begins, good, ends)))
     (inr (allowed', (first', count', body', steps', last', ls', is', begins', good', ends'))) e =
     let both : first ∷ ((body ++ last ∷ []) ++ x) ≡ first' ∷ ((body' ++ last' ∷ []) ++ y) = ap (λ (l : List (List ℕ)). l ++ x) (sym ls) ∙ e
@@ -127,11 +127,11 @@ some_line version g x (inr (allowed, (first, count, body, steps, last, ls, is, b
 
 -- ---- the faults of a group
 
--- a block whose body stops
+-- a repeat whose body stops
 opens_or_group : (version : Version) (ls rest x : List (List ℕ)) (place : ℕ) (g : Group) → OpensLines version ls place rest → StopsLines rest →
     IsGroup version g → ls ≡ g.lines ++ x → ⊥
 opens_or_group version ls rest x place g h stops (inl (line, steps, is, items, good)) e =
-    line_or_block line h.first x (h.body ++ rest) steps h.count (sym (goes g (line ∷ []) x ls is e) ∙ h.whole) good h.begins
+    line_or_repeat line h.first x (h.body ++ rest) steps h.count (sym (goes g (line ∷ []) x ls is e) ∙ h.whole) good h.begins
 opens_or_group version ls rest x place g h stops (inr (allowed, (first, count, body, steps, last, is, items, begins, good, ends))) e =
     let both : h.first ∷ (h.body ++ rest) ≡ first ∷ ((body ++ last ∷ []) ++ x) = sym h.whole ∙ goes g (first ∷ (body ++ last ∷ [])) x ls is e in
     let tails : h.body ++ rest ≡ (body ++ last ∷ []) ++ x = cc in
@@ -140,20 +140,20 @@ opens_or_group version ls rest x place g h stops (inr (allowed, (first, count, b
 -- a bad line
 bad_or_group : (version : Version) (ls others x : List (List ℕ)) (line : List ℕ) (g : Group) → ls ≡ line ∷ others → IsBadOutside version line →
     IsGroup version g → ls ≡ g.lines ++ x → ⊥
-bad_or_group version ls others x line g front (none, no_block) (inl (other, steps, is, items, good)) e =
-    let both : line ∷ others ≡ other ∷ x = sym front ∙ goes g (other ∷ []) x ls is e in
+bad_or_group version ls others x line g prefix (none, no_repeat) (inl (other, steps, is, items, good)) e =
+    let both : line ∷ others ≡ other ∷ x = sym prefix ∙ goes g (other ∷ []) x ls is e in
     let same : other ≡ line = cc in none steps (subst (λ (l : List ℕ). SpellsLine (words l) steps) same good)
-bad_or_group version ls others x line g front (none, no_block) (inr (allowed, (first, count, body, steps, last, is, items, begins, good, ends))) e =
-    let both : line ∷ others ≡ first ∷ ((body ++ last ∷ []) ++ x) = sym front ∙ goes g (first ∷ (body ++ last ∷ [])) x ls is e in
-    let same : first ≡ line = cc in no_block allowed count (subst (λ (l : List ℕ). SpellsRepeat (words l) count) same begins)
+bad_or_group version ls others x line g prefix (none, no_repeat) (inr (allowed, (first, count, body, steps, last, is, items, begins, good, ends))) e =
+    let both : line ∷ others ≡ first ∷ ((body ++ last ∷ []) ++ x) = sym prefix ∙ goes g (first ∷ (body ++ last ∷ [])) x ls is e in
+    let same : first ≡ line = cc in no_repeat allowed count (subst (λ (l : List ℕ). SpellsRepeat (words l) count) same begins)
 
 bad_or_open : (version : Version) (ls others rest : List (List ℕ)) (line : List ℕ) (place : ℕ) → ls ≡ line ∷ others → IsBadOutside version line →
     OpensLines version ls place rest → ⊥
-bad_or_open version ls others rest line place front (none, no_block) h =
-    let both : line ∷ others ≡ h.first ∷ (h.body ++ rest) = sym front ∙ h.whole in
-    let same : h.first ≡ line = cc in no_block h.allowed h.count (subst (λ (l : List ℕ). SpellsRepeat (words l) h.count) same h.begins)
+bad_or_open version ls others rest line place prefix (none, no_repeat) h =
+    let both : line ∷ others ≡ h.first ∷ (h.body ++ rest) = sym prefix ∙ h.whole in
+    let same : h.first ≡ line = cc in no_repeat h.allowed h.count (subst (λ (l : List ℕ). SpellsRepeat (words l) h.count) same h.begins)
 
--- two blocks that stop
+-- two repeats that stop
 one_open : (version : Version) (ls rest rest' : List (List ℕ)) (place place' : ℕ) → OpensLines version ls place rest → OpensLines version ls place' rest' →
     StopsLines rest → StopsLines rest' → (place ≡ place') × (rest ≡ rest')
 one_open version ls rest rest' place place' h h' stops stops' =
@@ -161,38 +161,38 @@ one_open version ls rest rest' place place' h h' stops stops' =
     let tails : h.body ++ rest ≡ h'.body ++ rest' = cc in
     let same = both_stop h.body h'.body h.steps h'.steps rest rest' h.good h'.good stops stops' tails in
     let len = same.0 in
-    let is = h.place_is in
-    let is' = h'.place_is in
+    let is = h.distance_is in
+    let is' = h'.distance_is in
     (omega arith, same.1)
 
 -- where a group begins, within the limit, there is no fault
 pub group_or_fault : (version : Version) (taken n bad : ℕ) (ls x : List (List ℕ)) (g : Group) → IsGroupFault version taken n ls bad → IsGroup version g →
     ls ≡ g.lines ++ x → taken + length (expanded g.items) ≤ step_limit → ⊥
-group_or_fault version taken n bad ls x g (inl (is, (line, others, front, wrong))) good e few = bad_or_group version ls others x line g front wrong good e
+group_or_fault version taken n bad ls x g (inl (is, (line, others, prefix, wrong))) good e few = bad_or_group version ls others x line g prefix wrong good e
 group_or_fault version taken n bad ls x g (inr (inl (place, line, others, is, h, wrong))) good e few =
     opens_or_group version ls (line ∷ others) x place g h (bad_stops line others wrong) good e
 group_or_fault version taken n bad ls x g (inr (inr (inl (is, (place, h))))) good e few = opens_or_group version ls [] x place g h end_stops good e
-group_or_fault version taken n bad ls x g (inr (inr (inr (is, (other, rest, front, good', long))))) good e few =
-    let same = one_group version g other x rest good good' (sym e ∙ front) in
+group_or_fault version taken n bad ls x g (inr (inr (inr (is, (other, rest, prefix, good', long))))) good e few =
+    let same = one_group version g other x rest good good' (sym e ∙ prefix) in
     let len = ap (λ (h : Group). length (expanded h.items)) same.0 in absurd (omega arith)
 
 -- no lines have two first faults
 pub one_group_fault : (version : Version) (taken n m k : ℕ) (ls : List (List ℕ)) → IsGroupFault version taken n ls m → IsGroupFault version taken n ls k → m ≡ k
 one_group_fault version taken n m k ls (inl (is, bad)) (inl (is', bad')) = is ∙ sym is'
-one_group_fault version taken n m k ls (inl (is, (line, others, front, wrong))) (inr (inl (place, other, rest, is', h, wrong'))) =
-    absurd (bad_or_open version ls others (other ∷ rest) line place front wrong h)
-one_group_fault version taken n m k ls (inl (is, (line, others, front, wrong))) (inr (inr (inl (is', (place, h))))) = is ∙ sym is'
+one_group_fault version taken n m k ls (inl (is, (line, others, prefix, wrong))) (inr (inl (place, other, rest, is', h, wrong'))) =
+    absurd (bad_or_open version ls others (other ∷ rest) line place prefix wrong h)
+one_group_fault version taken n m k ls (inl (is, (line, others, prefix, wrong))) (inr (inr (inl (is', (place, h))))) = is ∙ sym is'
 one_group_fault version taken n m k ls (inl (is, bad)) (inr (inr (inr (is', long)))) = is ∙ sym is'
-one_group_fault version taken n m k ls (inr (inl (place, other, rest, is', h, wrong'))) (inl (is, (line, others, front, wrong))) =
-    absurd (bad_or_open version ls others (other ∷ rest) line place front wrong h)
+one_group_fault version taken n m k ls (inr (inl (place, other, rest, is', h, wrong'))) (inl (is, (line, others, prefix, wrong))) =
+    absurd (bad_or_open version ls others (other ∷ rest) line place prefix wrong h)
 one_group_fault version taken n m k ls (inr (inl (place, line, rest, is, h, wrong))) (inr (inl (place', line', rest', is', h', wrong'))) =
     let same = one_open version ls (line ∷ rest) (line' ∷ rest') place place' h h' (bad_stops line rest wrong) (bad_stops line' rest' wrong') in
     is ∙ ap (λ (p : ℕ). n + p) same.0 ∙ sym is'
 one_group_fault version taken n m k ls (inr (inl (place, line, rest, is, h, wrong))) (inr (inr (inl (is', (place', h'))))) =
     let same = one_open version ls (line ∷ rest) [] place place' h h' (bad_stops line rest wrong) end_stops in
     absurd (nothing line rest (sym same.1))
-one_group_fault version taken n m k ls (inr (inl (place, line, rest, is, h, wrong))) (inr (inr (inr (is', (g, others, front, good, long))))) =
-    absurd (opens_or_group version ls (line ∷ rest) others place g h (bad_stops line rest wrong) good front)
+one_group_fault version taken n m k ls (inr (inl (place, line, rest, is, h, wrong))) (inr (inr (inr (is', (g, others, prefix, good, long))))) =
+    absurd (opens_or_group version ls (line ∷ rest) others place g h (bad_stops line rest wrong) good prefix)
 one_group_fault version taken n m k ls (inr (inr (inl (is, opens)))) (inl (is', bad)) = is ∙ sym is'
 one_group_fault version taken n m k ls (inr (inr (inl (is, (place, h))))) (inr (inl (place', line, rest, is', h', wrong))) =
     let same = one_open version ls [] (line ∷ rest) place place' h h' end_stops (bad_stops line rest wrong) in
@@ -200,14 +200,14 @@ one_group_fault version taken n m k ls (inr (inr (inl (is, (place, h))))) (inr (
 one_group_fault version taken n m k ls (inr (inr (inl (is, opens)))) (inr (inr (inl (is', opens')))) = is ∙ sym is'
 one_group_fault version taken n m k ls (inr (inr (inl (is, opens)))) (inr (inr (inr (is', long)))) = is ∙ sym is'
 one_group_fault version taken n m k ls (inr (inr (inr (is, long)))) (inl (is', bad)) = is ∙ sym is'
-one_group_fault version taken n m k ls (inr (inr (inr (is, (g, others, front, good, long))))) (inr (inl (place, line, rest, is', h, wrong))) =
-    absurd (opens_or_group version ls (line ∷ rest) others place g h (bad_stops line rest wrong) good front)
+one_group_fault version taken n m k ls (inr (inr (inr (is, (g, others, prefix, good, long))))) (inr (inl (place, line, rest, is', h, wrong))) =
+    absurd (opens_or_group version ls (line ∷ rest) others place g h (bad_stops line rest wrong) good prefix)
 one_group_fault version taken n m k ls (inr (inr (inr (is, long)))) (inr (inr (inl (is', opens)))) = is ∙ sym is'
 one_group_fault version taken n m k ls (inr (inr (inr (is, long)))) (inr (inr (inr (is', long')))) = is ∙ sym is'
 
 -- where no line is left, no group has a fault
 pub fault_at_end : (version : Version) (taken n bad : ℕ) (ls : List (List ℕ)) → ls ≡ [] → IsGroupFault version taken n ls bad → ⊥
-fault_at_end version taken n bad ls e (inl (is, (line, others, front, wrong))) = nothing line others (sym e ∙ front)
+fault_at_end version taken n bad ls e (inl (is, (line, others, prefix, wrong))) = nothing line others (sym e ∙ prefix)
 fault_at_end version taken n bad ls e (inr (inl (place, line, others, is, h, wrong))) = nothing h.first (h.body ++ line ∷ others) (sym e ∙ h.whole)
 fault_at_end version taken n bad ls e (inr (inr (inl (is, (place, h))))) = nothing h.first (h.body ++ []) (sym e ∙ h.whole)
-fault_at_end version taken n bad ls e (inr (inr (inr (is, (g, rest, front, good, long))))) = some_line version g rest good (sym e ∙ front)
+fault_at_end version taken n bad ls e (inr (inr (inr (is, (g, rest, prefix, good, long))))) = some_line version g rest good (sym e ∙ prefix)

@@ -9,15 +9,15 @@ use Rattle.vga_script.specs.Item.{Item, Once, Repeated, step_limit, steps_of}
 use Rattle.vga_script.specs.declared.version.Version.{Version}
 use Rattle.vga_script.specs.Step.{IsInRange}
 use Rattle.vga_script.specs.Spelling.{opcode_repeat, opcode_end, spelling, StartsWithItem}
-use Rattle.vga_script.specs.Decoding.{HasStepsBefore, OpensBlock, StartsWithCutStep, StartsWithBadItem, StartsWithCutItem, StartsWithBadBody, IsItemFault}
+use Rattle.vga_script.specs.Decoding.{HasStepsBefore, OpensRepeat, StartsWithCutStep, StartsWithBadItem, StartsWithCutItem, StartsWithBadBody, IsItemFault}
 use Rattle.vga_script.proofs.FieldLemmas.{two_back}
 use Rattle.vga_script.proofs.PrefixLemmas.{Compared, compare}
 use Rattle.vga_script.proofs.GrammarLemmas.{one_step, some_byte, no_step_of, steps_range, spelled_steps, one_item, some_item_byte}
 use Rattle.vga_script.proofs.StopLemmas.{step_starts, one_reason, never_at_end, not_cut_at}
 
--- ---- what stops the body of a block
+-- ---- what stops the body of a repeat
 
--- neither a step nor the end of a block begins
+-- neither a step nor the end of a repeat begins
 pub record StopsBody (rest : List ℕ) : Type 0 where
   pub no_end : (more : List ℕ) → rest ≡ opcode_end ∷ more → ⊥
   pub no_start : (s : Step) (x : List ℕ) → IsInRange s → rest ≡ spelling s ++ x → ⊥
@@ -48,9 +48,9 @@ stop_or_end ss ts rest x (inr (inr (next, others, is, fits, rests))) stops = no_
 
 -- the steps of a body, and what follows them
 body_is : (body rest : List ℕ) (len : ℕ) (h : HasStepsBefore body len rest) → body ≡ flat_map spelling h.steps ++ rest
-body_is body rest len h = h.whole ∙ ap (λ (l : List ℕ). l ++ rest) (spelled_steps h.front h.steps h.good)
+body_is body rest len h = h.whole ∙ ap (λ (l : List ℕ). l ++ rest) (spelled_steps h.prefix h.steps h.good)
 
--- the count of a block is read back
+-- the count of a repeat is read back
 count_back : (n : ℕ) (x bytes : List ℕ) → n < 2 ^ 16 → bytes ≡ opcode_repeat ∷ (little_bytes 2 n ++ x) → n ≡ little_number 2 (drop 1 bytes)
 count_back n x bytes small e = sym (two_back n x small) ∙ ap (λ (l : List ℕ). little_number 2 (drop 1 l)) (sym e)
 
@@ -62,9 +62,9 @@ InsideOf offset place rest f =
     ((f ≡ fault.BadStep (offset + place)) × StartsWithBadBody rest)
     ⊎ (((f ≡ fault.Truncated (offset + place)) × StartsWithCutStep rest) ⊎ ((f ≡ fault.Truncated offset) × (rest ≡ [])))
 
--- a block that is open where its body stops
+-- a repeat that is open where its body stops
 abbrev pub Inside : Version → ℕ → List ℕ → Fault → Type 0
-Inside version offset bytes f = (place : ℕ) × (rest : List ℕ) × OpensBlock version bytes place rest × InsideOf offset place rest f
+Inside version offset bytes f = (place : ℕ) × (rest : List ℕ) × OpensRepeat version bytes place rest × InsideOf offset place rest f
 
 -- with an item there are more steps than a script may mean
 abbrev pub Exceeds : Version → ℕ → List ℕ → Type 0
@@ -91,14 +91,14 @@ inside_stops offset place rest f (inl (is, bad)) = bad_stops rest bad
 inside_stops offset place rest f (inr (inl (is, cut))) = cut_stops rest cut
 inside_stops offset place rest f (inr (inr (is, none))) = end_stops rest none
 
--- a bad item is not cut off, and opens no block
+-- a bad item is not cut off, and opens no repeat
 bad_or_cut : (version : Version) (bytes : List ℕ) → StartsWithBadItem version bytes → StartsWithCutItem version bytes → ⊥
 bad_or_cut version bytes (inl (bad, none)) (inl cut) = one_reason bytes bad cut
 bad_or_cut version bytes (inl (bad, none)) (inr (allowed, (rest, e, short))) = none (allowed, (rest, e))
 bad_or_cut version bytes (inr (allowed, (rest, e))) (inl cut) = not_cut_at opcode_repeat _ bytes refl e cut
 bad_or_cut version bytes (inr (allowed, (rest, e))) (inr (allowed', (rest', e', short))) = let l = ap length (sym e ∙ e') in absurd (omega arith)
 
-bad_or_open : (version : Version) (bytes rest : List ℕ) (place : ℕ) → StartsWithBadItem version bytes → OpensBlock version bytes place rest → ⊥
+bad_or_open : (version : Version) (bytes rest : List ℕ) (place : ℕ) → StartsWithBadItem version bytes → OpensRepeat version bytes place rest → ⊥
 bad_or_open version bytes rest place (inl (bad, none)) h = none (h.allowed, (_, h.whole))
 bad_or_open version bytes rest place (inr (allowed, (x, e))) h =
     let zero_is = count_back 0 x bytes (omega arith) e in
@@ -106,7 +106,7 @@ bad_or_open version bytes rest place (inr (allowed, (x, e))) h =
     let some = h.some in absurd (omega arith)
 
 -- and one that is cut off opens none
-cut_or_open : (version : Version) (bytes rest : List ℕ) (place : ℕ) → StartsWithCutItem version bytes → OpensBlock version bytes place rest → ⊥
+cut_or_open : (version : Version) (bytes rest : List ℕ) (place : ℕ) → StartsWithCutItem version bytes → OpensRepeat version bytes place rest → ⊥
 cut_or_open version bytes rest place (inl cut) h = not_cut_at opcode_repeat _ bytes refl h.whole cut
 cut_or_open version bytes rest place (inr (allowed, (x, e, short))) h = let l = ap length (sym e ∙ h.whole) in absurd (omega arith)
 
@@ -122,17 +122,17 @@ bad_or_item version bytes (Repeated n ss) x (inr (allowed, (more, zero_is))) ((a
 cut_or_item : (version : Version) (bytes : List ℕ) (i : Item) (x : List ℕ) → StartsWithCutItem version bytes → StartsWithItem version bytes i x → ⊥
 cut_or_item version bytes (Once s) x (inl cut) (fits, e) = step_starts s x bytes fits e (inr cut)
 cut_or_item version bytes (Repeated n ss) x (inl cut) (fits, e) = not_cut_at opcode_repeat _ bytes refl e cut
-cut_or_item version bytes (Once s) x (inr (allowed, (rest, front, short))) (fits, e) = no_step_of opcode_repeat _ s x fits refl (sym front ∙ e)
-cut_or_item version bytes (Repeated n ss) x (inr (allowed, (rest, front, short))) (fits, e) = let l = ap length (sym front ∙ e) in absurd (omega arith)
+cut_or_item version bytes (Once s) x (inr (allowed, (rest, prefix, short))) (fits, e) = no_step_of opcode_repeat _ s x fits refl (sym prefix ∙ e)
+cut_or_item version bytes (Repeated n ss) x (inr (allowed, (rest, prefix, short))) (fits, e) = let l = ap length (sym prefix ∙ e) in absurd (omega arith)
 
-open_or_item : (version : Version) (bytes rest : List ℕ) (place : ℕ) (i : Item) (x : List ℕ) → OpensBlock version bytes place rest → StopsBody rest →
+open_or_item : (version : Version) (bytes rest : List ℕ) (place : ℕ) (i : Item) (x : List ℕ) → OpensRepeat version bytes place rest → StopsBody rest →
     StartsWithItem version bytes i x → ⊥
 open_or_item version bytes rest place (Once s) x h stops (fits, e) = no_step_of opcode_repeat _ s x fits refl (sym h.whole ∙ e)
 open_or_item version bytes rest place (Repeated n ss) x h stops ((allowed, some, small, range), e) =
     let body : flat_map spelling h.good.steps ++ rest ≡ flat_map spelling ss ++ opcode_end ∷ x =
     sym (body_is h.body rest h.len h.good) ∙ ap (drop 3) (sym h.whole ∙ e) ∙ append_assoc (flat_map spelling ss) (opcode_end ∷ []) x in
     stop_or_end h.good.steps ss rest x (compare spelling IsInRange one_step h.good.steps ss rest (opcode_end ∷ x)
-    (steps_range h.good.front h.good.steps h.good.good) range body) stops
+    (steps_range h.good.prefix h.good.steps h.good.good) range body) stops
 
 -- so where an item begins, within the limit, there is no fault
 pub item_or_kind : (version : Version) (taken offset : ℕ) (bytes : List ℕ) (f : Fault) (i : Item) (x : List ℕ) → Kinds version taken offset bytes f →
@@ -165,13 +165,13 @@ one_inside : (version : Version) (offset : ℕ) (bytes : List ℕ) (f g : Fault)
 one_inside version offset bytes f g (place, rest, h, inside) (place', rest', h', inside') =
     let body : flat_map spelling h.good.steps ++ rest ≡ flat_map spelling h'.good.steps ++ rest' =
     sym (body_is h.body rest h.len h.good) ∙ ap (drop 3) (sym h.whole ∙ h'.whole) ∙ body_is h'.body rest' h'.len h'.good in
-    let compared = compare spelling IsInRange one_step h.good.steps h'.good.steps rest rest' (steps_range h.good.front h.good.steps h.good.good)
-    (steps_range h'.good.front h'.good.steps h'.good.good) body in
+    let compared = compare spelling IsInRange one_step h.good.steps h'.good.steps rest rest' (steps_range h.good.prefix h.good.steps h.good.good)
+    (steps_range h'.good.prefix h'.good.steps h'.good.good) body in
     let same = both_stop h.good.steps h'.good.steps rest rest' compared (inside_stops offset place rest f inside)
     (inside_stops offset place' rest' g inside') in
     let len = ap length same in
-    let is = h.place_is in
-    let is' = h'.place_is in
+    let is = h.distance_is in
+    let is' = h'.distance_is in
     same_inside offset place place' rest rest' f g (omega arith) same inside inside'
 
 -- no bytes have two faults of an item
@@ -199,8 +199,8 @@ one_kind version taken offset bytes f g (inr (inr (inr (is, long)))) (inr (inr (
 -- nothing is left where an item has a fault
 pub kind_at_end : (version : Version) (taken offset : ℕ) (bytes : List ℕ) (f : Fault) → bytes ≡ [] → Kinds version taken offset bytes f → ⊥
 kind_at_end version taken offset bytes f e (inl (is, inl (bad, none))) = never_at_end bytes e (inl bad)
-kind_at_end version taken offset bytes f e (inl (is, inr (allowed, (rest, front)))) = let l = ap length (sym e ∙ front) in absurd (omega arith)
+kind_at_end version taken offset bytes f e (inl (is, inr (allowed, (rest, prefix)))) = let l = ap length (sym e ∙ prefix) in absurd (omega arith)
 kind_at_end version taken offset bytes f e (inr (inl (is, inl cut))) = never_at_end bytes e (inr cut)
-kind_at_end version taken offset bytes f e (inr (inl (is, inr (allowed, (rest, front, short))))) = let l = ap length (sym e ∙ front) in absurd (omega arith)
+kind_at_end version taken offset bytes f e (inr (inl (is, inr (allowed, (rest, prefix, short))))) = let l = ap length (sym e ∙ prefix) in absurd (omega arith)
 kind_at_end version taken offset bytes f e (inr (inr (inl (place, rest, h, inside)))) = let l = ap length (sym e ∙ h.whole) in absurd (omega arith)
-kind_at_end version taken offset bytes f e (inr (inr (inr (is, (i, x, (fits, front), long))))) = some_item_byte version i x fits (sym e ∙ front)
+kind_at_end version taken offset bytes f e (inr (inr (inr (is, (i, x, (fits, prefix), long))))) = some_item_byte version i x fits (sym e ∙ prefix)

@@ -18,9 +18,9 @@ length-repeated (suc times) steps =
     let whole = length-append steps (repeated times steps) in
     let others = length-repeated times steps in rw suc-mul (omega arith)
 
--- a block means so many times as many steps as it has
-pub steps_of_block : (count len : ℕ) (steps : List Step) → len ≡ length steps → count * len ≡ length (repeated count steps)
-steps_of_block count len steps e = ap (λ (n : ℕ). count * n) e ∙ sym (length-repeated count steps)
+-- a repeat means so many times as many steps as it has
+pub steps_of_repeat : (count len : ℕ) (steps : List Step) → len ≡ length steps → count * len ≡ length (repeated count steps)
+steps_of_repeat count len steps e = ap (λ (n : ℕ). count * n) e ∙ sym (length-repeated count steps)
 
 -- no rounds, and rounds of no steps, are no steps
 pub repeated_none : (times : ℕ) → repeated times [] ≡ []

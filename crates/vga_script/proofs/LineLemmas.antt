@@ -2,7 +2,7 @@
 use Rattle.std.proofs.Common.{◌≡◌, ◌≢◌, ℕ, List, [], ◌∷◌, ◌++◌, Some, None, refl, sym, ap, ◌∙◌, subst}
 use Rattle.vga_script.specs.declared.step.Step.{Step}
 use Rattle.vga_script.specs.declared.keyword.Keyword.{Keyword}
-use Rattle.vga_script.specs.Words.{lowered, words}
+use Rattle.vga_script.specs.Tokens.{lowered, words}
 use Rattle.vga_script.specs.Text.{name_of, keyword_of, SpellsLine, SpellsLines}
 use Rattle.vga_script.specs.StepReading.{read_step}
 use Rattle.vga_script.proofs.ReadingLemmas.{read_spells, spells_read, one_name}

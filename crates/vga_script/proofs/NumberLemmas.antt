@@ -5,7 +5,7 @@ use Rattle.std.specs.Char.{digit_value, is_digit}
 use Rattle.std.specs.Str.Parse.{AllDigits, digits_value, digits_value_after}
 use Rattle.std.proofs.lemmas.Int.Digits.{digits_value-lt}
 use Rattle.std.proofs.Math.Nat.{le-mul_of_pos_right, pow-le-pow_right}
-use Rattle.vga_script.specs.Words.{IsNumeral, IsHex}
+use Rattle.vga_script.specs.Tokens.{IsNumeral, IsHex}
 use Rattle.vga_script.specs.Text.{SpellsHex, SpellsTwoHex}
 use Rattle.vga_script.proofs.OptionLemmas.{bind_ok, guard_ok, and_ok, and_true, some_is, le_test, le_passes, lt_test, lt_passes}
 use Rattle.vga_script.specs.StepReading.{◌>>=◌, number_from, number_of, hex_of, hex_at, one_hex, two_hex, one_decimal, ended}

@@ -23,7 +23,7 @@ use Rattle.vga_script.specs.declared.step.Step.{Step}
 use Rattle.vga_script.specs.declared.step.Step.TheVariants.{Out, OutWord, In, InWord, Put, PutWord, Get, GetWord, Int, Advance, Frame, Show}
 use Rattle.vga_script.specs.declared.dump_range.Shown.{Shown}
 use Rattle.vga_script.specs.declared.dump_range.Shown.TheVariants as shown
-use Rattle.vga_script.specs.Words.{is_blank, is_semicolon, is_newline, has_bytes, words_in, words, lines, lowered, IsNumeral, IsHex}
+use Rattle.vga_script.specs.Tokens.{is_blank, is_semicolon, is_newline, has_bytes, words_in, words, lines, lowered, IsNumeral, IsHex}
 use Rattle.vga_script.specs.Text.{name_of, keyword_of, shown_name, SpellsHex, SpellsTwoHex, SpellsRegister, SpellsBlock, SpellsShown, SpellsFields, SpellsLine}
 use Rattle.vga_script.specs.Text.{SpellsLines, SpellsRepeat, IsEnd, IsVersionTwo, Group, IsGroup, SpellsGroups, SpellsText}
 use Rattle.vga_script.specs.Item.{Item, Once, Repeated, Listing, listing, expanded, step_limit, IsItemOf, AreItemsOf}
@@ -89,8 +89,8 @@ unfolding hex
 value_hex zero n small = let none : n ≡ 0 = omega arith in sym none
 value_hex (suc k) n small =
     let power : 16 ^ suc k ≡ 16 ^ k * 16 = pow-suc 16 k in
-    let front = value_hex k (n / 16) (quotient n (16 ^ k) (rw power at small)) in
-    digits_value_push 16 (hex k (n / 16)) (hex_digit (n % 16)) ∙ rw (front, digit_back (n % 16) (digit_below n)) (parts n)
+    let prefix = value_hex k (n / 16) (quotient n (16 ^ k) (rw power at small)) in
+    digits_value_push 16 (hex k (n / 16)) (hex_digit (n % 16)) ∙ rw (prefix, digit_back (n % 16) (digit_below n)) (parts n)
 
 -- so they spell it
 spells_exact : (k n : ℕ) → 0 < k → n < 16 ^ k → IsHex k (hex k n) n

@@ -12,7 +12,7 @@ use Rattle.vga_script.specs.declared.step.Step.{Step}
 use Rattle.vga_script.specs.declared.step.Step.TheVariants.{Out, OutWord, In, InWord, Put, PutWord, Get, GetWord, Int, Advance, Frame, Show}
 use Rattle.vga_script.specs.declared.keyword.Keyword.{Keyword}
 use Rattle.vga_script.specs.declared.keyword.Keyword.TheVariants as keyword
-use Rattle.vga_script.specs.Words.{lowered}
+use Rattle.vga_script.specs.Tokens.{lowered}
 use Rattle.vga_script.specs.Text.{name_of, keyword_of, SpellsFields, SpellsRegister, SpellsBytes, SpellsBlock}
 use Rattle.vga_script.specs.StepReading.{◌>>=◌, hex_of, one_hex, two_hex, one_decimal, ended, register_at, decoded, bytes_of, digits_at, block_at, read_int}
 use Rattle.vga_script.specs.StepReading.{read_shown, read_step}
@@ -69,33 +69,33 @@ after : (ws a rest known : List (List ℕ)) → ws ≡ a ++ rest → rest ≡ kn
 after ws a rest known e f = e ∙ ap (λ (l : List (List ℕ)). a ++ l) f
 
 -- the name of a register has three bytes
-front_long : (w name : List ℕ) → lowered w ≡ name → length name ≡ 3 → length w ≡ 3
-front_long w name e three = sym (length-map w to_ascii_lowercase) ∙ ap length e ∙ three
+prefix_long : (w name : List ℕ) → lowered w ≡ name → length name ≡ 3 → length w ≡ 3
+prefix_long w name e three = sym (length-map w to_ascii_lowercase) ∙ ap length e ∙ three
 
 -- a register that is spelled is read, and others are passed over
 spells_register : (name : List ℕ) (a : List (List ℕ)) (v : ℕ) (rest : List (List ℕ)) → length name ≡ 3 → SpellsRegister name a v →
     register_at name rest ≡ Some (0, rest) → register_at name (a ++ rest) ≡ Some (v, rest)
 unfolding register_at
 spells_register name a v rest three (inl (none, nought)) skips = rw (none, nought) skips
-spells_register name a v rest three (inr (front, digits, e, named, hex)) skips =
-    let len = front_long front name named three in
+spells_register name a v rest three (inr (prefix, digits, e, named, hex)) skips =
+    let len = prefix_long prefix name named three in
     let below = hex_below 4 digits v hex in
-    rw (e, take_at front digits 3 len, drop_at front digits 3 len, same_word front name named, spells_hex 4 0xFFFF digits v hex (omega arith)) refl
+    rw (e, take_at prefix digits 3 len, drop_at prefix digits 3 len, same_word prefix name named, spells_hex 4 0xFFFF digits v hex (omega arith)) refl
 
 skips_register : (name other : List ℕ) (b : List (List ℕ)) (v : ℕ) (rest : List (List ℕ)) → length other ≡ 3 → bytes_eq other name ≡ false →
     SpellsRegister other b v → register_at name rest ≡ Some (0, rest) → register_at name (b ++ rest) ≡ Some (0, b ++ rest)
 unfolding register_at
 skips_register name other b v rest three differ (inl (none, nought)) skips = rw none skips
-skips_register name other b v rest three differ (inr (front, digits, e, named, hex)) skips =
-    let len = front_long front other named three in
-    rw (e, take_at front digits 3 len, named, differ) refl
+skips_register name other b v rest three differ (inr (prefix, digits, e, named, hex)) skips =
+    let len = prefix_long prefix other named three in
+    rw (e, take_at prefix digits 3 len, named, differ) refl
 
-skips_block : (name : List ℕ) (e : List (List ℕ)) (block : List ℕ) → bytes_eq (codes "blo") name ≡ false → SpellsBlock e block →
+skips_repeat : (name : List ℕ) (e : List (List ℕ)) (block : List ℕ) → bytes_eq (codes "blo") name ≡ false → SpellsBlock e block →
     register_at name e ≡ Some (0, e)
 unfolding register_at
-skips_block name e block differ (inl (none, empty)) = rw none refl
-skips_block name e block differ (inr (front, digits, is, named, some, short, spelled)) =
-    let three : lowered (take 3 front) ≡ codes "blo" = sym (take-map to_ascii_lowercase 3 front) ∙ ap (take 3) named in
+skips_repeat name e block differ (inl (none, empty)) = rw none refl
+skips_repeat name e block differ (inr (prefix, digits, is, named, some, short, spelled)) =
+    let three : lowered (take 3 prefix) ≡ codes "blo" = sym (take-map to_ascii_lowercase 3 prefix) ∙ ap (take 3) named in
     rw (is, three, differ) refl
 
 -- the two ways of a test
@@ -103,7 +103,7 @@ chosen : {A : Type 0} (b : Bool) (x y z : A) → cond b x y ≡ z → ((b ≡ tr
 chosen true x y z e = inl (refl, e)
 chosen false x y z e = inr (refl, e)
 
--- a front that is a register
+-- a prefix that is a register
 abbrev HasRegister : List ℕ → List (List ℕ) → (ℕ × List (List ℕ)) → Type 0
 HasRegister name ws x = (a : List (List ℕ)) × (ws ≡ a ++ x.1) × SpellsRegister name a x.0
 
@@ -270,13 +270,13 @@ int_spells ws ax bx cx dx block (a, b, c, d, x, e, ha, hb, hc, hd, hx) =
     let ra = spells_register (codes "ax=") a ax (b ++ (c ++ (d ++ x))) refl ha
     (skips_register (codes "ax=") (codes "bx=") b bx (c ++ (d ++ x)) refl refl hb
     (skips_register (codes "ax=") (codes "cx=") c cx (d ++ x) refl refl hc
-    (skips_register (codes "ax=") (codes "dx=") d dx x refl refl hd (skips_block (codes "ax=") x block refl hx)))) in
+    (skips_register (codes "ax=") (codes "dx=") d dx x refl refl hd (skips_repeat (codes "ax=") x block refl hx)))) in
     let rb = spells_register (codes "bx=") b bx (c ++ (d ++ x)) refl hb
     (skips_register (codes "bx=") (codes "cx=") c cx (d ++ x) refl refl hc
-    (skips_register (codes "bx=") (codes "dx=") d dx x refl refl hd (skips_block (codes "bx=") x block refl hx))) in
+    (skips_register (codes "bx=") (codes "dx=") d dx x refl refl hd (skips_repeat (codes "bx=") x block refl hx))) in
     let rc = spells_register (codes "cx=") c cx (d ++ x) refl hc
-    (skips_register (codes "cx=") (codes "dx=") d dx x refl refl hd (skips_block (codes "cx=") x block refl hx)) in
-    let rd = spells_register (codes "dx=") d dx x refl hd (skips_block (codes "dx=") x block refl hx) in
+    (skips_register (codes "cx=") (codes "dx=") d dx x refl refl hd (skips_repeat (codes "cx=") x block refl hx)) in
+    let rd = spells_register (codes "dx=") d dx x refl hd (skips_repeat (codes "dx=") x block refl hx) in
     rw (e, ra, rb, rc, rd, spells_block x block hx) refl
 
 -- and what is spelled is read

@@ -8,7 +8,7 @@ use Rattle.vga_script.specs.declared.dump_range.Shown.{Shown}
 use Rattle.vga_script.specs.declared.dump_range.Shown.TheVariants as shown
 use Rattle.vga_script.specs.Item.{Item, Once, Listing, AreItemsOf}
 use Rattle.vga_script.specs.declared.version.Version.{Version}
-use Rattle.vga_script.specs.Words.{words}
+use Rattle.vga_script.specs.Tokens.{words}
 use Rattle.vga_script.specs.Text.{SpellsHex, SpellsTwoHex, SpellsRegister, SpellsBlock, SpellsShown, SpellsFields, SpellsLine, SpellsLines, Group, IsGroup}
 use Rattle.vga_script.specs.Text.{SpellsText}
 use Rattle.vga_script.specs.DumpRange.{IsShownInRange}
@@ -19,8 +19,8 @@ use Rattle.vga_script.proofs.NumberLemmas.{hex_below}
 use Rattle.vga_script.proofs.FieldLemmas.{all_bytes}
 use Rattle.vga_script.proofs.ItemLemmas.{range-append}
 use Rattle.vga_script.proofs.GrammarLemmas.{encoding_spells}
-use Rattle.vga_script.specs.Front.{listing_of}
-use Rattle.vga_script.proofs.FrontLemmas.{listing_back, spells_itself}
+use Rattle.vga_script.specs.Beginning.{listing_of}
+use Rattle.vga_script.proofs.BeginningLemmas.{listing_back, spells_itself}
 
 -- ---- what a text spells is in range
 
@@ -33,7 +33,7 @@ two_range digits digits' ws n m (word, other, e, hex, hex') = (hex_below digits 
 
 register_range : (name : List ℕ) (ws : List (List ℕ)) (v : ℕ) → SpellsRegister name ws v → v < 2 ^ 16
 register_range name ws v (inl (none, nought)) = omega arith
-register_range name ws v (inr (front, digits, e, named, hex)) = let b = hex_below 4 digits v hex in omega arith
+register_range name ws v (inr (prefix, digits, e, named, hex)) = let b = hex_below 4 digits v hex in omega arith
 
 -- a block
 block_range : (ws : List (List ℕ)) (block : List ℕ) → SpellsBlock ws block → IsBlock block

@@ -6,7 +6,7 @@ use Rattle.std.proofs.lemmas.Slice.Eq.{bytes_eq-Decides}
 use Rattle.vga_script.specs.declared.dump_range.Shown.{Shown}
 use Rattle.vga_script.specs.declared.dump_range.Shown.TheVariants as shown
 use Rattle.vga_script.specs.DumpRange.{IsShownInRange}
-use Rattle.vga_script.specs.Words.{lowered}
+use Rattle.vga_script.specs.Tokens.{lowered}
 use Rattle.vga_script.specs.Text.{shown_name, SpellsShownFields, SpellsShown}
 use Rattle.vga_script.specs.StepReading.{◌>>=◌, hex_at, one_hex, one_decimal, ended, alone, read_dac, read_plane, read_shown}
 use Rattle.vga_script.proofs.OptionLemmas.{bind_ok, guard_ok, and_ok, and_true, some_is, le_test, le_passes, lt_test, lt_passes}

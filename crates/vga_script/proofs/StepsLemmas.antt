@@ -5,16 +5,16 @@ use Rattle.vga_script.specs.declared.step.Step.{Step}
 use Rattle.vga_script.specs.declared.version.Version.{Version}
 use Rattle.vga_script.specs.declared.version.Version.TheVariants.{One, Two}
 use Rattle.vga_script.specs.Version.{version_byte}
-use Rattle.vga_script.specs.Front.{items_in, listing_of}
+use Rattle.vga_script.specs.Beginning.{items_in, listing_of}
 use Rattle.vga_script.specs.Item.{Listing, expanded, step_limit, AreItemsOf}
-use Rattle.vga_script.specs.Places.{steps_left, Stands}
+use Rattle.vga_script.specs.Progress.{steps_left, Stands}
 use Rattle.vga_script.specs.Spelled.{SpellsExpanded}
 use Rattle.vga_script.specs.Spelling.{encoding, SpellsItems, Spells}
 use Rattle.vga_script.specs.Step.{AreInRange}
 use Rattle.vga_script.proofs.GrammarLemmas.{items_fit, spelled_items, spelled, one_script_lem}
-use Rattle.vga_script.proofs.FrontLemmas.{items_are}
+use Rattle.vga_script.proofs.BeginningLemmas.{items_are}
 use Rattle.vga_script.proofs.ItemLemmas.{all_widened, expanded_in_range}
-use Rattle.vga_script.proofs.PlaceLemmas.{outside_left}
+use Rattle.vga_script.proofs.ProgressLemmas.{outside_left}
 
 -- behind the header stand the items
 pub behind_header : (bytes : List ℕ) (script : Listing) → Spells bytes script → 5 ≤ length bytes

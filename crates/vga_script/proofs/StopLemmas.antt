@@ -7,7 +7,7 @@ use Rattle.vga_script.specs.declared.dump_range.Shown.{Shown}
 use Rattle.vga_script.specs.declared.dump_range.Shown.TheVariants as shown
 use Rattle.vga_script.specs.DumpRange.{shown_spelling}
 use Rattle.vga_script.specs.Step.{IsInRange}
-use Rattle.vga_script.specs.Front.{step_of}
+use Rattle.vga_script.specs.Beginning.{step_of}
 use Rattle.vga_script.specs.Spelling.{opcode_out, opcode_out_word, opcode_in, opcode_in_word, opcode_put, opcode_put_word, opcode_get, opcode_get_word}
 use Rattle.vga_script.specs.Spelling.{opcode_int, opcode_advance, opcode_frame, opcode_show, spelling}
 use Rattle.vga_script.specs.Decoding.{shown_len, fields_len, StartsWithBadStep, StartsWithCutStep}
@@ -72,30 +72,30 @@ has_fields (Int a b c d block) x opcode rest (ha, hb, hc, hd, (hl, all)) e =
 has_fields Frame x opcode rest fits e = let first : opcode ≡ opcode_frame = cc in (0, ap (λ (o : ℕ). fields_len o rest) first, omega arith)
 has_fields (Show what) x opcode rest fits e = has_dump what x opcode rest e
 
--- no whole step stands at the front of some bytes
+-- no whole step stands at the prefix of some bytes
 abbrev pub NoStepStarts : List ℕ → Type 0
 NoStepStarts bytes = StartsWithBadStep bytes ⊎ StartsWithCutStep bytes
 
 -- where one does
 pub step_starts : (s : Step) (x bytes : List ℕ) → IsInRange s → bytes ≡ spelling s ++ x → NoStepStarts bytes → ⊥
-step_starts s x bytes fits e (inl (inr (plane, offset, count, rest, ho, hn, front, bad))) =
+step_starts s x bytes fits e (inl (inr (plane, offset, count, rest, ho, hn, prefix, bad))) =
     let dump : Step = Show (shown.Plane plane offset count) in
-    let same : (s, x) ≡ (dump, rest) = some_is (s, x) (dump, rest) (sym (step_back s x fits) ∙ ap step_of (sym e ∙ front)
+    let same : (s, x) ≡ (dump, rest) = some_is (s, x) (dump, rest) (sym (step_back s x fits) ∙ ap step_of (sym e ∙ prefix)
     ∙ plane_back plane offset count rest ho hn) in
     bad (subst IsInRange (ap (λ (p : Step × List ℕ). p.0) same) fits)
-step_starts s x bytes fits e (inl (inl (opcode, rest, front, none))) =
-    let f = has_fields s x opcode rest fits (sym e ∙ front) in
+step_starts s x bytes fits e (inl (inl (opcode, rest, prefix, none))) =
+    let f = has_fields s x opcode rest fits (sym e ∙ prefix) in
     let bad : None ≡ Some f.0 = sym none ∙ f.1 in
     absurd (cc)
-step_starts s x bytes fits e (inr (opcode, rest, needed, front, is, short)) =
-    not_cut opcode rest needed (has_fields s x opcode rest fits (sym e ∙ front)) is short
+step_starts s x bytes fits e (inr (opcode, rest, needed, prefix, is, short)) =
+    not_cut opcode rest needed (has_fields s x opcode rest fits (sym e ∙ prefix)) is short
 
 -- a step is bad or cut off
 pub one_reason : (bytes : List ℕ) → StartsWithBadStep bytes → StartsWithCutStep bytes → ⊥
-one_reason bytes (inr (plane, offset, count, x, ho, hn, front, bad)) (opcode, rest, needed, front', is, short) =
-    not_cut opcode rest needed (has_dump (shown.Plane plane offset count) x opcode rest (sym front ∙ front')) is short
-one_reason bytes (inl (opcode, rest, front, none)) (opcode', rest', needed, front', is, short) =
-    let e : opcode ∷ rest ≡ opcode' ∷ rest' = sym front ∙ front' in
+one_reason bytes (inr (plane, offset, count, x, ho, hn, prefix, bad)) (opcode, rest, needed, prefix', is, short) =
+    not_cut opcode rest needed (has_dump (shown.Plane plane offset count) x opcode rest (sym prefix ∙ prefix')) is short
+one_reason bytes (inl (opcode, rest, prefix, none)) (opcode', rest', needed, prefix', is, short) =
+    let e : opcode ∷ rest ≡ opcode' ∷ rest' = sym prefix ∙ prefix' in
     let same : opcode ≡ opcode' = cc in
     let others : rest ≡ rest' = cc in
     let bad : None ≡ just needed = sym none ∙ ap (λ (o : ℕ). fields_len o rest) same ∙ ap (fields_len opcode') others ∙ is in
@@ -103,15 +103,15 @@ one_reason bytes (inl (opcode, rest, front, none)) (opcode', rest', needed, fron
 
 -- nothing begins where no byte is
 pub never_at_end : (bytes : List ℕ) → bytes ≡ [] → NoStepStarts bytes → ⊥
-never_at_end bytes e (inl (inr (plane, offset, count, more, ho, hn, front, bad))) = let none : [] ≡ spelling (Show (shown.Plane plane offset count))
-    ++ more = sym e ∙ front in absurd (cc)
-never_at_end bytes e (inl (inl (opcode, more, front, none))) = let bad : [] ≡ opcode ∷ more = sym e ∙ front in absurd (cc)
-never_at_end bytes e (inr (opcode, more, needed, front, is, short)) = let bad : [] ≡ opcode ∷ more = sym e ∙ front in absurd (cc)
+never_at_end bytes e (inl (inr (plane, offset, count, more, ho, hn, prefix, bad))) = let none : [] ≡ spelling (Show (shown.Plane plane offset count))
+    ++ more = sym e ∙ prefix in absurd (cc)
+never_at_end bytes e (inl (inl (opcode, more, prefix, none))) = let bad : [] ≡ opcode ∷ more = sym e ∙ prefix in absurd (cc)
+never_at_end bytes e (inr (opcode, more, needed, prefix, is, short)) = let bad : [] ≡ opcode ∷ more = sym e ∙ prefix in absurd (cc)
 
 -- an opcode that is none of a step has no fields to be cut off
 pub not_cut_at : (opcode : ℕ) (more bytes : List ℕ) → fields_len opcode more ≡ None → bytes ≡ opcode ∷ more → StartsWithCutStep bytes → ⊥
-not_cut_at opcode more bytes none e (other, rest, needed, front, is, short) =
-    let both : opcode ∷ more ≡ other ∷ rest = sym e ∙ front in
+not_cut_at opcode more bytes none e (other, rest, needed, prefix, is, short) =
+    let both : opcode ∷ more ≡ other ∷ rest = sym e ∙ prefix in
     let same : opcode ≡ other = cc in
     let others : more ≡ rest = cc in
     let bad : None ≡ just needed = sym none ∙ ap (λ (o : ℕ). fields_len o more) same ∙ ap (fields_len other) others ∙ is in

@@ -10,14 +10,14 @@ use Rattle.vga_script.specs.declared.step.Step.{Step}
 use Rattle.vga_script.specs.Item.{Item, Listing, expanded, step_limit}
 use Rattle.vga_script.specs.declared.version.Version.{Version}
 use Rattle.vga_script.specs.declared.version.Version.TheVariants.{One, Two}
-use Rattle.vga_script.specs.Words.{words, lines}
+use Rattle.vga_script.specs.Tokens.{words, lines}
 use Rattle.vga_script.specs.Text.{SpellsLine, IsVersionTwo, Group, IsGroup, SpellsGroups, SaysVersionTwo, StandFrom, SpellsText, IsGroupFault, SpellsLinesUpTo}
 use Rattle.vga_script.specs.Text.{IsBadLine}
 use Rattle.vga_script.specs.Spelling.{script_limit, encoding}
 use Rattle.vga_script.specs.Script.{IsScript, IsTextFault}
 use Rattle.vga_script.proofs.PrefixLemmas.{Compared, compare}
 use Rattle.vga_script.proofs.ItemLemmas.{one_listing, length-expanded-append}
-use Rattle.vga_script.proofs.BlockLineLemmas.{step_or_version}
+use Rattle.vga_script.proofs.RepeatLineLemmas.{step_or_version}
 use Rattle.vga_script.proofs.GroupLemmas.{one_group, some_line, group_or_fault, one_group_fault, fault_at_end}
 
 -- ---- where the items of a text begin
@@ -92,15 +92,15 @@ record StandsBefore (version : Version) (rest : List (List ℕ)) (items : List I
   few : length (expanded items) ≤ step_limit
   count_is : count + length left ≡ length rest
 
-stands : (version : Version) (rest front left : List (List ℕ)) (items : List Item) → SpellsGroups version front items → rest ≡ front ++ left →
-    length (expanded items) ≤ step_limit → StandsBefore version rest items left (length front)
-stands version rest front left items (groups, e, is, good) whole few = record {
+stands : (version : Version) (rest prefix left : List (List ℕ)) (items : List Item) → SpellsGroups version prefix items → rest ≡ prefix ++ left →
+    length (expanded items) ≤ step_limit → StandsBefore version rest items left (length prefix)
+stands version rest prefix left items (groups, e, is, good) whole few = record {
   groups = groups;
   all = good;
   whole = whole ∙ ap (λ (l : List (List ℕ)). l ++ left) e;
   items_are = is;
   few = few;
-  count_is = let l = ap length whole ∙ length-append front left in omega arith;
+  count_is = let l = ap length whole ∙ length-append prefix left in omega arith;
 }
 
 -- groups that go on with one more stay within the limit with it
@@ -171,7 +171,7 @@ same_place version rest left left' items items' start count count' bad bad' h k 
 -- the fault at a line whose number is counted from the first of the items
 counted : (text : List ℕ) (script : Listing) (n bad : ℕ) (left : List (List ℕ)) (up : SpellsLinesUpTo text script n left) →
     IsGroupFault script.version (length (expanded script.items)) n left bad
-    → IsGroupFault script.version (length (expanded script.items)) (up.start + length up.front) left bad
+    → IsGroupFault script.version (length (expanded script.items)) (up.start + length up.prefix) left bad
 counted text script n bad left up wrong = subst (λ (m : ℕ). IsGroupFault script.version (length (expanded script.items)) m left bad) up.number wrong
 
 -- no text has two first bad lines
@@ -179,14 +179,14 @@ one_bad_line : (text : List ℕ) (bad bad' : ℕ) → IsBadLine text bad → IsB
 one_bad_line text bad bad' (script, n, left, up, wrong) (script', n', left', up', wrong') =
     let version = script.version in
     let same = one_start version script'.version (lines text) up.start up'.start up.rest up'.rest up.from up'.from up.one up'.one in
-    let stand = stands version up.rest up.front left script.items up.good up.whole up.few in
-    let good_there : SpellsGroups version up'.front script'.items = subst (λ (v : Version). SpellsGroups v up'.front script'.items) (sym same.0) up'.good in
-    let there = stands version up.rest up'.front left' script'.items good_there (same.2 ∙ up'.whole) up'.few in
-    let wrong_there : IsGroupFault version (length (expanded script'.items)) (up.start + length up'.front) left' bad' =
-    subst (λ (m : ℕ). IsGroupFault version (length (expanded script'.items)) (m + length up'.front) left' bad') (sym same.1)
-    (subst (λ (v : Version). IsGroupFault v (length (expanded script'.items)) (up'.start + length up'.front) left' bad') (sym same.0)
+    let stand = stands version up.rest up.prefix left script.items up.good up.whole up.few in
+    let good_there : SpellsGroups version up'.prefix script'.items = subst (λ (v : Version). SpellsGroups v up'.prefix script'.items) (sym same.0) up'.good in
+    let there = stands version up.rest up'.prefix left' script'.items good_there (same.2 ∙ up'.whole) up'.few in
+    let wrong_there : IsGroupFault version (length (expanded script'.items)) (up.start + length up'.prefix) left' bad' =
+    subst (λ (m : ℕ). IsGroupFault version (length (expanded script'.items)) (m + length up'.prefix) left' bad') (sym same.1)
+    (subst (λ (v : Version). IsGroupFault v (length (expanded script'.items)) (up'.start + length up'.prefix) left' bad') (sym same.0)
     (counted text script' n' bad' left' up' wrong')) in
-    same_place version up.rest left left' script.items script'.items up.start (length up.front) (length up'.front) bad bad' stand there
+    same_place version up.rest left left' script.items script'.items up.start (length up.prefix) (length up'.prefix) bad bad' stand there
     (counted text script n bad left up wrong) wrong_there
     (compare (λ (g : Group). g.lines) (IsGroup version) (one_group version) stand.groups there.groups left left' stand.all there.all (sym stand.whole
     ∙ there.whole))
@@ -208,11 +208,11 @@ no_bad_line text script bad (n, rest, from, h, few) (script', n', left', up', wr
     let same = one_start version script'.version (lines text) n up'.start rest up'.rest from up'.from (not_two text version script.items n rest from h)
     up'.one in
     let stand = stands version rest rest [] script.items h (sym (append-nil rest)) few in
-    let good_there : SpellsGroups version up'.front script'.items = subst (λ (v : Version). SpellsGroups v up'.front script'.items) (sym same.0) up'.good in
-    let there = stands version rest up'.front left' script'.items good_there (same.2 ∙ up'.whole) up'.few in
+    let good_there : SpellsGroups version up'.prefix script'.items = subst (λ (v : Version). SpellsGroups v up'.prefix script'.items) (sym same.0) up'.good in
+    let there = stands version rest up'.prefix left' script'.items good_there (same.2 ∙ up'.whole) up'.few in
     let wrong_there : IsGroupFault version (length (expanded script'.items)) n' left' bad =
     subst (λ (v : Version). IsGroupFault v (length (expanded script'.items)) n' left' bad) (sym same.0) wrong' in
-    nowhere version rest left' script.items script'.items n' (length rest) (length up'.front) bad stand there wrong_there
+    nowhere version rest left' script.items script'.items n' (length rest) (length up'.prefix) bad stand there wrong_there
     (compare (λ (g : Group). g.lines) (IsGroup version) (one_group version) stand.groups there.groups [] left' stand.all there.all (sym stand.whole
     ∙ there.whole))
 

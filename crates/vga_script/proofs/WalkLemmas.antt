@@ -7,12 +7,12 @@ use Rattle.vga_script.specs.declared.fields.NoStep.{NoStep}
 use Rattle.vga_script.specs.declared.fields.NoStep.TheVariants as no_step
 use Rattle.vga_script.specs.declared.version.Version.{Version}
 use Rattle.vga_script.specs.Decoding.{StartsWithBadStep, StartsWithCutStep, IsItemFault}
-use Rattle.vga_script.specs.Front.{steps_in, items_in}
+use Rattle.vga_script.specs.Beginning.{steps_in, items_in}
 use Rattle.vga_script.specs.Item.{Item, Listing, expanded, step_limit}
 use Rattle.vga_script.specs.Printing.{printed_line, printed_steps, printed_item, version_line, printed}
 use Rattle.vga_script.specs.Spelling.{StartsWithStep, StartsWithItem, SpellsSteps, SpellsItems, Spells}
 use Rattle.vga_script.proofs.DecodeLemmas.{nothing}
-use Rattle.vga_script.proofs.FrontLemmas.{steps_are, first_read, items_are, first_item}
+use Rattle.vga_script.proofs.BeginningLemmas.{steps_are, first_read, items_are, first_item}
 use Rattle.vga_script.proofs.ItemLemmas.{length-expanded-cons}
 use Rattle.vga_script.proofs.ItemFaultLemmas.{kind, item_or_kind}
 use Rattle.vga_script.proofs.StepsLemmas.{items_spelled}

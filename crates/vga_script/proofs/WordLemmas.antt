@@ -6,7 +6,7 @@ use Rattle.std.specs.List.{slice_split, position_or_len, after_first}
 use Rattle.std.proofs.lemmas.List.Sums.{position_or_len_is, fails_before_first, passes_at_first}
 use Rattle.std.proofs.lemmas.List.Splits.{slice_split-cons_yes, slice_split_first, slice_split_none}
 use Rattle.std.proofs.lemmas.Bool.{cases_lt}
-use Rattle.vga_script.specs.Words.{is_blank, has_bytes, words_in, lines, is_newline}
+use Rattle.vga_script.specs.Tokens.{is_blank, has_bytes, words_in, lines, is_newline}
 
 -- a loop that stops at the first byte that passes, or at the end
 pub stops_at : (p : ℕ → Bool) (xs : List ℕ) (i : ℕ) → i < length xs → ((k : ℕ) → k < i → p (get_or xs k 0) ≡ false) → p (get_or xs i 0) ≡ true →
@@ -18,7 +18,7 @@ pub stops_after : (p : ℕ → Bool) (xs : List ℕ) (i : ℕ) → i ≤ length 
     i ≡ position_or_len p xs
 stops_after p xs i within all none = sym (position_or_len_is p xs i 0 within none (λ h. absurd (omega arith)))
 
--- a blank at the front parts no words
+-- a blank at the prefix parts no words
 pub skip_blank : (c : ℕ) (cs : List ℕ) → is_blank c ≡ true → words_in (c ∷ cs) ≡ words_in cs
 skip_blank c cs blank = ap (filter has_bytes) (slice_split-cons_yes is_blank c cs blank)
 
@@ -56,13 +56,13 @@ last xs some le =
     ∙ rw (take_all (position_or_len is_blank xs) xs le, drop_all (position_or_len is_blank xs) xs le) refl
 
 -- so in both cases
-words_front : (xs : List ℕ) → 0 < position_or_len is_blank xs → words_in xs ≡ take (position_or_len is_blank xs) xs
+words_prefix : (xs : List ℕ) → 0 < position_or_len is_blank xs → words_in xs ≡ take (position_or_len is_blank xs) xs
     ∷ words_in (drop (position_or_len is_blank xs) xs)
-words_front xs some = ⊎_elim (inside xs some) (last xs some) (cases_lt (position_or_len is_blank xs) (length xs))
+words_prefix xs some = ⊎_elim (inside xs some) (last xs some) (cases_lt (position_or_len is_blank xs) (length xs))
 
--- the word at the front, and the words of the rest
-pub words_front_at : (xs : List ℕ) (k : ℕ) → k ≡ position_or_len is_blank xs → 0 < position_or_len is_blank xs → words_in xs ≡ take k xs ∷ words_in (drop k xs)
-words_front_at xs k is some = rw is (words_front xs some)
+-- the word at the prefix, and the words of the rest
+pub words_prefix_at : (xs : List ℕ) (k : ℕ) → k ≡ position_or_len is_blank xs → 0 < position_or_len is_blank xs → words_in xs ≡ take k xs ∷ words_in (drop k xs)
+words_prefix_at xs k is some = rw is (words_prefix xs some)
 
 -- ---- lines
 

@@ -7,12 +7,12 @@ use Rattle.vga_script.specs.Item.{Item, Repeated, repeated, expanded}
 use Rattle.vga_script.specs.Spelling.{spelling, item_spelling}
 use Rattle.vga_script.specs.declared.step.Step.{Step}
 use Rattle.vga_script.specs.declared.version.Version.{Version}
-use Rattle.vga_script.specs.Words.{words, lines_left, left_len}
+use Rattle.vga_script.specs.Tokens.{words, lines_left, left_len}
 use Rattle.vga_script.specs.Text.{SpellsLine, SpellsLines, IsEnd, IsBadInside, Group, IsGroup}
 use Rattle.vga_script.specs.Text.{IsGroupFault}
 
 -- These lines, the first of them with this number, begin with those of some steps and the end of a
--- block, and what is left of the text begins with the line of the next number.
+-- repeat, and what is left of the text begins with the line of the next number.
 pub record HasBody (n : ℕ) (left : Option (List ℕ)) (steps : List Step) (next : ℕ)
     (behind : Option (List ℕ)) : Type 0 where
   pub body : List (List ℕ)
@@ -23,7 +23,7 @@ pub record HasBody (n : ℕ) (left : Option (List ℕ)) (steps : List Step) (nex
   pub number : next ≡ n + length body + 1
   pub shorter : next + left_len behind ≤ n + left_len left
 
--- The fault of lines behind the first of a block, which has this number: they have no end, or one
+-- The fault of lines behind the first of a repeat, which has this number: they have no end, or one
 -- of them is bad.
 abbrev pub IsBodyFault : ℕ → Option (List ℕ) → Fault → Type 0
 IsBodyFault n left (BadLine bad) =
@@ -56,7 +56,7 @@ pub record AppendsLine (line before after : List ℕ) (len : ℕ) : Type 0 where
   pub few : len ≤ 1
   pub bytes : after ≡ before ++ flat_map spelling steps
 
--- The same of the lines of a block behind its first.
+-- The same of the lines of a repeat behind its first.
 pub record AppendsBody (n : ℕ) (left : Option (List ℕ)) (before after : List ℕ) (len next : ℕ)
     (behind : Option (List ℕ)) : Type 0 where
   pub steps : List Step
@@ -65,8 +65,8 @@ pub record AppendsBody (n : ℕ) (left : Option (List ℕ)) (before after : List
   pub few : len ≤ next
   pub bytes : after ≡ before ++ flat_map spelling steps
 
--- The same of a block that counts so many and means so many steps, with its opcodes and its count.
-pub record AppendsBlock (n : ℕ) (left : Option (List ℕ)) (count : ℕ) (before after : List ℕ)
+-- The same of a repeat that counts so many and means so many steps, with its opcodes and its count.
+pub record AppendsRepeat (n : ℕ) (left : Option (List ℕ)) (count : ℕ) (before after : List ℕ)
     (meant next : ℕ) (behind : Option (List ℕ)) : Type 0 where
   pub steps : List Step
   pub body : HasBody n left steps next behind

@@ -12,7 +12,7 @@ use Rattle.vga_script.specs.Item.{Item, Listing, expanded, step_limit, steps_of}
 use Rattle.vga_script.specs.declared.version.Version.{Version}
 use Rattle.vga_script.specs.DumpRange.{IsShownInRange, kind_registers, kind_dac, kind_beam}
 use Rattle.vga_script.specs.DumpRange.{kind_latches, kind_plane, kind_bios_data, kind_cells}
-use Rattle.vga_script.specs.Version.{version_byte, AllowsBlocks}
+use Rattle.vga_script.specs.Version.{version_byte, AllowsRepeats}
 use Rattle.vga_script.specs.Spelling.{script_limit, magic, opcode_out, opcode_out_word, opcode_in}
 use Rattle.vga_script.specs.Spelling.{opcode_in_word, opcode_put, opcode_put_word, opcode_get}
 use Rattle.vga_script.specs.Spelling.{opcode_get_word, opcode_int, opcode_advance, opcode_frame}
@@ -77,70 +77,72 @@ StartsWithCutStep bytes =
     (opcode : ℕ) × (rest : List ℕ) × (needed : ℕ) × (bytes ≡ opcode ∷ rest)
     × (fields_len opcode rest ≡ Some needed) × (length rest < needed)
 
--- the bytes begin with the opcode of a block, which a script of this version may have
-abbrev pub StartsWithBlock : Version → List ℕ → Type 0
-StartsWithBlock version bytes = AllowsBlocks version
+-- the bytes begin with the opcode of a repeat, which a script of this version may have
+abbrev pub StartsWithRepeat : Version → List ℕ → Type 0
+StartsWithRepeat version bytes = AllowsRepeats version
     × ((rest : List ℕ) × (bytes ≡ opcode_repeat ∷ rest))
 
--- the bytes begin with a block that counts 0
+-- the bytes begin with a repeat that counts 0
 abbrev pub StartsWithCountZero : Version → List ℕ → Type 0
-StartsWithCountZero version bytes = AllowsBlocks version
+StartsWithCountZero version bytes = AllowsRepeats version
     × ((rest : List ℕ) × (bytes ≡ opcode_repeat ∷ (little_bytes 2 0 ++ rest)))
 
--- the bytes begin with a block, and end before its count does
+-- the bytes begin with a repeat, and end before its count does
 abbrev pub StartsWithCutCount : Version → List ℕ → Type 0
-StartsWithCutCount version bytes = AllowsBlocks version
+StartsWithCutCount version bytes = AllowsRepeats version
     × ((rest : List ℕ) × (bytes ≡ opcode_repeat ∷ rest) × (length rest < 2))
 
 -- The bytes begin with what is no item of a script of this version, however they go on: neither a
--- step nor a block, or a block that counts 0.
+-- step nor a repeat, or a repeat that counts 0.
 abbrev pub StartsWithBadItem : Version → List ℕ → Type 0
-StartsWithBadItem version bytes = (StartsWithBadStep bytes × (StartsWithBlock version bytes → ⊥))
+StartsWithBadItem version bytes = (StartsWithBadStep bytes × (StartsWithRepeat version bytes → ⊥))
     ⊎ StartsWithCountZero version bytes
 
--- the bytes begin with a step that is cut off, or with a block whose count is
+-- the bytes begin with a step that is cut off, or with a repeat whose count is
 abbrev pub StartsWithCutItem : Version → List ℕ → Type 0
 StartsWithCutItem version bytes = StartsWithCutStep bytes ⊎ StartsWithCutCount version bytes
 
--- the bytes begin with what may not stand in a block: neither a step nor the block's end
+-- the bytes begin with what may not stand in a repeat: neither a step nor the repeat's end
 abbrev pub StartsWithBadBody : List ℕ → Type 0
 StartsWithBadBody bytes = StartsWithBadStep bytes × ((rest : List ℕ) → bytes ≢ opcode_end ∷ rest)
 
 -- So many good steps stand in these bytes before the rest.
 pub record HasStepsBefore (bytes : List ℕ) (len : ℕ) (rest : List ℕ) : Type 0 where
-  pub front : List ℕ
+  pub prefix : List ℕ
   pub steps : List Step
-  pub whole : bytes ≡ front ++ rest
-  pub good : SpellsSteps front steps
+  pub whole : bytes ≡ prefix ++ rest
+  pub good : SpellsSteps prefix steps
   pub count : len ≡ length steps
 
--- The bytes begin with a block, and the rest stand in it, so many bytes behind its opcode: between
+-- The bytes begin with a repeat, and the rest stand in it, so many bytes behind its opcode: between
 -- them are its count and good steps.
-pub record OpensBlock (version : Version) (bytes : List ℕ) (place : ℕ)
+pub record OpensRepeat (version : Version) (bytes : List ℕ) (distance : ℕ)
     (rest : List ℕ) : Type 0 where
   pub count : ℕ
   pub body : List ℕ
   pub len : ℕ
-  pub allowed : AllowsBlocks version
+  pub allowed : AllowsRepeats version
   pub some : 0 < count
   pub small : count < 2 ^ 16
   pub whole : bytes ≡ opcode_repeat ∷ (little_bytes 2 count ++ body)
   pub good : HasStepsBefore body len rest
-  pub place_is : place + length rest ≡ length bytes
+  pub distance_is : distance + length rest ≡ length bytes
 
 -- The fault of bytes at this offset of a script of this version, behind items that mean so many
--- steps: the item that begins there is bad or cut off, or in its block there is a bad step or one
--- that is cut off; or the block has no end; or with the item there are more steps than a script may
--- mean. A fault in a block stands where its step does, the others at the item.
+-- steps: the item that begins there is bad or cut off, or in its repeat there is a bad step or one
+-- that is cut off; or the repeat has no end; or with the item there are more steps than a script
+-- may mean. A fault in a repeat stands where its step does, the others at the item.
 abbrev pub IsItemFault : Version → ℕ → ℕ → List ℕ → Fault → Type 0
 IsItemFault version taken offset bytes (BadStep at) =
     ((at ≡ offset) × StartsWithBadItem version bytes)
-    ⊎ ((place : ℕ) × (rest : List ℕ) × (at ≡ offset + place) × OpensBlock version bytes place rest
+    ⊎ ((distance : ℕ) × (rest : List ℕ) × (at ≡ offset + distance)
+    × OpensRepeat version bytes distance rest
     × StartsWithBadBody rest)
 IsItemFault version taken offset bytes (Truncated at) =
     ((at ≡ offset) × (StartsWithCutItem version bytes
-    ⊎ ((place : ℕ) × OpensBlock version bytes place [])))
-    ⊎ ((place : ℕ) × (rest : List ℕ) × (at ≡ offset + place) × OpensBlock version bytes place rest
+    ⊎ ((distance : ℕ) × OpensRepeat version bytes distance [])))
+    ⊎ ((distance : ℕ) × (rest : List ℕ) × (at ≡ offset + distance)
+    × OpensRepeat version bytes distance rest
     × StartsWithCutStep rest)
 IsItemFault version taken offset bytes (TooMany at) =
     (at ≡ offset) × ((first : Item) × (rest : List ℕ) × StartsWithItem version bytes first rest
@@ -150,10 +152,10 @@ IsItemFault version taken offset bytes _ = ⊥
 -- The bytes before this offset spell a script, and the rest stand from there on.
 pub record SpellsUpTo (bytes : List ℕ) (script : Listing) (offset : ℕ)
     (rest : List ℕ) : Type 0 where
-  pub front : List ℕ
-  pub whole : bytes ≡ front ++ rest
-  pub good : Spells front script
-  pub place : offset ≡ length front
+  pub prefix : List ℕ
+  pub whole : bytes ≡ prefix ++ rest
+  pub good : Spells prefix script
+  pub place : offset ≡ length prefix
 
 -- after good items the next has this fault
 abbrev pub HasItemFault : List ℕ → Fault → Type 0

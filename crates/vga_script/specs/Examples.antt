@@ -23,7 +23,7 @@ three_times = listing Two (Repeated 3 (Out 0x3C4 2 ∷ []) ∷ [])
 abbrev pub three_times_bytes : List ℕ
 three_times_bytes = codes "VGAS" ++ 2 ∷ 0x0D ∷ 3 ∷ 0 ∷ 1 ∷ 0xC4 ∷ 0x03 ∷ 0x02 ∷ 0x0E ∷ []
 
--- no steps, as often as a block counts
+-- no steps, as often as a repeat counts
 abbrev pub nothing_repeated : Listing
 nothing_repeated = listing Two (Repeated 0xFFFF [] ∷ [])
 
@@ -34,7 +34,7 @@ frames n = replicate n Frame
 unfoldable pub frame_bytes : ℕ → List ℕ
 frame_bytes n = replicate n 0x0B
 
--- a block of so many frames, as often as a block counts
+-- a repeat of so many frames, as often as a repeat counts
 abbrev pub frames_repeated : ℕ → Listing
 frames_repeated n = listing Two (Repeated 0xFFFF (frames n) ∷ [])
 

@@ -4,9 +4,9 @@ use Rattle.std.specs.List.{AllByRecursion, flat_map}
 use Rattle.vga_script.specs.declared.step.Step.{Step}
 use Rattle.vga_script.specs.declared.version.Version.{Version}
 use Rattle.vga_script.specs.Step.{IsInRange, AreInRange}
-use Rattle.vga_script.specs.Version.{AllowsBlocks}
+use Rattle.vga_script.specs.Version.{AllowsRepeats}
 
--- What a script is made of: a step, or a block of steps that are taken in order, and this so many
+-- What a script is made of: a step, or a repeat of steps that are taken in order, and this so many
 -- times.
 pub data Item : Type 0 where
   Once : Step → Item
@@ -27,7 +27,7 @@ unfoldable pub repeated : ℕ → List Step → List Step
 repeated zero steps = []
 repeated (suc times) steps = steps ++ repeated times steps
 
--- the steps that an item means: itself, or those of a block so many times as it counts
+-- the steps that an item means: itself, or those of a repeat so many times as it counts
 abbrev pub steps_of : Item → List Step
 steps_of (Once step) = step ∷ []
 steps_of (Repeated count steps) = repeated count steps
@@ -40,11 +40,11 @@ expanded items = flat_map steps_of items
 abbrev pub step_limit : ℕ
 step_limit = 16777216
 
--- a script of this version may have this item: a step in range; and, if it may have blocks, a block
--- that counts 1 to 65,535, of steps in range
+-- a script of this version may have this item: a step in range; and, if it may have repeats, a
+-- repeat that counts 1 to 65,535, of steps in range
 abbrev pub IsItemOf : Version → Item → Type 0
 IsItemOf version (Once step) = IsInRange step
-IsItemOf version (Repeated count steps) = AllowsBlocks version × (0 < count) × (count < 2 ^ 16)
+IsItemOf version (Repeated count steps) = AllowsRepeats version × (0 < count) × (count < 2 ^ 16)
     × AreInRange steps
 
 -- and all of these items

@@ -1,4 +1,4 @@
--- The printed text of a script: a line for each step, and for each beginning and end of a block.
+-- The printed text of a script: a line for each step, and for each beginning and end of a repeat.
 use Rattle.std.specs.Prelude.{ℕ, nat_lt, if◌then◌else◌, List, [], ◌∷◌, ◌++◌, codes, decimal}
 use Rattle.std.specs.List.{join_with_byte, flat_map}
 use Rattle.hex.specs.Hex.{encode_upper}
@@ -73,7 +73,7 @@ printed_line step = line_of (printed_words step)
 abbrev pub printed_steps : List Step → List ℕ
 printed_steps steps = flat_map printed_line steps
 
--- the printed text of an item: the line of a step; or that of the beginning of a block, those of
+-- the printed text of an item: the line of a step; or that of the beginning of a repeat, those of
 -- its steps, and that of its end
 abbrev pub printed_item : Item → List ℕ
 printed_item (Once step) = printed_line step

@@ -3,7 +3,7 @@ use Rattle.std.specs.Prelude.{ℕ, ◌≡◌, ◌≤◌, List, [], ◌∷◌, Op
 use Rattle.vga_script.specs.declared.step.Step.{Step}
 use Rattle.vga_script.specs.declared.spelled_item.SpelledItem.{SpelledItem}
 use Rattle.vga_script.specs.declared.spelled_item.SpelledItem.TheVariants as spelled
-use Rattle.vga_script.specs.Front.{steps_in}
+use Rattle.vga_script.specs.Beginning.{steps_in}
 use Rattle.vga_script.specs.Item.{Item, Once, Repeated, Listing, expanded}
 use Rattle.vga_script.specs.Spelling.{script_limit, SpellsSteps, Spells}
 
@@ -12,7 +12,7 @@ abbrev pub spelled_item : SpelledItem → Item
 spelled_item (spelled.Step step) = Once step
 spelled_item (spelled.Block count len steps) = Repeated count (steps_in steps.now)
 
--- where it is a block, its bytes spell so many steps
+-- where it is a repeat, its bytes spell so many steps
 abbrev pub HasBody : SpelledItem → Type 0
 HasBody (spelled.Step step) = Unit {0}
 HasBody (spelled.Block count len steps) = SpellsSteps steps.now (steps_in steps.now)

@@ -71,7 +71,7 @@ opcode_frame = 0x0B
 abbrev pub opcode_show : ℕ
 opcode_show = 0x0C
 
--- the opcode that begins a block
+-- the opcode that begins a repeat
 abbrev pub opcode_repeat : ℕ
 opcode_repeat = 0x0D
 
@@ -98,7 +98,7 @@ spelling (Advance dots) = opcode_advance ∷ little_bytes 4 dots
 spelling Frame = opcode_frame ∷ []
 spelling (Show what) = opcode_show ∷ shown_spelling what
 
--- the bytes of an item: those of a step; or the opcode of a block, its count, its steps, and the
+-- the bytes of an item: those of a step; or the opcode of a repeat, its count, its steps, and the
 -- opcode of its end
 abbrev pub item_spelling : Item → List ℕ
 item_spelling (Once step) = spelling step

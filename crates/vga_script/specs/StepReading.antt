@@ -15,7 +15,7 @@ use Rattle.vga_script.specs.declared.keyword.Keyword.{Keyword}
 use Rattle.vga_script.specs.declared.keyword.Keyword.TheVariants as keyword
 use Rattle.vga_script.specs.declared.step_reading.Unread.{Unread}
 use Rattle.vga_script.specs.declared.step_reading.Unread.TheVariants as unread
-use Rattle.vga_script.specs.Words.{lowered}
+use Rattle.vga_script.specs.Tokens.{lowered}
 
 -- what the second step reads after the first, where both read something
 infixl 10 ◌>>=◌
@@ -82,7 +82,7 @@ one_decimal most (w ∷ ws) = do
   e ← ended ws
   Some n
 
--- a register, where its name is the front of the first word, or 0
+-- a register, where its name is the prefix of the first word, or 0
 unfoldable pub register_at : List ℕ → List (List ℕ) → Option (ℕ × List (List ℕ))
 register_at name [] = Some (0, [])
 register_at name (w ∷ ws) =

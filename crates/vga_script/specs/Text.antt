@@ -1,5 +1,5 @@
 -- What a script is in text: each line has the words of one step, or no word; or, in version 2,
--- begins or ends a block.
+-- begins or ends a repeat.
 use Rattle.std.specs.Prelude.{ℕ, ◌≡◌, ◌<◌, ◌≤◌, ◌+◌, ◌^◌, ◌⊎◌, List, [], ◌∷◌, ◌++◌, length, map}
 use Rattle.std.specs.Prelude.{codes, Ok}
 use Rattle.std.specs.List.{AllByRecursion, flat_map}
@@ -16,9 +16,9 @@ use Rattle.vga_script.specs.declared.keyword.Keyword.{Keyword}
 use Rattle.vga_script.specs.declared.keyword.Keyword.TheVariants as keyword
 use Rattle.vga_bits.specs.declared.fault.Fault.{Fault}
 use Rattle.vga_bits.specs.declared.fault.Fault.TheVariants.{BadLine}
-use Rattle.vga_script.specs.Version.{AllowsBlocks}
+use Rattle.vga_script.specs.Version.{AllowsRepeats}
 use Rattle.vga_script.specs.DumpRange.{IsShownInRange}
-use Rattle.vga_script.specs.Words.{lines, words, lowered, IsNumeral, IsHex}
+use Rattle.vga_script.specs.Tokens.{lines, words, lowered, IsNumeral, IsHex}
 
 -- the word that a step's line begins with, in lower case
 abbrev pub name_of : Keyword → List ℕ
@@ -65,8 +65,8 @@ SpellsTwoHex most_first most_second fields first second =
 abbrev pub SpellsRegister : List ℕ → List (List ℕ) → ℕ → Type 0
 SpellsRegister name fields value =
     ((fields ≡ []) × (value ≡ 0))
-    ⊎ ((front : List ℕ) × (digits : List ℕ) × (fields ≡ (front ++ digits) ∷ [])
-    × (lowered front ≡ name) × IsHex 4 digits value)
+    ⊎ ((prefix : List ℕ) × (digits : List ℕ) × (fields ≡ (prefix ++ digits) ∷ [])
+    × (lowered prefix ≡ name) × IsHex 4 digits value)
 
 -- two hexadecimal digits for each byte, the high one first
 abbrev pub SpellsBytes : List ℕ → List ℕ → Type 0
@@ -144,7 +144,7 @@ SpellsLines (line ∷ others) steps =
     (here : List Step) × (after : List Step) × (steps ≡ here ++ after)
     × SpellsLine (words line) here × SpellsLines others after
 
--- the words of a line that begins a block: `repeat`, and a count of 1 to 65,535 in decimal
+-- the words of a line that begins a repeat: `repeat`, and a count of 1 to 65,535 in decimal
 abbrev pub SpellsRepeat : List (List ℕ) → ℕ → Type 0
 SpellsRepeat fields count =
     (first : List ℕ) × (number : List ℕ) × (fields ≡ first ∷ number ∷ [])
@@ -170,16 +170,16 @@ abbrev pub IsLine : Group → Type 0
 IsLine group = (line : List ℕ) × (steps : List Step) × (group.lines ≡ line ∷ [])
     × (group.items ≡ map Once steps) × SpellsLine (words line) steps
 
--- the lines of a block: that of its beginning, those of its steps, and that of its end
-abbrev pub IsBlockOfLines : Group → Type 0
-IsBlockOfLines group =
+-- the lines of a repeat: that of its beginning, those of its steps, and that of its end
+abbrev pub IsRepeatOfLines : Group → Type 0
+IsRepeatOfLines group =
     (first : List ℕ) × (count : ℕ) × (body : List (List ℕ)) × (steps : List Step) × (last : List ℕ)
     × (group.lines ≡ first ∷ (body ++ last ∷ [])) × (group.items ≡ Repeated count steps ∷ [])
     × SpellsRepeat (words first) count × SpellsLines body steps × IsEnd (words last)
 
 -- lines that together spell one item of a script of this version, or none
 abbrev pub IsGroup : Version → Group → Type 0
-IsGroup version group = IsLine group ⊎ (AllowsBlocks version × IsBlockOfLines group)
+IsGroup version group = IsLine group ⊎ (AllowsRepeats version × IsRepeatOfLines group)
 
 -- lines that spell these items, group by group
 abbrev pub SpellsGroups : Version → List (List ℕ) → List Item → Type 0
@@ -211,43 +211,43 @@ SpellsText text script =
     × SpellsGroups script.version rest script.items
     × (length (expanded script.items) ≤ step_limit)
 
--- a line outside blocks of a script of this version that spells neither a step nor the beginning of
--- a block
+-- a line outside repeats of a script of this version that spells neither a step nor the beginning
+-- of a repeat
 abbrev pub IsBadOutside : Version → List ℕ → Type 0
 IsBadOutside version line =
     ((steps : List Step) → SpellsLine (words line) steps → ⊥)
-    × (AllowsBlocks version → (count : ℕ) → SpellsRepeat (words line) count → ⊥)
+    × (AllowsRepeats version → (count : ℕ) → SpellsRepeat (words line) count → ⊥)
 
--- a line in a block that spells neither a step nor the block's end
+-- a line in a repeat that spells neither a step nor the repeat's end
 abbrev pub IsBadInside : List ℕ → Type 0
 IsBadInside line = ((steps : List Step) → SpellsLine (words line) steps → ⊥)
     × (IsEnd (words line) → ⊥)
 
--- The lines begin with a block, and the rest stand in it, so many lines behind its first: between
+-- The lines begin with a repeat, and the rest stand in it, so many lines behind its first: between
 -- them are lines of steps.
-pub record OpensLines (version : Version) (ls : List (List ℕ)) (place : ℕ)
+pub record OpensLines (version : Version) (ls : List (List ℕ)) (distance : ℕ)
     (rest : List (List ℕ)) : Type 0 where
   pub first : List ℕ
   pub count : ℕ
   pub body : List (List ℕ)
   pub steps : List Step
-  pub allowed : AllowsBlocks version
+  pub allowed : AllowsRepeats version
   pub begins : SpellsRepeat (words first) count
   pub good : SpellsLines body steps
   pub whole : ls ≡ first ∷ (body ++ rest)
-  pub place_is : place ≡ length body + 1
+  pub distance_is : distance ≡ length body + 1
 
 -- Why the line of this number is bad, from which on these lines stand in a script of this version
--- behind items that mean so many steps: it is bad outside blocks; or a later line is in its block,
--- or the block has no end; or with the group that begins there are more steps than a script may
--- mean.
+-- behind items that mean so many steps: it is bad outside repeats; or a later line is in its
+-- repeat, or the repeat has no end; or with the group that begins there are more steps than a
+-- script may mean.
 abbrev pub IsGroupFault : Version → ℕ → ℕ → List (List ℕ) → ℕ → Type 0
 IsGroupFault version taken n ls bad =
     ((bad ≡ n) × ((line : List ℕ) × (others : List (List ℕ)) × (ls ≡ line ∷ others)
     × IsBadOutside version line))
-    ⊎ (((place : ℕ) × (line : List ℕ) × (others : List (List ℕ)) × (bad ≡ n + place)
-    × OpensLines version ls place (line ∷ others) × IsBadInside line)
-    ⊎ (((bad ≡ n) × ((place : ℕ) × OpensLines version ls place []))
+    ⊎ (((distance : ℕ) × (line : List ℕ) × (others : List (List ℕ)) × (bad ≡ n + distance)
+    × OpensLines version ls distance (line ∷ others) × IsBadInside line)
+    ⊎ (((bad ≡ n) × ((distance : ℕ) × OpensLines version ls distance []))
     ⊎ ((bad ≡ n) × ((group : Group) × (others : List (List ℕ)) × (ls ≡ group.lines ++ others)
     × IsGroup version group × (step_limit < taken + length (expanded group.items))))))
 
@@ -257,14 +257,14 @@ pub record SpellsLinesUpTo (text : List ℕ) (script : Listing) (n : ℕ)
     (left : List (List ℕ)) : Type 0 where
   pub start : ℕ
   pub rest : List (List ℕ)
-  pub front : List (List ℕ)
+  pub prefix : List (List ℕ)
   pub from : StandFrom script.version (lines text) start rest
   pub one : script.version ≡ One → (m : ℕ) (others : List (List ℕ)) →
       SaysVersionTwo (lines text) m others → ⊥
-  pub whole : rest ≡ front ++ left
-  pub good : SpellsGroups script.version front script.items
+  pub whole : rest ≡ prefix ++ left
+  pub good : SpellsGroups script.version prefix script.items
   pub few : length (expanded script.items) ≤ step_limit
-  pub number : n ≡ start + length front
+  pub number : n ≡ start + length prefix
 
 -- the line of this number is the first bad line: after good groups it makes the next bad
 abbrev pub IsBadLine : List ℕ → ℕ → Type 0

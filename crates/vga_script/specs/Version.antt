@@ -8,7 +8,7 @@ abbrev pub version_byte : Version → ℕ
 version_byte One = 1
 version_byte Two = 2
 
--- a script of this version may have blocks
-abbrev pub AllowsBlocks : Version → Type 0
-AllowsBlocks One = ⊥
-AllowsBlocks Two = Unit {0}
+-- a script of this version may have repeats
+abbrev pub AllowsRepeats : Version → Type 0
+AllowsRepeats One = ⊥
+AllowsRepeats Two = Unit {0}

@@ -2,24 +2,25 @@
 ghost use Rattle.std.specs.Prelude.{◌≡◌, ◌⊎◌, ◌<◌, ◌≤◌, ◌+◌, List, length, ℕ};
 ghost use Rattle.std.specs.Prelude.{IfOk, IfErr, IsOkUnless, Err};
 ghost use Rattle.std.specs.Option.{option_copied};
-ghost use Rattle.vga_script.specs.Assembling.{AppendsBlock, AppendsBody, AppendsGroup, AppendsLine};
+ghost use Rattle.vga_script.specs.Assembling.{AppendsBody, AppendsGroup, AppendsLine};
+ghost use Rattle.vga_script.specs.Assembling.{AppendsRepeat};
 ghost use Rattle.vga_script.specs.Assembling.{IsBodyFault, IsGroupFaultOf};
 ghost use Rattle.vga_script.specs.Item.{Listing};
 ghost use Rattle.vga_script.specs.Script.{IsScript, IsTextFault};
 ghost use Rattle.vga_script.specs.Spelling.{script_limit, encoding};
 ghost use Rattle.vga_script.specs.Text.{SaysVersionTwo, SpellsLine, SpellsText, StandFrom};
 ghost use Rattle.vga_script.specs.Text.{IsLineFault};
-ghost use Rattle.vga_script.specs.Words.{left_len, lines, lines_left, words};
+ghost use Rattle.vga_script.specs.Tokens.{left_len, lines, lines_left, words};
 ghost use Rattle.vga_script.specs.declared.step.Step.{Step};
 
-use super::block_lines::{count_in, has_word, is_end, says_version_two};
 use super::opcode;
 use super::output::{append, append_u16};
+use super::repeat_lines::{count_in, has_word, is_end, says_version_two};
 use super::script::{SCRIPT_LIMIT, STEP_LIMIT, Script};
 use super::step_bytes::append_step;
 use super::step_reading::{Unread, step_of_line};
+use super::tokens::first_line;
 use super::version::Version;
-use super::words::first_line;
 use std::alloc::Global;
 use vga_bits::Fault;
 
@@ -41,9 +42,9 @@ fn append_line(alloc: Global, out: &mut Vec<u8>, line: &[u8]) -> Result<usize, U
     }
 }
 
-/// Puts the bytes of the steps of a block at the end, of whose lines those behind the first are
+/// Puts the bytes of the steps of a repeat at the end, of whose lines those behind the first are
 /// left; and how many steps there are, what follows the line of its end, and the number of the line
-/// behind that. The block's first line has the number `first`.
+/// behind that. The repeat's first line has the number `first`.
 #[tactic(auto, using(crate::proofs::AssembleLemmas::body_begins, crate::proofs::AssembleLemmas::body_more, crate::proofs::AssembleLemmas::body_ends, crate::proofs::AssembleLemmas::body_bad, crate::proofs::AssembleLemmas::body_open))]
 fn append_body<'a>(
     alloc: Global,
@@ -77,9 +78,9 @@ fn append_body<'a>(
     Err(Fault::BadLine(first))
 }
 
-/// Puts the bytes of a block at the end that begins with a line of this number and counts so many;
+/// Puts the bytes of a repeat at the end that begins with a line of this number and counts so many;
 /// and how many steps it means, what follows its last line, and the number of the line behind that.
-fn append_block<'a>(
+fn append_repeat<'a>(
     alloc: Global,
     out: &mut Vec<u8>,
     count: u16,
@@ -87,7 +88,7 @@ fn append_block<'a>(
     number: usize,
 ) -> Result<(usize, Option<&'a [u8]>, usize), Fault>
     requires { number + left_len (option_copied left) ≤ script_limit + 2 }
-    ensures found { IfOk result (λ x. AppendsBlock (number + 1) (option_copied left.entry) count
+    ensures found { IfOk result (λ x. AppendsRepeat (number + 1) (option_copied left.entry) count
         out.old.items
         out.new.items x.0 x.2 (option_copied x.1)) }
     ensures fault { IfErr result (λ e. (e ≡ Fault.OutOfMemory)
@@ -100,10 +101,10 @@ fn append_block<'a>(
     Ok((count as usize * len, left, next))
 }
 
-/// Puts the bytes of the item at the end that a line outside blocks spells or begins, where it has
+/// Puts the bytes of the item at the end that a line outside repeats spells or begins, where it has
 /// a word; and how many steps it means, what follows its last line, and the number of the line
 /// behind that. The line has this number, and others follow it.
-#[tactic(auto, using(crate::proofs::AssembleLemmas::group_of_block, crate::proofs::AssembleLemmas::group_bad))]
+#[tactic(auto, using(crate::proofs::AssembleLemmas::group_of_repeat, crate::proofs::AssembleLemmas::group_bad))]
 fn append_group<'a>(
     alloc: Global,
     out: &mut Vec<u8>,
@@ -123,7 +124,7 @@ fn append_group<'a>(
 {
     let (line, others) = first_line(text);
     if let Some(count) = count_in(line, version) {
-        return append_block(alloc, out, count, others, number);
+        return append_repeat(alloc, out, count, others, number);
     }
     match append_line(alloc, out, line) {
         Ok(len) => Ok((len, others, number + 1)),
@@ -159,7 +160,7 @@ fn items_of_text(text: &[u8]) -> (Version, Option<&[u8]>, usize)
     (Version::One, Some(text), 1)
 }
 
-/// The bytes of the items that lines spell which stand behind the front of a text, or its first bad
+/// The bytes of the items that lines spell which follow a prefix of a text, or its first bad
 /// line.
 #[tactic(auto, using(crate::proofs::AssembleLemmas::read_none, crate::proofs::AssembleLemmas::read_more, crate::proofs::AssembleLemmas::read_all))]
 fn assemble_items(alloc: Global, text: &[u8]) -> Result<Vec<u8>, Fault>
@@ -213,10 +214,10 @@ fn assemble_script(alloc: Global, text: &[u8]) -> Result<Script, Fault>
 ///
 /// The first line with a word may be `version 2`; else the script is of version 1. A line with
 /// words is bad if they are not those of a step nor, in version 2, `repeat` with a count of 1 to
-/// 65,535 outside blocks or `end` in one. A line with
-/// `repeat` is bad too where its block has no end, which comes behind all bad lines in the block,
-/// or where with the block the script means more than 16,777,216 steps; so is a line of a step with
-/// which it does.
+/// 65,535 outside repeats or `end` in one. A line with
+/// `repeat` is bad too where its repeat has no end, which comes behind all bad lines in the repeat,
+/// or where with the repeat the script means more than 16,777,216 steps; so is a line of a step
+/// with which it does.
 ///
 /// `OutOfMemory` comes where a request for memory was refused.
 pub fn assemble(alloc: Global, text: &[u8]) -> Result<Script, Fault>

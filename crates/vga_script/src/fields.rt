@@ -1,11 +1,11 @@
-//! The fields of a step in bytes, from the front.
+//! The fields of a step in bytes, from the first on.
 ghost use Rattle.std.specs.Prelude.{◌≡◌, ◌<◌, ◌++◌, ◌∷◌, length, IfOk, IfErr};
 ghost use Rattle.byteorder.specs.Endian.{little_bytes};
 ghost use Rattle.vga_script.specs.Step.{IsBlock};
 
 use byteorder::{ByteOrder, LittleEndian};
 
-/// Why no step stands at the front of some bytes.
+/// Why no step stands at the beginning of some bytes.
 #[derive(Clone, Copy, PartialEq, Eq, Debug)]
 pub(crate) enum NoStep {
     /// They begin with no opcode or kind, or with fields that are out of range.

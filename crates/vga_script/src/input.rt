@@ -6,7 +6,7 @@ ghost use Rattle.vga_script.specs.Input.{IsInput, IsReadingFault, ReadsScript};
 use super::script::SCRIPT_LIMIT;
 use std::alloc::Global;
 use std::io::Read;
-use vga_bits::{Fault, Tracked, read_front};
+use vga_bits::{Fault, Tracked, read_prefix};
 
 /// All that a reader has of a script, or of a text that spells one. The reader must not have failed
 /// before.
@@ -23,7 +23,7 @@ pub fn read_script<R: Read>(alloc: Global, reader: &mut Tracked<R>) -> Result<Ve
     // No more is read of any reader, whether it tells its bytes or not.
     ensures reading { ReadsScript R.remaining reader.old reader.new result }
 {
-    let bytes = read_front(alloc, reader, SCRIPT_LIMIT + 1)?;
+    let bytes = read_prefix(alloc, reader, SCRIPT_LIMIT + 1)?;
     if bytes.len() > SCRIPT_LIMIT {
         return Err(Fault::TooLong);
     }

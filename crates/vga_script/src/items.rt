@@ -1,12 +1,12 @@
-//! The item at the front of some bytes of a script.
+//! The item at the beginning of some bytes of a script.
 ghost use Rattle.std.specs.Prelude.{◌≡◌, ◌+◌, ◌<◌, ◌≤◌, ◌∷◌, ℕ, length, IfNone, IfOk, IfErr};
 ghost use Rattle.std.specs.Prelude.{IfSome};
 ghost use Rattle.vga_script.specs.Body.{StandsBehind};
-ghost use Rattle.vga_script.specs.Decoding.{HasStepsBefore, IsItemFault, StartsWithBlock};
+ghost use Rattle.vga_script.specs.Decoding.{HasStepsBefore, IsItemFault, StartsWithRepeat};
 ghost use Rattle.vga_script.specs.Item.{step_limit, steps_of};
 ghost use Rattle.vga_script.specs.Spelled.{HasBody, spelled_item};
 ghost use Rattle.vga_script.specs.Spelling.{opcode_repeat, script_limit, StartsWithItem};
-ghost use Rattle.vga_script.specs.Version.{AllowsBlocks};
+ghost use Rattle.vga_script.specs.Version.{AllowsRepeats};
 
 use super::fields::{NoStep, u16_at};
 use super::opcode;
@@ -16,10 +16,10 @@ use super::step_bytes::step_at;
 use super::version::Version;
 use vga_bits::Fault;
 
-/// What stands behind the steps of a block.
+/// What stands behind the steps of a repeat.
 #[derive(Drop)]
 enum Behind<'a> {
-    /// The block's end, and these bytes.
+    /// The repeat's end, and these bytes.
     End {
         /// What follows the end.
         rest: &'a [u8],
@@ -32,8 +32,8 @@ enum Behind<'a> {
     Cut,
 }
 
-/// How many steps stand at the front of the bytes behind a block's count, and what follows them.
-#[tactic(auto, using(crate::proofs::FrontLemmas::step_shorter, crate::proofs::BodyLemmas::body_within, crate::proofs::BodyLemmas::body_begins, crate::proofs::BodyLemmas::body_goes_on))]
+/// With how many steps the bytes after a repeat's count begin, and what follows them.
+#[tactic(auto, using(crate::proofs::BeginningLemmas::step_shorter, crate::proofs::BodyLemmas::body_within, crate::proofs::BodyLemmas::body_begins, crate::proofs::BodyLemmas::body_goes_on))]
 fn behind_steps(bytes: &[u8]) -> (usize, &[u8], Behind<'_>)
     requires { length bytes.now ≤ script_limit }
     ensures good { HasStepsBefore bytes.now result.0 result.1.now }
@@ -55,11 +55,11 @@ fn behind_steps(bytes: &[u8]) -> (usize, &[u8], Behind<'_>)
     (len, rest, Behind::Nothing)
 }
 
-/// What follows the opcode of a block, where one begins some bytes of a script of this version.
+/// What follows the opcode of a repeat, where one begins some bytes of a script of this version.
 fn behind_repeat(bytes: &[u8], version: Version) -> Option<&[u8]>
-    ensures found { IfSome result (λ fields. AllowsBlocks version
+    ensures found { IfSome result (λ fields. AllowsRepeats version
         × (bytes.now ≡ opcode_repeat ∷ fields.now)) }
-    ensures none { IfNone result (StartsWithBlock version bytes.now → ⊥) }
+    ensures none { IfNone result (StartsWithRepeat version bytes.now → ⊥) }
 {
     match version {
         Version::One => None,
@@ -67,16 +67,16 @@ fn behind_repeat(bytes: &[u8], version: Version) -> Option<&[u8]>
     }
 }
 
-/// The block whose opcode stands at this offset of a script, from the bytes that begin with it, and
-/// what follows its end.
-#[tactic(auto, using(crate::proofs::BodyLemmas::block_open))]
-fn block_at<'a>(
+/// The repeat whose opcode stands at this offset of a script, from the bytes that begin with it,
+/// and what follows its end.
+#[tactic(auto, using(crate::proofs::BodyLemmas::repeat_open))]
+fn repeat_at<'a>(
     bytes: &'a [u8],
     fields: &'a [u8],
     offset: usize,
     version: Version,
 ) -> Result<(SpelledItem<'a>, &'a [u8]), Fault>
-    requires allowed { AllowsBlocks version }
+    requires allowed { AllowsRepeats version }
     requires fields { bytes.now ≡ opcode_repeat ∷ fields.now }
     requires place { offset + length bytes.now ≤ script_limit }
     ensures found { IfOk result (λ x. StartsWithItem version bytes.now (spelled_item x.0) x.1.now) }
@@ -115,7 +115,7 @@ pub(crate) fn item_at(
     ensures fault { IfErr result (λ e. (taken : ℕ) → IsItemFault version taken offset bytes.now e) }
 {
     if let Some(fields) = behind_repeat(bytes, version) {
-        return block_at(bytes, fields, offset, version);
+        return repeat_at(bytes, fields, offset, version);
     }
     match step_at(bytes) {
         Ok((step, rest)) => Ok((SpelledItem::Step { step }, rest)),

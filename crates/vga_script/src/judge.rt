@@ -1,7 +1,7 @@
 //! Whether bytes spell a script, and their first fault.
 ghost use Rattle.std.specs.Prelude.{◌≡◌, ◌≤◌, ◌++◌, ◌∷◌, length, List, IfOk, IfErr};
 ghost use Rattle.vga_script.specs.Decoding.{IsFault, IsSpellingFault};
-ghost use Rattle.vga_script.specs.Front.{listing_of};
+ghost use Rattle.vga_script.specs.Beginning.{listing_of};
 ghost use Rattle.vga_script.specs.Item.{Item, Listing, expanded, step_limit};
 ghost use Rattle.vga_script.specs.Spelling.{script_limit, header, Spells, SpellsItems};
 
@@ -13,10 +13,10 @@ use super::version::Version;
 use vga_bits::Fault;
 
 /// Passes over the items that stand behind the header of a script's bytes.
-#[tactic(auto, using(crate::proofs::FrontLemmas::item_shorter, crate::proofs::DecodeLemmas::decoded_none, crate::proofs::DecodeLemmas::passed_all))]
+#[tactic(auto, using(crate::proofs::BeginningLemmas::item_shorter, crate::proofs::DecodeLemmas::decoded_none, crate::proofs::DecodeLemmas::passed_all))]
 fn pass_items(bytes: &[u8], spelled: &[u8], version: Version) -> Result<(), Fault>
     requires short { length bytes.now ≤ script_limit }
-    requires front { bytes.now ≡ header version ++ spelled.now }
+    requires prefix { bytes.now ≡ header version ++ spelled.now }
     ensures found { IfOk result (λ _. (script : Listing) × Spells bytes.now script) }
     ensures fault { IfErr result (λ e. IsSpellingFault bytes.now e) }
 {
@@ -59,7 +59,7 @@ fn judge_short(bytes: &[u8]) -> Result<(), Fault>
 }
 
 /// That bytes spell a script, or their first fault.
-#[tactic(auto, using(crate::proofs::FrontLemmas::spells_itself))]
+#[tactic(auto, using(crate::proofs::BeginningLemmas::spells_itself))]
 pub(crate) fn judge(bytes: &[u8]) -> Result<(), Fault>
     ensures short { IfOk result (λ _. length bytes.now ≤ script_limit) }
     ensures found { IfOk result (λ _. Spells bytes.now (listing_of bytes.now)) }

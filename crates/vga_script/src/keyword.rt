@@ -2,7 +2,7 @@
 ghost use Rattle.std.specs.Prelude.{◌≡◌, ◌≢◌, IfNone, IfSome};
 ghost use Rattle.std.specs.Str.{bytes_eq};
 ghost use Rattle.vga_script.specs.Text.{name_of};
-ghost use Rattle.vga_script.specs.Words.{lowered};
+ghost use Rattle.vga_script.specs.Tokens.{lowered};
 
 /// Which step a line has, by the word that it begins with.
 #[derive(Clone, Copy, PartialEq, Eq, Debug)]

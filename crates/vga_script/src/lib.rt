@@ -4,7 +4,6 @@
 
 mod assembling;
 mod block;
-mod block_lines;
 mod dump_range;
 mod fields;
 mod input;
@@ -15,17 +14,18 @@ mod laws;
 mod numbers;
 mod opcode;
 mod output;
-mod place;
 mod printed_line;
 mod printing;
+mod progress;
+mod repeat_lines;
 mod script;
 mod spelled_item;
 mod step;
 mod step_bytes;
 mod step_reading;
 mod steps;
+mod tokens;
 mod version;
-mod words;
 mod worked_examples;
 
 pub use assembling::assemble;

@@ -4,7 +4,7 @@ ghost use Rattle.std.specs.Prelude.{IfOk, IsOkUnless, OnOk};
 ghost use Rattle.std.specs.List.{flat_map};
 ghost use Rattle.hex.specs.Hex.{encode_upper};
 ghost use Rattle.vga_bits.specs.Hex.{hex};
-ghost use Rattle.vga_script.specs.Front.{items_in, steps_in};
+ghost use Rattle.vga_script.specs.Beginning.{items_in, steps_in};
 ghost use Rattle.vga_script.specs.Item.{expanded, step_limit};
 ghost use Rattle.vga_script.specs.Printing.{line_of, printed, printed_item};
 ghost use Rattle.vga_script.specs.Printing.{printed_line, printed_steps, version_line};
@@ -122,7 +122,7 @@ fn print_shown(out: &mut Vec<u8>, shown: Shown) -> Result<(), Fault>
     }
 }
 
-/// The line of a call of the BIOS, but for its block.
+/// The line of a call of the BIOS, but for its repeat.
 fn call_line(ax: u16, bx: u16, cx: u16, dx: u16) -> Line
     ensures items { result ≡ codes "int ax=" ++ (hex 4 ax ++ (codes " bx=" ++ (hex 4 bx
         ++ (codes " cx=" ++ (hex 4 cx ++ (codes " dx=" ++ hex 4 dx)))))) }
@@ -228,7 +228,7 @@ fn print_step(alloc: Global, out: &mut Vec<u8>, step: &Step<'_>) -> Result<(), F
 }
 
 /// Prints the steps that some bytes spell. It fails with `OutOfMemory` alone.
-#[tactic(auto, using(crate::proofs::FrontLemmas::step_shorter, crate::proofs::WalkLemmas::steps_begin, crate::proofs::WalkLemmas::steps_go_on))]
+#[tactic(auto, using(crate::proofs::BeginningLemmas::step_shorter, crate::proofs::WalkLemmas::steps_begin, crate::proofs::WalkLemmas::steps_go_on))]
 fn print_steps(alloc: Global, out: &mut Vec<u8>, bytes: &[u8]) -> Result<(), Fault>
     requires { SpellsSteps bytes.now (steps_in bytes.now) }
     ensures ok { OnOk result (out.new.items ≡ out.old.items ++ printed_steps (steps_in bytes.now)) }
@@ -247,7 +247,7 @@ fn print_steps(alloc: Global, out: &mut Vec<u8>, bytes: &[u8]) -> Result<(), Fau
     Ok(())
 }
 
-/// Prints the beginning of a block. It fails with `OutOfMemory` alone.
+/// Prints the beginning of a repeat. It fails with `OutOfMemory` alone.
 #[tactic(auto, unfolding(crate::specs::Printing::line_of))]
 fn print_repeat(out: &mut Vec<u8>, count: u16) -> Result<(), Fault>
     ensures ok { OnOk result (out.new.items ≡ out.old.items
@@ -260,7 +260,7 @@ fn print_repeat(out: &mut Vec<u8>, count: u16) -> Result<(), Fault>
     end_line(out, line)
 }
 
-/// Prints the end of a block. It fails with `OutOfMemory` alone.
+/// Prints the end of a repeat. It fails with `OutOfMemory` alone.
 #[tactic(auto, unfolding(crate::specs::Printing::line_of))]
 fn print_end(out: &mut Vec<u8>) -> Result<(), Fault>
     ensures ok { OnOk result (out.new.items ≡ out.old.items ++ line_of (codes "end" ∷ [])) }
@@ -299,7 +299,7 @@ fn version_text(version: Version) -> &'static [u8]
 
 /// Prints the items that some bytes of a script of this version spell. It fails with `OutOfMemory`
 /// alone.
-#[tactic(auto, using(crate::proofs::FrontLemmas::item_shorter, crate::proofs::WalkLemmas::items_begin, crate::proofs::WalkLemmas::items_go_on))]
+#[tactic(auto, using(crate::proofs::BeginningLemmas::item_shorter, crate::proofs::WalkLemmas::items_begin, crate::proofs::WalkLemmas::items_go_on))]
 fn print_items(
     alloc: Global,
     out: &mut Vec<u8>,
@@ -327,7 +327,7 @@ fn print_items(
 }
 
 /// The printed text of a script: its version, where it is not 1, and a line for each step, with its
-/// name and values in full, and for each beginning and end of a block. It spells the script. It
+/// name and values in full, and for each beginning and end of a repeat. It spells the script. It
 /// fails with `OutOfMemory` alone.
 #[tactic(auto, using(crate::proofs::StepsLemmas::behind_header, crate::proofs::StepsLemmas::items_spelled))]
 pub fn print(alloc: Global, script: &Script) -> Result<Vec<u8>, Fault>

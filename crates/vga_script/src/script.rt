@@ -1,7 +1,7 @@
 //! A script, which is kept as the bytes that spell it.
 ghost use Rattle.std.specs.Prelude.{◌≡◌, ◌⊎◌, ◌≤◌, length, IfErr, IfOk, IsOkUnless};
 ghost use Rattle.vga_script.specs.Decoding.{IsFault};
-ghost use Rattle.vga_script.specs.Front.{listing_of};
+ghost use Rattle.vga_script.specs.Beginning.{listing_of};
 ghost use Rattle.vga_script.specs.Item.{Listing, expanded, step_limit};
 ghost use Rattle.vga_script.specs.Spelling.{Spells, encoding, script_limit};
 ghost use Rattle.vga_script.specs.Step.{AreInRange};
@@ -30,7 +30,7 @@ pub struct Script {
 
 impl Model for Script {
     ghost use Rattle.std.specs.Prelude.{◌≤◌, length};
-    ghost use Rattle.vga_script.specs.Front.{listing_of};
+    ghost use Rattle.vga_script.specs.Beginning.{listing_of};
     ghost use Rattle.vga_script.specs.Item.{Listing};
     ghost use Rattle.vga_script.specs.Spelling.{Spells, script_limit};
 
@@ -73,7 +73,7 @@ impl Script {
         Version::One
     }
 
-    /// The steps that the items mean, one after the other: a step itself, and the steps of a block
+    /// The steps that the items mean, one after the other: a step itself, and the steps of a repeat
     /// so many times as it counts. Their fields fit, and they are no more than a script may mean.
     /// They take no memory.
     #[tactic(auto, using(crate::proofs::StepsLemmas::range_of_steps, crate::proofs::StepsLemmas::few_steps))]
@@ -114,10 +114,10 @@ fn decode_bytes(alloc: Global, bytes: &[u8]) -> Result<Script, Fault>
 /// bad if it shows bytes of a plane that is none, no bytes, more than 256, or bytes past the
 /// plane's end.
 ///
-/// In version 1 the opcodes of blocks are none. In version 2 that of a block is bad within a block,
-/// and that of an end outside one; a block is bad where it counts 0, and cut off, at its opcode,
-/// where its count is or where the bytes end behind a whole step of it. Too many steps are found
-/// where a block ends, or a step outside blocks.
+/// In version 1 the opcodes of repeats are none. In version 2 that of a repeat is bad within a
+/// repeat, and that of an end outside one. A repeat is bad where it counts 0; it is cut off, at its
+/// opcode, where its count is or where the bytes end after a whole step of it. Too many steps are
+/// found where a repeat ends, or a step outside repeats.
 ///
 /// `OutOfMemory` comes where a request for memory was refused.
 pub fn decode(alloc: Global, bytes: &[u8]) -> Result<Script, Fault>

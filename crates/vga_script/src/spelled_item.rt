@@ -13,7 +13,7 @@ pub(crate) enum SpelledItem<'a> {
         /// The step.
         step: Step<'a>,
     },
-    /// A block of steps.
+    /// A repeat of steps.
     Block {
         /// How many times they are taken.
         count: u16,
@@ -26,7 +26,7 @@ pub(crate) enum SpelledItem<'a> {
 
 impl<'a> SpelledItem<'a> {
     /// How many steps the item means.
-    #[tactic(auto, using(crate::proofs::ItemLemmas::steps_of_block))]
+    #[tactic(auto, using(crate::proofs::ItemLemmas::steps_of_repeat))]
     pub(crate) fn meant(&self) -> usize
         requires { HasBody self.now }
         ensures value { result ≡ length (steps_of (spelled_item self.now)) }

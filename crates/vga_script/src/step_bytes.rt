@@ -23,15 +23,15 @@ macro_rules! plain_steps {
     ($then:ident, $first:ident, $second:ident) => {
         $then! {
             $first, $second,
-            0x01 => Out { port: two, value: one },
-            0x02 => OutWord { port: two, value: two },
-            0x03 => In { port: two },
-            0x04 => InWord { port: two },
-            0x05 => Put { address: four, value: one },
-            0x06 => PutWord { address: four, value: two },
-            0x07 => Get { address: four },
-            0x08 => GetWord { address: four },
-            0x0A => Advance { dots: four },
+            OUT => Out { port: two, value: one },
+            OUT_WORD => OutWord { port: two, value: two },
+            IN => In { port: two },
+            IN_WORD => InWord { port: two },
+            PUT => Put { address: four, value: one },
+            PUT_WORD => PutWord { address: four, value: two },
+            GET => Get { address: four },
+            GET_WORD => GetWord { address: four },
+            ADVANCE => Advance { dots: four },
         }
     };
 }
@@ -53,10 +53,10 @@ macro_rules! read_field {
 macro_rules! read_steps {
     (
         $opcode:ident, $bytes:ident,
-        $($number:literal => $step:ident { $($field:ident: $kind:ident),* },)*
+        $($name:ident => $step:ident { $($field:ident: $kind:ident),* },)*
     ) => {
         match $opcode {
-            $($number => {
+            $(opcode::$name => {
                 let rest = $bytes;
                 $(let ($field, rest) = read_field!($kind, rest);)*
                 Ok((Step::$step { $($field),* }, rest))
@@ -83,11 +83,11 @@ macro_rules! write_field {
 macro_rules! write_steps {
     (
         $out:ident, $from:ident,
-        $($number:literal => $step:ident { $($field:ident: $kind:ident),* },)*
+        $($name:ident => $step:ident { $($field:ident: $kind:ident),* },)*
     ) => {
         match $from {
             $(Step::$step { $($field),* } => {
-                append(&mut *$out, &[$number])?;
+                append(&mut *$out, &[opcode::$name])?;
                 $(write_field!($kind, $out, $field);)*
                 Ok(())
             })*
@@ -198,7 +198,7 @@ fn plain_with(opcode: u8, fields: &[u8]) -> Result<(Step<'_>, &[u8]), NoStep>
     plain_steps!(read_steps, opcode, fields)
 }
 
-/// The plain step at the front of some bytes, and what follows it.
+/// The plain step at the beginning of some bytes, and what follows it.
 #[inline(always)]
 fn plain_at(bytes: &[u8]) -> Result<(Step<'_>, &[u8]), NoStep>
     ensures found { IfOk result (λ x. StartsWithStep bytes.now x.0 x.1.now) }
@@ -222,7 +222,7 @@ fn step_with(opcode: u8, fields: &[u8]) -> Result<(Step<'_>, &[u8]), NoStep>
     }
 }
 
-/// The step at the front of some bytes, and what follows it.
+/// The step at the beginning of some bytes, and what follows it.
 #[inline(always)]
 pub(crate) fn step_at(bytes: &[u8]) -> Result<(Step<'_>, &[u8]), NoStep>
     requires { 0 < length bytes.now }
@@ -234,7 +234,7 @@ pub(crate) fn step_at(bytes: &[u8]) -> Result<(Step<'_>, &[u8]), NoStep>
     step_with(opcode, fields)
 }
 
-/// What follows the step at the front of some bytes, if one stands there. Most are plain, and of
+/// What follows the step that some bytes begin with, if there is one. Most are plain, and of
 /// those nothing but the length is looked at.
 #[inline(always)]
 pub(crate) fn behind_step(bytes: &[u8]) -> Option<&[u8]>

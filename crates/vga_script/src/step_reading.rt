@@ -6,7 +6,7 @@ ghost use Rattle.vga_script.specs.StepReading.{register_at, bytes_of, digits_at,
 ghost use Rattle.vga_script.specs.StepReading.{read_int};
 ghost use Rattle.vga_script.specs.StepReading.{alone, read_dac, read_plane, read_shown, read_step};
 ghost use Rattle.vga_script.specs.Text.{SpellsLine};
-ghost use Rattle.vga_script.specs.Words.{lowered, words, words_in};
+ghost use Rattle.vga_script.specs.Tokens.{lowered, words, words_in};
 ghost use Rattle.vga_script.specs.declared.step.Step.{Step};
 
 use super::block::Block;
@@ -14,7 +14,7 @@ use super::dump_range::{MOST_SHOWN, Shown};
 use super::keyword::{Keyword, is_name};
 use super::numbers::number;
 use super::step::Step;
-use super::words::{before_comment, next_word};
+use super::tokens::{before_comment, next_word};
 use hex::FromHexError;
 use std::alloc::Global;
 
@@ -120,7 +120,7 @@ fn one_decimal(fields: &[u8], most: u32) -> Result<u32, Unread>
 /// The first three bytes of a word, and the others.
 #[tactic(auto, using(std::proofs::lemmas::List::take_min, std::proofs::lemmas::List::drop_min))]
 fn cut_name(word: &[u8]) -> (&[u8], &[u8])
-    ensures front { result.0.now ≡ take 3 word.now }
+    ensures prefix { result.0.now ≡ take 3 word.now }
     ensures rest { result.1.now ≡ drop 3 word.now }
 {
     word.split_at(word.len().min(3))
@@ -136,8 +136,8 @@ fn register_at<'a>(fields: &'a [u8], name: &[u8]) -> Result<(u16, &'a [u8]), Unr
     let Some((word, rest)) = next_word(fields) else {
         return Ok((0, fields));
     };
-    let (front, digits) = cut_name(word);
-    if !is_name(front, name) {
+    let (prefix, digits) = cut_name(word);
+    if !is_name(prefix, name) {
         return Ok((0, fields));
     }
     let n = hex_of(digits, 4, 0xFFFF)?;

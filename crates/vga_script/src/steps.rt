@@ -1,7 +1,7 @@
 //! The steps that a script means where they stand in its bytes, one after the other.
 ghost use Rattle.std.specs.Prelude.{◌≡◌, ◌≤◌, length, drop, IfErr, IfOk, IfSome};
 ghost use Rattle.vga_script.specs.Decoding.{IsFault};
-ghost use Rattle.vga_script.specs.Front.{listing_of};
+ghost use Rattle.vga_script.specs.Beginning.{listing_of};
 ghost use Rattle.vga_script.specs.Item.{expanded, step_limit};
 ghost use Rattle.vga_script.specs.Spelled.{SpellsExpanded, TakesFirst};
 ghost use Rattle.vga_script.specs.Spelling.{Spells, script_limit};
@@ -9,7 +9,7 @@ ghost use Rattle.vga_script.specs.Step.{IsInRange};
 
 use super::judge::judge;
 use super::opcode::HEADER_LEN;
-use super::place::{Place, skip_marks};
+use super::progress::{Progress, skip_marks};
 use super::step::Step;
 use super::step_bytes::step_at;
 use std::marker::Model;
@@ -21,15 +21,15 @@ use vga_bits::Fault;
 pub struct Steps<'a> {
     /// What follows.
     rest: &'a [u8],
-    /// In a block its steps and what follows them, from the first step on; else nothing.
+    /// In a repeat its steps and what follows them, from the first step on; else nothing.
     body: &'a [u8],
-    /// How often the block is taken again behind its end.
+    /// How often the repeat is taken again behind its end.
     left: u16,
 }
 
 impl<'a> Model for Steps<'a> {
     ghost use Rattle.std.specs.Prelude.{List};
-    ghost use Rattle.vga_script.specs.Places.{Stands, steps_left};
+    ghost use Rattle.vga_script.specs.Progress.{Stands, steps_left};
     ghost use Rattle.vga_script.specs.declared.step.Step.{Step};
 
     ghost Value = { List Step };
@@ -71,7 +71,7 @@ impl<'a> Steps<'a> {
     }
 
     /// Takes the first of the steps that are left, if there is one.
-    #[tactic(auto, using(crate::proofs::PlaceLemmas::step_taken))]
+    #[tactic(auto, using(crate::proofs::ProgressLemmas::step_taken))]
     #[inline(always)]
     pub fn next(&mut self) -> Option<Step<'a>>
         ensures taken { TakesFirst self.old self.new result }
@@ -84,14 +84,14 @@ impl<'a> Steps<'a> {
             self.rest = others;
             return Some(step);
         }
-        let place = skip_marks(Place {
+        let progress = skip_marks(Progress {
             rest: self.rest,
             body: self.body,
             left: self.left,
         });
-        self.rest = place.rest;
-        self.body = place.body;
-        self.left = place.left;
+        self.rest = progress.rest;
+        self.body = progress.body;
+        self.left = progress.left;
         if self.rest.is_empty() {
             return None;
         }

@@ -8,7 +8,7 @@ ghost use Rattle.vga_script.specs.declared.version.Version.{Version};
 pub enum Version {
     /// Version 1: steps alone.
     One,
-    /// Version 2: steps, and blocks of them.
+    /// Version 2: steps, and repeats of them.
     Two,
 }
 

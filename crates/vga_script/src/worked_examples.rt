@@ -85,28 +85,28 @@ fn bytes_faulty()
     ensures past_the_end { IsFault (header Version.One
         ++ 0x0C ∷ 0x04 ∷ 0 ∷ 0xFF ∷ 0xFF ∷ 2 ∷ 0 ∷ [])
         (Fault.BadStep 5) }
-    ensures no_block { IsFault (header Version.One ++ 0x0D ∷ 1 ∷ 0 ∷ 0x0E ∷ []) (Fault.BadStep 5) }
+    ensures no_repeat { IsFault (header Version.One ++ 0x0D ∷ 1 ∷ 0 ∷ 0x0E ∷ []) (Fault.BadStep 5) }
 {}
 
 /// Blocks in bytes and in print, and the steps that they mean.
 #[tactic(auto, unfolding(crate::specs::Item::repeated, crate::specs::Printing::line_of, vga_bits::specs::Hex::hex, crate::specs::Printing::port_text))]
-fn blocks()
+fn repeats()
     ensures bytes { encoding three_times ≡ three_times_bytes }
     ensures steps { expanded three_times.items ≡ Step.Out 0x3C4 2 ∷ Step.Out 0x3C4 2
         ∷ Step.Out 0x3C4 2 ∷ [] }
     ensures text { printed three_times ≡ codes "version 2\nrepeat 3\nout 3C4 02\nend\n" }
 {}
 
-/// Bytes that spell blocks.
-fn blocks_spelled()
+/// Bytes that spell repeats.
+fn repeats_spelled()
     ensures none { Spells (codes "VGAS" ++ 2 ∷ []) (listing Version.Two []) }
     ensures empty { Spells (codes "VGAS" ++ 2 ∷ 0x0D ∷ 0xFF ∷ 0xFF ∷ 0x0E ∷ []) nothing_repeated }
     ensures no_steps { expanded nothing_repeated.items ≡ [] }
     ensures frames { Spells (frames_repeated_bytes 256) (frames_repeated 256) }
 {}
 
-/// Bytes with a fault in or at a block.
-fn blocks_faulty()
+/// Bytes with a fault in or at a repeat.
+fn repeats_faulty()
     ensures open { IsFault (header Version.Two ++ 0x0D ∷ 3 ∷ 0 ∷ 1 ∷ 0xC4 ∷ 0x03 ∷ 0x02 ∷ [])
         (Fault.Truncated 5) }
     ensures no_count { IsFault (header Version.Two ++ 0x0D ∷ 3 ∷ []) (Fault.Truncated 5) }
@@ -119,8 +119,8 @@ fn blocks_faulty()
     ensures many { IsFault (frames_repeated_bytes 257) (Fault.TooMany 5) }
 {}
 
-/// A text with a block, and texts of which a line in or at a block is bad.
-fn blocks_in_text()
+/// A text with a repeat, and texts of which a line in or at a repeat is bad.
+fn repeats_in_text()
     ensures block { SpellsText (codes "Version 2\nrepeat 03 ; times\n\n out 3c4 2\nEND")
         three_times }
     ensures no_end { IsTextFault (codes "version 2\nrepeat 3\nframe") (Fault.BadLine 2) }

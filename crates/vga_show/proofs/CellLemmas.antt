@@ -2,7 +2,7 @@
 use Rattle.std.proofs.Common.{◌≡◌, ℕ, suc, ◌+◌, ◌-◌, ◌<◌, ◌≤◌, Bool, false, List, [], ◌++◌, Option, sym, ap, ◌∙◌, arith, append_assoc}
 use Rattle.std.specs.Io.KnownBytes.{Appends}
 use Rattle.std.proofs.KnownBytes.{Appends-trans}
-use Rattle.vga_bits.specs.Tracked.{AppendsFront}
+use Rattle.vga_bits.specs.Tracked.{AppendsPrefix}
 use Rattle.vga_bits.proofs.WritingLemmas.{Written}
 use Rattle.vga_card.specs.Card.{CardState}
 use Rattle.bios_modes.specs.Bda.{BiosData}
@@ -28,12 +28,12 @@ written_line old mid new was failed all left line rest e w a f = record {
   sound = f;
 }
 
--- or a front of it, and so of all
-pub front_line : (old mid new : Option (List ℕ)) (was : Bool) (all left line rest : List ℕ) → left ≡ line ++ rest → Written old mid was all left →
-    AppendsFront mid new line → AppendsFront old new all
-front_line old mid new was all left line rest e w (front, back, parts, a) = (
-  w.done ++ front,
+-- or a prefix of it, and so of all
+pub prefix_line : (old mid new : Option (List ℕ)) (was : Bool) (all left line rest : List ℕ) → left ≡ line ++ rest → Written old mid was all left →
+    AppendsPrefix mid new line → AppendsPrefix old new all
+prefix_line old mid new was all left line rest e w (prefix, back, parts, a) = (
+  w.done ++ prefix,
   back ++ rest,
-  w.whole ∙ ap (λ l. w.done ++ l) (e ∙ ap (λ (l : List ℕ). l ++ rest) parts ∙ append_assoc front back rest) ∙ sym (append_assoc w.done front (back ++ rest)),
-  Appends-trans old mid new w.done front w.appended a,
+  w.whole ∙ ap (λ l. w.done ++ l) (e ∙ ap (λ (l : List ℕ). l ++ rest) parts ∙ append_assoc prefix back rest) ∙ sym (append_assoc w.done prefix (back ++ rest)),
+  Appends-trans old mid new w.done prefix w.appended a,
 )

@@ -68,7 +68,7 @@ fn bda_text(bda: &Bda) -> DumpText
 /// the places of the cursor on the eight pages, `type 0D0E page 00 crtc 03D4 last 18 height 0010`
 /// and a newline. The writer must not have failed before.
 ///
-/// It fails, with `WriteFault`, only where the writer does, which then has a front of the text.
+/// It fails, with `WriteFault`, only where the writer does, which then has a prefix of the text.
 pub fn dump_bda<W: Write>(out: &mut Tracked<W>, bda: &Bda) -> Result<(), Fault>
     requires { has_failed out.old ≡ false }
     ensures { Writes (W.contents (inner_of out.old)) (W.contents (inner_of out.new))

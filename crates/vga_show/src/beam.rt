@@ -55,7 +55,7 @@ pub(crate) fn beam_line(beam: &Beam, count: u16) -> DumpText
 /// `beam frame 0 line 0 char 0 dot 0 base 0000 scan 0 half 0 split 0 rows 0` and a newline, in
 /// decimal but for the base. The writer must not have failed before.
 ///
-/// It fails, with `WriteFault`, only where the writer does, which then has a front of the text.
+/// It fails, with `WriteFault`, only where the writer does, which then has a prefix of the text.
 pub fn dump_beam<W: Write>(out: &mut Tracked<W>, card: &Card) -> Result<(), Fault>
     requires { has_failed out.old ≡ false }
     ensures { Writes (W.contents (inner_of out.old)) (W.contents (inner_of out.new))

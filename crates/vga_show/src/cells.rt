@@ -89,7 +89,7 @@ fn write_rows<W: Write>(out: &mut Tracked<W>, card: &Card, bda: &Bda) -> Result<
 /// before a byte is written. The BIOS data must be valid, and the writer must not have failed
 /// before.
 ///
-/// It fails, with `WriteFault`, only where the writer does, which then has a front of the text.
+/// It fails, with `WriteFault`, only where the writer does, which then has a prefix of the text.
 pub fn dump_cells<W: Write>(
     out: &mut Tracked<W>,
     card: &Card,

@@ -27,7 +27,7 @@ fn latches_text(card: &Card) -> DumpText
 /// Writes the four latches, from plane 0, in hexadecimal: `latches 00 00 00 00` and a newline. The
 /// writer must not have failed before.
 ///
-/// It fails, with `WriteFault`, only where the writer does, which then has a front of the text.
+/// It fails, with `WriteFault`, only where the writer does, which then has a prefix of the text.
 pub fn dump_latches<W: Write>(out: &mut Tracked<W>, card: &Card) -> Result<(), Fault>
     requires { has_failed out.old ≡ false }
     ensures { Writes (W.contents (inner_of out.old)) (W.contents (inner_of out.new))

@@ -47,7 +47,7 @@ fn plane_text(card: &Card, plane: u8, offset: u16, count: u16) -> DumpText
 /// The plane is 0 to 3, the bytes are 1 to 256 and end with the plane. The writer must not have
 /// failed before.
 ///
-/// It fails, with `WriteFault`, only where the writer does, which then has a front of the text.
+/// It fails, with `WriteFault`, only where the writer does, which then has a prefix of the text.
 pub fn dump_plane<W: Write>(
     out: &mut Tracked<W>,
     card: &Card,

@@ -26,8 +26,8 @@ fn header(width: u32, height: u32) -> DumpText
 /// Writes a picture of so many dots as a Netpbm PPM, where `bytes` are the red, green and blue, 0
 /// to 63, of each dot, row by row. The writer must not have failed before.
 ///
-/// It fails, with `WriteFault`, only where the writer does, which then has a front of the PPM.
-#[tactic(auto, using(vga_bits::proofs::WritingLemmas::writes_after, vga_bits::proofs::WritingLemmas::front_of_more))]
+/// It fails, with `WriteFault`, only where the writer does, which then has a prefix of the PPM.
+#[tactic(auto, using(vga_bits::proofs::WritingLemmas::writes_after, vga_bits::proofs::WritingLemmas::prefix_of_more))]
 pub fn write_ppm<W: Write>(
     out: &mut Tracked<W>,
     width: u32,

@@ -113,7 +113,7 @@ fn regs_text(card: &Card) -> DumpText
 /// green that wait. No register is read through a port, so that none changes, and no flip-flop. The
 /// writer must not have failed before.
 ///
-/// It fails, with `WriteFault`, only where the writer does, which then has a front of the text.
+/// It fails, with `WriteFault`, only where the writer does, which then has a prefix of the text.
 pub fn dump_regs<W: Write>(out: &mut Tracked<W>, card: &Card) -> Result<(), Fault>
     requires { has_failed out.old ≡ false }
     ensures { Writes (W.contents (inner_of out.old)) (W.contents (inner_of out.new))

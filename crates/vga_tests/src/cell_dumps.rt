@@ -63,8 +63,8 @@ fn takes(alloc: Global, card: &Card, taken: &[u8], full: Full, answer: Result<()
 }
 
 /// Whether each writer that has too little room for the cells, and then refuses so, fails and has a
-/// front of the text.
-fn are_fronts_taken(alloc: Global, card: &Card, text: &[u8], full: Full) -> bool {
+/// prefix of the text.
+fn are_prefixes_taken(alloc: Global, card: &Card, text: &[u8], full: Full) -> bool {
     let fault = Err(Fault::WriteFault);
     for room in 0..text.len() {
         if !takes(alloc, card, &text[..room], full, fault) {
@@ -83,13 +83,13 @@ fn check_refusals(alloc: Global, card: &Card, checks: &mut Checks) -> Result<(),
     Ok(())
 }
 
-/// Checks writers that take the cells, whose text this is, or a front of them.
+/// Checks writers that take the cells, whose text this is, or a prefix of them.
 fn check_writers(alloc: Global, card: &Card, text: &[u8], checks: &mut Checks) {
     for full in FULL {
         checks.note("whole cells", takes(alloc, card, text, full, Ok(())));
         checks.note(
-            "a front of the cells",
-            are_fronts_taken(alloc, card, text, full),
+            "a prefix of the cells",
+            are_prefixes_taken(alloc, card, text, full),
         );
     }
 }

@@ -69,8 +69,8 @@ fn takes(
 }
 
 /// Whether each writer that has too little room for a dump, and then refuses so, fails and has a
-/// front of its text.
-fn are_fronts_taken(alloc: Global, dump: Dump, card: &Card, text: &[u8], full: Full) -> bool {
+/// prefix of its text.
+fn are_prefixes_taken(alloc: Global, dump: Dump, card: &Card, text: &[u8], full: Full) -> bool {
     let fault = Err(Fault::WriteFault);
     for room in 0..text.len() {
         if !takes(alloc, dump, card, &text[..room], full, fault) {
@@ -80,13 +80,13 @@ fn are_fronts_taken(alloc: Global, dump: Dump, card: &Card, text: &[u8], full: F
     true
 }
 
-/// Checks writers that take a dump, whose text this is, or a front of it.
+/// Checks writers that take a dump, whose text this is, or a prefix of it.
 fn check_writers(alloc: Global, dump: Dump, card: &Card, text: &[u8], checks: &mut Checks) {
     for full in FULL {
         checks.note("a whole dump", takes(alloc, dump, card, text, full, Ok(())));
         checks.note(
-            "a front of a dump",
-            are_fronts_taken(alloc, dump, card, text, full),
+            "a prefix of a dump",
+            are_prefixes_taken(alloc, dump, card, text, full),
         );
     }
 }

@@ -12,7 +12,7 @@ const TWO_DOTS: [u8; 6] = [0x00, 0x2A, 0x3F, 0x0A, 0x20, 0x15];
 /// Its PPM.
 const TWO_DOTS_PPM: [u8; 16] = *b"P6\n2 1\n63\n\x00\x2A\x3F\x0A\x20\x15";
 
-/// Widths and heights, and the front of a PPM with these.
+/// Widths and heights, and the prefix of a PPM with these.
 const SIZES: [(u32, u32, &[u8]); 4] = [
     (0, 0, b"P6\n0 0\n63\n"),
     (720, 400, b"P6\n720 400\n63\n"),
@@ -35,8 +35,8 @@ fn takes(alloc: Global, taken: &[u8], full: Full, answer: Result<(), Fault>) -> 
 }
 
 /// Whether each writer that has too little room for a picture, and then refuses so, fails and has a
-/// front of it.
-fn are_fronts_taken(alloc: Global, full: Full) -> bool {
+/// prefix of it.
+fn are_prefixes_taken(alloc: Global, full: Full) -> bool {
     let fault = Err(Fault::WriteFault);
     for room in 0..TWO_DOTS_PPM.len() {
         if !takes(alloc, &TWO_DOTS_PPM[..room], full, fault) {
@@ -54,7 +54,7 @@ pub fn check_pictures(alloc: Global) -> Checks {
     }
     for full in FULL {
         checks.note("a whole picture", takes(alloc, &TWO_DOTS_PPM, full, Ok(())));
-        checks.note("a front of a picture", are_fronts_taken(alloc, full));
+        checks.note("a prefix of a picture", are_prefixes_taken(alloc, full));
     }
     checks
 }

@@ -112,11 +112,11 @@ fn is_font_size_first(alloc: Global, fonts: &[u8]) -> bool {
 fn is_writer_left(
     alloc: Global,
     fonts: &[u8],
-    front: &[u8],
+    prefix: &[u8],
     piece: usize,
     kind: ErrorKind,
 ) -> bool {
-    let mut reader = Tracked::new(Source::of(front, piece, kind));
+    let mut reader = Tracked::new(Source::of(prefix, piece, kind));
     let mut out = Sink::new(alloc, 100, Full::Fails);
     let answer = run(alloc, &mut reader, fonts, &mut out, None);
     answer == Err(Fault::ReadFault)
@@ -192,8 +192,8 @@ fn check_readers(alloc: Global, fonts: &[u8], checks: &mut Checks) {
 }
 
 /// Whether each writer that has too little room for the report, and then refuses so, fails and has
-/// a front of it.
-fn are_fronts_taken(alloc: Global, fonts: &[u8], full: Full) -> bool {
+/// a prefix of it.
+fn are_prefixes_taken(alloc: Global, fonts: &[u8], full: Full) -> bool {
     let fault = Err(Fault::WriteFault);
     for room in 0..FIRST_REPORT.len() {
         if !takes(alloc, fonts, room, full, fault, &FIRST_REPORT[..room], 0) {
@@ -216,7 +216,10 @@ fn check_writers(alloc: Global, fonts: &[u8], checks: &mut Checks) {
             "a flush that fails",
             takes(alloc, fonts, len, full, fault, &FIRST_REPORT, 1),
         );
-        checks.note("a writer that fails", are_fronts_taken(alloc, fonts, full));
+        checks.note(
+            "a writer that fails",
+            are_prefixes_taken(alloc, fonts, full),
+        );
     }
 }
 

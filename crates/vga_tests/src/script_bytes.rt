@@ -10,7 +10,7 @@ use vga_script::{Script, decode, encode};
 const LIMIT: usize = 16_777_216;
 
 /// A script of one step, in 8 bytes.
-const FRONT: &[u8] = b"VGAS\x01\x03\xDA\x03";
+const PREFIX: &[u8] = b"VGAS\x01\x03\xDA\x03";
 
 /// A whole step of each opcode.
 const STEPS: [&[u8]; 19] = [
@@ -60,7 +60,7 @@ fn are_two_steps(alloc: Global, bytes: &[u8]) -> Result<bool, Fault> {
 
 /// Whether a script of two steps that is cut off within the second has its fault there.
 fn is_cut_named(alloc: Global, bytes: &[u8]) -> bool {
-    for len in FRONT.len() + 1..bytes.len() {
+    for len in PREFIX.len() + 1..bytes.len() {
         if byte_fault(alloc, &bytes[..len]) != Some(Fault::Truncated(8)) {
             return false;
         }
@@ -77,7 +77,7 @@ fn is_end_named(alloc: Global, bytes: &[u8]) -> Result<bool, AllocError> {
 
 /// Checks a script of which this is the second step.
 fn check_step(alloc: Global, step: &[u8], checks: &mut Checks) -> Result<()> {
-    let mut bytes = Vec::from_slice(alloc, FRONT)?;
+    let mut bytes = Vec::from_slice(alloc, PREFIX)?;
     bytes.extend_from_slice(step)?;
     let bytes = bytes.as_slice();
     checks.note("a whole step", are_two_steps(alloc, bytes)?);

@@ -36,8 +36,8 @@ impl Read for Source<'_> {
             return Err(io::Error::from(self.kind));
         }
         let n = self.piece.min(self.bytes.len()).min(buf.len());
-        let (front, rest) = self.bytes.split_at(n);
-        buf[..n].copy_from_slice(front);
+        let (prefix, rest) = self.bytes.split_at(n);
+        buf[..n].copy_from_slice(prefix);
         self.bytes = rest;
         Ok(n)
     }

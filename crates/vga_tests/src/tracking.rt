@@ -6,7 +6,7 @@ use anyhow::Result;
 use std::alloc::Global;
 use std::io;
 use std::io::{ErrorKind, Read, Write};
-use vga_bits::{Fault, Tracked, flush, read_front, write_whole};
+use vga_bits::{Fault, Tracked, flush, read_prefix, write_whole};
 
 const BROKEN: ErrorKind = ErrorKind::BrokenPipe;
 
@@ -103,22 +103,22 @@ fn check_pieces(alloc: Global, checks: &mut Checks) {
     let mut writer = Scripted::of(alloc, &answers[..2]);
     let refused = write_whole(&mut writer, b"9 55\n") == Err(Fault::WriteFault) && writer.failed();
     checks.note(
-        "a front of the bytes",
+        "a prefix of the bytes",
         refused && writer.into_inner().has_taken(b"9 55"),
     );
 }
 
-/// Checks that the front of a reader is read, and no more.
-fn check_front(alloc: Global, checks: &mut Checks) -> Result<()> {
+/// Checks that the prefix of a reader is read, and no more.
+fn check_prefix(alloc: Global, checks: &mut Checks) -> Result<()> {
     let mut reader = Tracked::new(b"VGAS".as_slice());
-    let none = read_front(alloc, &mut reader, 0)?;
+    let none = read_prefix(alloc, &mut reader, 0)?;
     checks.note("no bytes of a reader", none.is_empty());
-    let front = read_front(alloc, &mut reader, 3)?;
+    let prefix = read_prefix(alloc, &mut reader, 3)?;
     checks.note(
-        "the front of a reader",
-        front.as_slice() == b"VGA".as_slice(),
+        "the prefix of a reader",
+        prefix.as_slice() == b"VGA".as_slice(),
     );
-    let rest = read_front(alloc, &mut reader, 3)?;
+    let rest = read_prefix(alloc, &mut reader, 3)?;
     checks.note("the rest of a reader", rest.as_slice() == b"S".as_slice());
     checks.note(
         "bytes that were read",
@@ -127,16 +127,16 @@ fn check_front(alloc: Global, checks: &mut Checks) -> Result<()> {
     Ok(())
 }
 
-/// Checks that a front is read in the pieces that come, and a failure behind it is a fault.
-fn check_front_in_pieces(alloc: Global, checks: &mut Checks) -> Result<()> {
+/// Checks that a prefix is read in the pieces that come, and a failure behind it is a fault.
+fn check_prefix_in_pieces(alloc: Global, checks: &mut Checks) -> Result<()> {
     let answers = [Answer::Bytes(1), Answer::Bytes(3), Answer::Error(BROKEN)];
     let mut reader = Scripted::of(alloc, &answers);
-    let front = read_front(alloc, &mut reader, 4)?;
+    let prefix = read_prefix(alloc, &mut reader, 4)?;
     checks.note(
-        "a front in pieces",
-        front.as_slice() == b"****".as_slice() && !reader.failed(),
+        "a prefix in pieces",
+        prefix.as_slice() == b"****".as_slice() && !reader.failed(),
     );
-    let fault = read_front(alloc, &mut reader, 1).err();
+    let fault = read_prefix(alloc, &mut reader, 1).err();
     checks.note(
         "a reader that fails",
         fault == Some(Fault::ReadFault) && reader.failed(),
@@ -151,7 +151,7 @@ pub fn check_tracking(alloc: Global) -> Result<Checks> {
     check_writes(alloc, &mut checks);
     check_flushes(alloc, &mut checks);
     check_pieces(alloc, &mut checks);
-    check_front(alloc, &mut checks)?;
-    check_front_in_pieces(alloc, &mut checks)?;
+    check_prefix(alloc, &mut checks)?;
+    check_prefix_in_pieces(alloc, &mut checks)?;
     Ok(checks)
 }

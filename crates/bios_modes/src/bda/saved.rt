@@ -3,7 +3,7 @@ ghost use Rattle.std.specs.Prelude.{◌≡◌, ◌+◌, ◌≤◌, ◌↔◌, le
 ghost use Rattle.std.specs.List.{flat_map};
 ghost use Rattle.vga_bits.specs.Saved.{word_bytes, words_in, IsPut};
 ghost use Rattle.bios_modes.specs.Valid.{IsValid};
-ghost use Rattle.bios_modes.specs.Saved.{saved_front, saved_back, saved_bda, bda_from, IsSavedBda};
+ghost use Rattle.bios_modes.specs.Saved.{saved_prefix, saved_back, saved_bda, bda_from, IsSavedBda};
 
 use super::{Bda, PAGES};
 use vga_bits::{high_byte, low_byte, put_bytes, put_word, word_at};
@@ -38,8 +38,8 @@ impl Bda {
     pub const SAVED_LEN: usize = 31;
 
     /// The bytes before the places of the cursor.
-    fn front(&self) -> [u8; 7]
-        ensures { result ≡ saved_front self.now }
+    fn prefix(&self) -> [u8; 7]
+        ensures { result ≡ saved_prefix self.now }
     {
         [
             self.mode,
@@ -76,7 +76,7 @@ impl Bda {
         ensures put { IsPut out.old out.new at result (saved_bda self.now) }
         ensures end { result ≡ at + 31 }
     {
-        let at = put_bytes(out, at, &self.front());
+        let at = put_bytes(out, at, &self.prefix());
         let at = put_places(out, at, &self.cursor_places);
         put_bytes(out, at, &self.back())
     }

@@ -33,8 +33,8 @@ collected_lines f line (suc n) =
     ap (collect f) e ∙ collected_split f (n * line) line ∙ ap (λ l. l ++ collect (λ x. f (n * line + x)) line) (collected_lines f line n)
 
 -- of n the first a, where the others are nothing
-pub collected_front : (f : ℕ → List Dot) (a n : ℕ) → a ≤ n → ((i : ℕ) → a ≤ i → i < n → f i ≡ []) → collect f n ≡ collect f a
-collected_front f a n le h =
+pub collected_prefix : (f : ℕ → List Dot) (a n : ℕ) → a ≤ n → ((i : ℕ) → a ≤ i → i < n → f i ≡ []) → collect f n ≡ collect f a
+collected_prefix f a n le h =
     let e : n ≡ a + (n - a) = omega arith in
     ap (collect f) e ∙ collected_split f a (n - a) ∙ ap (λ l. collect f a ++ l) (none_collected (λ i. f (a + i)) (n - a) (λ i l.
     h (a + i) (omega arith) (omega arith))) ∙ append-nil (collect f a)
@@ -65,7 +65,7 @@ pub row_there : (m : Raster) (f : Colours) (y : ℕ) → width m ≤ line_dots m
 row_there m f y narrow within =
     let line = line_dots m in
     let g : ℕ → List Dot = λ x. picture_dot m f (y * line + x) in
-    collected_front g (width m) line narrow (λ x past small. dot_there m f y x small
+    collected_prefix g (width m) line narrow (λ x past small. dot_there m f y x small
     ∙ ap (λ v. if v && nat_lt y m.height then one_dot f y x else []) (not_lt x (width m) past))
     ∙ same_collected g (one_dot f y) (width m) (λ x inside. dot_there m f y x (omega arith)
     ∙ ap (λ v. if v && nat_lt y m.height then one_dot f y x else []) (lt_test x (width m) inside)
@@ -85,7 +85,7 @@ whole_picture m f narrow low =
     let line = line_dots m in
     let rows : ℕ → List Dot = λ y. collect (λ x. picture_dot m f (y * line + x)) line in
     collected_lines (picture_dot m f) line m.lines
-    ∙ collected_front rows m.height m.lines low (λ y below in_frame. no_row_there m f y below)
+    ∙ collected_prefix rows m.height m.lines low (λ y below in_frame. no_row_there m f y below)
     ∙ same_collected rows (row_dots f (width m)) m.height (λ y within. row_there m f y narrow within)
 
 -- ---- its lines

@@ -3,7 +3,7 @@ use Rattle.std.proofs.Common.{◌≡◌, ℕ, refl, sym, ap, ◌∙◌, subst, B
 use Rattle.bios_screen.proofs.Prelude.{ModeRow, is_text}
 use Rattle.bios_modes.specs.Modes.{mode_row}
 use Rattle.bios_modes.proofs.RowLemmas.{own_row}
-use Rattle.bios_screen.specs.Served.{SetsFresh}
+use Rattle.bios_screen.specs.AfterCall.{SetsFresh}
 use Rattle.bios_screen.proofs.Base.Tests.{some_same}
 use Rattle.bios_screen.proofs.Modes.TextModes.{TextRow, row_of, number_of}
 use Rattle.bios_screen.proofs.Modes.PixelModes.{graphics_13}

@@ -15,7 +15,7 @@ use Rattle.bios_services.specs.Service.{call_plan, set_mode_plan, answer_of, Ans
 use Rattle.bios_services.specs.ModeSet.{registers_plan, colour_plan, palette_plan, mode_set_plan}
 use Rattle.bios_screen.specs.Shown.{palette_in}
 use Rattle.bios_screen.specs.Fresh.{default_component, fresh_palette, fresh_screen}
-use Rattle.bios_screen.specs.Served.{SetsFresh}
+use Rattle.bios_screen.specs.AfterCall.{SetsFresh}
 use Rattle.bios_screen.proofs.Base.Plans.{then_runs, then_answers}
 use Rattle.bios_screen.proofs.Base.Lists.{same_from_0, spelled}
 use Rattle.bios_services.proofs.CardLemmas.{plan_bounds, plan_beam}

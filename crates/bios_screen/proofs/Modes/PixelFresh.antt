@@ -13,7 +13,7 @@ use Rattle.bios_services.specs.ModeSet.{clear_plan, text_plan, memory_plan, mode
 use Rattle.bios_screen.specs.Screen.{Pixels, Palette}
 use Rattle.bios_screen.specs.Shown.{pixels_in, pixel_pages, screen_by}
 use Rattle.bios_screen.specs.Fresh.{blank_pixels, fresh_text, fresh_pixels}
-use Rattle.bios_screen.specs.Served.{SetsFresh}
+use Rattle.bios_screen.specs.AfterCall.{SetsFresh}
 use Rattle.bios_screen.proofs.Base.Flat.{set_cell}
 use Rattle.bios_screen.proofs.Base.Edits.{one_edit, changed_edit, edits}
 use Rattle.bios_screen.proofs.Base.Lists.{blank_listing}

@@ -14,7 +14,7 @@ use Rattle.bios_services.specs.ModeSet.{registers_plan, glyphs_plan, font_plan, 
 use Rattle.bios_screen.specs.Screen.{Palette}
 use Rattle.bios_screen.specs.Shown.{cells_in, glyph_byte, glyphs_in, shows, screen_with, screen_of, shown_by}
 use Rattle.bios_screen.specs.Fresh.{blank_cells, font_bytes, fresh_text, fresh_pixels}
-use Rattle.bios_screen.specs.Served.{SetsFresh}
+use Rattle.bios_screen.specs.AfterCall.{SetsFresh}
 use Rattle.bios_screen.proofs.Shows.Screens.{screen_is_text}
 use Rattle.bios_screen.proofs.Base.Flat.{Edited, Turn, Leaves, set_cell}
 use Rattle.bios_screen.proofs.Base.Plans.{then_runs}

@@ -9,7 +9,7 @@ use Rattle.bios_services.specs.declared.colours.ColourService.{ColourService}
 use Rattle.bios_services.specs.declared.call.Service.{Service}
 use Rattle.bios_services.specs.declared.call.Service.TheVariants.{SetCursorType, SetCursor, ReadCursor, SelectPage, ReadCell, WriteCells, ScrollUp, ScrollDown}
 use Rattle.bios_services.specs.declared.call.Service.TheVariants.{WritePixel, ReadPixel, Teletype, ReadMode, Colours, ReadAdapter, WriteString, ReadDisplay}
-use Rattle.bios_screen.specs.Served.{FitsBytes, Serves, ServesText}
+use Rattle.bios_screen.specs.AfterCall.{FitsBytes, Serves, ServesText}
 use Rattle.bios_screen.proofs.Shows.Screens.{text_shown}
 use Rattle.bios_screen.proofs.Shows.Any.{IsAny, any_screen, any_is}
 use Rattle.bios_screen.proofs.Services.AnyReaders as any

@@ -21,7 +21,7 @@ use Rattle.bios_services.specs.Refusals.{on_page_named, refusal_in_mode}
 use Rattle.bios_services.specs.Service.{plan_of, set_mode_plan, Answered, answer_of, refuse, unless, in_mode_plan, call_plan}
 use Rattle.bios_modes.specs.Bounds.{IsBda}
 use Rattle.bios_screen.specs.Step.{refusal_on, next, answer_on}
-use Rattle.bios_screen.specs.Served.{Serves, after_call, after_service}
+use Rattle.bios_screen.specs.AfterCall.{Serves, after_call, after_service}
 use Rattle.bios_screen.specs.Called.{AreWords, reply_unless, screen_unless, IsCalled}
 use Rattle.bios_screen.proofs.Base.Plans.{run_bind}
 use Rattle.bios_services.proofs.CardLemmas.{plan_beam}

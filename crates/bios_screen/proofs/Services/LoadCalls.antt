@@ -15,7 +15,7 @@ use Rattle.bios_services.specs.Reasons.{◌or◌, refuse_unless, wrong_block}
 use Rattle.bios_services.specs.GlyphLoads.{AreThere, glyphs_len, load_refusal, load_plan}
 use Rattle.bios_services.specs.Calls.{call_of}
 use Rattle.bios_services.specs.Service.{Answered, answer_of, call_plan, refuse, load_at, load_unless, load_in_mode_plan}
-use Rattle.bios_screen.specs.Served.{after_call}
+use Rattle.bios_screen.specs.AfterCall.{after_call}
 use Rattle.bios_screen.specs.Called.{reply_unless, screen_unless, IsLoaded}
 use Rattle.bios_screen.specs.Loaded.{height_refusal_on, load_at_height, load_glyphs}
 use Rattle.bios_screen.proofs.Base.Tests.{le_is}

@@ -27,7 +27,7 @@ use Rattle.bios_services.specs.Service.{plan_of}
 use Rattle.bios_screen.specs.Colours.{six_bits, with_value, with_block, with_entries, with_colours, colours_answer}
 use Rattle.bios_screen.proofs.Base.Reasons.{neither, holds, block_allowed}
 use Rattle.bios_screen.specs.Step.{refusal_on, next, answer_on}
-use Rattle.bios_screen.specs.Served.{FitsBytes}
+use Rattle.bios_screen.specs.AfterCall.{FitsBytes}
 use Rattle.bios_screen.proofs.Base.Plans.{run_bind, then_runs, then_answers}
 use Rattle.bios_screen.proofs.Base.Lists.{same_from_0, spelled}
 use Rattle.bios_screen.proofs.Base.Tests.{both_true, same, lt_is, le_is}

@@ -21,7 +21,7 @@ use Rattle.bios_services.specs.Calls.{call_of}
 use Rattle.bios_services.specs.Service.{Answered, answer_with, refuse, table_unless, table_in_mode_plan, call_plan}
 use Rattle.bios_screen.specs.Shown.{palette_in}
 use Rattle.bios_screen.specs.Colours.{entries_from, table_answer}
-use Rattle.bios_screen.specs.Served.{after_call}
+use Rattle.bios_screen.specs.AfterCall.{after_call}
 use Rattle.bios_screen.specs.Called.{IsRead, WantsMemory, IsLeft, table_unless as replied_unless}
 use Rattle.bios_screen.proofs.Base.Plans.{run_bind}
 use Rattle.bios_screen.proofs.Base.Ports.{expected_runs}

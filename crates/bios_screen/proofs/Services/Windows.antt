@@ -7,7 +7,7 @@ use Rattle.bios_services.specs.declared.scroll.Scroll.{Scroll}
 use Rattle.bios_services.specs.Refusals.{refusal_in_mode}
 use Rattle.bios_services.specs.Scroll.{IsOnPage, window_among, whole_page, lines_of, window_plan, page_up_plan, scroll_within, scroll_plan}
 use Rattle.bios_services.specs.Service.{plan_of}
-use Rattle.bios_screen.specs.Served.{Serves}
+use Rattle.bios_screen.specs.AfterCall.{Serves}
 use Rattle.bios_screen.specs.Step.{scroll_window, scroll_asked, scroll, page_up, refusal_on, next, answer_on}
 use Rattle.bios_services.proofs.CardLemmas.{plan_beam}
 use Rattle.bios_screen.proofs.Base.Plans.{run_bind}

@@ -14,8 +14,8 @@ fn copy_last(bytes: &mut [u8], used: usize, len: usize)
     ensures copied { take (used + len) bytes.new ≡ take used bytes.old
         ++ drop (used - len) (take used bytes.old) }
 {
-    let (front, back) = bytes.split_at_mut(used);
-    back[..len].copy_from_slice(&front[used - len..]);
+    let (prefix, back) = bytes.split_at_mut(used);
+    back[..len].copy_from_slice(&prefix[used - len..]);
 }
 
 /// Puts the last `len` of the first `used` bytes of a buffer behind them once more. The buffer has

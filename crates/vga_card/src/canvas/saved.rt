@@ -111,7 +111,7 @@ fn restore_widths(widths: &mut [u32], bytes: &[u8])
 /// Makes some bytes the first ones of a buffer, which has memory for them.
 fn restore_bytes(buffer: &mut Vec<u8>, bytes: &[u8])
     requires { length bytes.now ≤ vec_capacity buffer.old }
-    ensures front { take (length bytes.now) buffer.new.items ≡ bytes.now }
+    ensures prefix { take (length bytes.now) buffer.new.items ≡ bytes.now }
     ensures len { length bytes.now ≤ length buffer.new.items }
     ensures capacity { vec_capacity buffer.old ≤ vec_capacity buffer.new }
 {

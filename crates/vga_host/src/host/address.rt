@@ -15,8 +15,8 @@ impl Host {
     pub fn decodes(&self, address: u32, misc: u8) -> bool
         ensures { result ≡ is_decoded self.now misc address }
     {
-        let aim = self.aim();
-        is_memory_enabled(misc) && aim.start <= address && address < aim.start + aim.len
+        let access = self.access();
+        is_memory_enabled(misc) && access.start <= address && address < access.start + access.len
     }
 
     /// How many of n addresses from the first on the display memory has; `misc` is the
@@ -26,12 +26,12 @@ impl Host {
         ensures value { result ≡ decoded_among self.now misc first n }
         ensures few { result ≤ n }
     {
-        let aim = self.aim();
+        let access = self.access();
         if !is_memory_enabled(misc) {
             return 0;
         }
-        let start = first.max(aim.start);
-        let end = (first + n).min(aim.start + aim.len);
+        let start = first.max(access.start);
+        let end = (first + n).min(access.start + access.len);
         end.saturating_sub(start)
     }
 
@@ -40,23 +40,23 @@ impl Host {
         ensures { SomeIff result (IsTrue (is_decoded self.now misc address))
             (window_offset self.now address) }
     {
-        self.aim().place(address, misc)
+        self.access().in_window(address, misc)
     }
 
-    /// The offset in each plane of a place in the window.
-    pub(super) fn plane_offset(&self, place: u16) -> u16
-        ensures { result ≡ plane_offset self.now place }
+    /// The offset in each plane of an offset in the window.
+    pub(super) fn plane_offset(&self, in_window: u16) -> u16
+        ensures { result ≡ plane_offset self.now in_window }
     {
-        self.aim().offset(place)
+        self.access().offset(in_window)
     }
 
-    /// The planes that a write at a place in the window reaches.
-    pub(super) fn reached(&self, place: u16) -> PlaneSet
-        ensures plane0 { is_set result 0 ≡ is_reached self.now place 0 }
-        ensures plane1 { is_set result 1 ≡ is_reached self.now place 1 }
-        ensures plane2 { is_set result 2 ≡ is_reached self.now place 2 }
-        ensures plane3 { is_set result 3 ≡ is_reached self.now place 3 }
+    /// The planes that a write at an offset in the window reaches.
+    pub(super) fn reached(&self, in_window: u16) -> PlaneSet
+        ensures plane0 { is_set result 0 ≡ is_reached self.now in_window 0 }
+        ensures plane1 { is_set result 1 ≡ is_reached self.now in_window 1 }
+        ensures plane2 { is_set result 2 ≡ is_reached self.now in_window 2 }
+        ensures plane3 { is_set result 3 ≡ is_reached self.now in_window 3 }
     {
-        self.aim().reached(place)
+        self.access().reached(in_window)
     }
 }

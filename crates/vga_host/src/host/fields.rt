@@ -112,7 +112,7 @@ impl Host {
     pub(super) fn is_chain_four(&self) -> bool
         ensures { result ≡ is_chain_four self.now }
     {
-        self.aim().four
+        self.access().chain_four
     }
 
     /// The planes whose set/reset bit is 1.

@@ -12,19 +12,19 @@ use super::Host;
 use crate::bytes::clear_in_all;
 use vga_bits::Refusal;
 use vga_planes::Latch;
-use vga_planes::words::filled;
+use vga_planes::plane_words::filled;
 
 impl Host {
-    /// The plane that read mode 0 picks for a place in the window.
-    fn picked_plane(&self, place: u16) -> usize
-        ensures plane { result ≡ picked_plane self.now place }
+    /// The plane that read mode 0 picks for an offset in the window.
+    fn picked_plane(&self, in_window: u16) -> usize
+        ensures plane { result ≡ picked_plane self.now in_window }
         ensures below { result < 4 }
     {
-        let place = place as usize;
+        let in_window = in_window as usize;
         if self.is_chain_four() {
-            place % 4
+            in_window % 4
         } else if self.is_odd_even_read() {
-            2 * self.read_map_pair() as usize + place % 2
+            2 * self.read_map_pair() as usize + in_window % 2
         } else {
             self.read_map_select() as usize
         }
@@ -48,23 +48,23 @@ impl Host {
         clear_in_all(self.differing(bytes))
     }
 
-    /// The answer to a read at a place in the window, from the bytes loaded, by its bits.
+    /// The answer to a read at an offset in the window, from the bytes loaded, by its bits.
     #[tactic(auto, unfolding(crate::specs::MemoryRead::read_bit))]
-    fn read_bits(&self, place: u16, bytes: Latch) -> u8
-        ensures { (i : ℕ) → i < 8 → bit_at result i ≡ read_bit self.now place bytes i }
+    fn read_bits(&self, in_window: u16, bytes: Latch) -> u8
+        ensures { (i : ℕ) → i < 8 → bit_at result i ≡ read_bit self.now in_window bytes i }
     {
         if self.is_read_compare() {
             self.compared(bytes)
         } else {
-            bytes.byte(self.picked_plane(place))
+            bytes.byte(self.picked_plane(in_window))
         }
     }
 
-    /// The answer to a read at a place in the window, from the bytes loaded.
-    pub(super) fn read_byte(&self, place: u16, bytes: Latch) -> u8
-        ensures { result ≡ byte_of (λ i. read_bit self.now place bytes i) }
+    /// The answer to a read at an offset in the window, from the bytes loaded.
+    pub(super) fn read_byte(&self, in_window: u16, bytes: Latch) -> u8
+        ensures { result ≡ byte_of (λ i. read_bit self.now in_window bytes i) }
     {
-        self.read_bits(place, bytes)
+        self.read_bits(in_window, bytes)
     }
 
     /// Reads a byte of display memory, and loads the latches with the four bytes at its offset;
@@ -76,11 +76,11 @@ impl Host {
             × (self.new ≡ after_get self.old address)) }
         ensures refused { IfErr result (λ e. (e ≡ Refusal.NotDecoded) × (self.new ≡ self.old)) }
     {
-        let Some(place) = self.decoded(address, misc) else {
+        let Some(in_window) = self.decoded(address, misc) else {
             return Err(Refusal::NotDecoded);
         };
-        let bytes = self.planes.load(self.plane_offset(place));
-        let answer = self.read_byte(place, bytes);
+        let bytes = self.planes.load(self.plane_offset(in_window));
+        let answer = self.read_byte(in_window, bytes);
         self.latch = bytes;
         Ok(answer)
     }

@@ -13,7 +13,7 @@ use super::Host;
 use crate::bytes::{combined, rotated};
 use vga_bits::Refusal;
 use vga_planes::Latch;
-use vga_planes::words::{filled, selected, spread};
+use vga_planes::plane_words::{filled, selected, spread};
 
 impl Host {
     /// The rotated byte of a write.
@@ -105,7 +105,7 @@ impl Host {
 
     /// The bytes that the four planes get in write mode 1 where a write reaches them: the latches,
     /// whatever is written.
-    pub(super) fn latched(&self) -> Latch
+    pub(super) fn stored_latches(&self) -> Latch
         requires { write_mode self.now ≡ 1 }
         ensures { (v : ℕ) → result ≡ four (λ p. written_byte self.now v p) }
     {
@@ -117,22 +117,27 @@ impl Host {
     pub(super) fn written(&self, v: u8) -> Latch
         ensures { result ≡ four (λ p. written_byte self.now v p) }
     {
-        self.written_as(self.aim().plain, v)
+        self.written_as(self.access().stores_byte, v)
     }
 
     /// Writes a byte to an address of display memory; `misc` is the miscellaneous output register.
     /// It is refused with `NotDecoded`, and then changes nothing, where the address is not decoded.
+    ///
+    /// To follow a write, read this file and two more. `memory_access.rt` holds what the registers
+    /// say of an address: its offset in the window, the planes reached and the offset. `store` of
+    /// `vga_planes` keeps the bytes. The files on runs are for speed alone (`runs.rt`, `fills.rt`,
+    /// `transfers.rt`, `word_moves.rt`); no single cycle needs them.
     pub fn put(&mut self, address: u32, v: u8, misc: u8) -> Result<(), Refusal>
         ensures decoded { IsOk result ↔ IsTrue (is_decoded self.old misc address) }
         ensures ok { OnOk result (self.new ≡ after_put self.old address v) }
         ensures refused { IfErr result (λ e. (e ≡ Refusal.NotDecoded) × (self.new ≡ self.old)) }
     {
-        let Some(place) = self.decoded(address, misc) else {
+        let Some(in_window) = self.decoded(address, misc) else {
             return Err(Refusal::NotDecoded);
         };
         let bytes = self.written(v);
-        let set = self.reached(place);
-        let offset = self.plane_offset(place);
+        let set = self.reached(in_window);
+        let offset = self.plane_offset(in_window);
         self.planes.store(offset, bytes, set);
         Ok(())
     }

@@ -5,10 +5,10 @@ ghost use Rattle.std.specs.Prelude.{if◌then◌else◌};
 ghost use Rattle.vga_host.specs.Fields.{write_mode};
 ghost use Rattle.vga_host.specs.Runs.{put_bytes, get_where, byte_where, move_where, after_puts};
 ghost use Rattle.vga_host.specs.Runs.{after_moves, in_turn};
-ghost use Rattle.vga_host.specs.Aim.{IsAim};
+ghost use Rattle.vga_host.specs.MemoryAccess.{IsAccess};
 
 use super::Host;
-use super::aim::Aim;
+use super::memory_access::MemoryAccess;
 use vga_planes::Latch;
 
 /// What a read gives that is not decoded.
@@ -17,79 +17,85 @@ const REFUSED: u8 = 0xFF;
 impl Host {
     /// Writes these four bytes to the planes that an address reaches where it is decoded, by what
     /// the registers say of every write.
-    pub(super) fn put_aimed(&mut self, aim: Aim, bytes: Latch, address: u32, misc: u8)
-        requires aim { IsAim aim self.old }
-        requires small { aim.start + aim.len < 2 ^ 32 }
+    pub(super) fn put_by_access(
+        &mut self,
+        access: MemoryAccess,
+        bytes: Latch,
+        address: u32,
+        misc: u8,
+    )
+        requires access { IsAccess access self.old }
+        requires small { access.start + access.len < 2 ^ 32 }
         ensures { self.new ≡ put_bytes self.old misc address bytes }
     {
-        if let Some(place) = aim.place(address, misc) {
+        if let Some(in_window) = access.in_window(address, misc) {
             self.planes
-                .store(aim.offset(place), bytes, aim.reached(place));
+                .store(access.offset(in_window), bytes, access.reached(in_window));
         }
     }
 
     /// What a read of an address gives, by what the registers say of every cycle: FF, where it is
     /// not decoded.
-    pub(super) fn byte_aimed(&self, aim: Aim, address: u32, misc: u8) -> u8
-        requires aim { IsAim aim self.now }
-        requires small { aim.start + aim.len < 2 ^ 32 }
+    pub(super) fn byte_by_access(&self, access: MemoryAccess, address: u32, misc: u8) -> u8
+        requires access { IsAccess access self.now }
+        requires small { access.start + access.len < 2 ^ 32 }
         ensures { result ≡ byte_where self.now misc address }
     {
-        match aim.place(address, misc) {
-            Some(place) => {
-                let bytes = self.planes().load(aim.offset(place));
-                self.read_byte(place, bytes)
+        match access.in_window(address, misc) {
+            Some(in_window) => {
+                let bytes = self.planes().load(access.offset(in_window));
+                self.read_byte(in_window, bytes)
             }
             None => REFUSED,
         }
     }
 
     /// Loads the latches from an address where it is decoded, by what the registers say.
-    pub(super) fn load_aimed(&mut self, aim: Aim, address: u32, misc: u8)
-        requires aim { IsAim aim self.old }
-        requires small { aim.start + aim.len < 2 ^ 32 }
+    pub(super) fn load_by_access(&mut self, access: MemoryAccess, address: u32, misc: u8)
+        requires access { IsAccess access self.old }
+        requires small { access.start + access.len < 2 ^ 32 }
         ensures { self.new ≡ get_where self.old misc address }
     {
-        if let Some(place) = aim.place(address, misc) {
-            self.latch = self.planes.load(aim.offset(place));
+        if let Some(in_window) = access.in_window(address, misc) {
+            self.latch = self.planes.load(access.offset(in_window));
         }
     }
 
     /// Loads the latches from an address, and stores them at another. The byte read is not looked
     /// at.
-    fn move_latches(&mut self, aim: Aim, from: u32, to: u32, misc: u8)
-        requires aim { IsAim aim self.old }
-        requires small { aim.start + aim.len < 2 ^ 32 }
+    fn move_latches(&mut self, access: MemoryAccess, from: u32, to: u32, misc: u8)
+        requires access { IsAccess access self.old }
+        requires small { access.start + access.len < 2 ^ 32 }
         requires mode { write_mode self.old ≡ 1 }
         ensures { self.new ≡ move_where self.old misc from to }
     {
-        self.load_aimed(aim, from, misc);
-        let bytes = self.latched();
-        self.put_aimed(aim, bytes, to, misc);
+        self.load_by_access(access, from, misc);
+        let bytes = self.stored_latches();
+        self.put_by_access(access, bytes, to, misc);
     }
 
     /// Reads a byte from an address, and writes it to another.
-    fn move_byte(&mut self, aim: Aim, from: u32, to: u32, misc: u8)
-        requires aim { IsAim aim self.old }
-        requires small { aim.start + aim.len < 2 ^ 32 }
+    fn move_byte(&mut self, access: MemoryAccess, from: u32, to: u32, misc: u8)
+        requires access { IsAccess access self.old }
+        requires small { access.start + access.len < 2 ^ 32 }
         ensures { self.new ≡ move_where self.old misc from to }
     {
-        let byte = self.byte_aimed(aim, from, misc);
-        self.load_aimed(aim, from, misc);
+        let byte = self.byte_by_access(access, from, misc);
+        self.load_by_access(access, from, misc);
         let bytes = self.written(byte);
-        self.put_aimed(aim, bytes, to, misc);
+        self.put_by_access(access, bytes, to, misc);
     }
 
     /// Moves a byte from an address to another, in the way of the write mode.
-    fn move_aimed(&mut self, aim: Aim, from: u32, to: u32, misc: u8)
-        requires aim { IsAim aim self.old }
-        requires small { aim.start + aim.len < 2 ^ 32 }
+    fn move_by_access(&mut self, access: MemoryAccess, from: u32, to: u32, misc: u8)
+        requires access { IsAccess access self.old }
+        requires small { access.start + access.len < 2 ^ 32 }
         ensures { self.new ≡ move_where self.old misc from to }
     {
-        if aim.latched {
-            self.move_latches(aim, from, to, misc);
+        if access.stores_latches {
+            self.move_latches(access, from, to, misc);
         } else {
-            self.move_byte(aim, from, to, misc);
+            self.move_byte(access, from, to, misc);
         }
     }
 
@@ -100,10 +106,10 @@ impl Host {
         requires to { to + n < 2 ^ 32 }
         ensures { self.new ≡ after_moves misc from to n 0 self.old }
     {
-        let aim = self.aim();
-        let done = self.move_words(aim, from, to, n, misc);
+        let access = self.access();
+        let done = self.move_words(access, from, to, n, misc);
         for i in done..n {
-            self.move_aimed(aim, from + i, to + i, misc);
+            self.move_by_access(access, from + i, to + i, misc);
         }
     }
 
@@ -113,15 +119,15 @@ impl Host {
         requires { first + n < 2 ^ 32 }
         ensures { self.new ≡ after_puts misc first (in_turn even odd) n 0 self.old }
     {
-        let aim = self.aim();
+        let access = self.access();
         let bytes = self.written(even);
         let others = self.written(odd);
-        let done = self.fill_words(aim, bytes, others, first, n, even, odd, misc);
+        let done = self.fill_words(access, bytes, others, first, n, even, odd, misc);
         for i in done..n {
             if i % 2 == 0 {
-                self.put_aimed(aim, bytes, first + i, misc);
+                self.put_by_access(access, bytes, first + i, misc);
             } else {
-                self.put_aimed(aim, others, first + i, misc);
+                self.put_by_access(access, others, first + i, misc);
             }
         }
     }

@@ -74,7 +74,10 @@ impl Host {
         self.latch = latch_from(latch);
         self.seq.restore(seq);
         self.gfx.restore(gfx);
-        self.aim = self.aim.with_sequencer(&self.seq).with_graphics(&self.gfx);
+        self.access = self
+            .access
+            .with_sequencer(&self.seq)
+            .with_graphics(&self.gfx);
         self.seq_index = indexes[0];
         self.gfx_index = indexes[1];
         self.planes.restore(memory);

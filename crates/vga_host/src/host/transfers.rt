@@ -6,12 +6,12 @@ ghost use Rattle.std.specs.Prelude.{slice_index, false};
 ghost use Rattle.vga_host.specs.Fields.{is_read_compare};
 ghost use Rattle.vga_host.specs.MemoryRead.{picked_plane};
 ghost use Rattle.vga_host.specs.Address.{plane_offset};
-ghost use Rattle.vga_host.specs.Aim.{IsAim};
+ghost use Rattle.vga_host.specs.MemoryAccess.{IsAccess};
 ghost use Rattle.vga_host.specs.Runs.{after_puts, after_gets, byte_where, with_memory};
-ghost use Rattle.vga_host.specs.Words.{grouped as grouped_of, ArePutWithin, PutsWords};
+ghost use Rattle.vga_host.specs.PlaneWords.{grouped as grouped_of, ArePutWithin, PutsWords};
 
 use super::Host;
-use super::aim::Aim;
+use super::memory_access::MemoryAccess;
 use vga_planes::Latch;
 
 /// The bytes from number i on as a word: four of them, two that each go to two planes, or one that
@@ -32,24 +32,24 @@ fn grouped(per: u32, bytes: &[u8], i: usize) -> Latch
 impl Host {
     /// How many of these bytes make a word of the planes, where writes are plain and begin at its
     /// first place: 1, 2 or 4, or 0 where none do.
-    fn bytes_of_word(&self, aim: Aim, first: u32, bytes: &[u8], misc: u8) -> u32
-        requires aim { IsAim aim self.now }
-        requires start { aim.start ≤ first }
+    fn bytes_of_word(&self, access: MemoryAccess, first: u32, bytes: &[u8], misc: u8) -> u32
+        requires access { IsAccess access self.now }
+        requires start { access.start ≤ first }
         requires within { ArePutWithin self.now misc first (length bytes.now)
-            (first - aim.start) }
+            (first - access.start) }
         ensures known { 0 < result → (result ≡ 1) ⊎ ((result ≡ 2) ⊎ (result ≡ 4)) }
         ensures words { 0 < result → PutsWords result self.now misc first (length bytes.now)
-            (first - aim.start) (slice_index bytes.now)
+            (first - access.start) (slice_index bytes.now)
             (grouped_of result (slice_index bytes.now)) }
     {
-        let place = first - aim.start;
-        if !aim.plain {
+        let in_window = first - access.start;
+        if !access.stores_byte {
             0
-        } else if self.fills_planes(aim) {
+        } else if self.fills_planes(access) {
             1
-        } else if self.fills_fours(aim, place) {
+        } else if self.fills_fours(access, in_window) {
             4
-        } else if self.fills_pairs(aim, place) {
+        } else if self.fills_pairs(access, in_window) {
             2
         } else {
             0
@@ -59,23 +59,34 @@ impl Host {
     /// Puts words of `per` bytes each, as long as a whole one is left, and tells how many bytes
     /// that were.
     #[inline(always)]
-    fn put_groups(&mut self, aim: Aim, per: u32, first: u32, bytes: &[u8], misc: u8) -> u32
-        requires aim { IsAim aim self.old }
-        requires start { aim.start ≤ first }
+    fn put_groups(
+        &mut self,
+        access: MemoryAccess,
+        per: u32,
+        first: u32,
+        bytes: &[u8],
+        misc: u8,
+    ) -> u32
+        requires access { IsAccess access self.old }
+        requires start { access.start ≤ first }
         requires few { first + length bytes.now < 2 ^ 32 }
         requires per { (per ≡ 1) ⊎ ((per ≡ 2) ⊎ (per ≡ 4)) }
-        requires words { PutsWords per self.old misc first (length bytes.now) (first - aim.start)
+        requires words { PutsWords per self.old misc first (length bytes.now) (first - access.start)
             (slice_index bytes.now) (grouped_of per (slice_index bytes.now)) }
         ensures few { result ≤ length bytes.now }
         ensures kept { with_memory self.old self.new.memory ≡ self.new }
         ensures put { self.new ≡ after_puts misc first (slice_index bytes.now) result 0 self.old }
     {
-        let start = first - aim.start;
+        let start = first - access.start;
         let n = bytes.len() as u32;
         let mut done = 0;
         while n - done >= per {
-            let place = ((start + done) % 65_536) as u16;
-            self.put_word(place, grouped(per, bytes, done as usize), aim.mask);
+            let in_window = ((start + done) % 65_536) as u16;
+            self.put_word(
+                in_window,
+                grouped(per, bytes, done as usize),
+                access.map_mask,
+            );
             done += per;
         }
         done
@@ -84,22 +95,22 @@ impl Host {
     /// Puts words, where that is what writes of the first of these bytes do, and tells how many
     /// bytes that were.
     #[inline(never)]
-    fn put_whole_words(&mut self, aim: Aim, first: u32, bytes: &[u8], misc: u8) -> u32
-        requires aim { IsAim aim self.old }
-        requires small { aim.start + aim.len < 2 ^ 32 }
+    fn put_whole_words(&mut self, access: MemoryAccess, first: u32, bytes: &[u8], misc: u8) -> u32
+        requires access { IsAccess access self.old }
+        requires small { access.start + access.len < 2 ^ 32 }
         requires few { first + length bytes.now < 2 ^ 32 }
         ensures few { result ≤ length bytes.now }
         ensures kept { with_memory self.old self.new.memory ≡ self.new }
         ensures put { self.new ≡ after_puts misc first (slice_index bytes.now) result 0 self.old }
     {
-        if !self.is_put_within(aim, first, bytes.len() as u32, misc) {
+        if !self.is_put_within(access, first, bytes.len() as u32, misc) {
             return 0;
         }
         // Each number of bytes has a loop of its own.
-        match self.bytes_of_word(aim, first, bytes, misc) {
-            1 => self.put_groups(aim, 1, first, bytes, misc),
-            2 => self.put_groups(aim, 2, first, bytes, misc),
-            4 => self.put_groups(aim, 4, first, bytes, misc),
+        match self.bytes_of_word(access, first, bytes, misc) {
+            1 => self.put_groups(access, 1, first, bytes, misc),
+            2 => self.put_groups(access, 2, first, bytes, misc),
+            4 => self.put_groups(access, 4, first, bytes, misc),
             _ => 0,
         }
     }
@@ -111,12 +122,12 @@ impl Host {
         ensures { self.new ≡ after_puts misc first (slice_index bytes.now) (length bytes.now) 0
             self.old }
     {
-        let aim = self.aim();
+        let access = self.access();
         let n = bytes.len() as u32;
-        let done = self.put_whole_words(aim, first, bytes, misc);
+        let done = self.put_whole_words(access, first, bytes, misc);
         for i in done..n {
-            let word = self.written_as(aim.plain, bytes[i as usize]);
-            self.put_aimed(aim, word, first + i, misc);
+            let word = self.written_as(access.stores_byte, bytes[i as usize]);
+            self.put_by_access(access, word, first + i, misc);
         }
     }
 
@@ -126,7 +137,7 @@ impl Host {
     #[inline(always)]
     fn read_picked(
         &self,
-        aim: Aim,
+        access: MemoryAccess,
         base: usize,
         span: u16,
         unit: u16,
@@ -134,11 +145,11 @@ impl Host {
         bytes: &mut [u8],
         misc: u8,
     )
-        requires aim { IsAim aim self.now }
-        requires start { aim.start ≤ first }
+        requires access { IsAccess access self.now }
+        requires start { access.start ≤ first }
         requires few { first + length bytes.old < 2 ^ 32 }
         requires within { ArePutWithin self.now misc first (length bytes.old)
-            (first - aim.start) }
+            (first - access.start) }
         requires plain { is_read_compare self.now ≡ false }
         requires span { 0 < span }
         requires below { base + span ≤ 4 }
@@ -149,46 +160,46 @@ impl Host {
             slice_index bytes.new i ≡ byte_where self.now misc (first + i) }
         ensures size { length bytes.new ≡ length bytes.old }
     {
-        let start = first - aim.start;
+        let start = first - access.start;
         for i in 0..bytes.len() {
-            let place = ((start + i as u32) % 65_536) as u16;
-            let plane = base + (place % span) as usize;
-            bytes[i] = self.planes().byte(plane, place / unit * unit);
+            let in_window = ((start + i as u32) % 65_536) as u16;
+            let plane = base + (in_window % span) as usize;
+            bytes[i] = self.planes().byte(plane, in_window / unit * unit);
         }
     }
 
     /// Reads addresses that are all decoded, in read mode 0. Each way to pick a plane and an offset
     /// has a loop of its own.
     #[inline(never)]
-    fn read_within(&self, aim: Aim, first: u32, bytes: &mut [u8], misc: u8)
-        requires aim { IsAim aim self.now }
-        requires start { aim.start ≤ first }
+    fn read_within(&self, access: MemoryAccess, first: u32, bytes: &mut [u8], misc: u8)
+        requires access { IsAccess access self.now }
+        requires start { access.start ≤ first }
         requires few { first + length bytes.old < 2 ^ 32 }
         requires within { ArePutWithin self.now misc first (length bytes.old)
-            (first - aim.start) }
+            (first - access.start) }
         requires plain { is_read_compare self.now ≡ false }
         ensures bytes { (i : ℕ) → i < length bytes.old →
             slice_index bytes.new i ≡ byte_where self.now misc (first + i) }
         ensures size { length bytes.new ≡ length bytes.old }
     {
         if self.is_chain_four() {
-            self.read_picked(aim, 0, 4, 4, first, bytes, misc);
+            self.read_picked(access, 0, 4, 4, first, bytes, misc);
             return;
         }
         let pair = 2 * self.read_map_pair() as usize;
         let plane = self.read_map_select() as usize;
-        match (self.is_odd_even_read(), aim.pairs) {
-            (true, true) => self.read_picked(aim, pair, 2, 2, first, bytes, misc),
-            (true, false) => self.read_picked(aim, pair, 2, 1, first, bytes, misc),
-            (false, true) => self.read_picked(aim, plane, 1, 2, first, bytes, misc),
-            (false, false) => self.read_picked(aim, plane, 1, 1, first, bytes, misc),
+        match (self.is_odd_even_read(), access.chain_odd_even) {
+            (true, true) => self.read_picked(access, pair, 2, 2, first, bytes, misc),
+            (true, false) => self.read_picked(access, pair, 2, 1, first, bytes, misc),
+            (false, true) => self.read_picked(access, plane, 1, 2, first, bytes, misc),
+            (false, false) => self.read_picked(access, plane, 1, 1, first, bytes, misc),
         }
     }
 
     /// Reads the addresses from the first on, one after the other.
-    fn read_each(&mut self, aim: Aim, first: u32, bytes: &mut [u8], misc: u8)
-        requires aim { IsAim aim self.old }
-        requires small { aim.start + aim.len < 2 ^ 32 }
+    fn read_each(&mut self, access: MemoryAccess, first: u32, bytes: &mut [u8], misc: u8)
+        requires access { IsAccess access self.old }
+        requires small { access.start + access.len < 2 ^ 32 }
         requires few { first + length bytes.old < 2 ^ 32 }
         ensures latches { self.new ≡ after_gets misc first (length bytes.old) 0 self.old }
         ensures bytes { (i : ℕ) → i < length bytes.old →
@@ -197,13 +208,13 @@ impl Host {
     {
         for i in 0..bytes.len() {
             let address = first + i as u32;
-            bytes[i] = self.byte_aimed(aim, address, misc);
-            self.load_aimed(aim, address, misc);
+            bytes[i] = self.byte_by_access(access, address, misc);
+            self.load_by_access(access, address, misc);
         }
     }
 
-    /// Reads the addresses from the first on, in ascending order, into bytes of the caller's; a read
-    /// that is not decoded gives FF and loads no latch, and `misc` is the miscellaneous output
+    /// Reads the addresses from the first on, in ascending order, into bytes of the caller's; a
+    /// read that is not decoded gives FF and loads no latch, and `misc` is the miscellaneous output
     /// register.
     pub fn get_slice(&mut self, first: u32, bytes: &mut [u8], misc: u8)
         requires { first + length bytes.old < 2 ^ 32 }
@@ -212,14 +223,14 @@ impl Host {
             slice_index bytes.new i ≡ byte_where self.old misc (first + i) }
         ensures size { length bytes.new ≡ length bytes.old }
     {
-        let aim = self.aim();
+        let access = self.access();
         let n = bytes.len() as u32;
-        if n == 0 || self.is_read_compare() || !self.is_put_within(aim, first, n, misc) {
-            self.read_each(aim, first, bytes, misc);
+        if n == 0 || self.is_read_compare() || !self.is_put_within(access, first, n, misc) {
+            self.read_each(access, first, bytes, misc);
             return;
         }
-        self.read_within(aim, first, bytes, misc);
+        self.read_within(access, first, bytes, misc);
         // The latches are those of the last read.
-        self.load_aimed(aim, first + (n - 1), misc);
+        self.load_by_access(access, first + (n - 1), misc);
     }
 }

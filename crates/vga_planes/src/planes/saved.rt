@@ -3,7 +3,7 @@ ghost use Rattle.std.specs.Prelude.{◌≡◌, ◌+◌, ◌<◌, ◌≤◌, leng
 ghost use Rattle.vga_bits.specs.Four.{of_plane};
 ghost use Rattle.vga_bits.specs.Saved.{IsPut};
 ghost use Rattle.vga_planes.specs.Saved.{saved_memory, memory_from};
-ghost use Rattle.vga_planes.specs.Words.{planes_of};
+ghost use Rattle.vga_planes.specs.PlaneWords.{planes_of};
 
 use super::{PLANE_LEN, Planes};
 use crate::latch::Latch;

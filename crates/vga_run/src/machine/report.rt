@@ -101,7 +101,7 @@ impl Machine {
     ///
     /// # Errors
     ///
-    /// - `WriteFault`: the writer failed, and has a front of the report.
+    /// - `WriteFault`: the writer failed, and has a prefix of the report.
     /// - `OutOfMemory`: a step that takes memory got none. The answers of the steps before it are
     ///   written, whole.
     #[tactic(auto, using(crate::proofs::ReportLemmas::report_is_flushed))]

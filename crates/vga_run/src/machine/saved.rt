@@ -19,7 +19,7 @@ const MARK: [u8; 5] = [b'Z', b'A', b'K', b'S', 1];
 /// How many bytes the header has: the mark, the version, and the length of the whole.
 const HEADER_LEN: usize = 9;
 
-/// Puts the header of so many bytes into a slice, at its front.
+/// Puts the header of so many bytes into a slice, at its beginning.
 fn put_header(out: &mut [u8], len: usize) -> usize
     requires few { len < 4294967296 }
     requires room { 9 ≤ length out.old }

@@ -2,11 +2,11 @@ use Rattle.std.proofs.Common.{◌≡◌, ◌-◌, take}
 use Rattle.bios_services.specs.Plan.{run, gather}
 use Rattle.bios_services.specs.Bands.{address_in}
 use Rattle.bios_services.specs.CharacterReading.{line_plan, lines_plan}
-use Rattle.bios_services.proofs.PlanRuns.{with_front}
+use Rattle.bios_services.proofs.PlanRuns.{with_prefix}
 use Rattle.bios_services.proofs.character_reading.read_lines.Given as goal
 
 -- the lines so far and those that are still to be read are all of them
 abbrev pub invariant-loop-r : goal.invariant-loop-r
 invariant-loop-r g l =
-    with_front (take l.r l.lines) (run g.B.Bus.meaning (gather (λ r. line_plan l.cell.kind (address_in l.cell l.row r 0)) (l.cell.lines - l.r) l.r) l.bus)
+    with_prefix (take l.r l.lines) (run g.B.Bus.meaning (gather (λ r. line_plan l.cell.kind (address_in l.cell l.row r 0)) (l.cell.lines - l.r) l.r) l.bus)
     ≡ run g.B.Bus.meaning (lines_plan l.cell l.row) l.fn.bus

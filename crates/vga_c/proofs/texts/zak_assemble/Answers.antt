@@ -5,7 +5,7 @@ use Rattle.vga_c.proofs.texts.zak_assemble.Goals as goal
 -- the bytes
 pub returns-in-Ok : goal.returns-in-Ok
 returns-in-Ok c = has_bytes (IsOutcomeOfText c.args.text.now) c.in-Ok.bytes.items _ c.args.out.now _ c.args.len.now _ c.args.line.now _
-    c.in-Ok.ensures.ok c.as_slice.ensures.value c.copy_front.ensures
+    c.in-Ok.ensures.ok c.as_slice.ensures.value c.copy_prefix.ensures
 
 -- or the first fault
 pub returns-in-Err : goal.returns-in-Err

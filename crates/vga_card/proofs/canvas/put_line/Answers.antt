@@ -11,5 +11,5 @@ returns-clause-line g c =
     let lines : length new ≡ length mid.items = omega (arith, ap length same) in
     rw (written_back mid.len new mid.items whole)
     (line_appended g.row.CW c.args.display.now c.args.buffer.now.items mid.items new c.args.used c.args.len
-    c.requires.used c.requires.len c.lengthen.ensures.front (omega (arith, lines, c.lengthen.ensures.len)) (rw same at c.draw_at.ensures.front)
+    c.requires.used c.requires.len c.lengthen.ensures.prefix (omega (arith, lines, c.lengthen.ensures.len)) (rw same at c.draw_at.ensures.prefix)
     (rw same at c.draw_at.ensures.drawn))

@@ -12,5 +12,5 @@ returns-clause-part g c =
     let lines : length new ≡ length mid.items = omega (arith, ap length same) in
     rw (written_back mid.len new mid.items whole)
     (part_appended g.row.CW c.args.count c.args.display.now c.args.buffer.now.items mid.items new c.args.used
-    c.requires.used c.lengthen.ensures.front (omega (arith, lines, c.lengthen.ensures.len)) (rw same at c.draw_part_at.ensures.front)
+    c.requires.used c.lengthen.ensures.prefix (omega (arith, lines, c.lengthen.ensures.len)) (rw same at c.draw_part_at.ensures.prefix)
     (rw same at c.draw_part_at.ensures.drawn))

@@ -9,7 +9,8 @@ pub returns-in-Ok-clause-text : goal.returns-in-Ok-clause-text
 unfolding called
 returns-in-Ok-clause-text g c =
     let r = c.args.regs in
-    reply_is_written _ _ _ _ c.args.machine.now c.args.n r.ax r.bx r.cx r.dx _ _ _ c.in-Ok.reply c.in-Ok.ensures.answer c.write_reply.ensures
+    reply_is_written _ _ _ _ c.args.machine.now c.args.line.now r.ax r.bx r.cx r.dx _ _ _ c.in-Ok.reply c.in-Ok.ensures.answer
+    (rw c.number.ensures at c.write_reply.ensures)
 
 -- a refusal
 pub returns-in-Err-Refused-clause-text : goal.returns-in-Err-Refused-clause-text
@@ -17,8 +18,8 @@ returns-in-Err-Refused-clause-text g c =
     let r = c.args.regs in
     let error = c.in-Err-Refused.field-0 in
     let why : error ≡ Refused c.in-Err-Refused.refusal = rw c.in-Err-Refused.is at c.in-Err-Refused.field-0-is in
-    refusal_is_written _ _ _ _ c.args.machine.now c.args.n r.ax r.bx r.cx r.dx c.args.block.now _ _ error c.in-Err-Refused.refusal why
-    (rw c.in-Err-Refused.is at c.int10-outcome.ensures.answer) c.write_line.ensures
+    refusal_is_written _ _ _ _ c.args.machine.now c.args.line.now r.ax r.bx r.cx r.dx c.args.block.now _ _ error c.in-Err-Refused.refusal why
+    (rw c.in-Err-Refused.is at c.int10-outcome.ensures.answer) c.write.ensures.text
 
 pub returns-in-Err-OutOfMemory-clause-text : goal.returns-in-Err-OutOfMemory-clause-text
 unfolding called answer_to after_step

@@ -1,5 +1,5 @@
 use Rattle.std.specs.Option.{option_copied}
-use Rattle.vga_script.specs.Words.{left_len}
+use Rattle.vga_script.specs.Tokens.{left_len}
 use Rattle.vga_script.proofs.AssembleLemmas.{HasAppendedBody}
 use Rattle.vga_script.proofs.assembling.append_body.Given as goal
 

@@ -6,8 +6,8 @@ use Rattle.vga_script.proofs.assembling.append_group.Goals as goal
 pub returns-in-Some-clause-fault : goal.returns-in-Some-clause-fault
 returns-in-Some-clause-fault c =
     group_faults c.args.version c.args.number c.args.text.now c.first_line.result.0.now (option_copied c.first_line.result.1) c.in-Some.count
-    c.append_block.result c.in-Some.ensures.found.0 c.first_line.ensures.line c.in-Some.ensures.found.1
-    c.append_block.ensures.fault
+    c.append_repeat.result c.in-Some.ensures.found.0 c.first_line.ensures.line c.in-Some.ensures.found.1
+    c.append_repeat.ensures.fault
 
 -- a line of a step, or of no word
 pub returns-in-Ok-clause-found : goal.returns-in-Ok-clause-found

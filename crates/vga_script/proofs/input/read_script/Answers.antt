@@ -1,5 +1,5 @@
 use Rattle.std.proofs.Common.{◌≤◌, length, inl, inr, refl, arith}
-use Rattle.vga_bits.proofs.ReadingLemmas.{front_is_all, front_is_long}
+use Rattle.vga_bits.proofs.ReadingLemmas.{prefix_is_all, prefix_is_long}
 use Rattle.vga_script.proofs.input.read_script.Goals as goal
 
 -- one byte more than a script may have was read
@@ -7,7 +7,7 @@ pub returns-then-len-gt-SCRIPT_LIMIT-clause-fault : goal.returns-then-len-gt-SCR
 returns-then-len-gt-SCRIPT_LIMIT-clause-fault g c =
     inr (inl (
       refl,
-      front_is_long 16777217 16777216 _ c.in_ok-bytes.bytes.items c.in_ok-bytes.ensures.front.1
+      prefix_is_long 16777217 16777216 _ c.in_ok-bytes.bytes.items c.in_ok-bytes.ensures.prefix.1
           (omega (arith, c.len.ensures, c.if-len-gt-SCRIPT_LIMIT)),
     ))
 
@@ -15,4 +15,4 @@ returns-then-len-gt-SCRIPT_LIMIT-clause-fault g c =
 pub returns-clause-input : goal.returns-clause-input
 returns-clause-input g c =
     let short : length c.in_ok-bytes.bytes.items ≤ 16777216 = omega (arith, c.len.ensures, c.if-len-gt-SCRIPT_LIMIT) in
-    (front_is_all 16777217 _ c.in_ok-bytes.bytes.items c.in_ok-bytes.ensures.front.1 (omega (arith, short)), short)
+    (prefix_is_all 16777217 _ c.in_ok-bytes.bytes.items c.in_ok-bytes.ensures.prefix.1 (omega (arith, short)), short)

@@ -1,6 +1,6 @@
 use Rattle.std.proofs.Common.{ℕ, ◌≤◌, List, length, sym, subst, subst₂}
 use Rattle.vga_script.specs.declared.version.Version.{Version}
-use Rattle.vga_script.specs.Front.{items_in}
+use Rattle.vga_script.specs.Beginning.{items_in}
 use Rattle.vga_script.specs.Item.{Item, expanded, step_limit}
 use Rattle.vga_script.specs.Spelling.{SpellsItems}
 use Rattle.vga_script.proofs.StepsLemmas.{items_spelled, steps_few}

@@ -1,6 +1,6 @@
 use Rattle.std.proofs.Common.{rules, ◌<◌, length}
 use Rattle.vga_script.specs.Spelled.{spelled_item}
-use Rattle.vga_script.proofs.FrontLemmas.{item_shorter}
+use Rattle.vga_script.proofs.BeginningLemmas.{item_shorter}
 use Rattle.vga_script.proofs.WalkLemmas.{items_go_on, items_end, never_faulty}
 use Rattle.vga_script.proofs.printing.print_items.Goals as goal
 

@@ -1,5 +1,5 @@
 use Rattle.std.proofs.Common.{rules, ◌<◌, length}
-use Rattle.vga_script.specs.Front.{steps_in}
+use Rattle.vga_script.specs.Beginning.{steps_in}
 use Rattle.vga_script.proofs.WalkLemmas.{steps_go_on, steps_end, never_stops}
 use Rattle.vga_script.proofs.printing.print_steps.Goals as goal
 

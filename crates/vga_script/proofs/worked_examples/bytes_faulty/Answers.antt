@@ -3,7 +3,7 @@ use Rattle.vga_script.specs.declared.version.Version.{Version}
 use Rattle.vga_script.specs.declared.version.Version.TheVariants.{One, Two}
 use Rattle.vga_script.specs.Version.{version_byte}
 use Rattle.vga_script.specs.Item.{listing}
-use Rattle.vga_script.specs.Decoding.{StartsWithBlock}
+use Rattle.vga_script.specs.Decoding.{StartsWithRepeat}
 use Rattle.vga_script.proofs.ExampleLemmas.{begins}
 use Rattle.vga_script.proofs.worked_examples.bytes_faulty.Goals as goal
 
@@ -13,8 +13,8 @@ nine One e = absurd (omega arith)
 nine Two e = absurd (omega arith)
 
 -- and version 1 has no blocks
-no_blocks : (bytes : List ℕ) → StartsWithBlock One bytes → ⊥
-no_blocks bytes (allowed, begun) = allowed
+no_repeats : (bytes : List ℕ) → StartsWithRepeat One bytes → ⊥
+no_repeats bytes (allowed, begun) = allowed
 
 pub returns-clause-magic : goal.returns-clause-magic
 returns-clause-magic c =
@@ -34,7 +34,7 @@ returns-clause-cut c =
 pub returns-clause-unknown : goal.returns-clause-unknown
 returns-clause-unknown c =
     let rest : List ℕ = 0xFF ∷ [] in
-    inr (omega arith, (listing One [], 5, rest, begins One rest, inl (refl, inl (inl (0xFF, [], refl, refl), no_blocks rest))))
+    inr (omega arith, (listing One [], 5, rest, begins One rest, inl (refl, inl (inl (0xFF, [], refl, refl), no_repeats rest))))
 
 pub returns-clause-no_kind : goal.returns-clause-no_kind
 returns-clause-no_kind c =
@@ -44,7 +44,7 @@ returns-clause-no_kind c =
 pub returns-clause-other_kind : goal.returns-clause-other_kind
 returns-clause-other_kind c =
     let rest : List ℕ = 0x0C ∷ 0x07 ∷ [] in
-    inr (omega arith, (listing One [], 5, rest, begins One rest, inl (refl, inl (inl (0x0C, 0x07 ∷ [], refl, refl), no_blocks rest))))
+    inr (omega arith, (listing One [], 5, rest, begins One rest, inl (refl, inl (inl (0x0C, 0x07 ∷ [], refl, refl), no_repeats rest))))
 
 pub returns-clause-past_the_end : goal.returns-clause-past_the_end
 returns-clause-past_the_end c =
@@ -69,13 +69,13 @@ returns-clause-past_the_end c =
               refl,
               λ h. let end = h.3 in absurd (omega arith),
             ),
-            no_blocks rest,
+            no_repeats rest,
           ),
         ),
       ),
     )
 
-pub returns-clause-no_block : goal.returns-clause-no_block
-returns-clause-no_block c =
+pub returns-clause-no_repeat : goal.returns-clause-no_repeat
+returns-clause-no_repeat c =
     let rest : List ℕ = 0x0D ∷ 1 ∷ 0 ∷ 0x0E ∷ [] in
-    inr (omega arith, (listing One [], 5, rest, begins One rest, inl (refl, inl (inl (0x0D, 1 ∷ 0 ∷ 0x0E ∷ [], refl, refl), no_blocks rest))))
+    inr (omega arith, (listing One [], 5, rest, begins One rest, inl (refl, inl (inl (0x0D, 1 ∷ 0 ∷ 0x0E ∷ [], refl, refl), no_repeats rest))))

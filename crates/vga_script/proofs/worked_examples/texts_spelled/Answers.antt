@@ -3,7 +3,7 @@ use Rattle.vga_script.specs.declared.step.Step.TheVariants.{Out, Int}
 use Rattle.vga_script.specs.Item.{Once, listing}
 use Rattle.vga_script.specs.declared.keyword.Keyword.TheVariants as keyword
 use Rattle.vga_script.specs.declared.version.Version.TheVariants.{One}
-use Rattle.vga_script.specs.Words.{words, lines}
+use Rattle.vga_script.specs.Tokens.{words, lines}
 use Rattle.vga_script.specs.Text.{IsVersionTwo}
 use Rattle.vga_script.specs.StepReading.{read_step, two_hex, hex_at, hex_of, number_of}
 use Rattle.vga_script.proofs.OptionLemmas.{lt_test}
@@ -100,7 +100,7 @@ returns-clause-bad c =
         record {
           start = 1;
           rest = line ∷ [];
-          front = [];
+          prefix = [];
           from = (refl, refl);
           one = λ one. not_two line line line None 1 (blank_none line) refl has_words says_nothing;
           whole = refl;

@@ -8,6 +8,6 @@ pub returns-clause-put : goal.returns-clause-put
 unfolding saved_bda
 returns-clause-put c = record {
   end = grind (arith, common_steps);
-  front = grind (arith, common_steps);
+  prefix = grind (arith, common_steps);
   back = (put_after c.put_bytes-at.ensures.put (put_after c.put_places-at.ensures.put c.put_bytes.ensures.put)).back;
 }

@@ -8,7 +8,7 @@ pub returns-clause-put : goal.returns-clause-put
 unfolding saved_attr
 returns-clause-put c = record {
   end = grind (arith, common_steps);
-  front = grind (arith, common_steps);
+  prefix = grind (arith, common_steps);
   back = (put_after c.put_bytes-at.ensures.put (c.put_bytes.ensures.put)).back;
 }
 

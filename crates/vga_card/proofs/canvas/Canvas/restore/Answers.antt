@@ -29,7 +29,7 @@ invariant_of-self c =
     let restored = canvas_restored _ c.split_at.result.1.now (widths_in bytes) c.args.beam c.min-self-inside.result
     (omega (arith, c.self.invariant.1.room, c.restore_bytes.ensures.capacity)) count dots.few
     (ap length c.split_at.ensures.back ∙ dots.counted) (omega arith) in
-    rw (written_back a.widths.len c.restore_widths.new.widths a.widths.items whole, c.restore_widths.ensures, c.restore_bytes.ensures.front)
+    rw (written_back a.widths.len c.restore_widths.new.widths a.widths.items whole, c.restore_widths.ensures, c.restore_bytes.ensures.prefix)
     (c.restore_bytes.ensures.len, restored)
 
 pub returns-clause-dots : goal.returns-clause-dots
@@ -38,7 +38,7 @@ returns-clause-dots c =
     let a = c.self.inside in
     let bytes = c.args.bytes.now in
     let whole : length c.restore_widths.new.widths ≡ a.widths.len = omega (arith, ap length c.as_mut_slice.ensures.value) in
-    rw (written_back a.widths.len c.restore_widths.new.widths a.widths.items whole, c.restore_widths.ensures, c.restore_bytes.ensures.front)
+    rw (written_back a.widths.len c.restore_widths.new.widths a.widths.items whole, c.restore_widths.ensures, c.restore_bytes.ensures.prefix)
     (ap (stored_dots (widths_in bytes)) c.split_at.ensures.back)
 
 pub returns-clause-drawn : goal.returns-clause-drawn

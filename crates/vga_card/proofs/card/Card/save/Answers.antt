@@ -8,7 +8,7 @@ pub returns-then-is_first_dot : goal.returns-then-is_first_dot
 unfolding saved_card
 returns-then-is_first_dot c = record {
   end = grind (arith, common_steps);
-  front = grind (arith, common_steps);
+  prefix = grind (arith, common_steps);
   back = (put_after c.put_byte-at.ensures.put (put_after c.save-at.ensures.put (put_after c.save-at-2.ensures.put
       (put_after c.save-at-3.ensures.put (put_after c.save-at-4.ensures.put (c.put_no_dots.ensures.put)))))).back;
 }
@@ -17,7 +17,7 @@ pub returns-else-is_first_dot : goal.returns-else-is_first_dot
 unfolding saved_card
 returns-else-is_first_dot c = record {
   end = grind (arith, common_steps);
-  front = grind (arith, common_steps);
+  prefix = grind (arith, common_steps);
   back = (put_after c.put_byte-at.ensures.put (put_after c.save-at.ensures.put (put_after c.save-at-2.ensures.put
       (put_after c.save-at-3.ensures.put (put_after c.save-at-4.ensures.put (c.save.ensures.put)))))).back;
 }

@@ -5,14 +5,14 @@ use Rattle.vga_host.proofs.host.Host.bytes_of_word.Goals as goal
 pub returns-then-fills_planes-clause-words : goal.returns-then-fills_planes-clause-words
 returns-then-fills_planes-clause-words c = λ some.
     plane_grouped c.args.self.now c.args.misc c.args.first _ _ (slice_index c.args.bytes.now) c.requires.within (c.fills_planes.ensures c.if-fills_planes.true)
-    (c.requires.aim.plain (not_false c.args.aim.plain c.if-not-aim.false)) (λ i. (c.type_inv.bytes i).fits)
+    (c.requires.access.stores_byte (not_false c.args.access.stores_byte c.if-not-access.false)) (λ i. (c.type_inv.bytes i).fits)
 
 pub returns-then-fills_fours-clause-words : goal.returns-then-fills_fours-clause-words
 returns-then-fills_fours-clause-words c = λ some.
     four_grouped c.args.self.now c.args.misc c.args.first _ _ (slice_index c.args.bytes.now) c.requires.within (c.fills_fours.ensures c.if-fills_fours.true)
-    (c.requires.aim.plain (not_false c.args.aim.plain c.if-not-aim.false)) (λ i. (c.type_inv.bytes i).fits)
+    (c.requires.access.stores_byte (not_false c.args.access.stores_byte c.if-not-access.false)) (λ i. (c.type_inv.bytes i).fits)
 
 pub returns-then-fills_pairs-clause-words : goal.returns-then-fills_pairs-clause-words
 returns-then-fills_pairs-clause-words c = λ some.
     pair_grouped c.args.self.now c.args.misc c.args.first _ _ (slice_index c.args.bytes.now) c.requires.within (c.fills_pairs.ensures c.if-fills_pairs.true)
-    (c.requires.aim.plain (not_false c.args.aim.plain c.if-not-aim.false)) (λ i. (c.type_inv.bytes i).fits)
+    (c.requires.access.stores_byte (not_false c.args.access.stores_byte c.if-not-access.false)) (λ i. (c.type_inv.bytes i).fits)

@@ -10,6 +10,6 @@ returns c =
     let a = c.args.address in
     let on = is_memory_enabled c.args.misc in
     let start = window_start c.args.self.now in
-    subst (λ (n : ℕ). SomeIff c.place.result (IsTrue (on && (nat_le start a && nat_lt a (start + n)))) ((a - start) % 65536)) c.aim.ensures.aim.len
-    (subst (λ (s : ℕ). SomeIff c.place.result (IsTrue (on && (nat_le s a && nat_lt a (s + c.aim.result.len)))) ((a - s) % 65536)) c.aim.ensures.aim.start
-    c.place.ensures)
+    subst (λ (n : ℕ). SomeIff c.in_window.result (IsTrue (on && (nat_le start a && nat_lt a (start + n)))) ((a - start) % 65536)) c.access.ensures.access.len
+    (subst (λ (s : ℕ). SomeIff c.in_window.result (IsTrue (on && (nat_le s a && nat_lt a (s + c.access.result.len)))) ((a - s) % 65536)) c.access.ensures.access.start
+    c.in_window.ensures)

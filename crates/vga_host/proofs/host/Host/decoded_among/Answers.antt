@@ -13,8 +13,8 @@ pub returns-clause-value : goal.returns-clause-value
 returns-clause-value c =
     let h = c.args.self.now in
     let on : is_memory_enabled c.args.misc ≡ true = sym c.is_memory_enabled.ensures ∙ c.if-not-is_memory_enabled.false in
-    let aim = c.aim-aim.result in
-    let at = c.aim-aim.ensures.aim in
+    let access = c.access-access.result in
+    let at = c.access-access.ensures.access in
     c.saturating_sub.ensures ∙ (λ j. c.min-end.ensures j - c.max-start.ensures j)
     ∙ (λ j. min (c.args.first + c.args.n) (at.start j + at.len j) - max c.args.first (at.start j))
     ∙ sym (among_window h c.args.misc c.args.first c.args.n on)

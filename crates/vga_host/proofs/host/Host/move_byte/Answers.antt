@@ -3,18 +3,18 @@ use Rattle.std.proofs.Common.{◌∙◌, ap, sym, subst}
 use Rattle.vga_bits.specs.Four.{four}
 use Rattle.vga_host.specs.MemoryWrite.{written_byte}
 use Rattle.vga_host.specs.Runs.{put_where, put_bytes, byte_where}
-use Rattle.vga_host.specs.Aim.{IsAim}
-use Rattle.vga_host.proofs.RunLemmas.{aim_read}
+use Rattle.vga_host.specs.MemoryAccess.{IsAccess}
+use Rattle.vga_host.proofs.RunLemmas.{access_read}
 use Rattle.vga_host.proofs.host.Host.move_byte.Goals as goal
 
-pub put_aimed-requires-clause-aim : goal.put_aimed-requires-clause-aim
-put_aimed-requires-clause-aim c =
-    subst (IsAim c.args.aim) (sym c.load_aimed.ensures) (aim_read c.args.aim c.args.self.now c.args.misc c.args.from c.requires.aim)
+pub put_by_access-requires-clause-access : goal.put_by_access-requires-clause-access
+put_by_access-requires-clause-access c =
+    subst (IsAccess c.args.access) (sym c.load_by_access.ensures) (access_read c.args.access c.args.self.now c.args.misc c.args.from c.requires.access)
 
 pub returns : goal.returns
 returns c =
-    let h = c.load_aimed.new.self in
+    let h = c.load_by_access.new.self in
     let v = byte_where c.args.self.now c.args.misc c.args.from in
-    c.put_aimed.ensures
-    ∙ ap (put_bytes h c.args.misc c.args.to) (c.written-bytes.ensures ∙ ap (λ b. four (λ p. written_byte h b p)) c.byte_aimed-byte.ensures)
-    ∙ ap (λ x. put_where x c.args.misc c.args.to v) c.load_aimed.ensures
+    c.put_by_access.ensures
+    ∙ ap (put_bytes h c.args.misc c.args.to) (c.written-bytes.ensures ∙ ap (λ b. four (λ p. written_byte h b p)) c.byte_by_access-byte.ensures)
+    ∙ ap (λ x. put_where x c.args.misc c.args.to v) c.load_by_access.ensures

@@ -2,20 +2,20 @@
 use Rattle.std.proofs.Common.{◌∙◌, ap, sym, subst}
 use Rattle.vga_host.specs.Fields.{write_mode}
 use Rattle.vga_host.specs.Runs.{put_where, put_bytes, byte_where}
-use Rattle.vga_host.specs.Aim.{IsAim}
-use Rattle.vga_host.proofs.RunLemmas.{aim_read, mode_read}
+use Rattle.vga_host.specs.MemoryAccess.{IsAccess}
+use Rattle.vga_host.proofs.RunLemmas.{access_read, mode_read}
 use Rattle.vga_host.proofs.host.Host.move_latches.Goals as goal
 
-pub latched-bytes-requires : goal.latched-bytes-requires
-latched-bytes-requires c = ap write_mode c.load_aimed.ensures ∙ mode_read c.args.self.now c.args.misc c.args.from ∙ c.requires.mode
+pub stored_latches-bytes-requires : goal.stored_latches-bytes-requires
+stored_latches-bytes-requires c = ap write_mode c.load_by_access.ensures ∙ mode_read c.args.self.now c.args.misc c.args.from ∙ c.requires.mode
 
-pub put_aimed-requires-clause-aim : goal.put_aimed-requires-clause-aim
-put_aimed-requires-clause-aim c =
-    subst (IsAim c.args.aim) (sym c.load_aimed.ensures) (aim_read c.args.aim c.args.self.now c.args.misc c.args.from c.requires.aim)
+pub put_by_access-requires-clause-access : goal.put_by_access-requires-clause-access
+put_by_access-requires-clause-access c =
+    subst (IsAccess c.args.access) (sym c.load_by_access.ensures) (access_read c.args.access c.args.self.now c.args.misc c.args.from c.requires.access)
 
 pub returns : goal.returns
 returns c =
     let v = byte_where c.args.self.now c.args.misc c.args.from in
-    c.put_aimed.ensures
-    ∙ ap (put_bytes c.load_aimed.new.self c.args.misc c.args.to) (c.latched-bytes.ensures v)
-    ∙ ap (λ x. put_where x c.args.misc c.args.to v) c.load_aimed.ensures
+    c.put_by_access.ensures
+    ∙ ap (put_bytes c.load_by_access.new.self c.args.misc c.args.to) (c.stored_latches-bytes.ensures v)
+    ∙ ap (λ x. put_where x c.args.misc c.args.to v) c.load_by_access.ensures

@@ -1,7 +1,7 @@
 use Rattle.std.proofs.Common.{◌+◌, ◌-◌, ◌%◌, ◌∙◌, refl, arith, length}
 use Rattle.std.proofs.Math.Nat.{zero-mod}
 use Rattle.std.specs.Prelude.{slice_index}
-use Rattle.vga_host.specs.Words.{word_put, grouped}
+use Rattle.vga_host.specs.PlaneWords.{word_put, grouped}
 use Rattle.vga_host.proofs.FillLemmas.{words_go_on}
 use Rattle.vga_host.proofs.host.Host.put_groups.Goals as goal
 
@@ -11,11 +11,11 @@ loop-done-init c = (omega arith, zero-mod c.args.per, refl, refl)
 pub loop-done-preserved : goal.loop-done-preserved
 loop-done-preserved c =
     let s = c.loop-done.self in
-    let f = c.args.first - c.args.aim.start in
+    let f = c.args.first - c.args.access.start in
     let done = c.loop-done.done in
     let g = slice_index c.args.bytes.now in
     let w = grouped c.args.per g in
     let kept = c.loop-done.invariant in
     words_go_on c.args.self.now s c.put_word.new.self c.args.per c.args.misc c.args.first (length c.args.bytes.now) f done g w c.requires.words
     (omega arith) kept.0 kept.1 kept.2 kept.3
-    (c.put_word.ensures ∙ (λ j. word_put s (λ p. c.requires.aim.mask p j) ((f + done) % 65536) (c.grouped.ensures j)))
+    (c.put_word.ensures ∙ (λ j. word_put s (λ p. c.requires.access.map_mask p j) ((f + done) % 65536) (c.grouped.ensures j)))

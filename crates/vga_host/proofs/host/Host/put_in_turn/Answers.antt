@@ -9,18 +9,18 @@ use Rattle.vga_host.proofs.host.Host.put_in_turn.Goals.{then-i-eq0, else-i-eq0}
 pub loop-i-preserved : goal.loop-i-preserved
 loop-i-preserved c =
     elim c.if-i-eq0.branch [
-      | then-i-eq0 w ↦ turn_kept c.aim-aim.result c.written-bytes.result c.written-others.result c.args.misc c.args.first c.args.even c.args.odd
+      | then-i-eq0 w ↦ turn_kept c.access-access.result c.written-bytes.result c.written-others.result c.args.misc c.args.first c.args.even c.args.odd
           c.args.n
           c.loop-i.i c.args.even c.loop-i.self c.if-i-eq0.self _ c.loop-i-test.true (even_in_turn c.args.even c.args.odd c.loop-i.i w.if-i-eq0.true) (w.self-is
-          ∙ w.put_aimed.ensures ∙ ap (put_bytes c.loop-i.self c.args.misc (c.args.first + c.loop-i.i)) c.loop-i.invariant.1) c.loop-i.invariant
-      | else-i-eq0 w ↦ turn_kept c.aim-aim.result c.written-bytes.result c.written-others.result c.args.misc c.args.first c.args.even c.args.odd
+          ∙ w.put_by_access.ensures ∙ ap (put_bytes c.loop-i.self c.args.misc (c.args.first + c.loop-i.i)) c.loop-i.invariant.1) c.loop-i.invariant
+      | else-i-eq0 w ↦ turn_kept c.access-access.result c.written-bytes.result c.written-others.result c.args.misc c.args.first c.args.even c.args.odd
           c.args.n
           c.loop-i.i c.args.odd c.loop-i.self c.if-i-eq0.self _ c.loop-i-test.true (odd_in_turn c.args.even c.args.odd c.loop-i.i w.if-i-eq0.false) (w.self-is
-          ∙ w.put_aimed-else-i-eq0.ensures ∙ ap (put_bytes c.loop-i.self c.args.misc (c.args.first + c.loop-i.i)) c.loop-i.invariant.2) c.loop-i.invariant
+          ∙ w.put_by_access-else-i-eq0.ensures ∙ ap (put_bytes c.loop-i.self c.args.misc (c.args.first + c.loop-i.i)) c.loop-i.invariant.2) c.loop-i.invariant
     ]
 
 pub loop-i-init : goal.loop-i-init
 loop-i-init c =
-    fill_leaves c.aim-aim.result c.written-bytes.result c.written-others.result c.args.misc c.args.first c.args.even c.args.odd c.args.n
-    c.fill_words-done.result c.args.self.now _ c.aim-aim.ensures.aim c.written-bytes.ensures c.written-others.ensures c.fill_words-done.ensures.few
+    fill_leaves c.access-access.result c.written-bytes.result c.written-others.result c.args.misc c.args.first c.args.even c.args.odd c.args.n
+    c.fill_words-done.result c.args.self.now _ c.access-access.ensures.access c.written-bytes.ensures c.written-others.ensures c.fill_words-done.ensures.few
     c.fill_words-done.ensures.kept c.fill_words-done.ensures.put

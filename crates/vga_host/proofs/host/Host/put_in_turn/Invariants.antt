@@ -2,13 +2,13 @@ use Rattle.std.proofs.Common.{◌≡◌, ◌-◌}
 use Rattle.vga_bits.specs.Four.{four}
 use Rattle.vga_host.specs.MemoryWrite.{written_byte}
 use Rattle.vga_host.specs.Runs.{after_puts, in_turn}
-use Rattle.vga_host.specs.Aim.{IsAim}
+use Rattle.vga_host.specs.MemoryAccess.{IsAccess}
 use Rattle.vga_host.proofs.host.Host.put_in_turn.Given as goal
 
 -- what the registers say stays, and what the writes from here on leave is what all leave
 abbrev pub invariant-loop-i : goal.invariant-loop-i
 invariant-loop-i l =
-    IsAim l.aim l.self
+    IsAccess l.access l.self
     × (l.bytes ≡ four (λ p. written_byte l.self l.even p))
     × (l.others ≡ four (λ p. written_byte l.self l.odd p))
     × (after_puts l.misc l.first (in_turn l.even l.odd) (l.n - l.i) l.i l.self ≡ after_puts l.misc l.first (in_turn l.even l.odd) l.n 0 l.fn.self)

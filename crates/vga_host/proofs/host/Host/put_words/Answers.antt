@@ -1,6 +1,6 @@
 use Rattle.std.proofs.Common.{◌+◌, ◌-◌, ◌%◌, ◌∙◌, ap, sym, refl, arith, ℕ, Bool}
 use Rattle.std.proofs.Math.Nat.{zero-mod}
-use Rattle.vga_host.specs.Words.{word_put}
+use Rattle.vga_host.specs.PlaneWords.{word_put}
 use Rattle.vga_host.specs.Runs.{in_turn}
 use Rattle.vga_host.proofs.FillLemmas.{words_go_on}
 use Rattle.vga_host.proofs.host.Host.put_words.Goals as goal
@@ -17,12 +17,12 @@ loop-done-smaller c = omega (arith, c.requires.words.some, c.loop-done.invariant
 pub loop-done-preserved : goal.loop-done-preserved
 loop-done-preserved c =
     let s = c.loop-done.self in
-    let f = c.args.first - c.args.aim.start in
+    let f = c.args.first - c.args.access.start in
     let done = c.loop-done.done in
     let kept = c.loop-done.invariant in
     words_go_on c.args.self.now s c.put_word.new.self c.args.per c.args.misc c.args.first c.args.n f done (in_turn c.args.even c.args.odd) (λ i. c.args.word) c.requires.words
     (omega arith) kept.0 kept.1 kept.2 kept.3
-    (c.put_word.ensures ∙ ap (λ (reach : ℕ → Bool). word_put s reach ((f + done) % 65536) c.args.word) (λ j p. c.requires.aim.mask p j))
+    (c.put_word.ensures ∙ ap (λ (reach : ℕ → Bool). word_put s reach ((f + done) % 65536) c.args.word) (λ j p. c.requires.access.map_mask p j))
 
 pub returns-clause-few : goal.returns-clause-few
 returns-clause-few c = c.loop-done.invariant.0

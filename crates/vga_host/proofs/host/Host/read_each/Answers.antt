@@ -1,8 +1,8 @@
 use Rattle.std.proofs.Common.{rules, arith, ◌≡◌, ◌∙◌, ◌+◌, length, sym, subst}
 use Rattle.vga_host.specs.Host.{HostState}
 use Rattle.vga_host.specs.Runs.{byte_where}
-use Rattle.vga_host.specs.Aim.{IsAim}
-use Rattle.vga_host.proofs.RunLemmas.{with_latches, aim_read, latches_read, byte_over, next_get, byte_set}
+use Rattle.vga_host.specs.MemoryAccess.{IsAccess}
+use Rattle.vga_host.proofs.RunLemmas.{with_latches, access_read, latches_read, byte_over, next_get, byte_set}
 use Rattle.vga_host.proofs.host.Host.read_each.Goals as goal
 
 pub loop-i-preserved : goal.loop-i-preserved
@@ -13,11 +13,11 @@ loop-i-preserved c =
     let misc = c.args.misc in
     let first = c.args.first in
     let kept = c.loop-i.invariant in
-    let now = c.load_aimed.ensures in (
-      subst (IsAim c.args.aim) (sym now) (aim_read c.args.aim s misc (first + i) kept.0),
+    let now = c.load_by_access.ensures in (
+      subst (IsAccess c.args.access) (sym now) (access_read c.args.access s misc (first + i) kept.0),
       subst (λ (x : HostState). with_latches h x.latches ≡ x) (sym now) (latches_read h s misc (first + i) kept.1),
       next_get misc first (length c.args.bytes.now) i s _ _ c.loop-i-test.true now kept.2,
       search rules,
-      λ k few. byte_set c.loop-i.bytes i k c.byte_aimed.result (λ j. byte_where h misc (first + j)) (omega (arith, c.loop-i-test.true, kept.3)) few kept.4
-          (c.byte_aimed.ensures ∙ byte_over h s misc (first + i) kept.1),
+      λ k few. byte_set c.loop-i.bytes i k c.byte_by_access.result (λ j. byte_where h misc (first + j)) (omega (arith, c.loop-i-test.true, kept.3)) few kept.4
+          (c.byte_by_access.ensures ∙ byte_over h s misc (first + i) kept.1),
     )

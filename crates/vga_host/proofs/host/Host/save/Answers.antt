@@ -8,7 +8,7 @@ pub returns-clause-put : goal.returns-clause-put
 unfolding saved_host
 returns-clause-put c = record {
   end = grind (arith, common_steps);
-  front = grind (arith, common_steps);
+  prefix = grind (arith, common_steps);
   back = (put_after c.put_bytes-at.ensures.put (put_after c.put_bytes-at-2.ensures.put (put_after c.put_bytes-at-3.ensures.put
       (put_after c.put_bytes-at-4.ensures.put c.save.ensures.put)))).back;
 }

@@ -1,6 +1,6 @@
 use Rattle.std.proofs.Common.{◌∙◌, ap, arith, length, take, drop}
 use Rattle.std.proofs.lemmas.List.{with_items_is}
-use Rattle.vga_planes.specs.Words.{planes_of}
+use Rattle.vga_planes.specs.PlaneWords.{planes_of}
 use Rattle.vga_planes.specs.Saved.{memory_from}
 use Rattle.vga_planes.proofs.planes.Planes.restore.Goals as goal
 

@@ -11,7 +11,7 @@ loop-offset-preserved c =
     let out = c.loop-offset.out in
     let i = c.args.at + c.loop-offset.offset in
     record {
-      front = one_more out c.args.out.now plane c.args.at c.loop-offset.offset c.byte.result c.loop-offset.invariant.front (omega arith)
+      prefix = one_more out c.args.out.now plane c.args.at c.loop-offset.offset c.byte.result c.loop-offset.invariant.prefix (omega arith)
           (omega (arith, size)) c.byte.ensures;
       back = drop-set-lt (c.args.at + 65536) out i c.byte.result (omega arith) ∙ c.loop-offset.invariant.back;
     }

@@ -1,5 +1,5 @@
 use Rattle.std.proofs.Common.{rules, ◌≡◌, ◌∙◌, [], sym}
-use Rattle.vga_script.proofs.PlaceLemmas.{none_left, step_taken, is_found}
+use Rattle.vga_script.proofs.ProgressLemmas.{none_left, step_taken, is_found}
 use Rattle.vga_script.proofs.steps.Steps.next.Goals as goal
 
 -- nothing is left
@@ -15,17 +15,17 @@ invariant_of-self c = (step_taken c.self.inside.left _ _ _ _ c.self.invariant c.
 -- nothing but marks is left
 pub returns-then-is_empty-2-clause-taken : goal.returns-then-is_empty-2-clause-taken
 returns-then-is_empty-2-clause-taken c =
-    let p = c.skip_marks-place.result in
-    let reached = c.skip_marks-place.ensures.reached in
+    let p = c.skip_marks-progress.result in
+    let reached = c.skip_marks-progress.ensures.reached in
     let none = none_left p.left p.body.now p.rest.now reached.stands (search rules) in
     (sym c.self.view_is ∙ sym reached.same ∙ none, none)
 
 -- a step stands behind marks
 pub invariant_of-self-in-Ok-step_at : goal.invariant_of-self-in-Ok-step_at
-invariant_of-self-in-Ok-step_at c = (step_taken c.skip_marks-place.result.left _ _ _ _ c.skip_marks-place.ensures.reached.stands
+invariant_of-self-in-Ok-step_at c = (step_taken c.skip_marks-progress.result.left _ _ _ _ c.skip_marks-progress.ensures.reached.stands
     c.in-Ok-step_at.ensures.found).1
 
 pub returns-in-Err-clause-taken : goal.returns-in-Err-clause-taken
 returns-in-Err-clause-taken c =
-    absurd (is_found c.skip_marks-place.result.rest.now c.in-Err.field-0 c.skip_marks-place.ensures.front (search rules) (λ is. c.in-Err.ensures.bad (cc))
+    absurd (is_found c.skip_marks-progress.result.rest.now c.in-Err.field-0 c.skip_marks-progress.ensures.prefix (search rules) (λ is. c.in-Err.ensures.bad (cc))
     (λ is. c.in-Err.ensures.cut (cc)))

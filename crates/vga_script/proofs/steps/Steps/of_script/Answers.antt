@@ -1,5 +1,5 @@
 use Rattle.std.proofs.Common.{subst, sym}
-use Rattle.vga_script.specs.Places.{Stands}
+use Rattle.vga_script.specs.Progress.{Stands}
 use Rattle.vga_script.proofs.StepsLemmas.{items_stand}
 use Rattle.vga_script.proofs.steps.Steps.of_script.Goals as goal
 

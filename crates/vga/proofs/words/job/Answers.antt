@@ -1,5 +1,0 @@
-use Rattle.vga.proofs.PathLemmas.{names_paths}
-use Rattle.vga.proofs.words.job.Goals as goal
-
-pub returns-clause-paths : goal.returns-clause-paths
-returns-clause-paths c = names_paths _ _ c.parsed_job.ensures

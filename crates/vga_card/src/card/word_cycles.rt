@@ -1,0 +1,203 @@
+//! Cycles of a word: its low byte at the port or address, then its high byte at the next, or
+//! neither.
+ghost use Rattle.std.specs.Prelude.{◌≡◌, ◌+◌, ◌*◌, ◌/◌, ◌%◌, ◌<◌, ◌&&◌, IsOk};
+ghost use Rattle.vga_host.specs.Address.{is_decoded};
+ghost use Rattle.vga_card.specs.Cycles.{out_cycle, inp_cycle};
+ghost use Rattle.vga_card.specs.Port.{crtc_port};
+ghost use Rattle.vga_card.specs.WordCycles.{IsQuiet, out_bytes, inp_bytes, out_word_cycle};
+ghost use Rattle.vga_card.specs.WordCycles.{inp_word_cycle};
+ghost use Rattle.vga_card.specs.WordCycles.{put_word_cycle, get_word_cycle};
+
+use super::Card;
+use crate::port::{Port, port_reached};
+use vga_bits::Refusal;
+use vga_host::{GRAPHICS_INDEX, SEQUENCER_DATA, SEQUENCER_INDEX};
+
+/// The low and the high byte of a word.
+fn bytes_of(v: u16) -> (u8, u8)
+    ensures low { result.0 ≡ v % 256 }
+    ensures high { result.1 ≡ v / 256 }
+{
+    ((v % 256) as u8, (v / 256) as u8)
+}
+
+/// The word of a low and a high byte.
+fn word_of(low: u8, high: u8) -> u16
+    ensures { result ≡ low + 256 * high }
+{
+    low as u16 + 256 * high as u16
+}
+
+impl Card {
+    /// Writes a byte to a port and then one to the next, where the second is not refused once the
+    /// first is written.
+    #[tactic(auto, using(crate::proofs::CycleLemmas::out_refused))]
+    fn out_pair(&mut self, port: u16, low: u8, high: u8) -> Result<(), Refusal>
+        requires few { port < 65535 }
+        requires second { IsOk (out_cycle (out_cycle self.old port low).0 (port + 1) high).1 }
+        ensures { (self.new, result) ≡ out_bytes self.old port low high }
+    {
+        self.out(port, low)?;
+        self.out(port + 1, high)
+    }
+
+    /// Writes an index to the sequencer's index port, and its register.
+    #[tactic(auto, unfolding(crate::specs::Cycles::out_at, crate::specs::Port::port_of))]
+    fn out_sequencer(&mut self, index: u8, v: u8) -> Result<(), Refusal>
+        ensures { (self.new, result) ≡ out_bytes self.old 0x3C4 index v }
+    {
+        if self.host.refuses_data(SEQUENCER_INDEX, index, v) {
+            return Err(Refusal::NotInProfile);
+        }
+        let _ = self.out_at(Port::SequencerIndex, index);
+        self.out_at(Port::SequencerData, v)
+    }
+
+    /// Writes an index to the graphics controller's index port, and its register.
+    #[tactic(auto, unfolding(crate::specs::Cycles::out_at, crate::specs::Port::port_of))]
+    fn out_graphics(&mut self, index: u8, v: u8) -> Result<(), Refusal>
+        ensures { (self.new, result) ≡ out_bytes self.old 0x3CE index v }
+    {
+        if self.host.refuses_data(GRAPHICS_INDEX, index, v) {
+            return Err(Refusal::NotInProfile);
+        }
+        let _ = self.out_at(Port::GraphicsIndex, index);
+        self.out_at(Port::GraphicsData, v)
+    }
+
+    /// Writes an index to the CRT controller's index port, and its register.
+    #[tactic(auto, unfolding(crate::specs::Cycles::out_at, crate::specs::Port::port_of, crate::specs::Port::crtc_port_of))]
+    fn out_crtc(&mut self, index: u8, v: u8) -> Result<(), Refusal>
+        ensures { (self.new, result) ≡ out_bytes self.old (crtc_port self.old.misc) index v }
+    {
+        if self.crtc.refuses_data(index, v) {
+            return Err(Refusal::NotInProfile);
+        }
+        let _ = self.out_at(Port::CrtcIndex, index);
+        self.out_at(Port::CrtcData, v)
+    }
+
+    /// Writes a word to a port and the next. It is refused whole if either byte would be, the
+    /// second judged in the state after the first, with the lower-numbered refusal where both are;
+    /// a word at the last port is `NotDecoded`.
+    #[tactic(auto, unfolding(crate::specs::Cycles::out_at, crate::specs::Port::port_of, crate::specs::Port::crtc_port_of))]
+    pub fn out_word(&mut self, port: u16, v: u16) -> Result<(), Refusal>
+        ensures { (self.new, result) ≡ out_word_cycle self.old port v }
+    {
+        let (low, high) = bytes_of(v);
+        let Some(reached) = port_reached(self.misc, port) else {
+            return Err(Refusal::NotDecoded);
+        };
+        match reached {
+            // The second byte is for the register that the first one names.
+            Port::SequencerIndex => self.out_sequencer(low, high),
+            Port::GraphicsIndex => self.out_graphics(low, high),
+            Port::CrtcIndex => self.out_crtc(low, high),
+            // The second byte is for the DAC, which refuses none.
+            Port::SequencerData => self.out_pair(port, low, high),
+            Port::DacMask => self.out_pair(port, low, high),
+            Port::DacReadIndex => self.out_pair(port, low, high),
+            Port::DacWriteIndex => self.out_pair(port, low, high),
+            // One of the two bytes is for video subsystem enable.
+            Port::MiscellaneousWrite | Port::SubsystemEnable => Err(Refusal::NotInProfile),
+            // One of the two bytes is at a port that is not written, or at none.
+            Port::Attribute => Err(Refusal::NotDecoded),
+            Port::AttributeRegister => Err(Refusal::NotDecoded),
+            Port::DacData => Err(Refusal::NotDecoded),
+            Port::FeatureControl => Err(Refusal::NotDecoded),
+            Port::MiscellaneousRead => Err(Refusal::NotDecoded),
+            Port::GraphicsData => Err(Refusal::NotDecoded),
+            Port::CrtcData => Err(Refusal::NotDecoded),
+            Port::InputStatus1 => Err(Refusal::NotDecoded),
+        }
+    }
+
+    /// Reads a word at a port and the next, where the first byte is read without effect or refusal.
+    #[tactic(auto, using(crate::proofs::CycleLemmas::inp_refused))]
+    fn inp_quiet(&mut self, port: u16) -> Result<u16, Refusal>
+        requires few { port < 65535 }
+        requires quiet { IsQuiet self.old port }
+        ensures { (self.new, result) ≡ inp_bytes self.old port }
+    {
+        match self.inp(port) {
+            Ok(low) => match self.inp(port + 1) {
+                Ok(high) => Ok(word_of(low, high)),
+                Err(refusal) => Err(refusal),
+            },
+            Err(refusal) => Err(refusal),
+        }
+    }
+
+    /// Reads a word from a port and the next. It is refused as a write is, and then has no effect.
+    #[tactic(auto, unfolding(crate::specs::Cycles::inp_at, crate::specs::Port::port_of, crate::specs::Port::crtc_port_of))]
+    pub fn inp_word(&mut self, port: u16) -> Result<u16, Refusal>
+        ensures { (self.new, result) ≡ inp_word_cycle self.old port }
+    {
+        let Some(reached) = port_reached(self.misc, port) else {
+            return Err(Refusal::NotDecoded);
+        };
+        match reached {
+            // An index, and then what it names.
+            Port::Attribute => self.inp_quiet(port),
+            Port::SequencerIndex => self.inp_quiet(port),
+            Port::DacWriteIndex => self.inp_quiet(port),
+            Port::GraphicsIndex => self.inp_quiet(port),
+            Port::CrtcIndex => self.inp_quiet(port),
+            // The next port is the DAC's mask, whose reading is not refused.
+            Port::SequencerData => {
+                if self.host.refuses_inp(SEQUENCER_DATA) {
+                    return Err(Refusal::NotInProfile);
+                }
+                self.inp_quiet(port)
+            }
+            // One of the two bytes is left out of the profile.
+            Port::AttributeRegister => Err(Refusal::NotInProfile),
+            Port::MiscellaneousWrite => Err(Refusal::NotInProfile),
+            Port::SubsystemEnable => Err(Refusal::NotInProfile),
+            Port::DacMask => Err(Refusal::NotInProfile),
+            Port::DacReadIndex => Err(Refusal::NotInProfile),
+            Port::DacData => Err(Refusal::NotInProfile),
+            // The second byte is at no port.
+            Port::FeatureControl => Err(Refusal::NotDecoded),
+            Port::MiscellaneousRead => Err(Refusal::NotDecoded),
+            Port::GraphicsData => Err(Refusal::NotDecoded),
+            Port::CrtcData => Err(Refusal::NotDecoded),
+            Port::InputStatus1 => Err(Refusal::NotDecoded),
+        }
+    }
+
+    /// Whether a word at an address is decoded: both of its bytes are.
+    fn decodes_word(&self, address: u32) -> bool
+        requires { address < 4294967295 }
+        ensures { result ≡ (is_decoded self.now.host self.now.misc address
+            && is_decoded self.now.host self.now.misc (address + 1)) }
+    {
+        self.host.decodes(address, self.misc) && self.host.decodes(address + 1, self.misc)
+    }
+
+    /// Writes a word to an address and the next. It is refused whole, with `NotDecoded`, where the
+    /// display memory does not have both; a word at the last address is `NotDecoded`.
+    pub fn put_word(&mut self, address: u32, v: u16) -> Result<(), Refusal>
+        ensures { (self.new, result) ≡ put_word_cycle self.old address v }
+    {
+        if address == u32::MAX || !self.decodes_word(address) {
+            return Err(Refusal::NotDecoded);
+        }
+        let (low, high) = bytes_of(v);
+        self.put(address, low)?;
+        self.put(address + 1, high)
+    }
+
+    /// Reads a word from an address and the next; the latches are those of the second byte. It is
+    /// refused as a write is, and then loads no latch.
+    pub fn get_word(&mut self, address: u32) -> Result<u16, Refusal>
+        ensures { (self.new, result) ≡ get_word_cycle self.old address }
+    {
+        if address == u32::MAX || !self.decodes_word(address) {
+            return Err(Refusal::NotDecoded);
+        }
+        let low = self.get(address)?;
+        let high = self.get(address + 1)?;
+        Ok(word_of(low, high))
+    }
+}

@@ -1,0 +1,25 @@
+-- A load by what the registers say is a read.
+use Rattle.std.proofs.Common.{◌≡◌, ◌∙◌, ap, sym, subst}
+use Rattle.vga_planes.specs.Planes.{bytes_at}
+use Rattle.vga_host.specs.Host.{HostState}
+use Rattle.vga_host.specs.Runs.{get_where}
+use Rattle.vga_host.specs.MemoryAccess.{IsAccess}
+use Rattle.vga_host.proofs.RunLemmas.{get_as}
+use Rattle.vga_host.proofs.host.Host.load_by_access.Goals as goal
+
+pub returns-in-Some : goal.returns-in-Some
+returns-in-Some c =
+    let h : HostState = record {
+      memory = c.self.inside.planes;
+      latches = c.self.inside.latch;
+      seq = c.self.inside.seq.values;
+      gfx = c.self.inside.gfx.values;
+      seq_index = c.self.inside.seq_index;
+      gfx_index = c.self.inside.gfx_index;
+    } in
+    let same : h ≡ c.args.self.now = c.self.view_is in
+    let is : IsAccess c.args.access h = subst (λ x. IsAccess c.args.access x) (sym same) c.requires.access in
+    let d = c.in-Some.ensures in
+    ap (λ l. let after : HostState = record h { latches = l } in after) (c.load-self-inside.ensures ∙ ap (λ o. bytes_at h.memory o) c.offset.ensures)
+    ∙ get_as c.args.access h c.args.misc c.args.address is c.in-Some.in_window d.0 d.1
+    ∙ ap (λ x. get_where x c.args.misc c.args.address) same

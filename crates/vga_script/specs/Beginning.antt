@@ -1,0 +1,143 @@
+-- The steps and the items at the beginning of some bytes, read from their fields.
+use Rattle.std.specs.Prelude.{ℕ, zero, suc, ◌==◌, if◌then◌else◌, List, [], ◌∷◌, length, take, drop}
+use Rattle.std.specs.Prelude.{get_or, Option, None, Some}
+use Rattle.byteorder.specs.Endian.{little_number}
+use Rattle.vga_script.specs.declared.step.Step.{Step}
+use Rattle.vga_script.specs.declared.step.Step.TheVariants.{Out, OutWord, In, InWord, Put, PutWord}
+use Rattle.vga_script.specs.declared.step.Step.TheVariants.{Get, GetWord, Int, Advance, Frame, Show}
+use Rattle.vga_script.specs.declared.version.Version.{Version}
+use Rattle.vga_script.specs.declared.version.Version.TheVariants.{One, Two}
+use Rattle.vga_script.specs.Version.{version_byte}
+use Rattle.vga_script.specs.Item.{Listing, listing, Item, Once, Repeated}
+use Rattle.vga_script.specs.declared.dump_range.Shown.TheVariants as shown
+use Rattle.vga_script.specs.DumpRange.{kind_registers, kind_dac, kind_beam, kind_latches}
+use Rattle.vga_script.specs.DumpRange.{kind_plane, kind_bios_data, kind_cells}
+use Rattle.vga_script.specs.Spelling.{opcode_out, opcode_out_word, opcode_in, opcode_in_word}
+use Rattle.vga_script.specs.Spelling.{opcode_put, opcode_put_word, opcode_get, opcode_get_word}
+use Rattle.vga_script.specs.Spelling.{opcode_int, opcode_advance, opcode_frame, opcode_show}
+use Rattle.vga_script.specs.Spelling.{opcode_repeat}
+
+-- a call of the BIOS whose block has this length, and what follows its block
+abbrev pub call_at : ℕ → ℕ → ℕ → ℕ → ℕ → List ℕ → Option (Step × List ℕ)
+call_at ax bx cx dx len rest = Some (Int ax bx cx dx (take len rest), drop len rest)
+
+-- a dump of this kind, with its fields and what follows them
+abbrev pub shown_at : ℕ → List ℕ → Option (Step × List ℕ)
+shown_at kind rest =
+    if kind == kind_registers then Some (Show shown.Registers, rest)
+    else if kind == kind_dac then Some (Show (shown.Dac (get_or rest 0 0)), drop 1 rest)
+    else if kind == kind_beam then Some (Show shown.Beam, rest)
+    else if kind == kind_latches then Some (Show shown.Latches, rest)
+    else if kind == kind_plane then Some (
+      Show (shown.Plane (get_or rest 0 0)
+          (little_number 2 (drop 1 rest)) (little_number 2 (drop 3 rest))),
+      drop 5 rest,
+    )
+    else if kind == kind_bios_data then Some (Show shown.BiosData, rest)
+    else if kind == kind_cells then Some (Show shown.Cells, rest)
+    else None
+
+-- the step of an opcode and its fields, and what follows them
+abbrev pub step_with : ℕ → List ℕ → Option (Step × List ℕ)
+step_with opcode rest =
+    if opcode == opcode_out then Some (Out (little_number 2 rest) (get_or rest 2 0), drop 3 rest)
+    else if opcode == opcode_out_word then Some (
+      OutWord (little_number 2 rest)
+          (little_number 2 (drop 2 rest)),
+      drop 4 rest,
+    )
+    else if opcode == opcode_in then Some (In (little_number 2 rest), drop 2 rest)
+    else if opcode == opcode_in_word then Some (InWord (little_number 2 rest), drop 2 rest)
+    else if opcode == opcode_put then Some (
+      Put (little_number 4 rest) (get_or rest 4 0),
+      drop 5 rest,
+    )
+    else if opcode == opcode_put_word then Some (
+      PutWord (little_number 4 rest)
+          (little_number 2 (drop 4 rest)),
+      drop 6 rest,
+    )
+    else if opcode == opcode_get then Some (Get (little_number 4 rest), drop 4 rest)
+    else if opcode == opcode_get_word then Some (GetWord (little_number 4 rest), drop 4 rest)
+    else if opcode == opcode_int then call_at (little_number 2 rest) (little_number 2 (drop 2 rest))
+    (little_number 2 (drop 4 rest)) (little_number 2 (drop 6 rest))
+    (little_number 2 (drop 8 rest)) (drop 10 rest)
+    else if opcode == opcode_advance then Some (Advance (little_number 4 rest), drop 4 rest)
+    else if opcode == opcode_frame then Some (Frame, rest)
+    else if opcode == opcode_show then shown_at (get_or rest 0 0) (drop 1 rest)
+    else None
+
+-- the step at the beginning of some bytes, and what follows it
+abbrev pub step_of : List ℕ → Option (Step × List ℕ)
+step_of [] = None
+step_of (opcode ∷ rest) = step_with opcode rest
+
+-- a step that was read, if one was, and those that its rest gives
+abbrev pub and_others : Option (Step × List ℕ) → (List ℕ → List Step) → List Step
+and_others None others = []
+and_others (Some read) others = read.0 ∷ others read.1
+
+-- the steps at the beginning of some bytes, so many at most
+abbrev pub steps_from : ℕ → List ℕ → List Step
+steps_from zero bytes = []
+steps_from (suc most) bytes = and_others (step_of bytes) (steps_from most)
+
+-- all steps at the beginning of some bytes
+unfoldable pub steps_in : List ℕ → List Step
+steps_in bytes = steps_from (length bytes) bytes
+
+-- what follows a step that was read and those behind it, if one was, and else the bytes
+abbrev pub behind_others : Option (Step × List ℕ) → (List ℕ → List ℕ) → List ℕ → List ℕ
+behind_others None behind bytes = bytes
+behind_others (Some read) behind bytes = behind read.1
+
+-- what follows the steps at the beginning of some bytes, so many at most
+abbrev pub behind_from : ℕ → List ℕ → List ℕ
+behind_from zero bytes = bytes
+behind_from (suc most) bytes = behind_others (step_of bytes) (behind_from most) bytes
+
+-- what follows all steps at the beginning of some bytes
+unfoldable pub behind_steps : List ℕ → List ℕ
+behind_steps bytes = behind_from (length bytes) bytes
+
+-- a step that was read, as an item
+abbrev pub step_item : Option (Step × List ℕ) → Option (Item × List ℕ)
+step_item None = None
+step_item (Some read) = Some (Once read.0, read.1)
+
+-- a repeat of this count, with whose steps these bytes begin, and what follows its end
+abbrev pub repeat_item : ℕ → List ℕ → Option (Item × List ℕ)
+repeat_item count bytes = Some (Repeated count (steps_in bytes), drop 1 (behind_steps bytes))
+
+-- the item of an opcode and what follows that, and what follows the item
+abbrev pub item_with : ℕ → List ℕ → Option (Item × List ℕ)
+item_with opcode rest =
+    if opcode == opcode_repeat then repeat_item (little_number 2 rest) (drop 2 rest)
+    else step_item (step_with opcode rest)
+
+-- the item at the beginning of some bytes, and what follows it
+abbrev pub item_of : List ℕ → Option (Item × List ℕ)
+item_of [] = None
+item_of (opcode ∷ rest) = item_with opcode rest
+
+-- an item that was read, if one was, and those that its rest gives
+abbrev pub and_items : Option (Item × List ℕ) → (List ℕ → List Item) → List Item
+and_items None others = []
+and_items (Some read) others = read.0 ∷ others read.1
+
+-- the items at the beginning of some bytes, so many at most
+abbrev pub items_from : ℕ → List ℕ → List Item
+items_from zero bytes = []
+items_from (suc most) bytes = and_items (item_of bytes) (items_from most)
+
+-- all items at the beginning of some bytes
+unfoldable pub items_in : List ℕ → List Item
+items_in bytes = items_from (length bytes) bytes
+
+-- the version of a byte that is the byte of one
+abbrev pub version_of : ℕ → Version
+version_of byte = if byte == version_byte Two then Two else One
+
+-- What the bytes of a script spell: the version behind the letters, and the items behind it.
+unfoldable pub listing_of : List ℕ → Listing
+listing_of bytes = listing (version_of (get_or bytes 4 0)) (items_in (drop 5 bytes))

@@ -1,0 +1,52 @@
+-- How far a walk through the bytes of a script has come, and the steps that are left there.
+use Rattle.std.specs.Prelude.{ℕ, ◌≡◌, ◌⊎◌, ◌+◌, ◌<◌, List, [], ◌∷◌, ◌++◌, length, drop}
+use Rattle.std.specs.List.{flat_map}
+use Rattle.vga_script.specs.declared.step.Step.{Step}
+use Rattle.vga_script.specs.declared.version.Version.TheVariants.{Two}
+use Rattle.vga_script.specs.Beginning.{steps_in, behind_steps, items_in}
+use Rattle.vga_script.specs.Item.{Item, repeated, expanded, AreItemsOf}
+use Rattle.vga_script.specs.Spelling.{opcode_end, spelling, item_spelling, StartsWithStep}
+use Rattle.vga_script.specs.Step.{AreInRange}
+
+-- The steps that are left where the rest of a script's bytes stands: between items, where there is
+-- no body; or in a repeat with this body, behind whose end the repeat is taken so often again.
+unfoldable pub steps_left : ℕ → List ℕ → List ℕ → List Step
+steps_left left [] rest = expanded (items_in rest)
+steps_left left (byte ∷ body) rest = steps_in rest ++ (repeated left (steps_in (byte ∷ body))
+    ++ expanded (items_in (drop 1 (behind_steps rest))))
+
+-- Between items: no repeat has begun, and the rest spells items.
+pub record IsOutside (body rest : List ℕ) : Type 0 where
+  pub items : List Item
+  pub fit : AreItemsOf Two items
+  pub none : body ≡ []
+  pub spelled : rest ≡ flat_map item_spelling items
+
+-- In a repeat: its steps are done up to the rest, which spells those to do, the repeat's end, and
+-- items.
+pub record IsInside (body rest : List ℕ) : Type 0 where
+  pub done : List Step
+  pub todo : List Step
+  pub items : List Item
+  pub some : 0 < length done + length todo
+  pub done_fit : AreInRange done
+  pub todo_fit : AreInRange todo
+  pub fit : AreItemsOf Two items
+  pub all : body ≡ flat_map spelling done ++ (flat_map spelling todo
+      ++ opcode_end ∷ flat_map item_spelling items)
+  pub spelled : rest ≡ flat_map spelling todo ++ opcode_end ∷ flat_map item_spelling items
+
+-- where the rest of a script's bytes stands
+abbrev pub Stands : List ℕ → List ℕ → Type 0
+Stands body rest = IsOutside body rest ⊎ IsInside body rest
+
+-- nothing is left, or a step stands at the beginning
+abbrev pub BeginsWithStep : List ℕ → Type 0
+BeginsWithStep rest = (rest ≡ []) ⊎ ((step : Step) × (others : List ℕ)
+    × StartsWithStep rest step others)
+
+-- The walk goes on, and the steps that are left stay the same.
+pub record Reaches (left : ℕ) (body rest : List ℕ) (left_there : ℕ)
+    (body_there rest_there : List ℕ) : Type 0 where
+  pub stands : Stands body_there rest_there
+  pub same : steps_left left_there body_there rest_there ≡ steps_left left body rest

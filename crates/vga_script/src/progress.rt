@@ -1,0 +1,86 @@
+//! How far a walk through the bytes of a script has come, and which steps are left there.
+ghost use Rattle.std.specs.Prelude.{ℕ, ◌≡◌, ◌≢◌, ◌<◌, ◌≤◌, ◌^◌, ◌++◌, ◌∷◌, List, length, IfNone};
+ghost use Rattle.std.specs.Prelude.{IfSome};
+ghost use Rattle.byteorder.specs.Endian.{little_bytes};
+ghost use Rattle.vga_script.specs.Progress.{BeginsWithStep, Reaches, Stands};
+ghost use Rattle.vga_script.specs.Spelling.{opcode_end};
+
+use super::fields::{u8_at, u16_at};
+use super::opcode;
+
+/// How far a walk through the bytes of a script has come.
+#[derive(Clone, Copy)]
+pub(crate) struct Progress<'a> {
+    /// What follows.
+    pub(crate) rest: &'a [u8],
+    /// In a repeat its steps and what follows them, from the first step on; else nothing.
+    pub(crate) body: &'a [u8],
+    /// How often the repeat is taken again behind its end.
+    pub(crate) left: u16,
+}
+
+/// The count of a repeat, and what follows it.
+fn count_at(fields: &[u8]) -> (u16, &[u8])
+    requires { 2 ≤ length fields.now }
+    ensures fields { fields.now ≡ little_bytes 2 result.0 ++ result.1.now }
+    ensures small { result.0 < 2 ^ 16 }
+{
+    match u16_at(fields) {
+        Ok(found) => found,
+        Err(_) => (0, fields), // Two bytes are there.
+    }
+}
+
+/// What follows the end of a repeat, where it stands at the beginning.
+fn behind_end(bytes: &[u8]) -> Option<&[u8]>
+    ensures found { IfSome result (λ after. bytes.now ≡ opcode_end ∷ after.now) }
+    ensures none { IfNone result ((after : List ℕ) → bytes.now ≢ opcode_end ∷ after) }
+{
+    match u8_at(bytes) {
+        Ok((opcode, after)) if opcode == opcode::END => Some(after),
+        _ => None,
+    }
+}
+
+/// The same walk, at the next step or at the end. Repeats of no steps are passed over.
+#[tactic(auto, using(crate::proofs::ProgressLemmas::stays, crate::proofs::ProgressLemmas::room_for_count))]
+pub(crate) fn skip_marks(progress: Progress<'_>) -> Progress<'_>
+    requires { Stands progress.body.now progress.rest.now }
+    ensures reached { Reaches progress.entry.left progress.entry.body.now
+        progress.entry.rest.now result.left result.body.now result.rest.now }
+    ensures prefix { BeginsWithStep result.rest.now }
+{
+    let Progress {
+        mut rest,
+        mut body,
+        left,
+    } = progress;
+    while let Ok((opcode, others)) = u8_at(rest) {
+        if opcode == opcode::END {
+            if left > 0 {
+                return Progress {
+                    rest: body,
+                    body,
+                    left: left - 1,
+                };
+            }
+            body = others.split_at(0).0;
+            rest = others;
+        } else if opcode == opcode::REPEAT {
+            let (count, inner) = count_at(others);
+            match behind_end(inner) {
+                Some(after) => rest = after,
+                None => {
+                    return Progress {
+                        rest: inner,
+                        body: inner,
+                        left: count - 1,
+                    };
+                }
+            }
+        } else {
+            return Progress { rest, body, left };
+        }
+    }
+    Progress { rest, body, left }
+}

@@ -1,0 +1,111 @@
+//! The lines of a text that say its version, and that begin and end a repeat.
+ghost use Rattle.std.specs.Prelude.{◌≡◌, ◌≢◌, ◌↔◌, ◌∷◌, [], ℕ, List, IfNone, IfSome, IsFalse};
+ghost use Rattle.std.specs.Prelude.{IsTrue};
+ghost use Rattle.vga_script.specs.Text.{IsEnd, IsVersionTwo, SpellsRepeat};
+ghost use Rattle.vga_script.specs.Version.{AllowsRepeats};
+ghost use Rattle.vga_script.specs.Tokens.{words};
+
+use super::keyword::is_name;
+use super::numbers::number;
+use super::tokens::{before_comment, next_word};
+use super::version::Version;
+
+/// The word of a line, where it has just one.
+#[tactic(auto, using(crate::proofs::RepeatLineLemmas::not_one_of_none, crate::proofs::RepeatLineLemmas::not_one_of_more, crate::proofs::RepeatLineLemmas::one_alone))]
+fn one_word(line: &[u8]) -> Option<&[u8]>
+    ensures found { IfSome result (λ word. words line.now ≡ word.now ∷ []) }
+    ensures none { IfNone result ((word : List ℕ) → words line.now ≢ word ∷ []) }
+{
+    let Some((word, rest)) = next_word(before_comment(line)) else {
+        return None;
+    };
+    match next_word(rest) {
+        None => Some(word),
+        Some(_) => None,
+    }
+}
+
+/// The words of a line, where it has just two.
+#[tactic(auto, using(crate::proofs::RepeatLineLemmas::not_two_of_none, crate::proofs::RepeatLineLemmas::not_two_of_one, crate::proofs::RepeatLineLemmas::not_two_of_more, crate::proofs::RepeatLineLemmas::two_alone))]
+fn two_words(line: &[u8]) -> Option<(&[u8], &[u8])>
+    ensures found { IfSome result (λ x. words line.now ≡ x.0.now ∷ x.1.now ∷ []) }
+    ensures none { IfNone result ((word other : List ℕ) → words line.now ≢ word ∷ other ∷ []) }
+{
+    let Some((word, rest)) = next_word(before_comment(line)) else {
+        return None;
+    };
+    let Some((other, rest)) = next_word(rest) else {
+        return None;
+    };
+    match next_word(rest) {
+        None => Some((word, other)),
+        Some(_) => None,
+    }
+}
+
+/// Whether a line has a word.
+pub(crate) fn has_word(line: &[u8]) -> bool
+    ensures some { IsTrue result → words line.now ≢ [] }
+    ensures none { IsFalse result → words line.now ≡ [] }
+{
+    match next_word(before_comment(line)) {
+        Some(_) => true,
+        None => false,
+    }
+}
+
+/// Whether a line says version 2.
+#[tactic(auto, using(crate::proofs::NameLemmas::named, crate::proofs::NameLemmas::unnamed))]
+pub(crate) fn says_version_two(line: &[u8]) -> bool
+    ensures { IsTrue result ↔ IsVersionTwo (words line.now) }
+{
+    match two_words(line) {
+        Some((name, [b'2'])) => is_name(name, b"version"),
+        _ => false,
+    }
+}
+
+/// The count of the repeat that a line begins.
+#[tactic(auto, using(crate::proofs::RepeatLineLemmas::not_repeat_name, crate::proofs::RepeatLineLemmas::not_repeat_words))]
+fn count_of_line(line: &[u8]) -> Option<u16>
+    ensures found { IfSome result (λ count. SpellsRepeat (words line.now) count) }
+    ensures none { IfNone result ((count : ℕ) → SpellsRepeat (words line.now) count → ⊥) }
+{
+    let Some((name, word)) = two_words(line) else {
+        return None;
+    };
+    if !is_name(name, b"repeat") {
+        return None;
+    }
+    let Some(count) = number(word, 10, 0xFFFF) else {
+        return None;
+    };
+    if count == 0 {
+        return None;
+    }
+    Some(count as u16)
+}
+
+/// The same in a script of this version, which may have no repeats.
+pub(crate) fn count_in(line: &[u8], version: Version) -> Option<u16>
+    ensures found { IfSome result (λ count. AllowsRepeats version
+        × SpellsRepeat (words line.now) count) }
+    ensures none { IfNone result (AllowsRepeats version → (count : ℕ) →
+        SpellsRepeat (words line.now) count → ⊥) }
+{
+    match version {
+        Version::One => None,
+        Version::Two => count_of_line(line),
+    }
+}
+
+/// Whether a line ends a repeat.
+#[tactic(auto, using(crate::proofs::NameLemmas::named, crate::proofs::NameLemmas::unnamed))]
+pub(crate) fn is_end(line: &[u8]) -> bool
+    ensures { IsTrue result ↔ IsEnd (words line.now) }
+{
+    match one_word(line) {
+        Some(name) => is_name(name, b"end"),
+        None => false,
+    }
+}

@@ -1,0 +1,90 @@
+//! Lines of a text, and words of a line.
+ghost use Rattle.std.specs.Prelude.{◌≡◌, ◌∷◌, [], ◌<◌, ◌≤◌, length, IfNone, IfSome};
+ghost use Rattle.std.specs.List.{before_first, position_or_len};
+ghost use Rattle.std.specs.Option.{option_copied};
+ghost use Rattle.vga_script.specs.Tokens.{is_blank, is_semicolon, ends_at, lines, lines_left};
+ghost use Rattle.vga_script.specs.Tokens.{words_in};
+
+/// A byte that ends a piece of a text.
+#[derive(Clone, Copy, PartialEq, Eq, Debug)]
+enum End {
+    /// A newline, which ends a line.
+    Newline,
+    /// A semicolon, behind which a line has its comment.
+    Semicolon,
+    /// A blank, which ends a word.
+    Blank,
+}
+
+impl End {
+    /// Whether this byte is one that ends such a piece.
+    fn is_at(self, byte: u8) -> bool
+        ensures { result ≡ ends_at self byte }
+    {
+        match self {
+            End::Newline => byte == b'\n',
+            End::Semicolon => byte == b';',
+            End::Blank => byte == b' ' || byte == b'\t' || byte == b'\r',
+        }
+    }
+
+    /// Where the first byte stands that ends such a piece of a text, or the text's length.
+    fn place_in(self, text: &[u8]) -> usize
+        ensures position { result ≡ position_or_len (ends_at self) text.now }
+        ensures within { result ≤ length text.now }
+    {
+        let mut position = 0;
+        while position < text.len() && !self.is_at(text[position]) {
+            position += 1;
+        }
+        position
+    }
+}
+
+/// The first line of a text, and what follows its newline, where it has one.
+#[tactic(auto, using(crate::proofs::WordLemmas::line_between, crate::proofs::WordLemmas::line_last))]
+pub(crate) fn first_line(text: &[u8]) -> (&[u8], Option<&[u8]>)
+    ensures line { lines text.now ≡ result.0.now ∷ lines_left (option_copied result.1) }
+    ensures shorter { IfSome result.1 (λ rest. length rest.now < length text.now) }
+{
+    let end = End::Newline.place_in(text);
+    if end == text.len() {
+        return (text, None);
+    }
+    (text.split_at(end).0, Some(text.split_at(end + 1).1))
+}
+
+/// What stands in a line before a comment.
+pub(crate) fn before_comment(line: &[u8]) -> &[u8]
+    ensures { result.now ≡ before_first is_semicolon line.now }
+{
+    line.split_at(End::Semicolon.place_in(line)).0
+}
+
+/// What follows the blanks at the beginning.
+#[tactic(auto, using(crate::proofs::WordLemmas::skip_blank))]
+fn after_blanks(line: &[u8]) -> &[u8]
+    ensures words { words_in result.now ≡ words_in line.now }
+    ensures prefix { 0 < length result.now → 0 < position_or_len is_blank result.now }
+{
+    let mut rest = line;
+    while let [first, others @ ..] = rest {
+        if !End::Blank.is_at(*first) {
+            return rest;
+        }
+        rest = others;
+    }
+    rest
+}
+
+/// The first word, and what follows it.
+pub(crate) fn next_word(line: &[u8]) -> Option<(&[u8], &[u8])>
+    ensures found { IfSome result (λ x. words_in line.now ≡ x.0.now ∷ words_in x.1.now) }
+    ensures none { IfNone result (words_in line.now ≡ []) }
+{
+    let rest = after_blanks(line);
+    if rest.is_empty() {
+        return None;
+    }
+    Some(rest.split_at(End::Blank.place_in(rest)))
+}
