@@ -64,18 +64,18 @@ other_or None y hx hy = hy
 other_or (Some why) y hx hy = hx
 
 -- a block of as many bytes as are taken is no reason
-whole_block : (taken len : ℕ) → len ≡ taken → IsOther (wrong_block taken len)
-whole_block taken len is e =
-    let same : (len == taken) ≡ true = grind (arith, nat_tests) in
-    let none : wrong_block taken len ≡ None = ap (λ b. refuse_unless b BadBlock) same in
-    none_is_other (wrong_block taken len) none e
+whole_block : (size len : ℕ) → len ≡ size → IsOther (wrong_block size len)
+whole_block size len is e =
+    let same : (len == size) ≡ true = grind (arith, nat_tests) in
+    let none : wrong_block size len ≡ None = ap (λ b. refuse_unless b BadBlock) same in
+    none_is_other (wrong_block size len) none e
   where
     none_is_other : (x : Option Refusal) → x ≡ None → IsOther x
     none_is_other x is e = let both = sym is ∙ e in cc
 
 -- a block that is no reason has as many bytes as are taken
-block_is_whole : (taken len : ℕ) → wrong_block taken len ≡ None → len ≡ taken
-block_is_whole taken len none = let same : (len == taken) ≡ true = holds (len == taken) BadBlock none in grind (arith, nat_tests)
+block_is_whole : (size len : ℕ) → wrong_block size len ≡ None → len ≡ size
+block_is_whole size len none = let same : (len == size) ≡ true = holds (len == size) BadBlock none in grind (arith, nat_tests)
 
 colours_other : (asked : ColourService) (len : ℕ) → len ≡ colours_len asked → IsOther (colour_refusal asked len)
 unfolding colour_refusal
@@ -251,25 +251,25 @@ table_in_mode_fits m asked d r =
 -- ---- glyphs
 
 -- of the third reason, if the glyphs are those of the block
-taken_other : (is_block : Bool) (taken len : ℕ) → len ≡ (if is_block then taken else 0) → IsOther (if is_block then wrong_block taken len else None)
-taken_other true taken len is = whole_block taken len is
-taken_other false taken len is = λ e. cc
+block_is_other : (is_block : Bool) (size len : ℕ) → len ≡ (if is_block then size else 0) → IsOther (if is_block then wrong_block size len else None)
+block_is_other true size len is = whole_block size len is
+block_is_other false size len is = λ e. cc
 
 load_other : (load : GlyphLoad) (mode len : ℕ) → len ≡ (if load.is_block then glyphs_len load else 0) → IsOther (load_refusal load mode len)
 load_other load mode len is =
     other_or (refuse_unless (is_text mode) WrongKind) _ (other_unless (is_text mode) WrongKind (λ e. cc))
     (other_or (refuse_unless (nat_le (load.first + load.count) 256) CountPast) _ (other_unless (nat_le (load.first + load.count) 256) CountPast (λ e. cc))
-    (taken_other load.is_block (glyphs_len load) len is))
+    (block_is_other load.is_block (glyphs_len load) len is))
 
-taken_whole : (is_block : Bool) (taken len : ℕ) → 0 < (if is_block then taken else 0) → (if is_block then wrong_block taken len else None) ≡ None →
-    len ≡ (if is_block then taken else 0)
-taken_whole true taken len some none = block_is_whole taken len none
-taken_whole false taken len some none = absurd (omega (arith, some))
+block_has_size : (is_block : Bool) (size len : ℕ) → 0 < (if is_block then size else 0) → (if is_block then wrong_block size len else None) ≡ None →
+    len ≡ (if is_block then size else 0)
+block_has_size true size len some none = block_is_whole size len none
+block_has_size false size len some none = absurd (omega (arith, some))
 
 load_whole : (load : GlyphLoad) (mode len : ℕ) → 0 < (if load.is_block then glyphs_len load else 0) → load_refusal load mode len ≡ None →
     len ≡ (if load.is_block then glyphs_len load else 0)
 load_whole load mode len some none =
-    taken_whole load.is_block (glyphs_len load) len some
+    block_has_size load.is_block (glyphs_len load) len some
     (neither (refuse_unless (nat_le (load.first + load.count) 256) CountPast) _ (neither (refuse_unless (is_text mode) WrongKind) _ none).1).1
 
 load_at_fits : {S : Type 0} (m : Meaning S) (row : Option ModeRow) (load : GlyphLoad) (fonts : FontSet) (d : BiosData) (r : Regs) (block : List ℕ) →

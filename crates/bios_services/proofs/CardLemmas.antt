@@ -5,10 +5,10 @@ use Rattle.vga_card.specs.Bounds.{IsCard}
 use Rattle.vga_card.specs.Bus.{Place, AtPort, AtAddress, card_meaning, card_write, card_read}
 use Rattle.vga_card.specs.Card.{CardState}
 use Rattle.vga_card.specs.Cycles.{Written, Answered}
-use Rattle.vga_card.specs.Settled.{settled, settled_after}
+use Rattle.vga_card.specs.FreshCanvas.{with_fresh_canvas, fresh_canvas_after}
 use Rattle.vga_card.proofs.BoundLemmas.{out_bounds, inp_bounds, put_bounds, get_bounds}
 use Rattle.vga_card.proofs.DrawnLemmas.{IsStill, still, still_after, out_still, inp_still, put_still, get_still}
-use Rattle.vga_card.proofs.SettledLemmas.{cannot_be_told}
+use Rattle.vga_card.proofs.FreshCanvasLemmas.{cannot_be_told}
 use Rattle.bios_services.specs.Plan.{Plan, Done, Write, Read, byte_of, run}
 use Rattle.bios_services.proofs.PlanRuns.{run_keeps}
 
@@ -41,18 +41,18 @@ plan_drawn p c = (plan_still p c).drawn
 pub plan_beam : {A : Type 0} (p : Plan A) (c : CardState) → (run card_meaning p c).0.crtc.beam ≡ c.crtc.beam
 plan_beam p c = (plan_still p c).beam
 
-write_settled : (c : CardState) (place : Place) (v : ℕ) → card_write (settled c) place v ≡ settled_after (card_write c place v)
-write_settled c (AtPort port) v = cannot_be_told.out c port v
-write_settled c (AtAddress address) v = cannot_be_told.put c address v
+write_fresh : (c : CardState) (place : Place) (v : ℕ) → card_write (with_fresh_canvas c) place v ≡ fresh_canvas_after (card_write c place v)
+write_fresh c (AtPort port) v = cannot_be_told.out c port v
+write_fresh c (AtAddress address) v = cannot_be_told.put c address v
 
-read_settled : (c : CardState) (place : Place) → card_read (settled c) place ≡ settled_after (card_read c place)
-read_settled c (AtPort port) = cannot_be_told.inp c port
-read_settled c (AtAddress address) = cannot_be_told.get c address
+read_fresh : (c : CardState) (place : Place) → card_read (with_fresh_canvas c) place ≡ fresh_canvas_after (card_read c place)
+read_fresh c (AtPort port) = cannot_be_told.inp c port
+read_fresh c (AtAddress address) = cannot_be_told.get c address
 
-pub plan_settled : {A : Type 0} (p : Plan A) (c : CardState) → run card_meaning p (settled c) ≡ settled_after (run card_meaning p c)
-plan_settled (Done a) c = refl
-plan_settled (Write place v rest) c =
-    ap (λ (w : Written). run card_meaning rest w.0) (write_settled c place v) ∙ plan_settled rest (card_write c place v).0
-plan_settled (Read place rest) c =
+pub plan_fresh : {A : Type 0} (p : Plan A) (c : CardState) → run card_meaning p (with_fresh_canvas c) ≡ fresh_canvas_after (run card_meaning p c)
+plan_fresh (Done a) c = refl
+plan_fresh (Write place v rest) c =
+    ap (λ (w : Written). run card_meaning rest w.0) (write_fresh c place v) ∙ plan_fresh rest (card_write c place v).0
+plan_fresh (Read place rest) c =
     let r = card_read c place in
-    ap (λ (a : Answered). run card_meaning (rest (byte_of a.1)) a.0) (read_settled c place) ∙ plan_settled (rest (byte_of r.1)) r.0
+    ap (λ (a : Answered). run card_meaning (rest (byte_of a.1)) a.0) (read_fresh c place) ∙ plan_fresh (rest (byte_of r.1)) r.0

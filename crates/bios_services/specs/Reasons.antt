@@ -52,4 +52,4 @@ past_cells cells first count = refuse_unless (nat_le (first + count) cells) Coun
 
 -- a block has not as many bytes as are taken
 abbrev pub wrong_block : ℕ → ℕ → Option Refusal
-wrong_block taken len = refuse_unless (len == taken) BadBlock
+wrong_block size len = refuse_unless (len == size) BadBlock

@@ -3,7 +3,7 @@ ghost use Rattle.std.specs.Prelude.{◌≡◌, ◌<◌, ℕ, List};
 ghost use Rattle.vga_card.specs.Bounds.{IsCard};
 ghost use Rattle.vga_card.specs.Bus.{card_meaning};
 ghost use Rattle.vga_card.specs.Card.{CardState};
-ghost use Rattle.vga_card.specs.Settled.{settled, settled_after};
+ghost use Rattle.vga_card.specs.FreshCanvas.{with_fresh_canvas, fresh_canvas_after};
 ghost use Rattle.bios_modes.specs.Bda.{BiosData, power_on_data};
 ghost use Rattle.bios_modes.specs.Fonts.{FontSet};
 ghost use Rattle.bios_services.specs.declared.regs.Regs.{Regs};
@@ -46,6 +46,6 @@ pub fn calls_draw_nothing()
 /// same, and leaves the same but for what is not saved.
 pub fn calls_cannot_tell()
     ensures { (fonts : FontSet) (d : BiosData) (r : Regs) (block : List ℕ) (c : CardState) →
-        run card_meaning (service fonts d r block) (settled c)
-        ≡ settled_after (run card_meaning (service fonts d r block) c) }
+        run card_meaning (service fonts d r block) (with_fresh_canvas c)
+        ≡ fresh_canvas_after (run card_meaning (service fonts d r block) c) }
 {}

@@ -67,8 +67,8 @@ pub(crate) fn past_cells(cells: u32, first: u32, count: u16) -> Result<(), Refus
 }
 
 /// Refuses a block that has not as many bytes as are taken.
-pub(crate) fn wrong_block(taken: usize, len: usize) -> Result<(), Refusal>
-    ensures { reason_of result ≡ wrong_block_of taken len }
+pub(crate) fn wrong_block(size: usize, len: usize) -> Result<(), Refusal>
+    ensures { reason_of result ≡ wrong_block_of size len }
 {
-    refuse_unless(len == taken, Refusal::BadBlock)
+    refuse_unless(len == size, Refusal::BadBlock)
 }

@@ -1,6 +1,6 @@
 //! Files that are read.
 ghost use Rattle.std.specs.Prelude.{◌≡◌, ◌≤◌, ◌+◌, false, IfOk, IsOkUnless};
-ghost use Rattle.vga_bits.specs.Tracked.{inner_of, has_failed, taken_of};
+ghost use Rattle.vga_bits.specs.Tracked.{inner_of, has_failed, read_count_of};
 ghost use Rattle.vga_bits.specs.LimitedReading.{ReadsPrefix};
 
 use std::alloc::Global;
@@ -36,7 +36,7 @@ pub fn read_fonts<R: Read>(alloc: Global, file: &mut Tracked<R>) -> Result<Vec<u
     requires { has_failed file.old ≡ false }
     ensures prefix { ReadsPrefix 9729 (R.remaining (inner_of file.old))
         (R.remaining (inner_of file.new)) (has_failed file.new) result }
-    ensures counted { taken_of file.new ≤ taken_of file.old + 9729 }
+    ensures counted { read_count_of file.new ≤ read_count_of file.old + 9729 }
 {
     read_prefix(alloc, file, FONTS_ROOM)
 }

@@ -10,7 +10,7 @@ use Rattle.vga_bits.specs.LimitedReading.{IsPrefix, ReadsPrefix, TakesAtMost, is
 
 -- the bytes so far, of which there are so many, are a prefix of what the reader had
 pub record Taken (old new : Option (List ℕ)) (failed : Bool) (before after : ℕ) (bytes : List ℕ) (count most : ℕ) : Type 0 where
-  pub taken : Consumes old new bytes
+  pub consumed : Consumes old new bytes
   pub counted : count ≡ length bytes
   pub few : count ≤ most
   pub sound : failed ≡ false
@@ -21,7 +21,7 @@ pub piece_taken : (old mid new : Option (List ℕ)) (failed : Bool) (before afte
     Taken old mid failed before after bytes count most
     → Consumes mid new piece → count + length piece ≤ most → TakesAtMost most old new
 piece_taken old mid new failed before after bytes piece count most so_far read few =
-    (bytes ++ piece, Consumes-trans old mid new bytes piece so_far.taken read, omega (arith, length-append bytes piece, so_far.counted))
+    (bytes ++ piece, Consumes-trans old mid new bytes piece so_far.consumed read, omega (arith, length-append bytes piece, so_far.counted))
 
 -- the prefix of a list is no longer than the list
 pub prefix_short : (n : ℕ) (all bytes : List ℕ) → bytes ≡ take n all → length bytes ≤ length all

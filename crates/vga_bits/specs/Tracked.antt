@@ -15,13 +15,13 @@ abbrev pub has_failed : {T : Type 0} → Tracked T → Bool
 has_failed t = t.has_failed
 
 -- how many bytes its reads have given, up to the largest number of 64 bits
-abbrev pub taken_of : {T : Type 0} → Tracked T → ℕ
-taken_of t = t.taken
+abbrev pub read_count_of : {T : Type 0} → Tracked T → ℕ
+read_count_of t = t.read_count
 
 -- how many bytes are counted after a read with this answer, if so many were before
-abbrev pub taken_after : {E : Type 0} → ℕ → Result ℕ E → ℕ
-taken_after taken (Ok n) = min (taken + n) (2 ^ 64 - 1)
-taken_after taken (Err e) = taken
+abbrev pub read_count_after : {E : Type 0} → ℕ → Result ℕ E → ℕ
+read_count_after read_count (Ok n) = min (read_count + n) (2 ^ 64 - 1)
+read_count_after read_count (Err e) = read_count
 
 -- whether a write of some bytes with this answer failed: by an error, or by taking none of some
 -- bytes

@@ -1,6 +1,6 @@
 //! Reading up to a limit.
 ghost use Rattle.std.specs.Prelude.{◌≡◌, ◌≤◌, ◌+◌, false};
-ghost use Rattle.vga_bits.specs.Tracked.{inner_of, has_failed, taken_of};
+ghost use Rattle.vga_bits.specs.Tracked.{inner_of, has_failed, read_count_of};
 ghost use Rattle.vga_bits.specs.LimitedReading.{ReadsPrefix};
 
 use super::fault::Fault;
@@ -24,7 +24,7 @@ pub fn read_prefix<R: Read>(
     requires { has_failed reader.old ≡ false }
     ensures prefix { ReadsPrefix most (R.remaining (inner_of reader.old))
         (R.remaining (inner_of reader.new)) (has_failed reader.new) result }
-    ensures counted { taken_of reader.new ≤ taken_of reader.old + most }
+    ensures counted { read_count_of reader.new ≤ read_count_of reader.old + most }
 {
     let mut bytes = Vec::new(alloc);
     let mut buffer = [0u8; PIECE_LEN];

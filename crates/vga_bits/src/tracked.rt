@@ -2,8 +2,8 @@
 ghost use Rattle.std.specs.Prelude.{◌≡◌, ◌||◌, [], is_err, false};
 ghost use Rattle.std.specs.Io.{ReadsAtMost, WritesAtMost};
 ghost use Rattle.std.specs.Io.KnownBytes.{ReadConsumes, WriteAppends, Keeps};
-ghost use Rattle.vga_bits.specs.Tracked.{inner_of, has_failed, taken_after, taken_of, write_fails};
-ghost use Rattle.vga_bits.specs.Tracked.{Writes};
+ghost use Rattle.vga_bits.specs.Tracked.{inner_of, has_failed, read_count_after, read_count_of};
+ghost use Rattle.vga_bits.specs.Tracked.{write_fails, Writes};
 
 use super::fault::Fault;
 use std::io;
@@ -18,7 +18,7 @@ use std::io::{Read, Write};
 pub struct Tracked<T> {
     inner: T,
     has_failed: bool,
-    taken: u64,
+    read_count: u64,
 }
 
 impl<T> Tracked<T> {
@@ -26,12 +26,12 @@ impl<T> Tracked<T> {
     pub fn new(inner: T) -> Tracked<T>
         ensures inner { inner_of result ≡ inner }
         ensures failed { has_failed result ≡ false }
-        ensures taken { taken_of result ≡ 0 }
+        ensures counted { read_count_of result ≡ 0 }
     {
         Tracked {
             inner,
             has_failed: false,
-            taken: 0,
+            read_count: 0,
         }
     }
 
@@ -42,7 +42,7 @@ impl<T> Tracked<T> {
         let Tracked {
             inner,
             has_failed: _,
-            taken: _,
+            read_count: _,
         } = self;
         inner
     }
@@ -57,10 +57,10 @@ impl<T> Tracked<T> {
 
     /// How many bytes its reads have given. More than 18,446,744,073,709,551,615 are counted as so
     /// many.
-    pub fn taken(&self) -> u64
-        ensures { result ≡ taken_of self.now }
+    pub fn read_count(&self) -> u64
+        ensures { result ≡ read_count_of self.now }
     {
-        self.taken
+        self.read_count
     }
 }
 
@@ -72,11 +72,12 @@ impl<T: Read> Read for Tracked<T> {
         ensures bytes { ReadConsumes (T.remaining (inner_of self.old))
             (T.remaining (inner_of self.new)) result buf.new }
         ensures failed { has_failed self.new ≡ (has_failed self.old || is_err result) }
-        ensures taken { taken_of self.new ≡ taken_after (taken_of self.old) result }
+        ensures counted { read_count_of self.new
+            ≡ read_count_after (read_count_of self.old) result }
     {
         let answer = self.inner.read(buf);
         match &answer {
-            Ok(n) => self.taken = self.taken.saturating_add(*n as u64),
+            Ok(n) => self.read_count = self.read_count.saturating_add(*n as u64),
             Err(_) => self.has_failed = true,
         }
         answer

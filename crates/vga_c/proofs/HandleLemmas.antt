@@ -24,23 +24,23 @@ cycle_is c n few = chosen (nat_le n most_dots) (dots n c, Ok tt) (c, Err TooFar)
     chosen true x y e = refl
     chosen false x y e = absurd (cc)
 
-taken : (c : CardState) (n : ℕ) → n ≤ most_dots → (advance_cycle c n).0 ≡ dots n c
-taken c n few = ap (λ (r : Written). r.0) (cycle_is c n few)
+few_dots : (c : CardState) (n : ℕ) → n ≤ most_dots → (advance_cycle c n).0 ≡ dots n c
+few_dots c n few = ap (λ (r : Written). r.0) (cycle_is c n few)
 
 -- no dots leave a machine
 pub none_owed : ((c : CardState) → dots 0 c ≡ c) → (m : Machine) → after_step m (Advance 0) ≡ m
 unfolding after_step
-none_owed none m = ap (λ (c : CardState). record m { card = c }) (taken m.card 0 (omega arith) ∙ none m.card)
+none_owed none m = ap (λ (c : CardState). record m { card = c }) (few_dots m.card 0 (omega arith) ∙ none m.card)
 
 -- dots that are added to those that are owed come after these
 pub owed_both : ((a b : ℕ) (c : CardState) → dots (a + b) c ≡ dots b (dots a c)) → (m : Machine) (a b : ℕ) → a + b ≤ most_dots →
     after_step m (Advance (a + b)) ≡ after_step (after_step m (Advance a)) (Advance b)
 unfolding after_step
 owed_both split m a b few =
-    let first = taken m.card a (omega (arith, few)) in
-    let later = taken (advance_cycle m.card a).0 b (omega (arith, few)) in
+    let first = few_dots m.card a (omega (arith, few)) in
+    let later = few_dots (advance_cycle m.card a).0 b (omega (arith, few)) in
     ap (λ (c : CardState). record m { card = c })
-    (taken m.card (a + b) few ∙ split a b m.card ∙ sym (later ∙ ap (dots b) first))
+    (few_dots m.card (a + b) few ∙ split a b m.card ∙ sym (later ∙ ap (dots b) first))
 
 -- few enough dots are not refused
 pub advance_is_done : (m : Machine) (n : ℕ) → n ≤ most_dots → 0 ≡ status_of (answer_to m (Advance n))
@@ -48,6 +48,6 @@ unfolding answer_to
 advance_is_done m n few = sym (ap (λ (r : Written). status_of (Plain (of_write r.1))) (cycle_is m.card n few))
 
 -- a card that owes no dots has the machine that it keeps
-pub settled : ((c : CardState) → dots 0 c ≡ c) → (h : HandleState) → h.owed ≡ 0 → h.kept.machine ≡ machine_of h
+pub nothing_owed : ((c : CardState) → dots 0 c ≡ c) → (h : HandleState) → h.owed ≡ 0 → h.kept.machine ≡ machine_of h
 unfolding machine_of
-settled none h owes = sym (none_owed none h.kept.machine) ∙ ap (λ (n : ℕ). after_step h.kept.machine (Advance n)) (sym owes)
+nothing_owed none h owes = sym (none_owed none h.kept.machine) ∙ ap (λ (n : ℕ). after_step h.kept.machine (Advance n)) (sym owes)

@@ -31,7 +31,7 @@ use Rattle.vga_crtc.specs.Bounds.{IsCrtc}
 use Rattle.vga_attr.specs.Attr.{AttrState, attr_masks, register_of, is_locked, after_write as after_attr, IsAttr}
 use Rattle.vga_dac.specs.declared.component.Component.{Component}
 use Rattle.vga_dac.specs.declared.component.Component.TheVariants.{Red, Green, Blue}
-use Rattle.vga_dac.specs.Dac.{DacState, taken, after_read, IsDac}
+use Rattle.vga_dac.specs.Dac.{DacState, with_component, after_read, IsDac}
 use Rattle.vga_card.specs.declared.port.Port.{Port}
 use Rattle.vga_card.specs.declared.port.Port.TheVariants.{Attribute, AttributeRegister, MiscellaneousWrite, SubsystemEnable, SequencerIndex, SequencerData}
 use Rattle.vga_card.specs.declared.port.Port.TheVariants.{DacMask, DacReadIndex, DacWriteIndex, DacData, FeatureControl, MiscellaneousRead, GraphicsIndex}
@@ -288,7 +288,7 @@ attr_write a v z =
     by_lock true = attr_kept _ z.size z.kept
     by_lock false = attr_kept _ (length-set a.registers (register_of a) _ ∙ z.size) (kept_set attr_masks a.registers (register_of a) v z.kept)
 
-dac_taken : (d : DacState) (k : Component) (v : ℕ) → IsDac d → IsDac (taken d k v)
+dac_taken : (d : DacState) (k : Component) (v : ℕ) → IsDac d → IsDac (with_component d k v)
 dac_taken d Red v z = record { reds = z.reds; greens = z.greens; blues = z.blues }
 dac_taken d Green v z = record { reds = z.reds; greens = z.greens; blues = z.blues }
 dac_taken d Blue v z = record {
@@ -334,7 +334,7 @@ out_within c (Some DacReadIndex) v z = with_dac c _ z.dac.reds z.dac.greens z.da
 out_within c (Some DacWriteIndex) v z = with_dac c _ z.dac.reds z.dac.greens z.dac.blues z
 out_within c (Some DacData) v z =
     let d = dac_taken c.dac c.dac.component (bit_and v 0x3F) z.dac in
-    with_dac c (after_read (taken c.dac c.dac.component (bit_and v 0x3F))) d.reds d.greens d.blues z
+    with_dac c (after_read (with_component c.dac c.dac.component (bit_and v 0x3F))) d.reds d.greens d.blues z
 out_within c (Some FeatureControl) v z = z
 out_within c (Some MiscellaneousRead) v z = z
 out_within c (Some GraphicsIndex) v z = with_host c _ (host_gfx_index c.host (bit_and v 0x0F) z.host) z

@@ -12,7 +12,7 @@ pub mod PartLemmas
 pub mod WidthLemmas
 pub mod SavedLemmas
 pub mod SavedCards
-pub mod SettledLemmas
+pub mod FreshCanvasLemmas
 pub mod RepeatLemmas
 pub mod ClockLemmas
 pub mod TransferLemmas

@@ -66,7 +66,7 @@ module _ (stays : StartStays) (begin : DotsBegin) (places : BeamInLine) (counts 
       let n = dots_in_line cw r c.beam in
       let e : dots_in_line cw r s ≡ n = counts cw r s (start_stays stays r c.beam start) some ∙ sym (counts cw r c.beam start some) in
       let more : 0 < n = omega (arith, e, line.ends.some) in
-      line.taken ∙ ap (λ m. record c { beam = beam_dots cw r m s }) e ∙ ap (λ (b : Beam). record c { beam = b }) (sym (begin cw r n c.beam more))
+      line.by_dots ∙ ap (λ m. record c { beam = beam_dots cw r m s }) e ∙ ap (λ (b : Beam). record c { beam = b }) (sym (begin cw r n c.beam more))
 
   -- a whole line, from the parts that it changes
   pub line_is : (c : CardState) (crtc : CrtcState) (drawn : List Dot) → IsLineStart c.crtc.beam → IsLineTaken (character_width c) (after_start c.crtc) crtc →
@@ -84,12 +84,12 @@ module _ (stays : StartStays) (begin : DotsBegin) (places : BeamInLine) (counts 
 pub line_moves : StartStays → LineMoves → (cw : ℕ) (old new : CrtcState) (line width : ℕ) → IsLineTaken cw old new → line ≤ old.beam.line →
     IsDrawnTo new.beam 0 (fresh_count new.beam line) (fresh_count new.beam width)
 unfolding after_dots
-line_moves stays leads cw old new line width taken below =
+line_moves stays leads cw old new line width by_dots below =
     let r = old.registers in
     let s : Beam = started r old.beam in
     let m : Beam = new.beam in
     let place = stays r old.beam in
-    let e : m ≡ next_line r s = ap (λ (x : CrtcState). x.beam) taken.taken ∙ taken.ends.next in
+    let e : m ≡ next_line r s = ap (λ (x : CrtcState). x.beam) by_dots.by_dots ∙ by_dots.ends.next in
     decided (is_first_dot m) m line width (λ away. ⊎_elim
     (λ (next : IsNextLine r s (next_line r s)).
     let on : m.line ≡ s.line + 1 = ap (λ (x : Beam). x.line) e ∙ next.line in

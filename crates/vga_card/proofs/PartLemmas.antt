@@ -173,13 +173,13 @@ module _ (stays : StartStays) (begin : DotsBegin) (goes : BeamGoes) (whole : Lin
       n ≤ dots_in_line cw old.registers old.beam → new ≡ after_dots old cw n
       → IsDrawnTo old.beam n line width → IsDrawnTo new.beam 0 (fresh_count new.beam line) (fresh_count new.beam width)
   unfolding after_dots
-  part_moves cw n old new line width which inside few taken is =
+  part_moves cw n old new line width which inside few by_dots is =
       let r = old.registers in
       let b : Beam = old.beam in
       let m : Beam = new.beam in
       let narrow : cw < 10 = ⊎_elim (λ (e : cw ≡ 8). omega (arith, e)) (λ (e : cw ≡ 9). omega (arith, e)) which in
       let some : 0 < cw = ⊎_elim (λ (e : cw ≡ 8). omega (arith, e)) (λ (e : cw ≡ 9). omega (arith, e)) which in
-      let at : m ≡ beam_dots cw r n b = ap (λ (x : CrtcState). x.beam) taken in
+      let at : m ≡ beam_dots cw r n b = ap (λ (x : CrtcState). x.beam) by_dots in
       let all = whole cw r b inside in
       let q = dot_number cw b + n in
       ⊎_elim
@@ -206,7 +206,7 @@ module _ (stays : StartStays) (begin : DotsBegin) (goes : BeamGoes) (whole : Lin
       }))
       (λ (g : line_length cw r ≤ q).
       let count : n ≡ dots_in_line cw r b = omega (arith, all, few, g) in
-      line_moves stays leads cw old new line width (record { taken = taken ∙ ap (after_dots old cw) count; ends = ends cw r b some }) is.below)
+      line_moves stays leads cw old new line width (record { by_dots = by_dots ∙ ap (after_dots old cw) count; ends = ends cw r b some }) is.below)
       (cases_lt q (line_length cw r))
 
 module _ (stays : StartStays) (begin : DotsBegin) (goes : BeamGoes) (whole : LineWhole) (frames : FramesEnd) where

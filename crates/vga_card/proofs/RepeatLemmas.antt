@@ -143,7 +143,7 @@ still_ends stays d c drawn b later =
 
 beam_back : (cw : ℕ) (old new : CrtcState) → IsLineTaken cw old new → record (after_start new) { beam = old.beam } ≡ old
 unfolding after_start after_dots
-beam_back cw old new line = ap (λ (x : CrtcState). record (after_start x) { beam = old.beam }) line.taken
+beam_back cw old new line = ap (λ (x : CrtcState). record (after_start x) { beam = old.beam }) line.by_dots
 
 -- after a whole line its dots are the last
 pub line_drawn : (cw : ℕ) (h : HostState) (a : AttrState) (dac : DacState) (old new : CrtcState) (prefix drawn : List Dot) (b : Beam) → IsLineTaken cw old new →

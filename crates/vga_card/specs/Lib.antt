@@ -13,7 +13,7 @@ pub mod Pixels
 pub mod Port
 pub mod Repeat
 pub mod Saved
-pub mod Settled
+pub mod FreshCanvas
 pub mod Transfers
 pub mod Valid
 pub mod WordCycles

@@ -11,12 +11,12 @@ use Rattle.vga_crtc.proofs.Dots.{dots_one, dots_split, dots_started}
 
 -- n dots lead from old to new, and no place between them is such a place
 pub record Leads (P : Beam → Type 0) (cw : ℕ) (r : List ℕ) (n : ℕ) (old new : Beam) : Type 0 where
-  pub taken : dots cw r n old ≡ new
+  pub by_dots : dots cw r n old ≡ new
   pub first : (m : ℕ) → 0 < m → m < n → ¬ P (dots cw r m old)
 
 module _ (P : Beam → Type 0) (cw : ℕ) (r : List ℕ) where
   one_dot : (b c : Beam) → dot cw r b ≡ c → Leads P cw r 1 b c
-  one_dot b c e = record { taken = dots_one cw r b ∙ e; first = λ m lo hi. absurd (omega arith) }
+  one_dot b c e = record { by_dots = dots_one cw r b ∙ e; first = λ m lo hi. absurd (omega arith) }
 
   counted : (b c : Beam) (m n : ℕ) → m ≡ n → Leads P cw r m b c → Leads P cw r n b c
   counted b c m n e way = subst (λ k. Leads P cw r k b c) e way
@@ -24,11 +24,11 @@ module _ (P : Beam → Type 0) (cw : ℕ) (r : List ℕ) where
   -- one way and then another, where the place between is no such place
   then_leads : (a b c : Beam) (i j : ℕ) → Leads P cw r i a b → ¬ P b → Leads P cw r j b c → Leads P cw r (i + j) a c
   then_leads a b c i j to_b not_b to_c =
-      let after : (m : ℕ) → dots cw r (i + m) a ≡ dots cw r m b = λ m. dots_split cw r i m a ∙ ap (dots cw r m) to_b.taken in
+      let after : (m : ℕ) → dots cw r (i + m) a ≡ dots cw r m b = λ m. dots_split cw r i m a ∙ ap (dots cw r m) to_b.by_dots in
       record {
-        taken = after j ∙ to_c.taken;
+        by_dots = after j ∙ to_c.by_dots;
         first = λ m lo hi. ⊎_elim
-            (λ (here : m ≡ i). λ p. not_b (subst P (ap (λ k. dots cw r k a) here ∙ to_b.taken) p))
+            (λ (here : m ≡ i). λ p. not_b (subst P (ap (λ k. dots cw r k a) here ∙ to_b.by_dots) p))
             (⊎_elim
             (λ (before : m < i). to_b.first m lo before)
             (λ (beyond : i < m).
@@ -40,10 +40,10 @@ module _ (P : Beam → Type 0) (cw : ℕ) (r : List ℕ) where
 -- up to the end of a character
 pub to_character_end : (cw : ℕ) (r : List ℕ) (j : ℕ) (b : Beam) → j ≡ cw - (b.dot + 1) → started r b ≡ b →
     Leads IsLineStart cw r (j + 1) b (character_ended r b)
-to_character_end cw r zero b left taken = one_dot IsLineStart cw r b (character_ended r b) (ap (moved cw r) taken ∙ moved_out cw r b (omega arith))
-to_character_end cw r (suc j) b left taken =
+to_character_end cw r zero b left by_dots = one_dot IsLineStart cw r b (character_ended r b) (ap (moved cw r) by_dots ∙ moved_out cw r b (omega arith))
+to_character_end cw r (suc j) b left by_dots =
     let next : Beam = record b { dot = b.dot + 1 } in
-    let first = one_dot IsLineStart cw r b next (ap (moved cw r) taken ∙ moved_in cw r b (omega arith)) in
+    let first = one_dot IsLineStart cw r b next (ap (moved cw r) by_dots ∙ moved_in cw r b (omega arith)) in
     let rest = to_character_end cw r j next (omega arith) (not_started r next (inl (omega arith))) in
     counted IsLineStart cw r b (character_ended r b) (1 + (j + 1)) (suc j + 1) (omega arith)
     (then_leads IsLineStart cw r b next (character_ended r b) 1 (j + 1) first (λ (start : IsLineStart next). absurd (omega (arith, start.dot))) rest)
@@ -51,15 +51,15 @@ to_character_end cw r (suc j) b left taken =
 -- up to the end of a line
 to_line_end : (cw : ℕ) (r : List ℕ) (i : ℕ) (b : Beam) → 0 < cw → i ≡ characters r - (b.character + 1) → started r b ≡ b →
     Leads IsLineStart cw r (i * cw + (cw - (b.dot + 1)) + 1) b (next_line r b)
-to_line_end cw r zero b some left taken =
+to_line_end cw r zero b some left by_dots =
     let j = cw - (b.dot + 1) in
     let e : j + 1 ≡ 0 * cw + j + 1 = omega arith in
     counted IsLineStart cw r b (next_line r b) (j + 1) (0 * cw + j + 1) e
-    (subst (Leads IsLineStart cw r (j + 1) b) (last_character r b (omega arith)) (to_character_end cw r j b refl taken))
-to_line_end cw r (suc i) b some left taken =
+    (subst (Leads IsLineStart cw r (j + 1) b) (last_character r b (omega arith)) (to_character_end cw r j b refl by_dots))
+to_line_end cw r (suc i) b some left by_dots =
     let next : Beam = record b { dot = 0; character = b.character + 1 } in
     let j = cw - (b.dot + 1) in
-    let first = subst (Leads IsLineStart cw r (j + 1) b) (next_character r b (omega arith)) (to_character_end cw r j b refl taken) in
+    let first = subst (Leads IsLineStart cw r (j + 1) b) (next_character r b (omega arith)) (to_character_end cw r j b refl by_dots) in
     let rest = to_line_end cw r i next some (omega arith) (not_started r next (inr (inl (omega arith)))) in
     let e : (j + 1) + (i * cw + (cw - (0 + 1)) + 1) ≡ suc i * cw + j + 1 = omega arith in
     counted IsLineStart cw r b (next_line r b) ((j + 1) + (i * cw + (cw - (0 + 1)) + 1)) (suc i * cw + j + 1) e
@@ -69,7 +69,7 @@ to_line_end cw r (suc i) b some left taken =
 -- the line of the dots that are left, from a beam with the start taken
 pub whole_line : (cw : ℕ) (r : List ℕ) (b : Beam) → 0 < cw → started r b ≡ b → Leads IsLineStart cw r (dots_in_line cw r b) b (next_line r b)
 unfolding dots_in_line
-whole_line cw r b some taken = to_line_end cw r (characters r - (b.character + 1)) b some refl taken
+whole_line cw r b some by_dots = to_line_end cw r (characters r - (b.character + 1)) b some refl by_dots
 
 pub same_count : (cw : ℕ) (r : List ℕ) (b : Beam) → dots_in_line cw r (started r b) ≡ dots_in_line cw r b
 unfolding dots_in_line
@@ -89,7 +89,7 @@ some_in_frame cw r b = omega (arith, some_in_line cw r b)
 -- the same way, whether the start is taken or not
 unstarted : (P : Beam → Type 0) (cw : ℕ) (r : List ℕ) (n : ℕ) (b c : Beam) → 0 < n → Leads P cw r n (started r b) c → Leads P cw r n b c
 unstarted P cw r n b c some way = record {
-  taken = dots_started cw r n b some ∙ way.taken;
+  by_dots = dots_started cw r n b some ∙ way.by_dots;
   first = λ m lo hi p. way.first m lo hi (subst P (dots_started cw r m b lo) p);
 }
 
@@ -101,16 +101,16 @@ line_ends cw r b some =
     (counted IsLineStart cw r s (next_line r s) (dots_in_line cw r s) n (same_count cw r b) (whole_line cw r s some (started_again r b))) in
     record {
       some = some_in_line cw r b;
-      next = way.taken;
-      there = subst IsLineStart (sym way.taken) (next_line_start r s);
+      next = way.by_dots;
+      there = subst IsLineStart (sym way.by_dots) (next_line_start r s);
       first = way.first;
     }
 
 -- the dots of a line, taken
 pub line_taken : (cw : ℕ) (old new : CrtcState) → (cw ≡ 8) ⊎ (cw ≡ 9) → new ≡ after_dots old cw (dots_in_line cw old.registers old.beam) →
     IsLineTaken cw old new
-line_taken cw old new width taken = record {
-  taken = taken;
+line_taken cw old new width by_dots = record {
+  by_dots = by_dots;
   ends = line_ends cw old.registers old.beam (omega arith);
 }
 
@@ -127,7 +127,7 @@ line_left cw old b width e =
 -- where no line starts, no frame does
 away_from_frame : (cw : ℕ) (r : List ℕ) (n : ℕ) (b c : Beam) → Leads IsLineStart cw r n b c → Leads IsFrameStart cw r n b c
 away_from_frame cw r n b c way = record {
-  taken = way.taken;
+  by_dots = way.by_dots;
   first = λ m lo hi (start : IsFrameStart (dots cw r m b)). way.first m lo hi (record { character = start.character; dot = start.dot });
 }
 
@@ -146,17 +146,17 @@ from_line_start cw r b start some =
 -- up to the end of a frame, which is i lines after this one
 to_frame_end : (cw : ℕ) (r : List ℕ) (i : ℕ) (b : Beam) → 0 < cw → i ≡ lines r - (b.line + 1) → started r b ≡ b →
     Leads IsFrameStart cw r (i * (characters r * cw) + dots_in_line cw r b) b (first_dot ((b.frame + 1) % 32))
-to_frame_end cw r zero b some left taken =
+to_frame_end cw r zero b some left by_dots =
     let n = dots_in_line cw r b in
     let e : n ≡ 0 * (characters r * cw) + n = omega arith in
     counted IsFrameStart cw r b (first_dot ((b.frame + 1) % 32)) n (0 * (characters r * cw) + n) e
-    (subst (Leads IsFrameStart cw r n b) (frame_follows r b (omega arith)) (away_from_frame cw r n b (next_line r b) (whole_line cw r b some taken)))
-to_frame_end cw r (suc i) b some left taken =
+    (subst (Leads IsFrameStart cw r n b) (frame_follows r b (omega arith)) (away_from_frame cw r n b (next_line r b) (whole_line cw r b some by_dots)))
+to_frame_end cw r (suc i) b some left by_dots =
     let next : Beam = next_line r b in
     let place = next_in_frame r b (omega arith) in
     let n = dots_in_line cw r b in
     let line = characters r * cw in
-    let first = away_from_frame cw r n b next (whole_line cw r b some taken) in
+    let first = away_from_frame cw r n b next (whole_line cw r b some by_dots) in
     let below : 0 < next.line = omega (arith, place.0) in
     let rest = to_frame_end cw r i next some (omega (arith, place.0)) (not_started r next (inr (inr below))) in
     let full = from_line_start cw r next (next_line_start r b) some in
@@ -184,7 +184,7 @@ frame_ends cw r b some =
     let e = same_frame_count cw r b in
     let way = unstarted IsFrameStart cw r n b new (some_in_frame cw r b)
     (counted IsFrameStart cw r s new (i * (characters r * cw) + dots_in_line cw r s) n e (to_frame_end cw r i s some refl (started_again r b))) in
-    let next : dots cw r n b ≡ first_dot ((b.frame + 1) % 32) = way.taken ∙ ap (λ f. first_dot ((f + 1) % 32)) place.frame in
+    let next : dots cw r n b ≡ first_dot ((b.frame + 1) % 32) = way.by_dots ∙ ap (λ f. first_dot ((f + 1) % 32)) place.frame in
     record {
       some = some_in_frame cw r b;
       next = next;

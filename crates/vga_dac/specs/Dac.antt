@@ -82,10 +82,10 @@ after_read d = record d {
 
 -- what a value does where it is this component: red and green wait, and blue stores the three in
 -- the entry
-abbrev pub taken : DacState → Component → ℕ → DacState
-taken d Red value = record d { waiting_red = value }
-taken d Green value = record d { waiting_green = value }
-taken d Blue value = record d {
+abbrev pub with_component : DacState → Component → ℕ → DacState
+with_component d Red value = record d { waiting_red = value }
+with_component d Green value = record d { waiting_green = value }
+with_component d Blue value = record d {
   reds = slice_set d.reds d.index d.waiting_red;
   greens = slice_set d.greens d.index d.waiting_green;
   blues = slice_set d.blues d.index value;
@@ -93,4 +93,4 @@ taken d Blue value = record d {
 
 -- the DAC after a component is written: six bits of it are kept
 abbrev pub after_write : DacState → ℕ → DacState
-after_write d v = after_read (taken d d.component (bit_and v 0x3F))
+after_write d v = after_read (with_component d d.component (bit_and v 0x3F))

@@ -11,7 +11,7 @@ use Rattle.vga_attr.specs.Fields.{is_palette_shown, overscan}
 use Rattle.vga_attr.specs.Colour.{colour_index}
 use Rattle.vga_dac.specs.Dac.{DacState}
 use Rattle.vga_dots.specs.declared.source_dot.SourceDot.{SourceDot}
-use Rattle.vga_dots.specs.SourceDot.{panned, counter_of, source_at, source_dot}
+use Rattle.vga_dots.specs.SourceDot.{panning_shift, counter_of, source_at, source_dot}
 use Rattle.vga_dots.specs.Text.{text_nibble, is_foreground, is_underlined, is_blinked_away, is_cursor_at}
 use Rattle.vga_dots.specs.Graphics.{planar_nibble, packed_byte}
 use Rattle.vga_dots.specs.Colour.{dot_colour, colour_number, nibble}
@@ -33,11 +33,12 @@ distribute false false false false a d n1 n2 n3 n4 = refl
 
 -- the colour of a dot of the line, by where it comes from
 line_source : (d : DisplayState) (x k : ℕ) → dot_colour d.host (placed d.crtc x k) d.attr d.dac
-    ≡ source_colour d (source_at (placed d.crtc x k) (character_width d.host) (k + panned d.host d.crtc d.attr))
-unfolding dot_colour colour_number nibble source_dot panned source_colour text_nibble is_foreground is_underlined is_blinked_away is_cursor_at planar_nibble
+    ≡ source_colour d (source_at (placed d.crtc x k) (character_width d.host) (k + panning_shift d.host d.crtc d.attr))
+unfolding dot_colour colour_number nibble source_dot panning_shift source_colour text_nibble is_foreground is_underlined is_blinked_away is_cursor_at
+    planar_nibble
     packed_byte
 line_source d x k =
-    let s : SourceDot = source_at (placed d.crtc x k) (character_width d.host) (k + panned d.host d.crtc d.attr) in
+    let s : SourceDot = source_at (placed d.crtc x k) (character_width d.host) (k + panning_shift d.host d.crtc d.attr) in
     distribute (is_screen_off d.host) (not (is_palette_shown d.attr)) (is_256_colours d.host) (is_graphics d.host) d.attr d.dac (overscan d.attr)
     (packed_byte d.host d.crtc s) (planar_nibble d.host d.crtc s) (text_nibble d.host d.crtc d.attr s)
 
@@ -58,17 +59,17 @@ module _ (cw : ℕ) (d : DisplayState) (wide : cw ≡ character_width d.host) wh
   chosen x i v = source_colour d (if v then dot_of (counter_of d.crtc x) i else dot_of (counter_of d.crtc (x + 1)) (i - character_width d.host))
 
   -- a dot that panning leaves in its character
-  dot_here : (x k : ℕ) → k + panned d.host d.crtc d.attr < cw → unpanned_colour d x (k + panned d.host d.crtc d.attr)
+  dot_here : (x k : ℕ) → k + panning_shift d.host d.crtc d.attr < cw → unpanned_colour d x (k + panning_shift d.host d.crtc d.attr)
       ≡ dot_colour d.host (placed d.crtc x k) d.attr d.dac
   dot_here x k l =
-      let i = k + panned d.host d.crtc d.attr in
+      let i = k + panning_shift d.host d.crtc d.attr in
       sym (line_source d x k ∙ ap (chosen x i) (ap (nat_lt i) (sym wide) ∙ lt-ltb i cw l))
 
   -- a dot that it takes from the next one
-  dot_next : (x k : ℕ) → cw ≤ k + panned d.host d.crtc d.attr → unpanned_colour d (x + 1) (k + panned d.host d.crtc d.attr - cw)
+  dot_next : (x k : ℕ) → cw ≤ k + panning_shift d.host d.crtc d.attr → unpanned_colour d (x + 1) (k + panning_shift d.host d.crtc d.attr - cw)
       ≡ dot_colour d.host (placed d.crtc x k) d.attr d.dac
   dot_next x k l =
-      let i = k + panned d.host d.crtc d.attr in
+      let i = k + panning_shift d.host d.crtc d.attr in
       ap (λ w. unpanned_colour d (x + 1) (i - w)) wide ∙ sym (line_source d x k ∙ ap (chosen x i) (ap (nat_lt i) (sym wide) ∙ le-ltb i cw l))
 
   -- a line of one colour, which is that of each dot wherever it comes from
@@ -80,24 +81,24 @@ module _ (cw : ℕ) (d : DisplayState) (wide : cw ≡ character_width d.host) wh
   }
 
   -- characters as they are, where there is no panning
-  pub line_unpanned : (n : ℕ) (row0 row1 : List ℕ) → panned d.host d.crtc d.attr ≡ 0 → AreCharactersPut cw n (unpanned_colour d) row0 row1 →
+  pub line_unpanned : (n : ℕ) (row0 row1 : List ℕ) → panning_shift d.host d.crtc d.attr ≡ 0 → AreCharactersPut cw n (unpanned_colour d) row0 row1 →
       IsLineDrawn cw n d row0 row1
   line_unpanned n row0 row1 none put = record {
     inside = λ x k j lx lk lj.
-        let z : k ≡ k + panned d.host d.crtc d.attr = omega (arith, none) in
+        let z : k ≡ k + panning_shift d.host d.crtc d.attr = omega (arith, none) in
         put.inside x k j lx lk lj ∙ ap (λ q. slice_index q j) (ap (unpanned_colour d x) z ∙ dot_here x k (omega arith));
     outside = put.outside;
   }
 
   -- one character more than the line has, from the first dot that is shown on
-  pub line_panned : (n p : ℕ) (blank drawn row0 row1 : List ℕ) → p ≡ panned d.host d.crtc d.attr → p ≤ cw →
+  pub line_panned : (n p : ℕ) (blank drawn row0 row1 : List ℕ) → p ≡ panning_shift d.host d.crtc d.attr → p ≤ cw →
       AreCharactersPut cw (n + 1) (unpanned_colour d) blank drawn
       → AreDotsPut (n * cw) 0 (λ i. dot_in drawn (p + i)) row0 row1 → IsLineDrawn cw n d row0 row1
   line_panned n p blank drawn row0 row1 by few put copied = record {
     inside = λ x k j lx lk lj.
         let fits = row_fits x cw n cw lx (omega arith) in
         let z : x * cw + k ≡ 0 + (x * cw + k) = omega arith in
-        let shown : k + p ≡ k + panned d.host d.crtc d.attr = ap (λ q. k + q) by in
+        let shown : k + p ≡ k + panning_shift d.host d.crtc d.attr = ap (λ q. k + q) by in
         ap (λ q. slice_index row1 (3 * q + j)) z ∙ copied.inside (x * cw + k) j (omega arith) lj ∙ dot_byte drawn (p + (x * cw + k)) j lj
         ∙ ⊎_elim
         (λ (l : k + p < cw).
@@ -124,7 +125,7 @@ module _ (cw : ℕ) (d : DisplayState) (wide : cw ≡ character_width d.host) wh
   }
 
   -- whatever lies before the part in its first character is left out
-  pub part_panned : (n first skipped count p : ℕ) (blank drawn row0 row1 : List ℕ) → 0 < cw → p ≡ panned d.host d.crtc d.attr → p ≤ cw
+  pub part_panned : (n first skipped count p : ℕ) (blank drawn row0 row1 : List ℕ) → 0 < cw → p ≡ panning_shift d.host d.crtc d.attr → p ≤ cw
       → first * cw + skipped ≡ dot_number cw d.crtc.beam + p → skipped + n ≤ count * cw
       → AreCharactersPut cw count (λ x. unpanned_colour d (first + x)) blank drawn
       → AreDotsPut n 0 (λ i. dot_in drawn (skipped + i)) row0 row1 → IsPartDrawn cw n d row0 row1
@@ -140,7 +141,7 @@ module _ (cw : ℕ) (d : DisplayState) (wide : cw ≡ character_width d.host) wh
         let source = div-add-mod' u cw in
         let inside = mod_below q cw some in
         let within = mod_below u cw some in
-        let shown : k + p ≡ k + panned d.host d.crtc d.attr = ap (λ q. k + q) by in
+        let shown : k + p ≡ k + panning_shift d.host d.crtc d.attr = ap (λ q. k + q) by in
         let there : (first + y) * cw + t ≡ x * cw + k + p = omega (arith, at, source, begin) in
         copied.inside i j li lj ∙ dot_byte drawn u j lj
         ∙ ap (λ q. slice_index drawn (3 * q + j)) (sym source) ∙ put.inside y t j (div_below u cw count some (omega (arith, fits))) within lj

@@ -10,7 +10,7 @@ use Rattle.vga_attr.specs.Fields.{is_palette_shown, overscan}
 use Rattle.vga_attr.specs.Colour.{colour_index}
 use Rattle.vga_dac.specs.Dac.{DacState, entry_of}
 use Rattle.vga_dots.specs.declared.source_dot.SourceDot.{SourceDot}
-use Rattle.vga_dots.specs.SourceDot.{panned, source_dot}
+use Rattle.vga_dots.specs.SourceDot.{panning_shift, source_dot}
 use Rattle.vga_dots.specs.Text.{text_nibble}
 use Rattle.vga_dots.specs.Graphics.{planar_nibble, packed_byte}
 use Rattle.vga_dots.specs.Colour.{nibble, colour_number, dot_colour}
@@ -28,7 +28,7 @@ module _ (h : HostState) (c : CrtcState) (b : Beam) (a : AttrState) (x k : ℕ) 
   fetched base split = record c { beam = record c.beam { base = base; split = split; character = x; dot = k } }
 
   same_source : source_dot h there a ≡ source_dot h here a
-  unfolding source_dot panned
+  unfolding source_dot panning_shift
   same_source = ap (λ (base : ℕ). source_dot h (fetched base b.split) a) (sym same.base)
       ∙ ap (λ (split : Bool). source_dot h (fetched c.beam.base split) a) (sym same.split)
 

@@ -1,7 +1,7 @@
 //! The dots of a line, a character at a time.
 ghost use Rattle.std.specs.Prelude.{◌≡◌, ◌+◌, ◌*◌, ◌<◌, ◌≤◌, length};
 ghost use Rattle.vga_host.specs.Fields.{character_width};
-ghost use Rattle.vga_dots.specs.SourceDot.{panned as panned_dots};
+ghost use Rattle.vga_dots.specs.SourceDot.{panning_shift as panning_shift_of};
 ghost use Rattle.vga_dots.specs.Display.{display_of, ShowsMemory, ShowsText};
 ghost use Rattle.vga_dots.specs.Character.{DrawsText};
 ghost use Rattle.vga_dots.specs.Row.{AreCharactersPut};
@@ -13,7 +13,7 @@ use crate::character::{Characters, PackedCharacters, PlanarCharacters, TextChara
 use crate::colour::BLACK;
 use crate::display::Display;
 use crate::row::{copy_dots, fill};
-use crate::source_dot::panned;
+use crate::source_dot::panning_shift;
 use vga_attr::Attr;
 use vga_crtc::{Crtc, Registers};
 use vga_dac::Dac;
@@ -157,20 +157,26 @@ fn draw_characters<const CW: usize>(
     }
 }
 
-/// Draws the first characters of the beam's line, which shows memory panned by so many dots: what
-/// is panned out on the left is drawn beside the row, and one character more on the right.
-fn draw_panned<const CW: usize>(display: &Display<'_>, count: usize, panned: usize, row: &mut [u8])
+/// Draws the first characters of the beam's line, which shows memory shifted by so many dots: what
+/// is shifted out on the left is drawn beside the row, and one character more on the right.
+fn draw_panned<const CW: usize>(
+    display: &Display<'_>,
+    count: usize,
+    panning_shift: usize,
+    row: &mut [u8],
+)
     requires memory { ShowsMemory display.now }
     requires count { count ≤ 256 }
     requires width { CW ≡ character_width display.now.host }
-    requires panned { panned ≡ panned_dots display.now.host display.now.crtc display.now.attr }
-    requires few { panned < 9 }
+    requires shift { panning_shift ≡ panning_shift_of display.now.host display.now.crtc
+        display.now.attr }
+    requires few { panning_shift < 9 }
     requires room { 3 * (count * CW) ≤ length row.old }
     ensures { IsLineDrawn CW count display.now row.old row.new }
 {
     let mut unpanned = [0; UNPANNED_BYTES];
     draw_characters::<CW>(display, 0, count + 1, &mut unpanned);
-    copy_dots(row, &unpanned, panned, count * CW);
+    copy_dots(row, &unpanned, panning_shift, count * CW);
 }
 
 /// Draws the first characters of the beam's line, which shows memory, panned or not.
@@ -181,11 +187,11 @@ fn draw_shown<const CW: usize>(display: &Display<'_>, count: usize, row: &mut [u
     requires room { 3 * (count * CW) ≤ length row.old }
     ensures { IsLineDrawn CW count display.now row.old row.new }
 {
-    let panned = panned(display) as usize;
-    if panned == 0 {
+    let panning_shift = panning_shift(display) as usize;
+    if panning_shift == 0 {
         draw_characters::<CW>(display, 0, count, row);
     } else {
-        draw_panned::<CW>(display, count, panned, row);
+        draw_panned::<CW>(display, count, panning_shift, row);
     }
 }
 
@@ -235,7 +241,7 @@ fn draw_part_shown<const CW: usize, const N: usize>(
     ensures { IsPartDrawn CW count display.now row.old row.new }
 {
     let beam = display.beam();
-    let start = beam.dot as usize + panned(display) as usize;
+    let start = beam.dot as usize + panning_shift(display) as usize;
     let first = beam.character as usize + start / CW;
     let skipped = start % CW;
     let characters = (skipped + count + CW - 1) / CW;

@@ -1,6 +1,6 @@
 //! Where the dot at the beam comes from.
 ghost use Rattle.std.specs.Prelude.{◌≡◌, ◌<◌};
-ghost use Rattle.vga_dots.specs.SourceDot.{panned as panned_dots, source_dot};
+ghost use Rattle.vga_dots.specs.SourceDot.{panning_shift as panning_shift_of, source_dot};
 ghost use Rattle.vga_dots.specs.SourceDot.{fetch_address as fetch_address_of};
 
 use crate::display::Display;
@@ -14,9 +14,9 @@ pub struct SourceDot {
 }
 
 /// By how many dots, 0 to 8, the picture is panned to the left.
-#[tactic(auto, unfolding(crate::specs::SourceDot::panned))]
-pub(crate) fn panned(display: &Display<'_>) -> u8
-    ensures value { result ≡ panned_dots display.now.host display.now.crtc display.now.attr }
+#[tactic(auto, unfolding(crate::specs::SourceDot::panning_shift))]
+pub(crate) fn panning_shift(display: &Display<'_>) -> u8
+    ensures value { result ≡ panning_shift_of display.now.host display.now.crtc display.now.attr }
     ensures few { result < 9 }
 {
     let attr = display.attr();
@@ -43,7 +43,7 @@ impl SourceDot {
     {
         let beam = display.beam();
         let width = display.host().character_width();
-        let dot = beam.dot + panned(display);
+        let dot = beam.dot + panning_shift(display);
         if dot < width {
             SourceDot {
                 counter: beam.base.wrapping_add(beam.character),

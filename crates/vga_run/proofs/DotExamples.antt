@@ -24,9 +24,9 @@ module _ (fonts : FontSet) (b : Drawing) where
   unfolding reply_to
   too_many = refl
 
-  taken : drawing_after fonts b (Advance 16777216) ≡ take_dots 16777216 b
+  is_taken : drawing_after fonts b (Advance 16777216) ≡ take_dots 16777216 b
   unfolding drawing_after
-  taken = refl
+  is_taken = refl
 
   left : drawing_after fonts b (Advance 16777217) ≡ b
   unfolding drawing_after

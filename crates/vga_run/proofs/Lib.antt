@@ -10,4 +10,4 @@ pub mod DotLemmas
 pub mod WholeFrames
 pub mod DotExamples
 pub mod SavedLemmas
-pub mod SettledLemmas
+pub mod FreshCanvasLemmas

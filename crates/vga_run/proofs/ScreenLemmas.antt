@@ -95,13 +95,13 @@ block_bytes (byte ∷ block) all (suc i) = block_bytes block all.1 i
 
 -- the glyphs of a font file do
 taken_bytes : (n : ℕ) (file : List ℕ) → AreBytes file → AreBytes (take n file)
-taken_bytes n file bytes i = taken n file i bytes
+taken_bytes n file bytes i = is_taken n file i bytes
   where
-    taken : (n : ℕ) (l : List ℕ) (i : ℕ) → AreBytes l → slice_index (take n l) i < 256
-    taken zero l i b = omega arith
-    taken (suc n) [] i b = omega arith
-    taken (suc n) (x ∷ xs) zero b = b 0
-    taken (suc n) (x ∷ xs) (suc i) b = taken n xs i (λ k. b (suc k))
+    is_taken : (n : ℕ) (l : List ℕ) (i : ℕ) → AreBytes l → slice_index (take n l) i < 256
+    is_taken zero l i b = omega arith
+    is_taken (suc n) [] i b = omega arith
+    is_taken (suc n) (x ∷ xs) zero b = b 0
+    is_taken (suc n) (x ∷ xs) (suc i) b = is_taken n xs i (λ k. b (suc k))
 
 dropped_bytes : (n : ℕ) (file : List ℕ) → AreBytes file → AreBytes (drop n file)
 dropped_bytes n file bytes i = subst (λ (k : ℕ). k < 256) (sym (get_or-drop n file i 0)) (bytes (n + i))

@@ -10,16 +10,16 @@ pub record IsTaken (all left : List Step) (i most : ℕ) (step : Step) : Type 0 
   pub others : left ≡ drop (i + 1) all
 
 -- it is step i of the first ones, and those behind it are left
-pub taken : (all left : List Step) (i most : ℕ) (step : Step) → i < most → drop i all ≡ step ∷ left → IsTaken all left i most step
-taken [] left zero most step within e = absurd (cc)
-taken [] left (suc i) most step within e = absurd (cc)
-taken (s ∷ all) left i zero step within e = absurd (omega arith)
-taken (s ∷ all) left zero (suc most) step within e =
+pub is_taken : (all left : List Step) (i most : ℕ) (step : Step) → i < most → drop i all ≡ step ∷ left → IsTaken all left i most step
+is_taken [] left zero most step within e = absurd (cc)
+is_taken [] left (suc i) most step within e = absurd (cc)
+is_taken (s ∷ all) left i zero step within e = absurd (omega arith)
+is_taken (s ∷ all) left zero (suc most) step within e =
     let first : s ≡ step = cc in
     let rest : all ≡ left = cc in
     record { within = omega arith; below = omega arith; is = sym first; others = sym rest }
-taken (s ∷ all) left (suc i) (suc most) step within e =
-    let h = taken all left i most step (omega arith) e in
+is_taken (s ∷ all) left (suc i) (suc most) step within e =
+    let h = is_taken all left i most step (omega arith) e in
     let within = h.within in
     let below = h.below in
     record { within = omega arith; below = omega arith; is = h.is; others = rw add-one (rw add-one at h.others) }

@@ -8,7 +8,7 @@ use Rattle.vga_bits.specs.declared.state_fault.StateFault.{StateFault}
 use Rattle.vga_bits.specs.declared.state_fault.StateFault.TheVariants.{BadMagic, BadVersion}
 use Rattle.vga_bits.specs.declared.state_fault.StateFault.TheVariants.{BadLength, BadPart}
 use Rattle.vga_card.specs.Saved.{saved_card, IsSavedCard, card_from}
-use Rattle.vga_card.specs.Settled.{settled}
+use Rattle.vga_card.specs.FreshCanvas.{with_fresh_canvas}
 use Rattle.bios_modes.specs.Fonts.{FontSet}
 use Rattle.bios_modes.specs.Saved.{saved_bda, IsSavedBda, bda_from}
 use Rattle.vga_run.specs.declared.machine.Machine.{Machine}
@@ -84,5 +84,5 @@ machine_from fonts bytes = record {
 }
 
 -- the machine with its adapter settled
-abbrev pub settled_machine : Machine → Machine
-settled_machine m = record m { card = settled m.card }
+abbrev pub machine_with_fresh_canvas : Machine → Machine
+machine_with_fresh_canvas m = record m { card = with_fresh_canvas m.card }

@@ -5,7 +5,7 @@ ghost use Rattle.vga_run.specs.declared.machine.Machine.{Machine};
 ghost use Rattle.vga_run.specs.Answer.{Plain};
 ghost use Rattle.vga_run.specs.Step.{answer_to, after_step};
 ghost use Rattle.vga_run.specs.Report.{report_from};
-ghost use Rattle.vga_run.specs.Saved.{settled_machine};
+ghost use Rattle.vga_run.specs.Saved.{machine_with_fresh_canvas};
 ghost use Rattle.vga_script.specs.declared.step.Step.{Step};
 
 use super::answer::Answer;
@@ -26,13 +26,13 @@ pub fn refused_steps_change_nothing()
 
 /// No step tells a machine that was saved and restored from the one that it was: each step answers
 /// the same and leaves the same but for what is not saved, and so any steps have the same report.
-#[tactic(auto, using(crate::proofs::SettledLemmas::answer_same, crate::proofs::SettledLemmas::after_same, crate::proofs::SettledLemmas::report_same))]
+#[tactic(auto, using(crate::proofs::FreshCanvasLemmas::answer_same, crate::proofs::FreshCanvasLemmas::after_same, crate::proofs::FreshCanvasLemmas::report_same))]
 pub fn restored_machines_report_the_same()
     ensures answer { (machine : Machine) (step : Step) →
-        answer_to (settled_machine machine) step ≡ answer_to machine step }
+        answer_to (machine_with_fresh_canvas machine) step ≡ answer_to machine step }
     ensures after { (machine : Machine) (step : Step) →
-        settled_machine (after_step (settled_machine machine) step)
-        ≡ settled_machine (after_step machine step) }
+        machine_with_fresh_canvas (after_step (machine_with_fresh_canvas machine) step)
+        ≡ machine_with_fresh_canvas (after_step machine step) }
     ensures report { (machine : Machine) (n : ℕ) (steps : List Step) →
-        report_from (settled_machine machine) n steps ≡ report_from machine n steps }
+        report_from (machine_with_fresh_canvas machine) n steps ≡ report_from machine n steps }
 {}

@@ -130,6 +130,8 @@ pub fn write_dump<W: Write>(
         } => dump_plane(out, &machine.card, plane, offset, count),
         Shown::BiosData => dump_bda(out, &machine.bda),
         Shown::Cells => {
+            // Whether there are cells to show is `dump_refusal`'s to answer, before the number of
+            // the line is written. Where there are none, this writes nothing.
             let _ = dump_cells(out, &machine.card, &machine.bda)?;
             Ok(())
         }

@@ -199,16 +199,16 @@ group_of_repeat version n text line before after others behind count len next al
 -- a bad line outside repeats
 pub group_bad : (version : Version) (n : ℕ) (text line : List ℕ) (others : Option (List ℕ)) → lines text ≡ line ∷ lines_left others →
     IsBadOutside version line → IsGroupFaultOf version n (lines text) (fault.BadLine n)
-group_bad version n text line others e bad taken = inl (refl, (line, lines_left others, e, bad))
+group_bad version n text line others e bad so_far = inl (refl, (line, lines_left others, e, bad))
 
 -- the fault of a repeat
 repeat_open : (version : Version) (n place : ℕ) (ls : List (List ℕ)) → OpensLines version ls place [] → IsGroupFaultOf version n ls (fault.BadLine n)
-repeat_open version n place ls h taken = inr (inr (inl (refl, (place, h))))
+repeat_open version n place ls h so_far = inr (inr (inl (refl, (place, h))))
 
 pub repeat_bad : (version : Version) (n : ℕ) (text line : List ℕ) (others : Option (List ℕ)) (count : ℕ) (f : Fault) → AllowsRepeats version →
     lines text ≡ line ∷ lines_left others → SpellsRepeat (words line) count
     → IsBodyFault n others f → IsGroupFaultOf version n (lines text) f
-repeat_bad version n text line others count (fault.BadLine bad) allowed e begins (inl (is, (steps, good))) = λ taken.
+repeat_bad version n text line others count (fault.BadLine bad) allowed e begins (inl (is, (steps, good))) = λ so_far.
     inr (inr (inl (
       is,
       (
@@ -226,7 +226,7 @@ repeat_bad version n text line others count (fault.BadLine bad) allowed e begins
         },
       ),
     )))
-repeat_bad version n text line others count (fault.BadLine bad) allowed e begins (inr (body, steps, other, behind, is, whole, good, wrong)) = λ taken.
+repeat_bad version n text line others count (fault.BadLine bad) allowed e begins (inr (body, steps, other, behind, is, whole, good, wrong)) = λ so_far.
     inr (inl (
       length body + 1,
       other,
@@ -355,7 +355,7 @@ groups_more version prefix items group (groups, e, f, all) good = (
 )
 
 -- the lines so far spell the items so far, which mean so many steps
-pub record HasRead (text : List ℕ) (version : Version) (items : List Item) (taken : ℕ) (n : ℕ) (left : Option (List ℕ)) : Type 0 where
+pub record HasRead (text : List ℕ) (version : Version) (items : List Item) (so_far : ℕ) (n : ℕ) (left : Option (List ℕ)) : Type 0 where
   pub start : ℕ
   pub rest : List (List ℕ)
   pub prefix : List (List ℕ)
@@ -364,8 +364,8 @@ pub record HasRead (text : List ℕ) (version : Version) (items : List Item) (ta
   pub good : SpellsGroups version prefix items
   pub whole : rest ≡ prefix ++ lines_left left
   pub number : n ≡ start + length prefix
-  pub count : taken ≡ length (expanded items)
-  pub few : taken ≤ step_limit
+  pub count : so_far ≡ length (expanded items)
+  pub few : so_far ≤ step_limit
   pub short : n + left_len left ≤ length text + 2
 
 -- no line is read
@@ -387,14 +387,14 @@ read_none text version n left from one short = record {
 }
 
 -- one more group is
-pub read_more : (text rest : List ℕ) (version : Version) (items here : List Item) (taken more n next : ℕ) (behind : Option (List ℕ)) →
-    HasRead text version items taken n (Some rest) → HasGroup version n (lines rest) here next behind
-    → more ≡ taken + length (expanded here) → more ≤ step_limit → next + left_len behind ≤ n + (length rest + 1) →
+pub read_more : (text rest : List ℕ) (version : Version) (items here : List Item) (so_far more n next : ℕ) (behind : Option (List ℕ)) →
+    HasRead text version items so_far n (Some rest) → HasGroup version n (lines rest) here next behind
+    → more ≡ so_far + length (expanded here) → more ≤ step_limit → next + left_len behind ≤ n + (length rest + 1) →
     HasRead text version (items ++ here) more next behind
-read_more text rest version items here taken more n next behind h g sum few shorter =
+read_more text rest version items here so_far more n next behind h g sum few shorter =
     let lens = length-append h.prefix g.group.lines in
     let counts = length-expanded-append items here in
-    let so_far = h.count in
+    let counted = h.count in
     let number = h.number in
     let goes = g.number in
     let short = h.short in
@@ -414,17 +414,17 @@ read_more text rest version items here taken more n next behind h g sum few shor
     }
 
 -- nothing is left
-pub read_all : (text : List ℕ) (version : Version) (items : List Item) (taken n : ℕ) → HasRead text version items taken n None →
+pub read_all : (text : List ℕ) (version : Version) (items : List Item) (so_far n : ℕ) → HasRead text version items so_far n None →
     SpellsText text (listing version items)
-read_all text version items taken n h =
+read_all text version items so_far n h =
     let count = h.count in
     let few = h.few in
     (h.start, h.rest, h.from, subst (λ (l : List (List ℕ)). SpellsGroups version l items) (sym (h.whole ∙ append-nil h.prefix)) h.good, omega arith)
 
 -- the fault of the next group is that of the text
-bad_line : (text rest : List ℕ) (version : Version) (items : List Item) (taken n bad : ℕ) → HasRead text version items taken n (Some rest) →
-    IsGroupFault version taken n (lines rest) bad → IsBadLine text bad
-bad_line text rest version items taken n bad h wrong =
+bad_line : (text rest : List ℕ) (version : Version) (items : List Item) (so_far n bad : ℕ) → HasRead text version items so_far n (Some rest) →
+    IsGroupFault version so_far n (lines rest) bad → IsBadLine text bad
+bad_line text rest version items so_far n bad h wrong =
     let count = h.count in
     let few = h.few in (
       listing version items,
@@ -444,26 +444,26 @@ bad_line text rest version items taken n bad h wrong =
       subst (λ (m : ℕ). IsGroupFault version m n (lines rest) bad) h.count wrong,
     )
 
-pub read_bad : (text rest : List ℕ) (version : Version) (items : List Item) (taken n : ℕ) (f : Fault) → HasRead text version items taken n (Some rest) →
+pub read_bad : (text rest : List ℕ) (version : Version) (items : List Item) (so_far n : ℕ) (f : Fault) → HasRead text version items so_far n (Some rest) →
     IsGroupFaultOf version n (lines rest) f → IsLineFault text f
-read_bad text rest version items taken n (fault.BadLine bad) h wrong = bad_line text rest version items taken n bad h (wrong taken)
-read_bad text rest version items taken n _ h wrong = absurd wrong
+read_bad text rest version items so_far n (fault.BadLine bad) h wrong = bad_line text rest version items so_far n bad h (wrong so_far)
+read_bad text rest version items so_far n _ h wrong = absurd wrong
 
 -- with the next group there are too many steps
-pub read_too_many : (text rest : List ℕ) (version : Version) (items here : List Item) (taken n next : ℕ) (behind : Option (List ℕ)) (f : Fault) →
-    HasRead text version items taken n (Some rest) → HasGroup version n (lines rest) here next behind
-    → f ≡ fault.BadLine n → step_limit < taken + length (expanded here) → IsLineFault text f
-read_too_many text rest version items here taken n next behind f h g is long =
+pub read_too_many : (text rest : List ℕ) (version : Version) (items here : List Item) (so_far n next : ℕ) (behind : Option (List ℕ)) (f : Fault) →
+    HasRead text version items so_far n (Some rest) → HasGroup version n (lines rest) here next behind
+    → f ≡ fault.BadLine n → step_limit < so_far + length (expanded here) → IsLineFault text f
+read_too_many text rest version items here so_far n next behind f h g is long =
     let same = ap (λ (l : List Item). length (expanded l)) g.items_are in
     subst (IsLineFault text) (sym is)
-    (bad_line text rest version items taken n n h (inr (inr (inr (refl, (g.group, lines_left behind, g.whole, g.good, omega arith))))))
+    (bad_line text rest version items so_far n n h (inr (inr (inr (refl, (g.group, lines_left behind, g.whole, g.good, omega arith))))))
 
 -- or memory ran out
-pub text_fault : (text rest : List ℕ) (version : Version) (items : List Item) (taken n : ℕ) (f : Fault) → HasRead text version items taken n (Some rest) →
+pub text_fault : (text rest : List ℕ) (version : Version) (items : List Item) (so_far n : ℕ) (f : Fault) → HasRead text version items so_far n (Some rest) →
     (f ≡ fault.OutOfMemory) ⊎ IsGroupFaultOf version n (lines rest) f
     → (f ≡ fault.OutOfMemory) ⊎ IsLineFault text f
-text_fault text rest version items taken n f h (inl memory) = inl memory
-text_fault text rest version items taken n f h (inr wrong) = inr (read_bad text rest version items taken n f h wrong)
+text_fault text rest version items so_far n f h (inl memory) = inl memory
+text_fault text rest version items so_far n f h (inr wrong) = inr (read_bad text rest version items so_far n f h wrong)
 
 -- ---- the bytes of a text
 
@@ -474,9 +474,9 @@ header_written version byte empty first second e m b is = b ∙ ap (λ (l : List
     ∙ ap (λ (n : ℕ). magic ++ n ∷ []) is
 
 -- the lines so far spell items, which mean so many steps, and whose bytes these are
-pub record HasAssembled (text : List ℕ) (version : Version) (taken n : ℕ) (left : Option (List ℕ)) (out : List ℕ) : Type 0 where
+pub record HasAssembled (text : List ℕ) (version : Version) (so_far n : ℕ) (left : Option (List ℕ)) (out : List ℕ) : Type 0 where
   pub items : List Item
-  pub read : HasRead text version items taken n left
+  pub read : HasRead text version items so_far n left
   pub bytes : out ≡ header version ++ flat_map item_spelling items
 
 pub text_begins : (text out : List ℕ) (version : Version) (n : ℕ) (left : Option (List ℕ)) → StandFrom version (lines text) n (lines_left left) →
@@ -489,33 +489,34 @@ text_begins text out version n left from one short is = record {
       ∙ sym (append-nil (header version));
 }
 
-pub text_more : (text rest now new : List ℕ) (version : Version) (taken more n next : ℕ) (behind : Option (List ℕ)) →
-    HasAssembled text version taken n (Some rest) now → AppendsGroup version n (lines rest) now new more next behind
-    → more ≤ step_limit - taken → next + left_len behind ≤ n + (length rest + 1) → HasAssembled text version (taken + more) next behind new
-text_more text rest now new version taken more n next behind h g few shorter =
+pub text_more : (text rest now new : List ℕ) (version : Version) (so_far more n next : ℕ) (behind : Option (List ℕ)) →
+    HasAssembled text version so_far n (Some rest) now → AppendsGroup version n (lines rest) now new more next behind
+    → more ≤ step_limit - so_far → next + left_len behind ≤ n + (length rest + 1) → HasAssembled text version (so_far + more) next behind new
+text_more text rest now new version so_far more n next behind h g few shorter =
     let m = g.means in
     let t = h.read.few in
     record {
       items = h.items ++ g.items;
-      read = read_more text rest version h.items g.items taken (taken + more) n next behind h.read g.group (omega arith) (omega arith) shorter;
+      read = read_more text rest version h.items g.items so_far (so_far + more) n next behind h.read g.group (omega arith) (omega arith) shorter;
       bytes = g.bytes ∙ ap (λ (l : List ℕ). l ++ flat_map item_spelling g.items) h.bytes
           ∙ append_assoc (header version) (flat_map item_spelling h.items) (flat_map item_spelling g.items)
           ∙ ap (λ (l : List ℕ). header version ++ l) (sym (flat_map-append item_spelling h.items g.items));
     }
 
-pub text_all : (text out : List ℕ) (version : Version) (taken n : ℕ) → HasAssembled text version taken n None out → (script : Listing) × SpellsText text script
+pub text_all : (text out : List ℕ) (version : Version) (so_far n : ℕ) → HasAssembled text version so_far n None out
+    → (script : Listing) × SpellsText text script
     × (out ≡ encoding script)
-text_all text out version taken n h = (listing version h.items, read_all text version h.items taken n h.read, h.bytes)
+text_all text out version so_far n h = (listing version h.items, read_all text version h.items so_far n h.read, h.bytes)
 
-pub text_many : (text rest now new : List ℕ) (version : Version) (taken more n next : ℕ) (behind : Option (List ℕ)) →
-    HasAssembled text version taken n (Some rest) now → AppendsGroup version n (lines rest) now new more next behind
-    → step_limit - taken < more → IsLineFault text (fault.BadLine n)
-text_many text rest now new version taken more n next behind h g many =
+pub text_many : (text rest now new : List ℕ) (version : Version) (so_far more n next : ℕ) (behind : Option (List ℕ)) →
+    HasAssembled text version so_far n (Some rest) now → AppendsGroup version n (lines rest) now new more next behind
+    → step_limit - so_far < more → IsLineFault text (fault.BadLine n)
+text_many text rest now new version so_far more n next behind h g many =
     let m = g.means in
     let t = h.read.few in
-    read_too_many text rest version h.items g.items taken n next behind (fault.BadLine n) h.read g.group refl (omega arith)
+    read_too_many text rest version h.items g.items so_far n next behind (fault.BadLine n) h.read g.group refl (omega arith)
 
-pub text_faulty : (text rest now : List ℕ) (version : Version) (taken n : ℕ) (f : Fault) → HasAssembled text version taken n (Some rest) now →
+pub text_faulty : (text rest now : List ℕ) (version : Version) (so_far n : ℕ) (f : Fault) → HasAssembled text version so_far n (Some rest) now →
     (f ≡ fault.OutOfMemory) ⊎ IsGroupFaultOf version n (lines rest) f
     → (f ≡ fault.OutOfMemory) ⊎ IsLineFault text f
-text_faulty text rest now version taken n f h bad = text_fault text rest version h.items taken n f h.read bad
+text_faulty text rest now version so_far n f h bad = text_fault text rest version h.items so_far n f h.read bad

@@ -39,7 +39,7 @@ body_goes_on bytes rest others len step h (fits, e) = record {
   steps = h.steps ++ step ∷ [];
   whole = h.whole ∙ ap (λ (l : List ℕ). h.prefix ++ l) e ∙ sym (append_assoc h.prefix (spelling step) others);
   good = spells_more h.prefix h.steps step h.good fits;
-  count = let so_far = h.count in let l = length-append h.steps (step ∷ []) in omega arith;
+  count = let counted = h.count in let l = length-append h.steps (step ∷ []) in omega arith;
 }
 
 -- there are no more steps and bytes behind them than bytes
@@ -90,7 +90,7 @@ repeat_open version bytes fields body rest count len place allowed e counted som
     record { count = count; body = body; len = len; allowed = allowed; some = some; small = small; whole = whole; good = h; distance_is = omega arith }
 
 -- so where nothing is left, its fault is that of an item
-pub repeat_cut : (version : Version) (taken offset place : ℕ) (bytes rest : List ℕ) → OpensRepeat version bytes place rest → rest ≡ [] →
-    IsItemFault version taken offset bytes (fault.Truncated offset)
-repeat_cut version taken offset place bytes rest h e =
+pub repeat_cut : (version : Version) (so_far offset place : ℕ) (bytes rest : List ℕ) → OpensRepeat version bytes place rest → rest ≡ [] →
+    IsItemFault version so_far offset bytes (fault.Truncated offset)
+repeat_cut version so_far offset place bytes rest h e =
     inl (refl, inr (place, subst (λ (l : List ℕ). OpensRepeat version bytes place l) e h))

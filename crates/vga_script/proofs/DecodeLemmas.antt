@@ -106,13 +106,13 @@ items_more version prefix (j ∷ items) i (rest, (fits, whole), more) last = (
 )
 
 -- the items so far, which mean so many steps, stand before the rest of a script
-pub record HasDecoded (bytes : List ℕ) (version : Version) (items : List Item) (taken : ℕ) (rest : List ℕ) : Type 0 where
+pub record HasDecoded (bytes : List ℕ) (version : Version) (items : List Item) (so_far : ℕ) (rest : List ℕ) : Type 0 where
   pub prefix : List ℕ
   pub good : Spells prefix (listing version items)
   pub whole : bytes ≡ prefix ++ rest
   pub short : length rest ≤ length bytes
-  pub count : taken ≡ length (expanded items)
-  pub few : taken ≤ step_limit
+  pub count : so_far ≡ length (expanded items)
+  pub few : so_far ≤ step_limit
 
 -- no item is decoded
 decoded_nothing : (bytes rest : List ℕ) (version : Version) → bytes ≡ header version ++ rest → HasDecoded bytes version [] 0 rest
@@ -126,12 +126,12 @@ decoded_nothing bytes rest version e = record {
 }
 
 -- one more is
-pub decoded_more : (bytes rest others : List ℕ) (version : Version) (items : List Item) (taken more : ℕ) (i : Item) →
-    HasDecoded bytes version items taken rest → StartsWithItem version rest i others
-    → more ≡ taken + length (steps_of i) → more ≤ step_limit → HasDecoded bytes version (items ++ i ∷ []) more others
-decoded_more bytes rest others version items taken more i h (fits, e) sum few =
+pub decoded_more : (bytes rest others : List ℕ) (version : Version) (items : List Item) (so_far more : ℕ) (i : Item) →
+    HasDecoded bytes version items so_far rest → StartsWithItem version rest i others
+    → more ≡ so_far + length (steps_of i) → more ≤ step_limit → HasDecoded bytes version (items ++ i ∷ []) more others
+decoded_more bytes rest others version items so_far more i h (fits, e) sum few =
     let pushed = length-expanded-push items i in
-    let so_far = h.count in
+    let counted = h.count in
     record {
       prefix = h.prefix ++ item_spelling i;
       good = (
@@ -152,15 +152,15 @@ nothing [] e = refl
 nothing (x ∷ xs) e = absurd (omega arith)
 
 -- nothing is left
-pub decoded_all : (bytes rest : List ℕ) (version : Version) (items : List Item) (taken : ℕ) → HasDecoded bytes version items taken rest → rest ≡ [] →
+pub decoded_all : (bytes rest : List ℕ) (version : Version) (items : List Item) (so_far : ℕ) → HasDecoded bytes version items so_far rest → rest ≡ [] →
     Spells bytes (listing version items)
-decoded_all bytes rest version items taken h none =
+decoded_all bytes rest version items so_far h none =
     subst (λ (l : List ℕ). Spells l (listing version items)) (sym (h.whole ∙ ap (λ (l : List ℕ). h.prefix ++ l) none ∙ append-nil h.prefix)) h.good
 
 -- the rest stands where the items so far end
-up_to : (bytes rest : List ℕ) (version : Version) (items : List Item) (taken offset : ℕ) → HasDecoded bytes version items taken rest →
+up_to : (bytes rest : List ℕ) (version : Version) (items : List Item) (so_far offset : ℕ) → HasDecoded bytes version items so_far rest →
     offset ≡ length bytes - length rest → SpellsUpTo bytes (listing version items) offset rest
-up_to bytes rest version items taken offset h e = record {
+up_to bytes rest version items so_far offset h e = record {
   prefix = h.prefix;
   whole = h.whole;
   good = h.good;
@@ -174,15 +174,15 @@ item_fault bytes (fault.Truncated at) h = inr h
 item_fault bytes (fault.TooMany at) h = h
 item_fault bytes _ (script, offset, rest, up, h) = absurd h
 
-pub decoded_fault : (bytes rest : List ℕ) (version : Version) (items : List Item) (taken offset : ℕ) (f : Fault) → HasDecoded bytes version items taken rest →
+pub decoded_fault : (bytes rest : List ℕ) (version : Version) (items : List Item) (so_far offset : ℕ) (f : Fault) → HasDecoded bytes version items so_far rest →
     offset ≡ length bytes - length rest
-    → IsItemFault version taken offset rest f → IsSpellingFault bytes f
-decoded_fault bytes rest version items taken offset f h e bad =
+    → IsItemFault version so_far offset rest f → IsSpellingFault bytes f
+decoded_fault bytes rest version items so_far offset f h e bad =
     item_fault bytes f (
       listing version items,
       offset,
       rest,
-      up_to bytes rest version items taken offset h e,
+      up_to bytes rest version items so_far offset h e,
       subst (λ (n : ℕ). IsItemFault version n offset rest f) h.count bad,
     )
 
@@ -192,29 +192,30 @@ pub decoded_none : (bytes rest : List ℕ) (version : Version) → bytes ≡ hea
 decoded_none bytes rest version e = ([], decoded_nothing bytes rest version e)
 
 -- one more item is passed over
-pub passed_more : (bytes rest others : List ℕ) (version : Version) (taken more : ℕ) (i : Item) → (items : List Item)
-    × HasDecoded bytes version items taken rest → StartsWithItem version rest i others
-    → more ≡ taken + length (steps_of i) → more ≤ step_limit → (items : List Item) × HasDecoded bytes version items more others
-passed_more bytes rest others version taken more i (items, h) starts sum few = (
+pub passed_more : (bytes rest others : List ℕ) (version : Version) (so_far more : ℕ) (i : Item) → (items : List Item)
+    × HasDecoded bytes version items so_far rest → StartsWithItem version rest i others
+    → more ≡ so_far + length (steps_of i) → more ≤ step_limit → (items : List Item) × HasDecoded bytes version items more others
+passed_more bytes rest others version so_far more i (items, h) starts sum few = (
   items ++ i ∷ [],
-  decoded_more bytes rest others version items taken more i h starts sum few,
+  decoded_more bytes rest others version items so_far more i h starts sum few,
 )
 
 -- and one more step
-pub passed_step : (bytes rest others : List ℕ) (version : Version) (taken : ℕ) (step : Step) → (items : List Item) × HasDecoded bytes version items taken rest →
-    StartsWithStep rest step others → taken ≢ step_limit
-    → (items : List Item) × HasDecoded bytes version items (taken + 1) others
-passed_step bytes rest others version taken step (items, h) starts other = let few = h.few in
-    passed_more bytes rest others version taken (taken + 1) (Once step) (items, h) starts refl (omega arith)
+pub passed_step : (bytes rest others : List ℕ) (version : Version) (so_far : ℕ) (step : Step)
+    → (items : List Item) × HasDecoded bytes version items so_far rest →
+    StartsWithStep rest step others → so_far ≢ step_limit
+    → (items : List Item) × HasDecoded bytes version items (so_far + 1) others
+passed_step bytes rest others version so_far step (items, h) starts other = let few = h.few in
+    passed_more bytes rest others version so_far (so_far + 1) (Once step) (items, h) starts refl (omega arith)
 
 -- with which there are too many
-pub many_steps : (bytes rest others : List ℕ) (version : Version) (taken offset : ℕ) (step : Step) → (items : List Item)
-    × HasDecoded bytes version items taken rest → offset ≡ length bytes - length rest → StartsWithStep rest step others
-    → taken ≡ step_limit → IsSpellingFault bytes (fault.TooMany offset)
-many_steps bytes rest others version taken offset step (items, h) e starts is = decoded_fault bytes rest version items taken offset (fault.TooMany offset) h e
+pub many_steps : (bytes rest others : List ℕ) (version : Version) (so_far offset : ℕ) (step : Step) → (items : List Item)
+    × HasDecoded bytes version items so_far rest → offset ≡ length bytes - length rest → StartsWithStep rest step others
+    → so_far ≡ step_limit → IsSpellingFault bytes (fault.TooMany offset)
+many_steps bytes rest others version so_far offset step (items, h) e starts is = decoded_fault bytes rest version items so_far offset (fault.TooMany offset) h e
     (refl, (Once step, others, starts, omega arith))
 
 -- all items were passed over
-pub passed_all : (bytes rest : List ℕ) (version : Version) (taken : ℕ) → (items : List Item) × HasDecoded bytes version items taken rest → length rest ≡ 0 →
+pub passed_all : (bytes rest : List ℕ) (version : Version) (so_far : ℕ) → (items : List Item) × HasDecoded bytes version items so_far rest → length rest ≡ 0 →
     (script : Listing) × Spells bytes script
-passed_all bytes rest version taken (items, h) none = (listing version items, decoded_all bytes rest version items taken h (nothing rest none))
+passed_all bytes rest version so_far (items, h) none = (listing version items, decoded_all bytes rest version items so_far h (nothing rest none))

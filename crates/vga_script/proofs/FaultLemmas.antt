@@ -52,9 +52,9 @@ same_place bytes version items items' offset offset' rest rest' f g h h' k k' (i
     let place = h.place in
     let place' = h'.place in
     let at : offset' ≡ offset = omega arith in
-    let taken = ap (λ (l : List Item). length (expanded l)) same in
+    let so_far = ap (λ (l : List Item). length (expanded l)) same in
     one_kind version (length (expanded items)) offset rest f g k
-    (subst (λ (n : ℕ). Kinds version n offset rest g) (sym taken) (subst₂ (λ (n : ℕ) (l : List ℕ). Kinds version (length (expanded items')) n l g) at
+    (subst (λ (n : ℕ). Kinds version n offset rest g) (sym so_far) (subst₂ (λ (n : ℕ) (l : List ℕ). Kinds version (length (expanded items')) n l g) at
     (sym rests) k'))
 same_place bytes version items items' offset offset' rest rest' f g h h' k k' (inr (inl (next, others, is, fits, rests))) =
     absurd (item_or_kind version (length (expanded items)) offset rest f next _ k (fits, rests) (within_limit items others next items' is h'.few))

@@ -166,48 +166,49 @@ one_open version ls rest rest' place place' h h' stops stops' =
     (omega arith, same.1)
 
 -- where a group begins, within the limit, there is no fault
-pub group_or_fault : (version : Version) (taken n bad : ℕ) (ls x : List (List ℕ)) (g : Group) → IsGroupFault version taken n ls bad → IsGroup version g →
-    ls ≡ g.lines ++ x → taken + length (expanded g.items) ≤ step_limit → ⊥
-group_or_fault version taken n bad ls x g (inl (is, (line, others, prefix, wrong))) good e few = bad_or_group version ls others x line g prefix wrong good e
-group_or_fault version taken n bad ls x g (inr (inl (place, line, others, is, h, wrong))) good e few =
+pub group_or_fault : (version : Version) (so_far n bad : ℕ) (ls x : List (List ℕ)) (g : Group) → IsGroupFault version so_far n ls bad → IsGroup version g →
+    ls ≡ g.lines ++ x → so_far + length (expanded g.items) ≤ step_limit → ⊥
+group_or_fault version so_far n bad ls x g (inl (is, (line, others, prefix, wrong))) good e few = bad_or_group version ls others x line g prefix wrong good e
+group_or_fault version so_far n bad ls x g (inr (inl (place, line, others, is, h, wrong))) good e few =
     opens_or_group version ls (line ∷ others) x place g h (bad_stops line others wrong) good e
-group_or_fault version taken n bad ls x g (inr (inr (inl (is, (place, h))))) good e few = opens_or_group version ls [] x place g h end_stops good e
-group_or_fault version taken n bad ls x g (inr (inr (inr (is, (other, rest, prefix, good', long))))) good e few =
+group_or_fault version so_far n bad ls x g (inr (inr (inl (is, (place, h))))) good e few = opens_or_group version ls [] x place g h end_stops good e
+group_or_fault version so_far n bad ls x g (inr (inr (inr (is, (other, rest, prefix, good', long))))) good e few =
     let same = one_group version g other x rest good good' (sym e ∙ prefix) in
     let len = ap (λ (h : Group). length (expanded h.items)) same.0 in absurd (omega arith)
 
 -- no lines have two first faults
-pub one_group_fault : (version : Version) (taken n m k : ℕ) (ls : List (List ℕ)) → IsGroupFault version taken n ls m → IsGroupFault version taken n ls k → m ≡ k
-one_group_fault version taken n m k ls (inl (is, bad)) (inl (is', bad')) = is ∙ sym is'
-one_group_fault version taken n m k ls (inl (is, (line, others, prefix, wrong))) (inr (inl (place, other, rest, is', h, wrong'))) =
+pub one_group_fault : (version : Version) (so_far n m k : ℕ) (ls : List (List ℕ)) → IsGroupFault version so_far n ls m → IsGroupFault version so_far n ls k
+    → m ≡ k
+one_group_fault version so_far n m k ls (inl (is, bad)) (inl (is', bad')) = is ∙ sym is'
+one_group_fault version so_far n m k ls (inl (is, (line, others, prefix, wrong))) (inr (inl (place, other, rest, is', h, wrong'))) =
     absurd (bad_or_open version ls others (other ∷ rest) line place prefix wrong h)
-one_group_fault version taken n m k ls (inl (is, (line, others, prefix, wrong))) (inr (inr (inl (is', (place, h))))) = is ∙ sym is'
-one_group_fault version taken n m k ls (inl (is, bad)) (inr (inr (inr (is', long)))) = is ∙ sym is'
-one_group_fault version taken n m k ls (inr (inl (place, other, rest, is', h, wrong'))) (inl (is, (line, others, prefix, wrong))) =
+one_group_fault version so_far n m k ls (inl (is, (line, others, prefix, wrong))) (inr (inr (inl (is', (place, h))))) = is ∙ sym is'
+one_group_fault version so_far n m k ls (inl (is, bad)) (inr (inr (inr (is', long)))) = is ∙ sym is'
+one_group_fault version so_far n m k ls (inr (inl (place, other, rest, is', h, wrong'))) (inl (is, (line, others, prefix, wrong))) =
     absurd (bad_or_open version ls others (other ∷ rest) line place prefix wrong h)
-one_group_fault version taken n m k ls (inr (inl (place, line, rest, is, h, wrong))) (inr (inl (place', line', rest', is', h', wrong'))) =
+one_group_fault version so_far n m k ls (inr (inl (place, line, rest, is, h, wrong))) (inr (inl (place', line', rest', is', h', wrong'))) =
     let same = one_open version ls (line ∷ rest) (line' ∷ rest') place place' h h' (bad_stops line rest wrong) (bad_stops line' rest' wrong') in
     is ∙ ap (λ (p : ℕ). n + p) same.0 ∙ sym is'
-one_group_fault version taken n m k ls (inr (inl (place, line, rest, is, h, wrong))) (inr (inr (inl (is', (place', h'))))) =
+one_group_fault version so_far n m k ls (inr (inl (place, line, rest, is, h, wrong))) (inr (inr (inl (is', (place', h'))))) =
     let same = one_open version ls (line ∷ rest) [] place place' h h' (bad_stops line rest wrong) end_stops in
     absurd (nothing line rest (sym same.1))
-one_group_fault version taken n m k ls (inr (inl (place, line, rest, is, h, wrong))) (inr (inr (inr (is', (g, others, prefix, good, long))))) =
+one_group_fault version so_far n m k ls (inr (inl (place, line, rest, is, h, wrong))) (inr (inr (inr (is', (g, others, prefix, good, long))))) =
     absurd (opens_or_group version ls (line ∷ rest) others place g h (bad_stops line rest wrong) good prefix)
-one_group_fault version taken n m k ls (inr (inr (inl (is, opens)))) (inl (is', bad)) = is ∙ sym is'
-one_group_fault version taken n m k ls (inr (inr (inl (is, (place, h))))) (inr (inl (place', line, rest, is', h', wrong))) =
+one_group_fault version so_far n m k ls (inr (inr (inl (is, opens)))) (inl (is', bad)) = is ∙ sym is'
+one_group_fault version so_far n m k ls (inr (inr (inl (is, (place, h))))) (inr (inl (place', line, rest, is', h', wrong))) =
     let same = one_open version ls [] (line ∷ rest) place place' h h' end_stops (bad_stops line rest wrong) in
     absurd (nothing line rest same.1)
-one_group_fault version taken n m k ls (inr (inr (inl (is, opens)))) (inr (inr (inl (is', opens')))) = is ∙ sym is'
-one_group_fault version taken n m k ls (inr (inr (inl (is, opens)))) (inr (inr (inr (is', long)))) = is ∙ sym is'
-one_group_fault version taken n m k ls (inr (inr (inr (is, long)))) (inl (is', bad)) = is ∙ sym is'
-one_group_fault version taken n m k ls (inr (inr (inr (is, (g, others, prefix, good, long))))) (inr (inl (place, line, rest, is', h, wrong))) =
+one_group_fault version so_far n m k ls (inr (inr (inl (is, opens)))) (inr (inr (inl (is', opens')))) = is ∙ sym is'
+one_group_fault version so_far n m k ls (inr (inr (inl (is, opens)))) (inr (inr (inr (is', long)))) = is ∙ sym is'
+one_group_fault version so_far n m k ls (inr (inr (inr (is, long)))) (inl (is', bad)) = is ∙ sym is'
+one_group_fault version so_far n m k ls (inr (inr (inr (is, (g, others, prefix, good, long))))) (inr (inl (place, line, rest, is', h, wrong))) =
     absurd (opens_or_group version ls (line ∷ rest) others place g h (bad_stops line rest wrong) good prefix)
-one_group_fault version taken n m k ls (inr (inr (inr (is, long)))) (inr (inr (inl (is', opens)))) = is ∙ sym is'
-one_group_fault version taken n m k ls (inr (inr (inr (is, long)))) (inr (inr (inr (is', long')))) = is ∙ sym is'
+one_group_fault version so_far n m k ls (inr (inr (inr (is, long)))) (inr (inr (inl (is', opens)))) = is ∙ sym is'
+one_group_fault version so_far n m k ls (inr (inr (inr (is, long)))) (inr (inr (inr (is', long')))) = is ∙ sym is'
 
 -- where no line is left, no group has a fault
-pub fault_at_end : (version : Version) (taken n bad : ℕ) (ls : List (List ℕ)) → ls ≡ [] → IsGroupFault version taken n ls bad → ⊥
-fault_at_end version taken n bad ls e (inl (is, (line, others, prefix, wrong))) = nothing line others (sym e ∙ prefix)
-fault_at_end version taken n bad ls e (inr (inl (place, line, others, is, h, wrong))) = nothing h.first (h.body ++ line ∷ others) (sym e ∙ h.whole)
-fault_at_end version taken n bad ls e (inr (inr (inl (is, (place, h))))) = nothing h.first (h.body ++ []) (sym e ∙ h.whole)
-fault_at_end version taken n bad ls e (inr (inr (inr (is, (g, rest, prefix, good, long))))) = some_line version g rest good (sym e ∙ prefix)
+pub fault_at_end : (version : Version) (so_far n bad : ℕ) (ls : List (List ℕ)) → ls ≡ [] → IsGroupFault version so_far n ls bad → ⊥
+fault_at_end version so_far n bad ls e (inl (is, (line, others, prefix, wrong))) = nothing line others (sym e ∙ prefix)
+fault_at_end version so_far n bad ls e (inr (inl (place, line, others, is, h, wrong))) = nothing h.first (h.body ++ line ∷ others) (sym e ∙ h.whole)
+fault_at_end version so_far n bad ls e (inr (inr (inl (is, (place, h))))) = nothing h.first (h.body ++ []) (sym e ∙ h.whole)
+fault_at_end version so_far n bad ls e (inr (inr (inr (is, (g, rest, prefix, good, long))))) = some_line version g rest good (sym e ∙ prefix)

@@ -68,23 +68,24 @@ Inside version offset bytes f = (place : ℕ) × (rest : List ℕ) × OpensRepea
 
 -- with an item there are more steps than a script may mean
 abbrev pub Exceeds : Version → ℕ → List ℕ → Type 0
-Exceeds version taken bytes = (first : Item) × (rest : List ℕ) × StartsWithItem version bytes first rest × (step_limit < taken + length (steps_of first))
+Exceeds version so_far bytes = (first : Item) × (rest : List ℕ) × StartsWithItem version bytes first rest × (step_limit < so_far + length (steps_of first))
 
 -- the four kinds of an item's fault
 abbrev pub Kinds : Version → ℕ → ℕ → List ℕ → Fault → Type 0
-Kinds version taken offset bytes f =
+Kinds version so_far offset bytes f =
     ((f ≡ fault.BadStep offset) × StartsWithBadItem version bytes)
     ⊎ (((f ≡ fault.Truncated offset) × StartsWithCutItem version bytes) ⊎ (Inside version offset bytes f
-    ⊎ ((f ≡ fault.TooMany offset) × Exceeds version taken bytes)))
+    ⊎ ((f ≡ fault.TooMany offset) × Exceeds version so_far bytes)))
 
-pub kind : (version : Version) (taken offset : ℕ) (bytes : List ℕ) (f : Fault) → IsItemFault version taken offset bytes f → Kinds version taken offset bytes f
-kind version taken offset bytes (fault.BadStep at) (inl (is, bad)) = inl (ap fault.BadStep is, bad)
-kind version taken offset bytes (fault.BadStep at) (inr (place, rest, is, h, bad)) = inr (inr (inl (place, rest, h, inl (ap fault.BadStep is, bad))))
-kind version taken offset bytes (fault.Truncated at) (inl (is, inl cut)) = inr (inl (ap fault.Truncated is, cut))
-kind version taken offset bytes (fault.Truncated at) (inl (is, inr (place, h))) = inr (inr (inl (place, [], h, inr (inr (ap fault.Truncated is, refl)))))
-kind version taken offset bytes (fault.Truncated at) (inr (place, rest, is, h, cut)) = inr (inr (inl (place, rest, h, inr (inl (ap fault.Truncated is, cut)))))
-kind version taken offset bytes (fault.TooMany at) (is, long) = inr (inr (inr (ap fault.TooMany is, long)))
-kind version taken offset bytes _ h = absurd h
+pub kind : (version : Version) (so_far offset : ℕ) (bytes : List ℕ) (f : Fault) → IsItemFault version so_far offset bytes f
+    → Kinds version so_far offset bytes f
+kind version so_far offset bytes (fault.BadStep at) (inl (is, bad)) = inl (ap fault.BadStep is, bad)
+kind version so_far offset bytes (fault.BadStep at) (inr (place, rest, is, h, bad)) = inr (inr (inl (place, rest, h, inl (ap fault.BadStep is, bad))))
+kind version so_far offset bytes (fault.Truncated at) (inl (is, inl cut)) = inr (inl (ap fault.Truncated is, cut))
+kind version so_far offset bytes (fault.Truncated at) (inl (is, inr (place, h))) = inr (inr (inl (place, [], h, inr (inr (ap fault.Truncated is, refl)))))
+kind version so_far offset bytes (fault.Truncated at) (inr (place, rest, is, h, cut)) = inr (inr (inl (place, rest, h, inr (inl (ap fault.Truncated is, cut)))))
+kind version so_far offset bytes (fault.TooMany at) (is, long) = inr (inr (inr (ap fault.TooMany is, long)))
+kind version so_far offset bytes _ h = absurd h
 
 inside_stops : (offset place : ℕ) (rest : List ℕ) (f : Fault) → InsideOf offset place rest f → StopsBody rest
 inside_stops offset place rest f (inl (is, bad)) = bad_stops rest bad
@@ -135,14 +136,14 @@ open_or_item version bytes rest place (Repeated n ss) x h stops ((allowed, some,
     (steps_range h.good.prefix h.good.steps h.good.good) range body) stops
 
 -- so where an item begins, within the limit, there is no fault
-pub item_or_kind : (version : Version) (taken offset : ℕ) (bytes : List ℕ) (f : Fault) (i : Item) (x : List ℕ) → Kinds version taken offset bytes f →
+pub item_or_kind : (version : Version) (so_far offset : ℕ) (bytes : List ℕ) (f : Fault) (i : Item) (x : List ℕ) → Kinds version so_far offset bytes f →
     StartsWithItem version bytes i x
-    → taken + length (steps_of i) ≤ step_limit → ⊥
-item_or_kind version taken offset bytes f i x (inl (is, bad)) starts few = bad_or_item version bytes i x bad starts
-item_or_kind version taken offset bytes f i x (inr (inl (is, cut))) starts few = cut_or_item version bytes i x cut starts
-item_or_kind version taken offset bytes f i x (inr (inr (inl (place, rest, h, inside)))) starts few =
+    → so_far + length (steps_of i) ≤ step_limit → ⊥
+item_or_kind version so_far offset bytes f i x (inl (is, bad)) starts few = bad_or_item version bytes i x bad starts
+item_or_kind version so_far offset bytes f i x (inr (inl (is, cut))) starts few = cut_or_item version bytes i x cut starts
+item_or_kind version so_far offset bytes f i x (inr (inr (inl (place, rest, h, inside)))) starts few =
     open_or_item version bytes rest place i x h (inside_stops offset place rest f inside) starts
-item_or_kind version taken offset bytes f i x (inr (inr (inr (is, (first, rest, (fits', e'), long))))) (fits, e) few =
+item_or_kind version so_far offset bytes f i x (inr (inr (inr (is, (first, rest, (fits', e'), long))))) (fits, e) few =
     let same = one_item version i first x rest fits fits' (sym e ∙ e') in
     let len = ap (λ (j : Item). length (steps_of j)) same.0 in absurd (omega arith)
 
@@ -175,32 +176,33 @@ one_inside version offset bytes f g (place, rest, h, inside) (place', rest', h',
     same_inside offset place place' rest rest' f g (omega arith) same inside inside'
 
 -- no bytes have two faults of an item
-pub one_kind : (version : Version) (taken offset : ℕ) (bytes : List ℕ) (f g : Fault) → Kinds version taken offset bytes f → Kinds version taken offset bytes g →
+pub one_kind : (version : Version) (so_far offset : ℕ) (bytes : List ℕ) (f g : Fault) → Kinds version so_far offset bytes f
+    → Kinds version so_far offset bytes g →
     f ≡ g
-one_kind version taken offset bytes f g (inl (is, bad)) (inl (is', bad')) = is ∙ sym is'
-one_kind version taken offset bytes f g (inl (is, bad)) (inr (inl (is', cut))) = absurd (bad_or_cut version bytes bad cut)
-one_kind version taken offset bytes f g (inl (is, bad)) (inr (inr (inl (place, rest, h, inside)))) = absurd (bad_or_open version bytes rest place bad h)
-one_kind version taken offset bytes f g (inl (is, bad)) (inr (inr (inr (is', (i, x, starts, long))))) = absurd (bad_or_item version bytes i x bad starts)
-one_kind version taken offset bytes f g (inr (inl (is, cut))) (inl (is', bad)) = absurd (bad_or_cut version bytes bad cut)
-one_kind version taken offset bytes f g (inr (inl (is, cut))) (inr (inl (is', cut'))) = is ∙ sym is'
-one_kind version taken offset bytes f g (inr (inl (is, cut))) (inr (inr (inl (place, rest, h, inside)))) = absurd (cut_or_open version bytes rest place cut h)
-one_kind version taken offset bytes f g (inr (inl (is, cut))) (inr (inr (inr (is', (i, x, starts, long))))) = absurd (cut_or_item version bytes i x cut starts)
-one_kind version taken offset bytes f g (inr (inr (inl (place, rest, h, inside)))) (inl (is', bad)) = absurd (bad_or_open version bytes rest place bad h)
-one_kind version taken offset bytes f g (inr (inr (inl (place, rest, h, inside)))) (inr (inl (is', cut))) = absurd (cut_or_open version bytes rest place cut h)
-one_kind version taken offset bytes f g (inr (inr (inl inside))) (inr (inr (inl inside'))) = one_inside version offset bytes f g inside inside'
-one_kind version taken offset bytes f g (inr (inr (inl (place, rest, h, inside)))) (inr (inr (inr (is', (i, x, starts, long))))) =
+one_kind version so_far offset bytes f g (inl (is, bad)) (inl (is', bad')) = is ∙ sym is'
+one_kind version so_far offset bytes f g (inl (is, bad)) (inr (inl (is', cut))) = absurd (bad_or_cut version bytes bad cut)
+one_kind version so_far offset bytes f g (inl (is, bad)) (inr (inr (inl (place, rest, h, inside)))) = absurd (bad_or_open version bytes rest place bad h)
+one_kind version so_far offset bytes f g (inl (is, bad)) (inr (inr (inr (is', (i, x, starts, long))))) = absurd (bad_or_item version bytes i x bad starts)
+one_kind version so_far offset bytes f g (inr (inl (is, cut))) (inl (is', bad)) = absurd (bad_or_cut version bytes bad cut)
+one_kind version so_far offset bytes f g (inr (inl (is, cut))) (inr (inl (is', cut'))) = is ∙ sym is'
+one_kind version so_far offset bytes f g (inr (inl (is, cut))) (inr (inr (inl (place, rest, h, inside)))) = absurd (cut_or_open version bytes rest place cut h)
+one_kind version so_far offset bytes f g (inr (inl (is, cut))) (inr (inr (inr (is', (i, x, starts, long))))) = absurd (cut_or_item version bytes i x cut starts)
+one_kind version so_far offset bytes f g (inr (inr (inl (place, rest, h, inside)))) (inl (is', bad)) = absurd (bad_or_open version bytes rest place bad h)
+one_kind version so_far offset bytes f g (inr (inr (inl (place, rest, h, inside)))) (inr (inl (is', cut))) = absurd (cut_or_open version bytes rest place cut h)
+one_kind version so_far offset bytes f g (inr (inr (inl inside))) (inr (inr (inl inside'))) = one_inside version offset bytes f g inside inside'
+one_kind version so_far offset bytes f g (inr (inr (inl (place, rest, h, inside)))) (inr (inr (inr (is', (i, x, starts, long))))) =
     absurd (open_or_item version bytes rest place i x h (inside_stops offset place rest f inside) starts)
-one_kind version taken offset bytes f g (inr (inr (inr (is, (i, x, starts, long))))) (inl (is', bad)) = absurd (bad_or_item version bytes i x bad starts)
-one_kind version taken offset bytes f g (inr (inr (inr (is, (i, x, starts, long))))) (inr (inl (is', cut))) = absurd (cut_or_item version bytes i x cut starts)
-one_kind version taken offset bytes f g (inr (inr (inr (is, (i, x, starts, long))))) (inr (inr (inl (place, rest, h, inside)))) =
+one_kind version so_far offset bytes f g (inr (inr (inr (is, (i, x, starts, long))))) (inl (is', bad)) = absurd (bad_or_item version bytes i x bad starts)
+one_kind version so_far offset bytes f g (inr (inr (inr (is, (i, x, starts, long))))) (inr (inl (is', cut))) = absurd (cut_or_item version bytes i x cut starts)
+one_kind version so_far offset bytes f g (inr (inr (inr (is, (i, x, starts, long))))) (inr (inr (inl (place, rest, h, inside)))) =
     absurd (open_or_item version bytes rest place i x h (inside_stops offset place rest g inside) starts)
-one_kind version taken offset bytes f g (inr (inr (inr (is, long)))) (inr (inr (inr (is', long')))) = is ∙ sym is'
+one_kind version so_far offset bytes f g (inr (inr (inr (is, long)))) (inr (inr (inr (is', long')))) = is ∙ sym is'
 
 -- nothing is left where an item has a fault
-pub kind_at_end : (version : Version) (taken offset : ℕ) (bytes : List ℕ) (f : Fault) → bytes ≡ [] → Kinds version taken offset bytes f → ⊥
-kind_at_end version taken offset bytes f e (inl (is, inl (bad, none))) = never_at_end bytes e (inl bad)
-kind_at_end version taken offset bytes f e (inl (is, inr (allowed, (rest, prefix)))) = let l = ap length (sym e ∙ prefix) in absurd (omega arith)
-kind_at_end version taken offset bytes f e (inr (inl (is, inl cut))) = never_at_end bytes e (inr cut)
-kind_at_end version taken offset bytes f e (inr (inl (is, inr (allowed, (rest, prefix, short))))) = let l = ap length (sym e ∙ prefix) in absurd (omega arith)
-kind_at_end version taken offset bytes f e (inr (inr (inl (place, rest, h, inside)))) = let l = ap length (sym e ∙ h.whole) in absurd (omega arith)
-kind_at_end version taken offset bytes f e (inr (inr (inr (is, (i, x, (fits, prefix), long))))) = some_item_byte version i x fits (sym e ∙ prefix)
+pub kind_at_end : (version : Version) (so_far offset : ℕ) (bytes : List ℕ) (f : Fault) → bytes ≡ [] → Kinds version so_far offset bytes f → ⊥
+kind_at_end version so_far offset bytes f e (inl (is, inl (bad, none))) = never_at_end bytes e (inl bad)
+kind_at_end version so_far offset bytes f e (inl (is, inr (allowed, (rest, prefix)))) = let l = ap length (sym e ∙ prefix) in absurd (omega arith)
+kind_at_end version so_far offset bytes f e (inr (inl (is, inl cut))) = never_at_end bytes e (inr cut)
+kind_at_end version so_far offset bytes f e (inr (inl (is, inr (allowed, (rest, prefix, short))))) = let l = ap length (sym e ∙ prefix) in absurd (omega arith)
+kind_at_end version so_far offset bytes f e (inr (inr (inl (place, rest, h, inside)))) = let l = ap length (sym e ∙ h.whole) in absurd (omega arith)
+kind_at_end version so_far offset bytes f e (inr (inr (inr (is, (i, x, (fits, prefix), long))))) = some_item_byte version i x fits (sym e ∙ prefix)

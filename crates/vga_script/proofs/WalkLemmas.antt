@@ -31,11 +31,11 @@ steps_begin start bytes h = record { good = h; text = refl }
 pub steps_go_on : (start now new bytes rest others : List ℕ) (step : Step) → HasPrintedSteps start now bytes rest → StartsWithStep rest step others → new ≡ now
     ++ printed_line step → HasPrintedSteps start new bytes others
 steps_go_on start now new bytes rest others step h starts e =
-    let taken = first_read rest others (steps_in rest) step h.good starts in
+    let so_far = first_read rest others (steps_in rest) step h.good starts in
     record {
-      good = taken.1;
+      good = so_far.1;
       text = ap (λ (l : List ℕ). l ++ printed_steps (steps_in others)) e ∙ append_assoc now (printed_line step) (printed_steps (steps_in others))
-          ∙ ap (λ (l : List Step). now ++ printed_steps l) (sym taken.0) ∙ h.text;
+          ∙ ap (λ (l : List Step). now ++ printed_steps l) (sym so_far.0) ∙ h.text;
     }
 
 pub steps_end : (start now bytes rest : List ℕ) → HasPrintedSteps start now bytes rest → length rest ≡ 0 → now ≡ start ++ printed_steps (steps_in bytes)
@@ -70,15 +70,15 @@ pub items_go_on : (start now new : List ℕ) (version : Version) (bytes rest oth
     StartsWithItem version rest i others → length others < length rest → new ≡ now ++ printed_item i
     → HasPrintedItems start new version bytes others
 items_go_on start now new version bytes rest others i h starts less e =
-    let taken = first_item version rest others (items_in rest) i h.good starts in
+    let so_far = first_item version rest others (items_in rest) i h.good starts in
     let counts = length-expanded-cons i (items_in others) in
-    let same = ap (λ (l : List Item). length (expanded l)) taken.0 in
+    let same = ap (λ (l : List Item). length (expanded l)) so_far.0 in
     record {
-      good = taken.1;
+      good = so_far.1;
       few = let f = h.few in omega arith;
       short = let s = h.short in omega arith;
       text = ap (λ (l : List ℕ). l ++ flat_map printed_item (items_in others)) e ∙ append_assoc now (printed_item i) (flat_map printed_item (items_in others))
-          ∙ ap (λ (l : List Item). now ++ flat_map printed_item l) (sym taken.0) ∙ h.text;
+          ∙ ap (λ (l : List Item). now ++ flat_map printed_item l) (sym so_far.0) ∙ h.text;
     }
 
 pub items_end : (start now : List ℕ) (version : Version) (bytes rest : List ℕ) → HasPrintedItems start now version bytes rest → length rest ≡ 0 → now ≡ start
@@ -95,7 +95,7 @@ begin_with_item version bytes (i ∷ items) f some (rest, starts, more) few bad 
     let whole = length-expanded-cons i items in item_or_kind version 0 0 bytes f i rest (kind version 0 0 bytes f bad) starts (omega arith)
 
 pub never_faulty : (start now : List ℕ) (version : Version) (bytes rest : List ℕ) (f : Fault) → HasPrintedItems start now version bytes rest → 0 < length rest →
-    ((taken : ℕ) → IsItemFault version taken 0 rest f) → ⊥
+    ((so_far : ℕ) → IsItemFault version so_far 0 rest f) → ⊥
 never_faulty start now version bytes rest f h some bad = begin_with_item version rest (items_in rest) f some h.good h.few (bad 0)
 
 -- the printed text of a script

@@ -45,7 +45,7 @@ pub record HasGroup (version : Version) (n : ℕ) (ls : List (List ℕ)) (items 
 
 -- the fault of these lines, the first of them with this number, that stands in their first group
 abbrev pub IsGroupFaultOf : Version → ℕ → List (List ℕ) → Fault → Type 0
-IsGroupFaultOf version n ls (BadLine bad) = (taken : ℕ) → IsGroupFault version taken n ls bad
+IsGroupFaultOf version n ls (BadLine bad) = (so_far : ℕ) → IsGroupFault version so_far n ls bad
 IsGroupFaultOf version n ls _ = ⊥
 
 -- The bytes after are those before, and those of the steps that a line spells, so many of them.

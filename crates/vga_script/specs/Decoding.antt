@@ -133,21 +133,21 @@ pub record OpensRepeat (version : Version) (bytes : List ℕ) (distance : ℕ)
 -- that is cut off; or the repeat has no end; or with the item there are more steps than a script
 -- may mean. A fault in a repeat stands where its step does, the others at the item.
 abbrev pub IsItemFault : Version → ℕ → ℕ → List ℕ → Fault → Type 0
-IsItemFault version taken offset bytes (BadStep at) =
+IsItemFault version so_far offset bytes (BadStep at) =
     ((at ≡ offset) × StartsWithBadItem version bytes)
     ⊎ ((distance : ℕ) × (rest : List ℕ) × (at ≡ offset + distance)
     × OpensRepeat version bytes distance rest
     × StartsWithBadBody rest)
-IsItemFault version taken offset bytes (Truncated at) =
+IsItemFault version so_far offset bytes (Truncated at) =
     ((at ≡ offset) × (StartsWithCutItem version bytes
     ⊎ ((distance : ℕ) × OpensRepeat version bytes distance [])))
     ⊎ ((distance : ℕ) × (rest : List ℕ) × (at ≡ offset + distance)
     × OpensRepeat version bytes distance rest
     × StartsWithCutStep rest)
-IsItemFault version taken offset bytes (TooMany at) =
+IsItemFault version so_far offset bytes (TooMany at) =
     (at ≡ offset) × ((first : Item) × (rest : List ℕ) × StartsWithItem version bytes first rest
-    × (step_limit < taken + length (steps_of first)))
-IsItemFault version taken offset bytes _ = ⊥
+    × (step_limit < so_far + length (steps_of first)))
+IsItemFault version so_far offset bytes _ = ⊥
 
 -- The bytes before this offset spell a script, and the rest stand from there on.
 pub record SpellsUpTo (bytes : List ℕ) (script : Listing) (offset : ℕ)

@@ -2,7 +2,7 @@
 -- no more than a script may have, and what they spell.
 use Rattle.std.specs.Prelude.{ℕ, ◌≡◌, ◌<◌, ◌≤◌, ◌+◌, ◌⊎◌, List, length, Option, IfSome, Result}
 use Rattle.vga_bits.specs.LimitedReading.{TakesAtMost, is_read_fault}
-use Rattle.vga_bits.specs.Tracked.{inner_of, has_failed, taken_of}
+use Rattle.vga_bits.specs.Tracked.{inner_of, has_failed, read_count_of}
 use Rattle.vga_bits.specs.declared.tracked.Tracked.{Tracked}
 use Rattle.vga_bits.specs.declared.fault.Fault.{Fault}
 use Rattle.vga_bits.specs.declared.fault.Fault.TheVariants.{TooLong, ReadFault, OutOfMemory}
@@ -51,4 +51,4 @@ abbrev pub ReadsScript : {R A : Type 0} → (R → Option (List ℕ)) → Tracke
     Result A Fault → Type 0
 ReadsScript remaining old new result = (has_failed new ≡ is_read_fault result)
     × TakesAtMost (script_limit + 1) (remaining (inner_of old)) (remaining (inner_of new))
-    × (taken_of new ≤ taken_of old + (script_limit + 1))
+    × (read_count_of new ≤ read_count_of old + (script_limit + 1))

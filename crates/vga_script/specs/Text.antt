@@ -242,14 +242,14 @@ pub record OpensLines (version : Version) (ls : List (List ℕ)) (distance : ℕ
 -- repeat, or the repeat has no end; or with the group that begins there are more steps than a
 -- script may mean.
 abbrev pub IsGroupFault : Version → ℕ → ℕ → List (List ℕ) → ℕ → Type 0
-IsGroupFault version taken n ls bad =
+IsGroupFault version so_far n ls bad =
     ((bad ≡ n) × ((line : List ℕ) × (others : List (List ℕ)) × (ls ≡ line ∷ others)
     × IsBadOutside version line))
     ⊎ (((distance : ℕ) × (line : List ℕ) × (others : List (List ℕ)) × (bad ≡ n + distance)
     × OpensLines version ls distance (line ∷ others) × IsBadInside line)
     ⊎ (((bad ≡ n) × ((distance : ℕ) × OpensLines version ls distance []))
     ⊎ ((bad ≡ n) × ((group : Group) × (others : List (List ℕ)) × (ls ≡ group.lines ++ others)
-    × IsGroup version group × (step_limit < taken + length (expanded group.items))))))
+    × IsGroup version group × (step_limit < so_far + length (expanded group.items))))))
 
 -- The lines of a text before that of this number, counted from 1, spell a script, and these lines
 -- are left. A text whose first line with a word does not say version 2 is read as one of version 1.

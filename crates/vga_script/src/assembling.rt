@@ -173,13 +173,13 @@ fn assemble_items(alloc: Global, text: &[u8]) -> Result<Vec<u8>, Fault>
     let mut out = Vec::new(alloc);
     append(&mut out, &opcode::MAGIC)?;
     append(&mut out, &[version.byte()])?;
-    let mut taken = 0;
+    let mut so_far = 0;
     while let Some(rest) = left {
         let (meant, behind, next) = append_group(alloc, &mut out, version, rest, number)?;
-        if meant > STEP_LIMIT - taken {
+        if meant > STEP_LIMIT - so_far {
             return Err(Fault::BadLine(number));
         }
-        taken += meant;
+        so_far += meant;
         left = behind;
         number = next;
     }

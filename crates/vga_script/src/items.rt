@@ -81,7 +81,8 @@ fn repeat_at<'a>(
     requires place { offset + length bytes.now ≤ script_limit }
     ensures found { IfOk result (λ x. StartsWithItem version bytes.now (spelled_item x.0) x.1.now) }
     ensures body { IfOk result (λ x. HasBody x.0) }
-    ensures fault { IfErr result (λ e. (taken : ℕ) → IsItemFault version taken offset bytes.now e) }
+    ensures fault { IfErr result (λ e. (so_far : ℕ)
+        → IsItemFault version so_far offset bytes.now e) }
 {
     let Ok((count, body)) = u16_at(fields) else {
         return Err(Fault::Truncated(offset));
@@ -112,7 +113,8 @@ pub(crate) fn item_at(
     requires place { offset + length bytes.now ≤ script_limit }
     ensures found { IfOk result (λ x. StartsWithItem version bytes.now (spelled_item x.0) x.1.now) }
     ensures body { IfOk result (λ x. HasBody x.0) }
-    ensures fault { IfErr result (λ e. (taken : ℕ) → IsItemFault version taken offset bytes.now e) }
+    ensures fault { IfErr result (λ e. (so_far : ℕ)
+        → IsItemFault version so_far offset bytes.now e) }
 {
     if let Some(fields) = behind_repeat(bytes, version) {
         return repeat_at(bytes, fields, offset, version);
@@ -129,21 +131,21 @@ pub(crate) fn item_within(
     bytes: &[u8],
     offset: usize,
     version: Version,
-    taken: usize,
+    so_far: usize,
 ) -> Result<(SpelledItem<'_>, &[u8], usize), Fault>
     requires some { 0 < length bytes.now }
     requires place { offset + length bytes.now ≤ script_limit }
-    requires few { taken ≤ step_limit }
+    requires few { so_far ≤ step_limit }
     ensures found { IfOk result (λ x. StartsWithItem version bytes.now (spelled_item x.0) x.1.now) }
     ensures body { IfOk result (λ x. HasBody x.0) }
-    ensures taken { IfOk result (λ x. x.2 ≡ taken + length (steps_of (spelled_item x.0))) }
+    ensures counted { IfOk result (λ x. x.2 ≡ so_far + length (steps_of (spelled_item x.0))) }
     ensures within { IfOk result (λ x. x.2 ≤ step_limit) }
-    ensures fault { IfErr result (λ e. IsItemFault version taken offset bytes.now e) }
+    ensures fault { IfErr result (λ e. IsItemFault version so_far offset bytes.now e) }
 {
     let (item, rest) = item_at(bytes, offset, version)?;
     let meant = item.meant();
-    if taken + meant > STEP_LIMIT {
+    if so_far + meant > STEP_LIMIT {
         return Err(Fault::TooMany(offset));
     }
-    Ok((item, rest, taken + meant))
+    Ok((item, rest, so_far + meant))
 }

@@ -21,19 +21,19 @@ fn pass_items(bytes: &[u8], spelled: &[u8], version: Version) -> Result<(), Faul
     ensures fault { IfErr result (λ e. IsSpellingFault bytes.now e) }
 {
     let mut rest = spelled;
-    let mut taken = 0;
+    let mut so_far = 0;
     while !rest.is_empty() {
         let offset = bytes.len() - rest.len();
         // Most items are steps, which are passed over here for speed.
         if let Some(others) = behind_step(rest) {
-            if taken == STEP_LIMIT {
+            if so_far == STEP_LIMIT {
                 return Err(Fault::TooMany(offset));
             }
-            taken += 1;
+            so_far += 1;
             rest = others;
         } else {
-            let (_, others, more) = item_within(rest, offset, version, taken)?;
-            taken = more;
+            let (_, others, more) = item_within(rest, offset, version, so_far)?;
+            so_far = more;
             rest = others;
         }
     }

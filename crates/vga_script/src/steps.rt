@@ -74,7 +74,7 @@ impl<'a> Steps<'a> {
     #[tactic(auto, using(crate::proofs::ProgressLemmas::step_taken))]
     #[inline(always)]
     pub fn next(&mut self) -> Option<Step<'a>>
-        ensures taken { TakesFirst self.old self.new result }
+        ensures first { TakesFirst self.old self.new result }
         ensures range { IfSome result (λ step. IsInRange step) }
     {
         if self.rest.is_empty() {

@@ -54,12 +54,12 @@ fn text_of(alloc: Global, card: &Card) -> Result<Vec<u8>, Fault> {
 }
 
 /// Whether a writer with room for so many bytes, that then refuses so, answers so and has these.
-fn takes(alloc: Global, card: &Card, taken: &[u8], full: Full, answer: Result<(), Fault>) -> bool {
-    let mut out = Sink::new(alloc, taken.len(), full);
+fn takes(alloc: Global, card: &Card, prefix: &[u8], full: Full, answer: Result<(), Fault>) -> bool {
+    let mut out = Sink::new(alloc, prefix.len(), full);
     let answered = write_cells(&mut out, card);
     let failed = out.failed();
     let sink = out.into_inner();
-    answered == answer && failed == answer.is_err() && sink.taken() == taken
+    answered == answer && failed == answer.is_err() && sink.bytes() == prefix
 }
 
 /// Whether each writer that has too little room for the cells, and then refuses so, fails and has a

@@ -58,14 +58,14 @@ fn takes(
     alloc: Global,
     dump: Dump,
     card: &Card,
-    taken: &[u8],
+    prefix: &[u8],
     full: Full,
     answer: Result<(), Fault>,
 ) -> bool {
-    let mut out = Sink::new(alloc, taken.len(), full);
+    let mut out = Sink::new(alloc, prefix.len(), full);
     write_dump(dump, &mut out, card) == answer
         && out.failed() == answer.is_err()
-        && out.into_inner().taken() == taken
+        && out.into_inner().bytes() == prefix
 }
 
 /// Whether each writer that has too little room for a dump, and then refuses so, fails and has a

@@ -3,9 +3,9 @@
 //! as with writers that fail; and prints how each comparison and each group of checks ended. The
 //! exit status is 1 where any model differs or any check fails.
 //!
-//! With the words `memory N` it does nothing of this: it makes N growths, and then prints how each
-//! call ends that takes memory. So whoever refuses a growth by its number chooses the call that
-//! meets it.
+//! With the words `memory N` it does nothing of this: it makes N allocations, and then prints how
+//! each call ends that takes memory. Whoever refuses an allocation by its number chooses the call
+//! that meets it.
 #![tactic(auto)]
 
 mod cell_dumps;
@@ -116,37 +116,37 @@ fn check_crates<R: Print + AllocGlobal>(rt: &R, tally: &mut Tally) -> Result<()>
     tell(rt, tally, "memory", check_memory(alloc))
 }
 
-/// Makes so many growths, one after the other.
-fn grow(alloc: Global, growths: u32) -> Result<()> {
-    for _ in 0..growths {
+/// Allocates so many times, one after the other.
+fn allocate(alloc: Global, count: u32) -> Result<()> {
+    for _ in 0..count {
         let _ = Box::new(alloc, 0u8)?;
     }
     Ok(())
 }
 
-/// Prints how each call ends that takes memory, behind so many growths.
-fn tell_endings<R: Print + AllocGlobal>(rt: &R, growths: u32) -> Result<()> {
+/// Prints how each call ends that takes memory, after so many allocations.
+fn tell_endings<R: Print + AllocGlobal>(rt: &R, allocations: u32) -> Result<()> {
     let alloc = rt.alloc();
-    grow(alloc, growths)?;
+    allocate(alloc, allocations)?;
     for call in CALLS {
         println!(rt; "{call}: {}", call.ending(alloc))?;
     }
     Ok(())
 }
 
-/// How many growths the words ask for before the calls that take memory, where they ask for these
-/// calls.
-fn growths_wanted<R: Env + AllocGlobal>(rt: &R) -> Result<Option<u32>> {
+/// How many allocations the words ask for before the calls that take memory, where they ask for
+/// these calls.
+fn allocations_wanted<R: Env + AllocGlobal>(rt: &R) -> Result<Option<u32>> {
     let words: Vec<String> = env::args(rt)?.collect(rt.alloc())?;
     match words.as_slice() {
-        [_, word, growths] if word.as_str() == "memory" => Ok(Some(growths.parse()?)),
+        [_, word, count] if word.as_str() == "memory" => Ok(Some(count.parse()?)),
         _ => Ok(None),
     }
 }
 
 fn main(rt: HostRuntime) -> Result<ExitCode> {
-    if let Some(growths) = growths_wanted(&rt)? {
-        tell_endings(&rt, growths)?;
+    if let Some(allocations) = allocations_wanted(&rt)? {
+        tell_endings(&rt, allocations)?;
         return Ok(ExitCode::from(0));
     }
     let mut tally = Tally::new();

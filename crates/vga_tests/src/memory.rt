@@ -1,5 +1,5 @@
-//! Each call that takes memory, on an example of its own. Where a growth is refused, the call that
-//! asked for it says so, and each other answers as in its example.
+//! Each call that takes memory, on an example of its own. Where an allocation is refused, the call
+//! that asked for it says so, and each other answers as in its example.
 
 use crate::checks::Checks;
 use crate::screens::{FONTS_LEN, blank_fonts, is_scrolled, screen_behind_calls};

@@ -27,11 +27,11 @@ fn is_size_written(alloc: Global, width: u32, height: u32, wanted: &[u8]) -> boo
 }
 
 /// Whether a writer with room for so many bytes, that then refuses so, answers so and has these.
-fn takes(alloc: Global, taken: &[u8], full: Full, answer: Result<(), Fault>) -> bool {
-    let mut out = Sink::new(alloc, taken.len(), full);
+fn takes(alloc: Global, prefix: &[u8], full: Full, answer: Result<(), Fault>) -> bool {
+    let mut out = Sink::new(alloc, prefix.len(), full);
     write_ppm(&mut out, 2, 1, &TWO_DOTS) == answer
         && out.failed() == answer.is_err()
-        && out.into_inner().taken() == taken
+        && out.into_inner().bytes() == prefix
 }
 
 /// Whether each writer that has too little room for a picture, and then refuses so, fails and has a

@@ -154,7 +154,7 @@ fn takes(
     room: usize,
     full: Full,
     answer: Result<(), Fault>,
-    taken: &[u8],
+    prefix: &[u8],
     flushes: usize,
 ) -> bool {
     let mut reader = Tracked::new(FIRST_PATH.as_slice());
@@ -164,7 +164,7 @@ fn takes(
     let sink = out.into_inner();
     answered == answer
         && failed == answer.is_err()
-        && sink.taken() == taken
+        && sink.bytes() == prefix
         && sink.flushes() == flushes
 }
 

@@ -25,7 +25,7 @@ pub const FULL: [Full; 2] = [Full::TakesNone, Full::Fails];
 pub struct Sink {
     room: usize,
     full: Full,
-    taken: Vec<u8>,
+    bytes: Vec<u8>,
     calls: usize,
     flushes: usize,
 }
@@ -38,15 +38,15 @@ impl Sink {
         Tracked::new(Sink {
             room,
             full,
-            taken: Vec::new(alloc),
+            bytes: Vec::new(alloc),
             calls: 0,
             flushes: 0,
         })
     }
 
     /// What it has taken.
-    pub fn taken(&self) -> &[u8] {
-        self.taken.as_slice()
+    pub fn bytes(&self) -> &[u8] {
+        self.bytes.as_slice()
     }
 
     /// How often it was to take bytes.
@@ -80,7 +80,7 @@ impl Write for Sink {
             return self.refuse();
         }
         self.room -= 1;
-        self.taken.push(*first)?;
+        self.bytes.push(*first)?;
         Ok(1)
     }
 

@@ -43,11 +43,11 @@ fn check_reads(alloc: Global, checks: &mut Checks) {
     let some = read_len(&mut reader, &mut buffer) == Some(3) && buffer == *b"***.";
     checks.note("a read of some bytes", some);
     let end = read_len(&mut reader, &mut buffer) == Some(0) && !reader.failed();
-    checks.note("a read at the end", end && reader.taken() == 3);
+    checks.note("a read at the end", end && reader.read_count() == 3);
     let kind = kind_of(reader.read(&mut buffer));
     checks.note("a read that fails", kind == Some(BROKEN) && reader.failed());
     let again = read_len(&mut reader, &mut buffer) == Some(2) && reader.failed();
-    checks.note("a read behind a failure", again && reader.taken() == 5);
+    checks.note("a read behind a failure", again && reader.read_count() == 5);
     checks.note("one call for each read", reader.into_inner().has_taken(b""));
 }
 
@@ -122,7 +122,7 @@ fn check_prefix(alloc: Global, checks: &mut Checks) -> Result<()> {
     checks.note("the rest of a reader", rest.as_slice() == b"S".as_slice());
     checks.note(
         "bytes that were read",
-        !reader.failed() && reader.taken() == 4,
+        !reader.failed() && reader.read_count() == 4,
     );
     Ok(())
 }

@@ -17,8 +17,8 @@ place_allowed rows columns place e =
     let both = both_true (nat_lt (row_of place) rows) (nat_lt (column_of place) columns) (holds _ Outside e) in
     record { row = lt_is (row_of place) rows both.0; column = lt_is (column_of place) columns both.1 }
 
-pub block_allowed : (taken len : ℕ) → wrong_block taken len ≡ None → len ≡ taken
-block_allowed taken len e = same (holds (len == taken) BadBlock e)
+pub block_allowed : (size len : ℕ) → wrong_block size len ≡ None → len ≡ size
+block_allowed size len e = same (holds (len == size) BadBlock e)
 
 -- a cell of a page is one of so many, and so are some from it on
 pub cell_allowed : (pages page at cells : ℕ) → (no_page pages page or outside_cells cells at) ≡ None → (page < pages) × (at < cells)

@@ -71,11 +71,11 @@ pub contrary : {Y : Type 0} (b : Bool) → b ≡ true → b ≡ false → Y
 contrary b t f = let e = sym t ∙ f in absurd (cc)
 
 -- what stands at a place of a page once a window has gone, by its two tests
-pub by_both_tests : {Y : Type 0} (inside moved : Bool) (new taken blank old : Y) → (inside ≡ true → moved ≡ true → new ≡ taken) →
-    (inside ≡ true → moved ≡ false → new ≡ blank) → (inside ≡ false → new ≡ old) → new ≡ (if inside then (if moved then taken else blank) else old)
-by_both_tests true true new taken blank old t b o = t refl refl
-by_both_tests true false new taken blank old t b o = b refl refl
-by_both_tests false moved new taken blank old t b o = o refl
+pub by_both_tests : {Y : Type 0} (inside moved : Bool) (new source blank old : Y) → (inside ≡ true → moved ≡ true → new ≡ source) →
+    (inside ≡ true → moved ≡ false → new ≡ blank) → (inside ≡ false → new ≡ old) → new ≡ (if inside then (if moved then source else blank) else old)
+by_both_tests true true new source blank old t b o = t refl refl
+by_both_tests true false new source blank old t b o = b refl refl
+by_both_tests false moved new source blank old t b o = o refl
 
 -- ---- which of its rows take another's contents, and which are new
 

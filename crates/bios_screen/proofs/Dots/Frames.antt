@@ -6,7 +6,7 @@ use Rattle.vga_host.specs.Fields.{character_width as host_width}
 use Rattle.vga_crtc.specs.Raster.{IsRegular}
 use Rattle.vga_attr.specs.Fields.{is_panning_reset, panning}
 use Rattle.vga_dots.specs.declared.source_dot.SourceDot.{SourceDot}
-use Rattle.vga_dots.specs.SourceDot.{panned, counter_of, source_at, source_dot, fetch_address}
+use Rattle.vga_dots.specs.SourceDot.{panning_shift, counter_of, source_at, source_dot, fetch_address}
 use Rattle.bios_screen.specs.Shown.{location_shown}
 use Rattle.bios_screen.specs.Raster.{HasRaster}
 use Rattle.bios_screen.proofs.Base.Tests.{lt_test}
@@ -49,8 +49,8 @@ module _ (m : Raster) (row : ModeRow) (f : IsFrame m row) (c : CardState) (d : B
   fetch_is n = ap (λ r. fetch_address r n) t.crtc ∙ fetch_stays row d.cursor_type start location n
 
   -- no dot is panned
-  panned_is : IsCard c → (b : Beam) → b.split ≡ false → panned c.host (record c.crtc { beam = b }) c.attr ≡ 0
-  unfolding panned
+  panned_is : IsCard c → (b : Beam) → b.split ≡ false → panning_shift c.host (record c.crtc { beam = b }) c.attr ≡ 0
+  unfolding panning_shift
   panned_is z b unsplit =
       let p = panning c.attr in
       ap (λ w. if w && is_panning_reset c.attr then 0 else panned_by c.host.seq c.host.gfx p) unsplit

@@ -66,14 +66,14 @@ is_away false h = refl
 -- ---- the plain screen
 
 -- a dot that is the last, or is not
-taken : (b : Drawing) (v : Bool) → is_last b ≡ v → take_dot b ≡ record {
+dot_step : (b : Drawing) (v : Bool) → is_last b ≡ v → take_dot b ≡ record {
   screen = if v then next_frame b.screen else b.screen;
   dot = if v then 0 else b.dot + 1;
   page = page_shown b;
   picture = so_far b ++ colour_of b.screen (page_shown b) b.dot;
 }
 unfolding take_dot
-taken b v e = ap (λ v. let x : Drawing = record {
+dot_step b v e = ap (λ v. let x : Drawing = record {
   screen = if v then next_frame b.screen else b.screen;
   dot = if v then 0 else b.dot + 1;
   page = page_shown b;
@@ -91,10 +91,10 @@ renewed b = record { screen = next_frame b.screen; dot = 0; page = page_shown b;
 pub taken_on : (b : Drawing) → b.dot + 1 < dots_a_frame b.screen.mode → take_dot b ≡ onward b
 taken_on b l =
     let e : b.dot + 1 ≡ suc b.dot = omega arith in
-    taken b false (less_test (b.dot + 1) (dots_a_frame b.screen.mode) l) ∙ ap (λ n. let x : Drawing = record (onward b) { dot = n } in x) e
+    dot_step b false (less_test (b.dot + 1) (dots_a_frame b.screen.mode) l) ∙ ap (λ n. let x : Drawing = record (onward b) { dot = n } in x) e
 
 pub taken_last : (b : Drawing) → b.dot + 1 ≡ dots_a_frame b.screen.mode → take_dot b ≡ renewed b
-taken_last b e = taken b true (same_test (b.dot + 1) (dots_a_frame b.screen.mode) e)
+taken_last b e = dot_step b true (same_test (b.dot + 1) (dots_a_frame b.screen.mode) e)
 
 -- k dots that do not end the frame
 pub record IsOn (b : Drawing) (k : ℕ) : Type 0 where

@@ -101,9 +101,9 @@ module _ (row : ModeRow) (c : CardState) (d : BiosData) (t : IsPlanar row c d) (
     strip : source way k (row_pixels s n) / 8 ≡ source way (k / 8) (W * (H * n))
     dot : source way k (row_pixels s n) % 8 ≡ k % 8
 
-  taken : (way : Direction) (k : ℕ) → has_source way w n (k / 8 / W / H) ≡ true → IsTaken way k
-  taken Up k u = let whole : 8 * W * (H * n) ≡ 8 * (W * (H * n)) = omega arith in record { strip = omega arith; dot = omega arith }
-  taken Down k u =
+  source_of_dot : (way : Direction) (k : ℕ) → has_source way w n (k / 8 / W / H) ≡ true → IsTaken way k
+  source_of_dot Up k u = let whole : 8 * W * (H * n) ≡ 8 * (W * (H * n)) = omega arith in record { strip = omega arith; dot = omega arith }
+  source_of_dot Down k u =
       let l = le_is (w.top + n) (k / 8 / W / H) u in
       let low = rows_above W H (k / 8) n window.wide window.high (omega arith) in
       let whole : 8 * W * (H * n) ≡ 8 * (W * (H * n)) = omega arith in
@@ -131,7 +131,7 @@ module _ (row : ModeRow) (c : CardState) (d : BiosData) (t : IsPlanar row c d) (
       (pixel_of s p k)
       (λ u v.
       let same = tested ∙ v in
-      let x = taken direction k same in
+      let x = source_of_dot direction k same in
       let whole : 8 * W * (H * rows) ≡ 8 * (W * (H * rows)) = omega arith in
       let within = shifts.source_within (Four ℕ) 0xA0000 65536 band start rows w window direction (k / 8) n (strip_test k ∙ u) same in
       let a = x.strip in

@@ -84,9 +84,9 @@ entry_is first count block f g edited k =
     (λ out. edited.outside k (λ h. out h.turn h.before))
 
 -- one component of it
-taken : (b : Bool) (x y : Colour) (part : Colour → ℕ) → part (if b then x else y) ≡ (if b then part x else part y)
-taken true x y part = refl
-taken false x y part = refl
+part_of_choice : (b : Bool) (x y : Colour) (part : Colour → ℕ) → part (if b then x else y) ≡ (if b then part x else part y)
+part_of_choice true x y part = refl
+part_of_choice false x y part = refl
 
 -- the index is written, and then colours from there on
 loaded_from : (c s : CardState) (first count : ℕ) (block : List ℕ) → IsDac c.dac → first + count ≤ 256 → first < 256 →
@@ -104,11 +104,11 @@ loaded_from c s first count block z l few e =
     record {
       entries = record {
         reds = component_is c.dac.reds y.dac.reds block first count 0 z.reds done.shown.reds (λ k m. ap (λ (x : Colour). x.red) (at k m)
-            ∙ taken (test k) (new k) (f k) (λ (x : Colour). x.red));
+            ∙ part_of_choice (test k) (new k) (f k) (λ (x : Colour). x.red));
         greens = component_is c.dac.greens y.dac.greens block first count 1 z.greens done.shown.greens (λ k m. ap (λ (x : Colour). x.green) (at k m)
-            ∙ taken (test k) (new k) (f k) (λ (x : Colour). x.green));
+            ∙ part_of_choice (test k) (new k) (f k) (λ (x : Colour). x.green));
         blues = component_is c.dac.blues y.dac.blues block first count 2 z.blues done.shown.blues (λ k m. ap (λ (x : Colour). x.blue) (at k m)
-            ∙ taken (test k) (new k) (f k) (λ (x : Colour). x.blue));
+            ∙ part_of_choice (test k) (new k) (f k) (λ (x : Colour). x.blue));
       };
       others = done.shown.others;
     }

@@ -126,7 +126,7 @@ impl Card {
     fn take_line(&mut self, before: Option<Beam>) -> Beam
         requires start { IsLineStart self.old.crtc.beam }
         requires before { IfSome before (EndsWithLine (started_display self.old) self.old.drawn) }
-        ensures taken { self.new ≡ dots (line_count self.old) self.old }
+        ensures by_dots { self.new ≡ dots (line_count self.old) self.old }
         ensures ends { EndsWithLine (started_display self.new) self.new.drawn result }
     {
         start_is_taken_once();

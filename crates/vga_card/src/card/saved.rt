@@ -4,7 +4,7 @@ ghost use Rattle.vga_bits.specs.Saved.{IsPut};
 ghost use Rattle.vga_card.specs.Dots.{fresh};
 ghost use Rattle.vga_card.specs.Saved.{saved_card, past_misc, past_crtc, past_attr, past_dac};
 ghost use Rattle.vga_card.specs.Saved.{past_host, IsSavedCard, card_from};
-ghost use Rattle.vga_card.specs.Settled.{settled};
+ghost use Rattle.vga_card.specs.FreshCanvas.{with_fresh_canvas};
 
 use super::Card;
 use super::cycles::MISCELLANEOUS_MASK;
@@ -138,7 +138,7 @@ impl Card {
     /// are for proofs: nothing runs.
     pub fn saves_whole(&self)
         ensures saved { IsSavedCard (saved_card self.now) }
-        ensures back { card_from (saved_card self.now) ≡ settled self.now }
+        ensures back { card_from (saved_card self.now) ≡ with_fresh_canvas self.now }
         ensures len { length (saved_card self.now) ≡ 265046 + 3 * length (fresh self.now) }
     {
         self.crtc.saves_whole();

@@ -6,7 +6,7 @@ ghost use Rattle.vga_card.specs.Bounds.{IsCard};
 ghost use Rattle.bios_modes.specs.Valid.{IsValid};
 ghost use Rattle.vga_run.specs.Saved.{saved_mark, long_bytes, long_at as long_of, saved_machine};
 ghost use Rattle.vga_run.specs.Saved.{HasMagic, HasVersion, HasLength, HasParts, IsSavedMachine};
-ghost use Rattle.vga_run.specs.Saved.{IsStateFault, machine_from, settled_machine};
+ghost use Rattle.vga_run.specs.Saved.{IsStateFault, machine_from, machine_with_fresh_canvas};
 
 use super::Machine;
 use bios_modes::Bda;
@@ -167,7 +167,7 @@ impl Machine {
     pub fn saves_whole(&self)
         ensures saved { IsValid self.now.bda → IsSavedMachine (saved_machine self.now) }
         ensures back { machine_from self.now.fonts (saved_machine self.now)
-            ≡ settled_machine self.now }
+            ≡ machine_with_fresh_canvas self.now }
     {
         self.bda.saves_whole();
         self.card.saves_whole();

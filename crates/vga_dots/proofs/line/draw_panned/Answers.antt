@@ -22,5 +22,5 @@ copy_dots-requires-clause-there g c =
 pub returns : goal.returns
 returns g c =
     let some = eight_wide c.args.display.now.host g.row.CW c.requires.width in
-    line_panned g.row.CW c.args.display.now c.requires.width c.args.count c.args.panned _ c.draw_characters.new.row c.args.row.now c.copy_dots.new.row
-    c.requires.panned (omega (arith, c.requires.few, some)) (from_first _ _ _ _ _ c.draw_characters.ensures) c.copy_dots.ensures
+    line_panned g.row.CW c.args.display.now c.requires.width c.args.count c.args.panning_shift _ c.draw_characters.new.row c.args.row.now c.copy_dots.new.row
+    c.requires.shift (omega (arith, c.requires.few, some)) (from_first _ _ _ _ _ c.draw_characters.ensures) c.copy_dots.ensures

@@ -14,7 +14,7 @@ returns g c =
     let d = c.args.display.now in
     let b = c.beam-beam.result in
     let n = c.args.count in
-    let p = c.panned.result in
+    let p = c.panning_shift.result in
     let start = b.dot + p in
     let first = b.character + start / cw in
     let skipped = start % cw in
@@ -25,4 +25,4 @@ returns g c =
     let begin : first * cw + skipped ≡ dot_number cw b + p = omega (arith, div-add-mod' start cw) in
     let fits : skipped + n ≤ last / cw * cw = omega (arith, div-add-mod' last cw, mod_below last cw some, wide) in
     part_panned cw d c.requires.width n first skipped (last / cw) p _ c.draw_characters.new.row c.args.row.now c.copy_dots.new.row
-    some c.panned.ensures.value (omega (arith, c.panned.ensures.few, wide)) (begin ∙ same) fits c.draw_characters.ensures c.copy_dots.ensures
+    some c.panning_shift.ensures.value (omega (arith, c.panning_shift.ensures.few, wide)) (begin ∙ same) fits c.draw_characters.ensures c.copy_dots.ensures

@@ -15,35 +15,35 @@ loop-left-init c =
 pub returns-in_err-meant-clause-fault : goal.returns-in_err-meant-clause-fault
 returns-in_err-meant-clause-fault c =
     let version = c.items_of_text-version.result.0 in
-    let h = subst (λ (l : Option (Bor (List ℕ))). HasAssembled c.args.text.now version c.loop-left.taken c.loop-left.number (option_copied l)
+    let h = subst (λ (l : Option (Bor (List ℕ))). HasAssembled c.args.text.now version c.loop-left.so_far c.loop-left.number (option_copied l)
     c.loop-left.out.items) c.in-Some.is c.loop-left.invariant in
     let p = err_from_is_err_and c.from_residual-in_err-meant.result c.from_residual-in_err-meant.ensures.1 in
-    rw (p.1, p.2) (text_faulty c.args.text.now c.in-Some.rest.now c.loop-left.out.items version c.loop-left.taken c.loop-left.number _ h
+    rw (p.1, p.2) (text_faulty c.args.text.now c.in-Some.rest.now c.loop-left.out.items version c.loop-left.so_far c.loop-left.number _ h
     c.in_err-meant.ensures.fault)
 
 -- or with it there are too many steps
-pub returns-then-meant-taken-clause-fault : goal.returns-then-meant-taken-clause-fault
-returns-then-meant-taken-clause-fault c =
+pub returns-then-meant-so_far-clause-fault : goal.returns-then-meant-so_far-clause-fault
+returns-then-meant-so_far-clause-fault c =
     let version = c.items_of_text-version.result.0 in
-    let h = subst (λ (l : Option (Bor (List ℕ))). HasAssembled c.args.text.now version c.loop-left.taken c.loop-left.number (option_copied l)
+    let h = subst (λ (l : Option (Bor (List ℕ))). HasAssembled c.args.text.now version c.loop-left.so_far c.loop-left.number (option_copied l)
     c.loop-left.out.items) c.in-Some.is c.loop-left.invariant in
-    inr (text_many c.args.text.now c.in-Some.rest.now c.loop-left.out.items _ version c.loop-left.taken c.in_ok-meant.meant c.loop-left.number
-    c.in_ok-meant.next (option_copied c.in_ok-meant.behind) h c.in_ok-meant.ensures.found c.if-meant-taken.true)
+    inr (text_many c.args.text.now c.in-Some.rest.now c.loop-left.out.items _ version c.loop-left.so_far c.in_ok-meant.meant c.loop-left.number
+    c.in_ok-meant.next (option_copied c.in_ok-meant.behind) h c.in_ok-meant.ensures.found c.if-meant-so_far.true)
 
 -- one more group is read
 pub loop-left-preserved : goal.loop-left-preserved
 loop-left-preserved c =
     let version = c.items_of_text-version.result.0 in
-    let h = subst (λ (l : Option (Bor (List ℕ))). HasAssembled c.args.text.now version c.loop-left.taken c.loop-left.number (option_copied l)
+    let h = subst (λ (l : Option (Bor (List ℕ))). HasAssembled c.args.text.now version c.loop-left.so_far c.loop-left.number (option_copied l)
     c.loop-left.out.items) c.in-Some.is c.loop-left.invariant in
-    text_more c.args.text.now c.in-Some.rest.now c.loop-left.out.items _ version c.loop-left.taken c.in_ok-meant.meant c.loop-left.number c.in_ok-meant.next
-    (option_copied c.in_ok-meant.behind) h c.in_ok-meant.ensures.found c.if-meant-taken.false
+    text_more c.args.text.now c.in-Some.rest.now c.loop-left.out.items _ version c.loop-left.so_far c.in_ok-meant.meant c.loop-left.number c.in_ok-meant.next
+    (option_copied c.in_ok-meant.behind) h c.in_ok-meant.ensures.found c.if-meant-so_far.false
     c.in_ok-meant.ensures.shorter
 
 -- nothing is left
 pub returns-clause-found : goal.returns-clause-found
 returns-clause-found c =
     let version = c.items_of_text-version.result.0 in
-    text_all c.args.text.now c.loop-left.out.items version c.loop-left.taken c.loop-left.number
-    (subst (λ (l : Option (Bor (List ℕ))). HasAssembled c.args.text.now version c.loop-left.taken c.loop-left.number (option_copied l) c.loop-left.out.items)
+    text_all c.args.text.now c.loop-left.out.items version c.loop-left.so_far c.loop-left.number
+    (subst (λ (l : Option (Bor (List ℕ))). HasAssembled c.args.text.now version c.loop-left.so_far c.loop-left.number (option_copied l) c.loop-left.out.items)
     c.in_default.is c.loop-left.invariant)

@@ -5,7 +5,7 @@ use Rattle.vga_script.proofs.assembling.assemble_items.Given as goal
 
 -- the bytes are those of the items of the lines so far
 abbrev pub invariant-loop-left : goal.invariant-loop-left
-invariant-loop-left l = HasAssembled l.text l.version l.taken l.number (option_copied l.left) l.out.items
+invariant-loop-left l = HasAssembled l.text l.version l.so_far l.number (option_copied l.left) l.out.items
 
 abbrev pub decreases-loop-left : goal.decreases-loop-left
 decreases-loop-left l = left_len (option_copied l.left)

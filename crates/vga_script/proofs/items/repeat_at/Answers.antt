@@ -28,13 +28,13 @@ returns-in-End-clause-body c =
 
 -- nothing does
 pub returns-in-Nothing-clause-fault : goal.returns-in-Nothing-clause-fault
-returns-in-Nothing-clause-fault c taken =
+returns-in-Nothing-clause-fault c so_far =
     let rest = c.behind_steps-len.result.1.now in
     let none : rest ≡ [] = subst (λ (b : Behind). StandsBehind b rest) c.in-Nothing.is c.behind_steps-len.ensures.stop in
     let some : 0 < c.in-Ok.count = omega arith in
     let small : c.in-Ok.count < 2 ^ 16 = search rules in
     let place = length c.args.bytes.now - length rest in
-    repeat_cut c.args.version taken c.args.offset place c.args.bytes.now rest
+    repeat_cut c.args.version so_far c.args.offset place c.args.bytes.now rest
     (repeat_open c.args.version c.args.bytes.now c.args.fields.now c.in-Ok.body.now rest c.in-Ok.count c.behind_steps-len.result.0 place c.requires.allowed
     c.requires.fields c.in-Ok.ensures.found some small c.behind_steps-len.ensures.good refl)
     none

@@ -25,9 +25,9 @@ loop-left-preserved-then-dots_in_line-left c =
     let count : c.dots_in_line-left.result ≡ line_count s = c.dots_in_line-left.ensures.value
     ∙ ap (λ w. dots_in_line w a.crtc.registers a.crtc.beam) c.loop-left.invariant.1
     ∙ ap (λ (x : CardState). dots_in_line (character_width s) x.crtc.registers x.crtc.beam) c.self-in-loop-left.view_is in
-    let taken : c.take_line.new.self ≡ dots (line_count s) s = c.take_line.ensures.taken in (
-      line_went c.loop-left.left c.dots_in_line-left.result s c.take_line.new.self _ (omega (arith, same)) count taken c.loop-left.invariant.0,
-      c.loop-left.invariant.1 ∙ width_kept (line_count s) s c.take_line.new.self taken,
+    let by_dots : c.take_line.new.self ≡ dots (line_count s) s = c.take_line.ensures.by_dots in (
+      line_went c.loop-left.left c.dots_in_line-left.result s c.take_line.new.self _ (omega (arith, same)) count by_dots c.loop-left.invariant.0,
+      c.loop-left.invariant.1 ∙ width_kept (line_count s) s c.take_line.new.self by_dots,
       c.take_line.ensures.ends,
     )
 
@@ -61,20 +61,20 @@ loop-left-preserved-then-is_in_line c =
     let s = c.loop-left.self in
     let n = c.min-part.result in
     let within : n ≤ c.loop-left.left = omega (arith, c.min-part.ensures, c.min.ensures) in
-    let taken : c.take_part.new.self ≡ dots n s = c.take_part.ensures in (
-      part_went c.loop-left.left n s c.take_part.new.self _ within taken c.loop-left.invariant.0,
+    let by_dots : c.take_part.new.self ≡ dots n s = c.take_part.ensures in (
+      part_went c.loop-left.left n s c.take_part.new.self _ within by_dots c.loop-left.invariant.0,
       c.loop-left.invariant.1
-          ∙ width_kept n s c.take_part.new.self taken,
+          ∙ width_kept n s c.take_part.new.self by_dots,
       tt,
     )
 
 pub loop-left-preserved : goal.loop-left-preserved
 loop-left-preserved c =
     let s = c.loop-left.self in
-    let taken : c.take_dot.new.self ≡ dot s = c.take_dot.ensures in (
-      dot_went c.loop-left.left s c.take_dot.new.self _ (omega arith) taken c.loop-left.invariant.0,
+    let by_dots : c.take_dot.new.self ≡ dot s = c.take_dot.ensures in (
+      dot_went c.loop-left.left s c.take_dot.new.self _ (omega arith) by_dots c.loop-left.invariant.0,
       c.loop-left.invariant.1
-          ∙ width_kept_dot s c.take_dot.new.self taken,
+          ∙ width_kept_dot s c.take_dot.new.self by_dots,
       tt,
     )
 

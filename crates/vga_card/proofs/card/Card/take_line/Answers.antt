@@ -50,8 +50,8 @@ invariant_of-self c =
       c.self.invariant.1,
     )
 
-pub returns-clause-taken : goal.returns-clause-taken
-returns-clause-taken c =
+pub returns-clause-by_dots : goal.returns-clause-by_dots
+returns-clause-by_dots c =
     let a = c.self.inside in
     let old : CardState = record { host = a.host; crtc = a.crtc; attr = a.attr; dac = a.dac; misc = a.misc; drawn = a.canvas.dots } in
     let here = subst (λ (x : CardState). IsLineStart x.crtc.beam) (sym c.self.view_is) c.requires.start in

@@ -3,8 +3,8 @@ use Rattle.vga_script.proofs.ProgressLemmas.{none_left, step_taken, is_found}
 use Rattle.vga_script.proofs.steps.Steps.next.Goals as goal
 
 -- nothing is left
-pub returns-then-is_empty-clause-taken : goal.returns-then-is_empty-clause-taken
-returns-then-is_empty-clause-taken c =
+pub returns-then-is_empty-clause-first : goal.returns-then-is_empty-clause-first
+returns-then-is_empty-clause-first c =
     let is : c.args.self.now ≡ [] = sym c.self.view_is ∙ none_left c.self.inside.left c.self.inside.body.now c.self.inside.rest.now c.self.invariant
     (search rules) in (is, is)
 
@@ -13,8 +13,8 @@ pub invariant_of-self : goal.invariant_of-self
 invariant_of-self c = (step_taken c.self.inside.left _ _ _ _ c.self.invariant c.in-Ok.ensures.found).1
 
 -- nothing but marks is left
-pub returns-then-is_empty-2-clause-taken : goal.returns-then-is_empty-2-clause-taken
-returns-then-is_empty-2-clause-taken c =
+pub returns-then-is_empty-2-clause-first : goal.returns-then-is_empty-2-clause-first
+returns-then-is_empty-2-clause-first c =
     let p = c.skip_marks-progress.result in
     let reached = c.skip_marks-progress.ensures.reached in
     let none = none_left p.left p.body.now p.rest.now reached.stands (search rules) in
@@ -25,7 +25,7 @@ pub invariant_of-self-in-Ok-step_at : goal.invariant_of-self-in-Ok-step_at
 invariant_of-self-in-Ok-step_at c = (step_taken c.skip_marks-progress.result.left _ _ _ _ c.skip_marks-progress.ensures.reached.stands
     c.in-Ok-step_at.ensures.found).1
 
-pub returns-in-Err-clause-taken : goal.returns-in-Err-clause-taken
-returns-in-Err-clause-taken c =
+pub returns-in-Err-clause-first : goal.returns-in-Err-clause-first
+returns-in-Err-clause-first c =
     absurd (is_found c.skip_marks-progress.result.rest.now c.in-Err.field-0 c.skip_marks-progress.ensures.prefix (search rules) (λ is. c.in-Err.ensures.bad (cc))
     (λ is. c.in-Err.ensures.cut (cc)))

@@ -8,9 +8,9 @@ steps-init c = refl
 -- no step is left
 pub returns-in_default : goal.returns-in_default
 returns-in_default c =
-    let taken = c.in_default.ensures.taken in
-    taken.1 ∙ sym (all_passed c.args.self.now c.steps.counter c.args.count (omega arith) (sym c.steps.invariant ∙ taken.0))
+    let first = c.in_default.ensures.first in
+    first.1 ∙ sym (all_passed c.args.self.now c.steps.counter c.args.count (omega arith) (sym c.steps.invariant ∙ first.0))
 
 -- one step more
 pub steps-preserved : goal.steps-preserved
-steps-preserved c = one_passed c.args.self.now c.next.new.self c.steps.counter _ (sym c.steps.invariant ∙ c.in-Some.ensures.taken)
+steps-preserved c = one_passed c.args.self.now c.next.new.self c.steps.counter _ (sym c.steps.invariant ∙ c.in-Some.ensures.first)

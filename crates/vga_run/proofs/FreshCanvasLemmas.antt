@@ -8,62 +8,63 @@ use Rattle.vga_card.specs.Card.{CardState}
 use Rattle.vga_card.specs.Picture.{Dot, rows}
 use Rattle.vga_card.specs.Cycles.{Written, Answered}
 use Rattle.vga_card.specs.Dots.{dots, most_dots}
-use Rattle.vga_card.specs.Settled.{settled, settled_after}
+use Rattle.vga_card.specs.FreshCanvas.{with_fresh_canvas, fresh_canvas_after}
 use Rattle.vga_card.proofs.DotLemmas.{dots_none}
-use Rattle.vga_card.proofs.SettledLemmas.{cannot_be_told}
+use Rattle.vga_card.proofs.FreshCanvasLemmas.{cannot_be_told}
 use Rattle.vga_script.specs.declared.dump_range.Shown.{Shown}
 use Rattle.vga_script.specs.declared.dump_range.Shown.TheVariants as shown
 use Rattle.vga_script.specs.declared.step.Step.{Step}
 use Rattle.vga_script.specs.declared.step.Step.TheVariants.{Out, OutWord, In, InWord, Put, PutWord, Get, GetWord, Int, Advance, Frame, Show}
 use Rattle.bios_modes.specs.Bda.{BiosData}
 use Rattle.bios_services.specs.Service.{Answered as Served, service}
-use Rattle.bios_services.proofs.CardLemmas.{plan_settled}
+use Rattle.bios_services.proofs.CardLemmas.{plan_fresh}
 use Rattle.vga_show.specs.Beam.{beam_line}
 use Rattle.vga_show.specs.Cells.{row_text, rows_text, cells_refusal, cells_text}
 use Rattle.vga_run.specs.declared.machine.Machine.{Machine}
 use Rattle.vga_run.specs.Answer.{StepAnswer, Plain, of_write, of_byte, of_word, of_service, of_frame, of_dump}
 use Rattle.vga_run.specs.Step.{dump_text, dump_refusal, called, advance_cycle, answer_to, after_step}
 use Rattle.vga_run.specs.Report.{line, report_from}
-use Rattle.vga_run.specs.Saved.{settled_machine}
+use Rattle.vga_run.specs.Saved.{machine_with_fresh_canvas}
 
 -- ---- what is not saved
 
-twice : (c : CardState) → settled (settled c) ≡ settled c
+twice : (c : CardState) → with_fresh_canvas (with_fresh_canvas c) ≡ with_fresh_canvas c
 twice c = ap (λ (drawn : List Dot). record c { drawn = drawn }) (cannot_be_told.fresh c)
 
-dots_twice : (n : ℕ) (c : CardState) → settled (dots n (settled c)) ≡ settled (dots n c)
-dots_twice zero c = ap settled (dots_none (settled c)) ∙ twice c ∙ ap settled (sym (dots_none c))
-dots_twice (suc n) c = ap settled (cannot_be_told.dots (suc n) c (omega arith))
+dots_twice : (n : ℕ) (c : CardState) → with_fresh_canvas (dots n (with_fresh_canvas c)) ≡ with_fresh_canvas (dots n c)
+dots_twice zero c = ap with_fresh_canvas (dots_none (with_fresh_canvas c)) ∙ twice c ∙ ap with_fresh_canvas (sym (dots_none c))
+dots_twice (suc n) c = ap with_fresh_canvas (cannot_be_told.dots (suc n) c (omega arith))
 
-answer_by : (few : Bool) (c : CardState) (count : ℕ) → (let x : Written = (if few then (dots count (settled c), Ok tt) else (settled c, Err TooFar)) in x).1
+answer_by : (few : Bool) (c : CardState) (count : ℕ) → (let x : Written = (if few then (dots count (with_fresh_canvas c), Ok tt) else
+    (with_fresh_canvas c, Err TooFar)) in x).1
     ≡ (let x : Written = (if few then (dots count c, Ok tt) else (c, Err TooFar)) in x).1
 answer_by true c count = refl
 answer_by false c count = refl
 
-advance_same : (c : CardState) (count : ℕ) → (advance_cycle (settled c) count).1 ≡ (advance_cycle c count).1
+advance_same : (c : CardState) (count : ℕ) → (advance_cycle (with_fresh_canvas c) count).1 ≡ (advance_cycle c count).1
 advance_same c count = answer_by (nat_le count most_dots) c count
 
 after_by : (few : Bool) (c : CardState) (count : ℕ)
-    → settled (let x : Written = (if few then (dots count (settled c), Ok tt) else (settled c, Err TooFar)) in x).0
-    ≡ settled (let x : Written = (if few then (dots count c, Ok tt) else (c, Err TooFar)) in x).0
+    → with_fresh_canvas (let x : Written = (if few then (dots count (with_fresh_canvas c), Ok tt) else (with_fresh_canvas c, Err TooFar)) in x).0
+    ≡ with_fresh_canvas (let x : Written = (if few then (dots count c, Ok tt) else (c, Err TooFar)) in x).0
 after_by true c count = dots_twice count c
 after_by false c count = twice c
 
-advance_after : (c : CardState) (count : ℕ) → settled (advance_cycle (settled c) count).0 ≡ settled (advance_cycle c count).0
+advance_after : (c : CardState) (count : ℕ) → with_fresh_canvas (advance_cycle (with_fresh_canvas c) count).0 ≡ with_fresh_canvas (advance_cycle c count).0
 advance_after c count = after_by (nat_le count most_dots) c count
 
 -- ---- dumps
 
-rows_same : (c : CardState) (bda : BiosData) (n row : ℕ) → rows_text (settled c) bda n row ≡ rows_text c bda n row
+rows_same : (c : CardState) (bda : BiosData) (n row : ℕ) → rows_text (with_fresh_canvas c) bda n row ≡ rows_text c bda n row
 unfolding rows_text
 rows_same c bda zero row = refl
 rows_same c bda (suc n) row = ap (λ (l : List ℕ). row_text c bda row ++ l) (rows_same c bda n (row + 1))
 
-cells_same : (why : Option Refusal) (c : CardState) (bda : BiosData) → cells_text why (settled c) bda ≡ cells_text why c bda
+cells_same : (why : Option Refusal) (c : CardState) (bda : BiosData) → cells_text why (with_fresh_canvas c) bda ≡ cells_text why c bda
 cells_same None c bda = rows_same c bda (bda.last_row + 1) 0
 cells_same (Some why) c bda = refl
 
-dump_same : (m : Machine) (what : Shown) → dump_text (settled_machine m) what ≡ dump_text m what
+dump_same : (m : Machine) (what : Shown) → dump_text (machine_with_fresh_canvas m) what ≡ dump_text m what
 unfolding dump_text
 dump_same m shown.Registers = refl
 dump_same m (shown.Dac index) = refl
@@ -73,7 +74,7 @@ dump_same m (shown.Plane plane offset count) = refl
 dump_same m shown.BiosData = refl
 dump_same m shown.Cells = cells_same (cells_refusal m.bda.mode) m.card m.bda
 
-refusal_same : (m : Machine) (what : Shown) → dump_refusal (settled_machine m) what ≡ dump_refusal m what
+refusal_same : (m : Machine) (what : Shown) → dump_refusal (machine_with_fresh_canvas m) what ≡ dump_refusal m what
 unfolding dump_refusal
 refusal_same m shown.Registers = refl
 refusal_same m (shown.Dac index) = refl
@@ -86,11 +87,12 @@ refusal_same m shown.Cells = refl
 -- ---- steps
 
 -- a call of interrupt 10
-called_same : (m : Machine) (ax bx cx dx : ℕ) (block : List ℕ) → called (settled_machine m) ax bx cx dx block ≡ settled_after (called m ax bx cx dx block)
+called_same : (m : Machine) (ax bx cx dx : ℕ) (block : List ℕ) → called (machine_with_fresh_canvas m) ax bx cx dx block
+    ≡ fresh_canvas_after (called m ax bx cx dx block)
 unfolding called
-called_same m ax bx cx dx block = plan_settled (service m.fonts m.bda (record { ax = ax; bx = bx; cx = cx; dx = dx }) block) m.card
+called_same m ax bx cx dx block = plan_fresh (service m.fonts m.bda (record { ax = ax; bx = bx; cx = cx; dx = dx }) block) m.card
 
-pub answer_same : (m : Machine) (step : Step) → answer_to (settled_machine m) step ≡ answer_to m step
+pub answer_same : (m : Machine) (step : Step) → answer_to (machine_with_fresh_canvas m) step ≡ answer_to m step
 unfolding answer_to
 answer_same m (Out port value) = ap (λ (w : Written). Plain (of_write w.1)) (cannot_be_told.out m.card port value)
 answer_same m (OutWord port value) = ap (λ (w : Written). Plain (of_write w.1)) (cannot_be_told.out_word m.card port value)
@@ -107,12 +109,13 @@ answer_same m (Show what) = ap₂ of_dump (refusal_same m what) (dump_same m wha
 
 -- a machine with this adapter, settled
 abbrev with_card : Machine → CardState → Machine
-with_card m c = record m { card = settled c }
+with_card m c = record m { card = with_fresh_canvas c }
 
-once : (m : Machine) (c : CardState) → with_card m (settled c) ≡ with_card m c
+once : (m : Machine) (c : CardState) → with_card m (with_fresh_canvas c) ≡ with_card m c
 once m c = ap (λ (s : CardState). record m { card = s }) (twice c)
 
-pub after_same : (m : Machine) (step : Step) → settled_machine (after_step (settled_machine m) step) ≡ settled_machine (after_step m step)
+pub after_same : (m : Machine) (step : Step) → machine_with_fresh_canvas (after_step (machine_with_fresh_canvas m) step)
+    ≡ machine_with_fresh_canvas (after_step m step)
 unfolding after_step
 after_same m (Out port value) = ap (λ (w : Written). with_card m w.0) (cannot_be_told.out m.card port value) ∙ once m _
 after_same m (OutWord port value) =
@@ -126,7 +129,7 @@ after_same m (Get address) = ap (λ (a : Answered). with_card m a.0) (cannot_be_
 after_same m (GetWord address) = ap (λ (a : Answered). with_card m a.0) (cannot_be_told.get_word m.card address) ∙ once m _
 after_same m (Int ax bx cx dx block) =
     let after = called m ax bx cx dx block in
-    ap (λ (s : CardState × Served). record m { card = settled s.0; bda = s.1.1 }) (called_same m ax bx cx dx block)
+    ap (λ (s : CardState × Served). record m { card = with_fresh_canvas s.0; bda = s.1.1 }) (called_same m ax bx cx dx block)
     ∙ ap (λ (c : CardState). record m { card = c; bda = after.1.1 }) (twice after.0)
 after_same m (Advance count) = ap (λ (c : CardState). record m { card = c }) (advance_after m.card count)
 after_same m Frame = ap (with_card m) (cannot_be_told.frame m.card)
@@ -135,13 +138,14 @@ after_same m (Show what) = once m m.card
 -- ---- reports
 
 -- two machines that are one once they are settled
-alike : (m other : Machine) (n : ℕ) (steps : List Step) → settled_machine m ≡ settled_machine other → report_from m n steps ≡ report_from other n steps
+alike : (m other : Machine) (n : ℕ) (steps : List Step) → machine_with_fresh_canvas m ≡ machine_with_fresh_canvas other
+    → report_from m n steps ≡ report_from other n steps
 alike m other n [] same = refl
 alike m other n (step ∷ steps) same =
     let answers = sym (answer_same m step) ∙ ap (λ (x : Machine). answer_to x step) same ∙ answer_same other step in
-    let leaves = sym (after_same m step) ∙ ap (λ (x : Machine). settled_machine (after_step x step)) same ∙ after_same other step in
+    let leaves = sym (after_same m step) ∙ ap (λ (x : Machine). machine_with_fresh_canvas (after_step x step)) same ∙ after_same other step in
     ap (λ (r : StepAnswer). line n r ++ report_from (after_step m step) (n + 1) steps) answers
     ∙ ap (λ (l : List ℕ). line n (answer_to other step) ++ l) (alike (after_step m step) (after_step other step) (n + 1) steps leaves)
 
-pub report_same : (m : Machine) (n : ℕ) (steps : List Step) → report_from (settled_machine m) n steps ≡ report_from m n steps
-report_same m n steps = alike (settled_machine m) m n steps (once m m.card)
+pub report_same : (m : Machine) (n : ℕ) (steps : List Step) → report_from (machine_with_fresh_canvas m) n steps ≡ report_from m n steps
+report_same m n steps = alike (machine_with_fresh_canvas m) m n steps (once m m.card)

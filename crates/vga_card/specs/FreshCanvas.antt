@@ -1,0 +1,42 @@
+-- The adapter without the dots that no step can see any more: those of the frame that ended, while
+-- the beam is at the first dot of the next. So it is where it was saved and restored.
+use Rattle.std.specs.Prelude.{ℕ, ◌≡◌, ◌<◌, false}
+use Rattle.vga_crtc.specs.Beam.{is_first_dot}
+use Rattle.vga_card.specs.Card.{CardState}
+use Rattle.vga_card.specs.Cycles.{out_cycle, inp_cycle, put_cycle, get_cycle}
+use Rattle.vga_card.specs.WordCycles.{out_word_cycle, inp_word_cycle, put_word_cycle}
+use Rattle.vga_card.specs.WordCycles.{get_word_cycle}
+use Rattle.vga_card.specs.Dots.{fresh, dots}
+use Rattle.vga_card.specs.Frames.{frame}
+
+abbrev pub with_fresh_canvas : CardState → CardState
+with_fresh_canvas c = record c { drawn = fresh c }
+
+-- what a cycle leaves, settled, and what it answers
+abbrev pub fresh_canvas_after : {A : Type 0} → CardState × A → CardState × A
+fresh_canvas_after after = (with_fresh_canvas after.0, after.1)
+
+-- a settled adapter is the adapter while a frame is under way; and it can never be told from it: a
+-- cycle answers the same and leaves the same but for what is settled, one dot and more lead to the
+-- same state, and so does a frame
+pub record CannotBeTold : Type 0 where
+  pub under_way : (c : CardState) → is_first_dot c.crtc.beam ≡ false → with_fresh_canvas c ≡ c
+  pub fresh : (c : CardState) → fresh (with_fresh_canvas c) ≡ fresh c
+  pub out : (c : CardState) (port v : ℕ) → out_cycle (with_fresh_canvas c) port v
+      ≡ fresh_canvas_after (out_cycle c port v)
+  pub inp : (c : CardState) (port : ℕ) → inp_cycle (with_fresh_canvas c) port
+      ≡ fresh_canvas_after (inp_cycle c port)
+  pub put : (c : CardState) (address v : ℕ) → put_cycle (with_fresh_canvas c) address v
+      ≡ fresh_canvas_after (put_cycle c address v)
+  pub get : (c : CardState) (address : ℕ) → get_cycle (with_fresh_canvas c) address
+      ≡ fresh_canvas_after (get_cycle c address)
+  pub out_word : (c : CardState) (port v : ℕ) → out_word_cycle (with_fresh_canvas c) port v
+      ≡ fresh_canvas_after (out_word_cycle c port v)
+  pub inp_word : (c : CardState) (port : ℕ) → inp_word_cycle (with_fresh_canvas c) port
+      ≡ fresh_canvas_after (inp_word_cycle c port)
+  pub put_word : (c : CardState) (address v : ℕ) → put_word_cycle (with_fresh_canvas c) address v
+      ≡ fresh_canvas_after (put_word_cycle c address v)
+  pub get_word : (c : CardState) (address : ℕ) → get_word_cycle (with_fresh_canvas c) address
+      ≡ fresh_canvas_after (get_word_cycle c address)
+  pub dots : (n : ℕ) (c : CardState) → 0 < n → dots n (with_fresh_canvas c) ≡ dots n c
+  pub frame : (c : CardState) → frame (with_fresh_canvas c) ≡ frame c
