@@ -24,8 +24,8 @@ pub use Rattle.bios_services.specs.Plan.{Done, Plan, each, get, put, run, ◌>>=
 pub use Rattle.bios_services.specs.Refusals.{page_among, page_named}
 pub use Rattle.bios_services.specs.Service.{Outcome}
 pub use Rattle.bios_services.specs.declared.band.Band.{Band}
-pub use Rattle.bios_services.specs.declared.band.Direction.{Direction}
-pub use Rattle.bios_services.specs.declared.band.Direction.TheVariants.{Down, Up}
+pub use Rattle.bios_services.specs.declared.direction.Direction.{Direction}
+pub use Rattle.bios_services.specs.declared.direction.Direction.TheVariants.{Down, Up}
 pub use Rattle.bios_services.specs.declared.colouring.Colouring.{Colouring}
 pub use Rattle.bios_services.specs.declared.regs.Regs.{Regs}
 pub use Rattle.bios_services.specs.declared.scroll.Window.{Window}

@@ -8,8 +8,8 @@ use Rattle.vga_bits.specs.declared.refusal.Refusal.{Refusal}
 use Rattle.bios_modes.specs.Fonts.{FontSet}
 use Rattle.bios_services.specs.declared.regs.Regs.{Regs}
 use Rattle.bios_services.specs.declared.colouring.Colouring.{Colouring}
-use Rattle.bios_services.specs.declared.band.Direction.{Direction}
-use Rattle.bios_services.specs.declared.band.Direction.TheVariants.{Up, Down}
+use Rattle.bios_services.specs.declared.direction.Direction.{Direction}
+use Rattle.bios_services.specs.declared.direction.Direction.TheVariants.{Up, Down}
 use Rattle.bios_services.specs.declared.scroll.Scroll.{Scroll}
 use Rattle.bios_services.specs.declared.scroll.Window.{Window}
 use Rattle.bios_services.specs.declared.cell_run.CellRun.{CellRun}

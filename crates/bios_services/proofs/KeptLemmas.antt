@@ -30,7 +30,7 @@ use Rattle.bios_services.specs.Bounds.{IsSet, pages_of}
 use Rattle.bios_services.specs.Data.{AreData}
 use Rattle.bios_services.specs.Cursor.{row_of, column_of, cell_number, place_of, with_place, with_page, start_address, word_plan, cursor_plan, move_cursor_plan}
 use Rattle.bios_services.specs.Cursor.{cursor_type_plan, page_plan}
-use Rattle.bios_services.specs.declared.band.Direction.TheVariants.{Up, Down}
+use Rattle.bios_services.specs.declared.direction.Direction.TheVariants.{Up, Down}
 use Rattle.bios_services.specs.Drawing.{character_plan}
 use Rattle.bios_services.specs.CellRuns.{cell_run_plan}
 use Rattle.bios_services.specs.Scroll.{page_up_plan, scroll_plan}

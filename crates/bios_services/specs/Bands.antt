@@ -6,8 +6,8 @@ use Rattle.bios_modes.specs.Bda.{BiosData}
 use Rattle.bios_modes.specs.declared.kind.Kind.{Kind}
 use Rattle.bios_modes.specs.declared.kind.Kind.TheVariants.{Text, Planar, Packed}
 use Rattle.bios_services.specs.declared.band.Band.{Band}
-use Rattle.bios_services.specs.declared.band.Direction.{Direction}
-use Rattle.bios_services.specs.declared.band.Direction.TheVariants.{Up, Down}
+use Rattle.bios_services.specs.declared.direction.Direction.{Direction}
+use Rattle.bios_services.specs.declared.direction.Direction.TheVariants.{Up, Down}
 use Rattle.bios_services.specs.declared.filling.Filling.{Filling}
 use Rattle.bios_services.specs.Plan.{Plan, Done, ◌>>◌, put, move, each, each_down}
 use Rattle.bios_services.specs.Cycles.{sequencer, graphics}

@@ -11,6 +11,7 @@ pub mod Cells
 pub mod Bands
 pub mod Scroll
 pub mod Glyphs
+pub mod Page
 pub mod Drawing
 pub mod CellRuns
 pub mod CharacterReading

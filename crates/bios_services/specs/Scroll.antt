@@ -4,8 +4,8 @@
 use Rattle.std.specs.Prelude.{ℕ, ◌+◌, ◌-◌, ◌==◌, ◌≤◌, ◌&&◌, ◌||◌, ◌<◌, nat_lt, if◌then◌else◌, min}
 use Rattle.std.specs.Prelude.{Option, Some, None}
 use Rattle.bios_modes.specs.Bda.{BiosData}
-use Rattle.bios_services.specs.declared.band.Direction.{Direction}
-use Rattle.bios_services.specs.declared.band.Direction.TheVariants.{Up}
+use Rattle.bios_services.specs.declared.direction.Direction.{Direction}
+use Rattle.bios_services.specs.declared.direction.Direction.TheVariants.{Up}
 use Rattle.bios_services.specs.declared.scroll.Scroll.{Scroll}
 use Rattle.bios_services.specs.declared.scroll.Window.{Window}
 use Rattle.bios_services.specs.Plan.{Plan, Done}

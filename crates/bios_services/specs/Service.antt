@@ -39,7 +39,7 @@ use Rattle.bios_services.specs.Cells.{cell_address, read_cell_plan}
 use Rattle.bios_services.specs.Drawing.{cell_band, cell_row}
 use Rattle.bios_services.specs.CellRuns.{cell_run_plan}
 use Rattle.bios_services.specs.CharacterReading.{read_character_plan}
-use Rattle.bios_services.specs.declared.band.Direction.TheVariants.{Up, Down}
+use Rattle.bios_services.specs.declared.direction.Direction.TheVariants.{Up, Down}
 use Rattle.bios_services.specs.Scroll.{scroll_plan}
 use Rattle.bios_services.specs.Teletype.{teletype_plan}
 use Rattle.bios_services.specs.Pixels.{write_pixel_plan, read_pixel_plan}

@@ -7,12 +7,14 @@ ghost use Rattle.bios_services.specs.Bands.{copy_line as copy_line_plan, copy_ro
 ghost use Rattle.bios_services.specs.Bands.{move_rows as move_rows_plan};
 ghost use Rattle.bios_services.specs.Bands.{fill_line as fill_line_plan, fill_row as fill_row_plan};
 ghost use Rattle.bios_services.specs.Bands.{fill_rows as fill_rows_plan, access_plan, fill_plan};
-ghost use Rattle.bios_services.specs.Bands.{new_row as new_row_of, scroll_rows as scroll_rows_plan};
+ghost use Rattle.bios_services.specs.Bands.{scroll_rows as scroll_rows_plan};
 
 use crate::cells::page_address;
 use crate::cycles::{graphics, move_bytes, put_in_turn, sequencer};
+use crate::direction::Direction;
 use crate::filling::Filling;
 use crate::kind::{Kind, by_kind, column_bytes, kind_of, row_lines};
+use crate::shift::Shift;
 use crate::video_registers::{ALL_BITS, ALL_PLANES, COPY_LATCHES, GRAPHICS_MODE, MAP_MASK, PLAIN};
 use bios_modes::Bda;
 use vga_card::Bus;
@@ -32,27 +34,6 @@ pub struct Band {
     pub left: u32,
     /// How many bytes the band has in a line.
     pub width: u32,
-}
-
-/// Which way rows go.
-#[derive(Clone, Copy)]
-pub enum Direction {
-    Up,
-    Down,
-}
-
-impl Direction {
-    /// The first of the rows that are new once some from `top` on have moved.
-    fn new_row(self, top: u32, count: u32) -> u32
-        requires { top + count ≤ reached_rows }
-        ensures value { result ≡ new_row_of self top count }
-        ensures inside { result ≤ top + count }
-    {
-        match self {
-            Direction::Up => top + count,
-            Direction::Down => top,
-        }
-    }
 }
 
 /// Sets the graphics controller's read and write mode, in 16 colours alone.
@@ -125,20 +106,21 @@ impl Band {
     /// Copies to some rows from `top` on what stands n rows below, the highest first; or copies
     /// them to n rows below, the lowest first.
     #[tactic(auto, using(crate::proofs::PlanRuns::run_bind), unfolding(crate::specs::Bands::move_rows))]
-    fn move_rows<B: Bus>(self, bus: &mut B, direction: Direction, n: u32, top: u32, count: u32)
+    fn move_rows<B: Bus>(self, bus: &mut B, shift: Shift, top: u32, count: u32)
         requires band { IsBand self }
-        requires rows { top + count + n ≤ reached_rows }
-        ensures { bus.new ≡ (run B.meaning (move_rows_plan self direction n top count) bus.old).0 }
+        requires rows { top + count + shift.rows ≤ reached_rows }
+        ensures { bus.new ≡ (run B.meaning (move_rows_plan self shift.direction shift.rows top
+            count) bus.old).0 }
     {
-        match direction {
+        match shift.direction {
             Direction::Up => {
                 for row in top..top + count {
-                    self.copy_row(bus, row + n, row);
+                    self.copy_row(bus, row + shift.rows, row);
                 }
             }
             Direction::Down => {
                 for row in (top..top + count).rev() {
-                    self.copy_row(bus, row, row + n);
+                    self.copy_row(bus, row, row + shift.rows);
                 }
             }
         }
@@ -200,27 +182,21 @@ impl Band {
         )
     }
 
-    /// Scrolls rows by n: so many of them are filled then, the last ones under those that went up,
-    /// the first ones above those that went down.
+    /// Shifts rows: as many of them are filled then, the last ones under those that went up, the
+    /// first ones above those that went down.
     #[tactic(auto, using(crate::proofs::PlanRuns::run_bind), unfolding(crate::specs::Bands::scroll_rows))]
-    pub(crate) fn scroll_rows<B: Bus>(
-        self,
-        bus: &mut B,
-        direction: Direction,
-        top: u32,
-        height: u32,
-        n: u32,
-        colour: u8,
-    )
+    pub(crate) fn scroll_rows<B: Bus>(self, bus: &mut B, shift: Shift, top: u32, height: u32)
         requires band { IsBand self }
         requires rows { top + height ≤ reached_rows }
-        requires few { n ≤ height }
-        ensures { bus.new ≡ (run B.meaning (scroll_rows_plan self direction top height n colour)
-            bus.old).0 }
+        requires few { shift.rows ≤ height }
+        ensures { bus.new ≡ (run B.meaning (scroll_rows_plan self shift.direction top height
+            shift.rows shift.colour) bus.old).0 }
     {
+        let stay = height - shift.rows;
         set_access(bus, self.kind, COPY_LATCHES);
-        self.move_rows(bus, direction, n, top, height - n);
+        self.move_rows(bus, shift, top, stay);
         set_access(bus, self.kind, PLAIN);
-        self.fill(bus, colour, direction.new_row(top, height - n), n);
+        let first_new = shift.direction.new_row(top, stay);
+        self.fill(bus, shift.colour, first_new, shift.rows);
     }
 }

@@ -1,12 +1,15 @@
 //! Functions 09 and 0A: writing a character to some cells.
-ghost use Rattle.std.specs.Prelude.{◌≡◌, ◌<◌};
+ghost use Rattle.std.specs.Prelude.{◌≡◌, ◌<◌, ◌≤◌, ◌+◌};
 ghost use Rattle.bios_services.specs.Plan.{run};
-ghost use Rattle.bios_services.specs.Bounds.{IsSet, pages_of};
+ghost use Rattle.bios_services.specs.Bounds.{IsSet, pages_of, reached_cells};
 ghost use Rattle.bios_services.specs.CellRuns.{cell_run_of, cell_run_plan};
+ghost use Rattle.bios_services.specs.Drawing.{characters_plan};
+ghost use Rattle.bios_services.specs.Page.{IsPage};
 
 use crate::colouring::Colouring;
 use crate::cursor::cursor_cell;
-use crate::drawing::write_characters;
+use crate::drawing::write_character;
+use crate::page::Page;
 use crate::regs::{Regs, high, low};
 use bios_modes::{Bda, Fonts};
 use vga_card::Bus;
@@ -36,14 +39,26 @@ impl CellRun {
         }
     }
 
+    /// Writes the character to as many cells of a page, from one on.
+    #[tactic(auto, using(crate::proofs::PlanRuns::run_bind), unfolding(crate::specs::Drawing::characters_plan))]
+    fn write_from<B: Bus>(self, bus: &mut B, page: &Page<'_>, first: u32)
+        requires page { IsPage page.now }
+        requires cells { first + self.count ≤ reached_cells }
+        ensures { bus.new ≡ (run B.meaning (characters_plan page.now.fonts page.now.bda
+            page.now.number first self.character self.colouring self.count) bus.old).0 }
+    {
+        for i in 0..self.count as u32 {
+            write_character(bus, page, first + i, self.character, self.colouring);
+        }
+    }
+
     /// Writes the character to the cells.
     pub(crate) fn write<B: Bus>(self, bus: &mut B, fonts: &Fonts, bda: &Bda)
         requires data { IsSet bda.now }
         requires page { self.page < pages_of bda.now }
         ensures { bus.new ≡ (run B.meaning (cell_run_plan fonts.now bda.now self) bus.old).0 }
     {
-        let (page, n) = (self.page, self.count as u32);
-        let q = cursor_cell(bda, page);
-        write_characters(bus, fonts, bda, page, q, self.character, self.colouring, n);
+        let page = Page::new(fonts, bda, self.page);
+        self.write_from(bus, &page, cursor_cell(bda, self.page));
     }
 }

@@ -7,8 +7,9 @@ ghost use Rattle.bios_services.specs.CharacterReading.{shift_dot as shift_dot_pl
 ghost use Rattle.bios_services.specs.CharacterReading.{packed_line as packed_line_plan, line_plan};
 ghost use Rattle.bios_services.specs.CharacterReading.{lines_plan, read_character_plan};
 
-use crate::band::{Band, set_access};
+use crate::band::set_access;
 use crate::cycles::get;
+use crate::dot_cell::DotCell;
 use crate::glyphs::first_character;
 use crate::kind::{Kind, by_kind};
 use crate::video_registers::{COMPARE_COLOURS, PLAIN};
@@ -59,29 +60,30 @@ fn read_line<B: Bus>(bus: &mut B, kind: Kind, address: u32) -> u8
 
 /// Reads the lines of a cell.
 #[tactic(auto, using(crate::proofs::PlanRuns::run_bind), unfolding(crate::specs::CharacterReading::lines_plan))]
-fn read_lines<B: Bus>(bus: &mut B, cell: Band, row: u32, lines: &mut [u8])
-    requires cell { IsBand cell }
-    requires row { row < reached_cells }
-    requires count { length lines.old ≡ cell.lines }
-    ensures lines { (bus.new, lines.new) ≡ run B.meaning (lines_plan cell row) bus.old }
-    ensures count { length lines.new ≡ cell.lines }
+fn read_lines<B: Bus>(bus: &mut B, cell: DotCell, lines: &mut [u8])
+    requires band { IsBand cell.band }
+    requires row { cell.row < reached_cells }
+    requires count { length lines.old ≡ cell.band.lines }
+    ensures lines { (bus.new, lines.new) ≡ run B.meaning (lines_plan cell.band cell.row) bus.old }
+    ensures count { length lines.new ≡ cell.band.lines }
 {
     for r in 0..lines.len() {
-        lines[r] = read_line(bus, cell.kind, cell.address(row, r as u32, 0));
+        lines[r] = read_line(bus, cell.band.kind, cell.address(r as u32, 0));
     }
 }
 
 /// Reads the character whose glyph the dots of a cell are, and 0 where there is none.
 #[tactic(auto, using(crate::proofs::PlanRuns::run_bind), unfolding(crate::specs::CharacterReading::read_character_plan))]
-pub(crate) fn read_character<B: Bus>(bus: &mut B, cell: Band, row: u32, fonts: &Fonts) -> u8
-    requires cell { IsBand cell }
-    requires row { row < reached_cells }
-    ensures { (bus.new, result) ≡ run B.meaning (read_character_plan cell row fonts.now) bus.old }
+pub(crate) fn read_character<B: Bus>(bus: &mut B, cell: DotCell, fonts: &Fonts) -> u8
+    requires band { IsBand cell.band }
+    requires row { cell.row < reached_cells }
+    ensures { (bus.new, result) ≡ run B.meaning (read_character_plan cell.band cell.row fonts.now)
+        bus.old }
 {
     let mut room = [0u8; MOST_LINES];
-    let lines = &mut room[..cell.lines as usize];
-    set_access(bus, cell.kind, COMPARE_COLOURS);
-    read_lines(bus, cell, row, lines);
-    set_access(bus, cell.kind, PLAIN);
-    first_character(fonts, cell.lines, lines, CHARACTERS)
+    let lines = &mut room[..cell.band.lines as usize];
+    set_access(bus, cell.band.kind, COMPARE_COLOURS);
+    read_lines(bus, cell, lines);
+    set_access(bus, cell.band.kind, PLAIN);
+    first_character(fonts, cell.band.lines, lines, CHARACTERS)
 }

@@ -1,48 +1,40 @@
 //! Characters at cells of a page in any mode.
-ghost use Rattle.std.specs.Prelude.{◌≡◌, ◌<◌, ◌≤◌, ◌+◌};
+ghost use Rattle.std.specs.Prelude.{◌≡◌, ◌<◌, ◌≤◌};
 ghost use Rattle.bios_services.specs.Plan.{run};
-ghost use Rattle.bios_services.specs.Bounds.{IsSet, pages_of, reached_cells};
+ghost use Rattle.bios_services.specs.Bounds.{reached_cells};
 ghost use Rattle.bios_services.specs.Bands.{IsBand};
-ghost use Rattle.bios_services.specs.Drawing.{cell_band as cell_band_of};
 ghost use Rattle.bios_services.specs.Drawing.{put_glyph as put_glyph_plan};
 ghost use Rattle.bios_services.specs.Drawing.{put_over as put_over_plan};
 ghost use Rattle.bios_services.specs.Drawing.{put_glyph_over as put_glyph_over_plan, plain_plan};
 ghost use Rattle.bios_services.specs.Drawing.{xor_plan, planar_plan, dot_of};
 ghost use Rattle.bios_services.specs.Drawing.{put_dots as put_dots_plan, packed_plan};
-ghost use Rattle.bios_services.specs.Drawing.{character_plan, characters_plan};
+ghost use Rattle.bios_services.specs.Drawing.{character_plan};
+ghost use Rattle.bios_services.specs.Page.{IsPage};
 
-use crate::band::Band;
 use crate::cells::{cell_address, write_cell};
 use crate::colouring::Colouring;
 use crate::cycles::{get, graphics, put, sequencer};
+use crate::dot_cell::DotCell;
 use crate::filling::Filling;
 use crate::glyphs::glyph_line;
 use crate::kind::{by_kind, kind_of};
+use crate::page::Page;
 use crate::video_registers::{ALL_PLANES, DATA_ROTATE, MAP_MASK, REPLACE, XOR};
-use bios_modes::{Bda, Fonts};
+use bios_modes::Fonts;
 use vga_bits::is_set;
 use vga_card::Bus;
 
-/// Cell q of a page as a band of one column.
-pub(crate) fn cell_band(bda: &Bda, page: u8, q: u32) -> Band
-    requires data { IsSet bda.now }
-    requires page { page < pages_of bda.now }
-    ensures value { result ≡ cell_band_of bda.now page q }
-    ensures band { IsBand result }
-{
-    Band::of_page(bda, page, q % bda.columns() as u32, 1)
-}
-
 /// Writes a glyph to a cell of planes, line by line.
 #[tactic(auto, using(crate::proofs::PlanRuns::run_bind), unfolding(crate::specs::Drawing::put_glyph))]
-fn put_glyph<B: Bus>(bus: &mut B, cell: Band, row: u32, fonts: &Fonts, character: u8)
-    requires cell { IsBand cell }
-    requires row { row < reached_cells }
-    ensures { bus.new ≡ (run B.meaning (put_glyph_plan cell row fonts.now character) bus.old).0 }
+fn put_glyph<B: Bus>(bus: &mut B, cell: DotCell, fonts: &Fonts, character: u8)
+    requires band { IsBand cell.band }
+    requires row { cell.row < reached_cells }
+    ensures { bus.new ≡ (run B.meaning (put_glyph_plan cell.band cell.row fonts.now character)
+        bus.old).0 }
 {
-    for r in 0..cell.lines {
-        let dots = glyph_line(fonts, cell.lines, character, r);
-        put(bus, cell.address(row, r, 0), dots);
+    for r in 0..cell.band.lines {
+        let dots = glyph_line(fonts, cell.band.lines, character, r);
+        put(bus, cell.address(r, 0), dots);
     }
 }
 
@@ -56,57 +48,59 @@ fn put_over<B: Bus>(bus: &mut B, address: u32, dots: u8)
 
 /// Writes a glyph to a cell of planes, each line after it was read.
 #[tactic(auto, using(crate::proofs::PlanRuns::run_bind), unfolding(crate::specs::Drawing::put_glyph_over))]
-fn put_glyph_over<B: Bus>(bus: &mut B, cell: Band, row: u32, fonts: &Fonts, character: u8)
-    requires cell { IsBand cell }
-    requires row { row < reached_cells }
-    ensures { bus.new ≡ (run B.meaning (put_glyph_over_plan cell row fonts.now character)
+fn put_glyph_over<B: Bus>(bus: &mut B, cell: DotCell, fonts: &Fonts, character: u8)
+    requires band { IsBand cell.band }
+    requires row { cell.row < reached_cells }
+    ensures { bus.new ≡ (run B.meaning (put_glyph_over_plan cell.band cell.row fonts.now character)
         bus.old).0 }
 {
-    for r in 0..cell.lines {
-        let dots = glyph_line(fonts, cell.lines, character, r);
-        put_over(bus, cell.address(row, r, 0), dots);
+    for r in 0..cell.band.lines {
+        let dots = glyph_line(fonts, cell.band.lines, character, r);
+        put_over(bus, cell.address(r, 0), dots);
     }
 }
 
 /// Draws a character in 16 colours.
 #[tactic(auto, using(crate::proofs::PlanRuns::run_bind), unfolding(crate::specs::Drawing::plain_plan))]
-fn draw_plain<B: Bus>(bus: &mut B, cell: Band, row: u32, fonts: &Fonts, character: u8, colour: u8)
-    requires cell { IsBand cell }
-    requires row { row < reached_cells }
-    ensures { bus.new ≡ (run B.meaning (plain_plan cell row fonts.now character colour) bus.old).0 }
+fn draw_plain<B: Bus>(bus: &mut B, cell: DotCell, fonts: &Fonts, character: u8, colour: u8)
+    requires band { IsBand cell.band }
+    requires row { cell.row < reached_cells }
+    ensures { bus.new ≡ (run B.meaning (plain_plan cell.band cell.row fonts.now character colour)
+        bus.old).0 }
 {
-    cell.fill_row(bus, Filling::plain(0x00), row);
+    cell.band.fill_row(bus, Filling::plain(0x00), cell.row);
     sequencer(bus, MAP_MASK, colour % 16);
-    put_glyph(bus, cell, row, fonts, character);
+    put_glyph(bus, cell, fonts, character);
     sequencer(bus, MAP_MASK, ALL_PLANES);
 }
 
 /// Draws a character in 16 colours by XOR.
 #[tactic(auto, using(crate::proofs::PlanRuns::run_bind), unfolding(crate::specs::Drawing::xor_plan))]
-fn draw_by_xor<B: Bus>(bus: &mut B, cell: Band, row: u32, fonts: &Fonts, character: u8, colour: u8)
-    requires cell { IsBand cell }
-    requires row { row < reached_cells }
-    ensures { bus.new ≡ (run B.meaning (xor_plan cell row fonts.now character colour) bus.old).0 }
+fn draw_by_xor<B: Bus>(bus: &mut B, cell: DotCell, fonts: &Fonts, character: u8, colour: u8)
+    requires band { IsBand cell.band }
+    requires row { cell.row < reached_cells }
+    ensures { bus.new ≡ (run B.meaning (xor_plan cell.band cell.row fonts.now character colour)
+        bus.old).0 }
 {
     graphics(bus, DATA_ROTATE, XOR);
     sequencer(bus, MAP_MASK, colour % 16);
-    put_glyph_over(bus, cell, row, fonts, character);
+    put_glyph_over(bus, cell, fonts, character);
     sequencer(bus, MAP_MASK, ALL_PLANES);
     graphics(bus, DATA_ROTATE, REPLACE);
 }
 
 /// Draws a character in 16 colours, where bit 7 of the colour asks for XOR.
 #[tactic(auto, unfolding(crate::specs::Drawing::planar_plan))]
-fn draw_planar<B: Bus>(bus: &mut B, cell: Band, row: u32, fonts: &Fonts, character: u8, colour: u8)
-    requires cell { IsBand cell }
-    requires row { row < reached_cells }
-    ensures { bus.new ≡ (run B.meaning (planar_plan cell row fonts.now character colour)
+fn draw_planar<B: Bus>(bus: &mut B, cell: DotCell, fonts: &Fonts, character: u8, colour: u8)
+    requires band { IsBand cell.band }
+    requires row { cell.row < reached_cells }
+    ensures { bus.new ≡ (run B.meaning (planar_plan cell.band cell.row fonts.now character colour)
         bus.old).0 }
 {
     if is_set(colour, 7) {
-        draw_by_xor(bus, cell, row, fonts, character, colour);
+        draw_by_xor(bus, cell, fonts, character, colour);
     } else {
-        draw_plain(bus, cell, row, fonts, character, colour);
+        draw_plain(bus, cell, fonts, character, colour);
     }
 }
 
@@ -120,28 +114,29 @@ fn dot(dots: u8, colour: u8, i: u32) -> u8
 
 /// Draws a line of a glyph in 256 colours.
 #[tactic(auto, using(crate::proofs::PlanRuns::run_bind), unfolding(crate::specs::Drawing::put_dots))]
-fn put_dots<B: Bus>(bus: &mut B, cell: Band, row: u32, line: u32, dots: u8, colour: u8)
-    requires cell { IsBand cell }
-    requires row { row < reached_cells }
+fn put_dots<B: Bus>(bus: &mut B, cell: DotCell, line: u32, dots: u8, colour: u8)
+    requires band { IsBand cell.band }
+    requires row { cell.row < reached_cells }
     requires line { line ≤ 16 }
-    ensures { bus.new ≡ (run B.meaning (put_dots_plan cell row line dots colour) bus.old).0 }
+    ensures { bus.new ≡ (run B.meaning (put_dots_plan cell.band cell.row line dots colour)
+        bus.old).0 }
 {
     for i in 0..8 {
-        put(bus, cell.address(row, line, i), dot(dots, colour, i));
+        put(bus, cell.address(line, i), dot(dots, colour, i));
     }
 }
 
 /// Draws a character in 256 colours.
 #[tactic(auto, using(crate::proofs::PlanRuns::run_bind), unfolding(crate::specs::Drawing::packed_plan))]
-fn draw_packed<B: Bus>(bus: &mut B, cell: Band, row: u32, fonts: &Fonts, character: u8, colour: u8)
-    requires cell { IsBand cell }
-    requires row { row < reached_cells }
-    ensures { bus.new ≡ (run B.meaning (packed_plan cell row fonts.now character colour)
+fn draw_packed<B: Bus>(bus: &mut B, cell: DotCell, fonts: &Fonts, character: u8, colour: u8)
+    requires band { IsBand cell.band }
+    requires row { cell.row < reached_cells }
+    ensures { bus.new ≡ (run B.meaning (packed_plan cell.band cell.row fonts.now character colour)
         bus.old).0 }
 {
-    for r in 0..cell.lines {
-        let dots = glyph_line(fonts, cell.lines, character, r);
-        put_dots(bus, cell, row, r, dots, colour);
+    for r in 0..cell.band.lines {
+        let dots = glyph_line(fonts, cell.band.lines, character, r);
+        put_dots(bus, cell, r, dots, colour);
     }
 }
 
@@ -149,48 +144,22 @@ fn draw_packed<B: Bus>(bus: &mut B, cell: Band, row: u32, fonts: &Fonts, charact
 #[tactic(auto, unfolding(crate::specs::Drawing::character_by))]
 pub(crate) fn write_character<B: Bus>(
     bus: &mut B,
-    fonts: &Fonts,
-    bda: &Bda,
-    page: u8,
+    page: &Page<'_>,
     q: u32,
     character: u8,
     colouring: Colouring,
 )
-    requires data { IsSet bda.now }
-    requires page { page < pages_of bda.now }
+    requires page { IsPage page.now }
     requires cell { q < reached_cells }
-    ensures { bus.new ≡ (run B.meaning (character_plan fonts.now bda.now page q character colouring)
-        bus.old).0 }
+    ensures { bus.new ≡ (run B.meaning (character_plan page.now.fonts page.now.bda
+        page.now.number q character colouring) bus.old).0 }
 {
-    let row = q / bda.columns() as u32;
+    let (fonts, bda, number) = (page.fonts(), page.bda(), page.number());
     let colour = colouring.colour;
     by_kind!(
         kind_of(bda.mode()),
-        Text => write_cell(bus, cell_address(bda, page, q), character, colouring),
-        Planar => draw_planar(bus, cell_band(bda, page, q), row, fonts, character, colour),
-        Packed => draw_packed(bus, cell_band(bda, page, q), row, fonts, character, colour),
+        Text => write_cell(bus, cell_address(bda, number, q), character, colouring),
+        Planar => draw_planar(bus, DotCell::of_page(bda, number, q), fonts, character, colour),
+        Packed => draw_packed(bus, DotCell::of_page(bda, number, q), fonts, character, colour),
     )
-}
-
-/// Writes a character to n cells of a page from cell q on.
-#[tactic(auto, using(crate::proofs::PlanRuns::run_bind), unfolding(crate::specs::Drawing::characters_plan))]
-pub(crate) fn write_characters<B: Bus>(
-    bus: &mut B,
-    fonts: &Fonts,
-    bda: &Bda,
-    page: u8,
-    q: u32,
-    character: u8,
-    colouring: Colouring,
-    n: u32,
-)
-    requires data { IsSet bda.now }
-    requires page { page < pages_of bda.now }
-    requires cells { q + n ≤ reached_cells }
-    ensures { bus.new ≡ (run B.meaning (characters_plan fonts.now bda.now page q character colouring
-        n) bus.old).0 }
-{
-    for i in 0..n {
-        write_character(bus, fonts, bda, page, q + i, character, colouring);
-    }
 }

@@ -17,16 +17,16 @@ ghost use Rattle.bios_services.specs.Service.{read_adapter_of, read_display_of, 
 ghost use Rattle.bios_services.specs.Service.{read_pixel_service, plan_of, table_in_mode_plan};
 ghost use Rattle.bios_services.specs.Service.{service, takes_memory, MayAnswer};
 
-use crate::band::Direction;
 use crate::call::{Call, Service, decode};
 use crate::cells::{cell_address, read_cell};
 use crate::character_reading::read_character;
 use crate::colours::perform_colours;
 use crate::cursor::{cursor_cell, move_cursor, set_cursor_type, show_page};
-use crate::drawing::cell_band;
+use crate::direction::Direction;
+use crate::dot_cell::DotCell;
 use crate::glyph_load::GlyphLoad;
 use crate::mode_set;
-use crate::pixels::{read_pixel, write_pixel};
+use crate::pixels::{Pixel, read_pixel, write_pixel};
 use crate::refusals::{refusal_in_mode, unknown_refusal};
 use crate::regs::{Regs, with_low};
 use crate::reply::{Reply, ServiceError, Table};
@@ -59,20 +59,19 @@ fn read_cursor_cell<B: Bus>(bus: &mut B, fonts: &Fonts, bda: &Bda, page: u8, reg
         regs.ax = read_cell(bus, cell_address(bda, page, q));
         return;
     }
-    let row = q / bda.columns() as u32;
-    let character = read_character(bus, cell_band(bda, page, q), row, fonts);
+    let character = read_character(bus, DotCell::of_page(bda, page, q), fonts);
     regs.ax = with_low(regs.ax, character);
 }
 
 /// Answers the colour of a dot.
 #[tactic(auto, using(crate::proofs::PlanRuns::run_bind), unfolding(crate::specs::Service::read_pixel_service))]
-fn read_pixel_colour<B: Bus>(bus: &mut B, bda: &Bda, page: u8, x: u16, y: u16, regs: &mut Regs)
+fn read_pixel_colour<B: Bus>(bus: &mut B, bda: &Bda, pixel: Pixel, regs: &mut Regs)
     requires data { IsSet bda.now }
-    requires page { page < pages_of bda.now }
-    ensures { (bus.new, regs.new) ≡ run B.meaning (read_pixel_service page x y bda.now regs.old)
-        bus.old }
+    requires page { pixel.page < pages_of bda.now }
+    ensures { (bus.new, regs.new) ≡ run B.meaning (read_pixel_service pixel.page pixel.x pixel.y
+        bda.now regs.old) bus.old }
 {
-    let colour = read_pixel(bus, bda, page, x, y);
+    let colour = read_pixel(bus, bda, pixel);
     regs.ax = with_low(regs.ax, colour);
 }
 
@@ -130,8 +129,12 @@ fn perform<B: Bus>(
         Service::ScrollDown { scroll } => scroll.apply(bus, bda, Direction::Down),
         Service::ReadCell { page } => read_cursor_cell(bus, fonts, bda, page, regs),
         Service::WriteCells(cells) => cells.write(bus, fonts, bda),
-        Service::WritePixel { page, x, y, colour } => write_pixel(bus, bda, page, x, y, colour),
-        Service::ReadPixel { page, x, y } => read_pixel_colour(bus, bda, page, x, y, regs),
+        Service::WritePixel { page, x, y, colour } => {
+            write_pixel(bus, bda, Pixel { page, x, y }, colour)
+        }
+        Service::ReadPixel { page, x, y } => {
+            read_pixel_colour(bus, bda, Pixel { page, x, y }, regs)
+        }
         Service::Teletype { character, colour } => { teletype(bus, fonts, bda, character, colour) }
         Service::ReadMode => read_mode(bda, regs),
         Service::Colours(service) => {

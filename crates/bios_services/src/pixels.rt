@@ -21,6 +21,16 @@ use bios_modes::{Bda, is_packed};
 use vga_bits::is_set;
 use vga_card::Bus;
 
+/// A dot of a page of graphics.
+#[derive(Clone, Copy)]
+pub(crate) struct Pixel {
+    pub page: u8,
+    /// Its column, from the left.
+    pub x: u16,
+    /// Its line, from the top.
+    pub y: u16,
+}
+
 /// How many dots a graphics mode has across.
 pub(crate) fn dots_across(bda: &Bda) -> u32
     ensures { result ≡ dots_across_of bda.now }
@@ -36,18 +46,18 @@ pub(crate) fn dots_down(bda: &Bda) -> u32
 }
 
 /// The address of a dot, where it is known whether the mode has a byte for each.
-fn pixel_address(bda: &Bda, packed: bool, page: u8, x: u16, y: u16) -> u32
+fn pixel_address(bda: &Bda, packed: bool, pixel: Pixel) -> u32
     requires packed { packed ≡ is_packed_mode bda.now.mode }
     requires data { IsSet bda.now }
-    requires page { page < pages_of bda.now }
-    ensures { result ≡ pixel_address_of bda.now page x y }
+    requires page { pixel.page < pages_of bda.now }
+    ensures { result ≡ pixel_address_of bda.now pixel.page pixel.x pixel.y }
 {
-    let start = page_address(bda, page);
+    let start = page_address(bda, pixel.page);
     let columns = bda.columns() as u32;
     if packed {
-        start + (8 * columns * y as u32 + x as u32)
+        start + (8 * columns * pixel.y as u32 + pixel.x as u32)
     } else {
-        start + (columns * y as u32 + x as u32 / 8)
+        start + (columns * pixel.y as u32 + pixel.x as u32 / 8)
     }
 }
 
@@ -75,19 +85,20 @@ fn write_dot<B: Bus>(bus: &mut B, address: u32, x: u16, colour: u8)
     graphics(bus, BIT_MASK, ALL_BITS);
 }
 
-/// 0C: writes a dot at a column and a line of a page.
+/// 0C: writes a dot.
 #[tactic(auto, unfolding(crate::specs::Pixels::write_pixel_plan))]
-pub(crate) fn write_pixel<B: Bus>(bus: &mut B, bda: &Bda, page: u8, x: u16, y: u16, colour: u8)
+pub(crate) fn write_pixel<B: Bus>(bus: &mut B, bda: &Bda, pixel: Pixel, colour: u8)
     requires data { IsSet bda.now }
-    requires page { page < pages_of bda.now }
-    ensures { bus.new ≡ (run B.meaning (write_pixel_plan bda.now page x y colour) bus.old).0 }
+    requires page { pixel.page < pages_of bda.now }
+    ensures { bus.new ≡ (run B.meaning (write_pixel_plan bda.now pixel.page pixel.x pixel.y colour)
+        bus.old).0 }
 {
     let packed = is_packed(bda.mode());
-    let address = pixel_address(bda, packed, page, x, y);
+    let address = pixel_address(bda, packed, pixel);
     if packed {
         put(bus, address, colour);
     } else {
-        write_dot(bus, address, x, colour);
+        write_dot(bus, address, pixel.x, colour);
     }
 }
 
@@ -125,16 +136,17 @@ fn read_dot<B: Bus>(bus: &mut B, address: u32, x: u16) -> u8
 
 /// 0D: reads the colour of a dot.
 #[tactic(auto, unfolding(crate::specs::Pixels::read_pixel_plan))]
-pub(crate) fn read_pixel<B: Bus>(bus: &mut B, bda: &Bda, page: u8, x: u16, y: u16) -> u8
+pub(crate) fn read_pixel<B: Bus>(bus: &mut B, bda: &Bda, pixel: Pixel) -> u8
     requires data { IsSet bda.now }
-    requires page { page < pages_of bda.now }
-    ensures { (bus.new, result) ≡ run B.meaning (read_pixel_plan bda.now page x y) bus.old }
+    requires page { pixel.page < pages_of bda.now }
+    ensures { (bus.new, result) ≡ run B.meaning (read_pixel_plan bda.now pixel.page pixel.x pixel.y)
+        bus.old }
 {
     let packed = is_packed(bda.mode());
-    let address = pixel_address(bda, packed, page, x, y);
+    let address = pixel_address(bda, packed, pixel);
     if packed {
         get(bus, address)
     } else {
-        read_dot(bus, address, x)
+        read_dot(bus, address, pixel.x)
     }
 }

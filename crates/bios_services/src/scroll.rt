@@ -6,7 +6,9 @@ ghost use Rattle.bios_services.specs.Scroll.{IsOnPage, window_among, lines_of};
 ghost use Rattle.bios_services.specs.Scroll.{whole_page as whole_page_of};
 ghost use Rattle.bios_services.specs.Scroll.{window_plan, scroll_plan};
 
-use crate::band::{Band, Direction};
+use crate::band::Band;
+use crate::direction::Direction;
+use crate::shift::Shift;
 use bios_modes::Bda;
 use vga_card::Bus;
 
@@ -59,25 +61,17 @@ impl Window {
         }
     }
 
-    /// Scrolls the window of a page up or down by n rows.
-    pub(crate) fn scroll<B: Bus>(
-        self,
-        bus: &mut B,
-        bda: &Bda,
-        page: u8,
-        direction: Direction,
-        n: u32,
-        colour: u8,
-    )
+    /// Scrolls the window of a page.
+    pub(crate) fn scroll<B: Bus>(self, bus: &mut B, bda: &Bda, page: u8, shift: Shift)
         requires data { IsSet bda.now }
         requires page { page < pages_of bda.now }
         requires window { IsOnPage (bda.now.last_row + 1) bda.now.columns self }
-        requires few { n ≤ self.height }
-        ensures { bus.new ≡ (run B.meaning (window_plan bda.now page self direction n colour)
-            bus.old).0 }
+        requires few { shift.rows ≤ self.height }
+        ensures { bus.new ≡ (run B.meaning (window_plan bda.now page self shift.direction shift.rows
+            shift.colour) bus.old).0 }
     {
         let band = Band::of_page(bda, page, self.left, self.width);
-        band.scroll_rows(bus, direction, self.top, self.height, n, colour);
+        band.scroll_rows(bus, shift, self.top, self.height);
     }
 }
 
@@ -110,8 +104,12 @@ impl Scroll {
         ensures { bus.new ≡ (run B.meaning (scroll_plan bda.now self direction) bus.old).0 }
     {
         if let Some(window) = self.window(bda) {
-            let n = window.lines(self.lines);
-            window.scroll(bus, bda, bda.page(), direction, n, self.fill);
+            let shift = Shift {
+                direction,
+                rows: window.lines(self.lines),
+                colour: self.fill,
+            };
+            window.scroll(bus, bda, bda.page(), shift);
         }
     }
 }

@@ -9,6 +9,7 @@ ghost use Rattle.bios_services.specs.Strings.{string_plan};
 
 use crate::colouring::Colouring;
 use crate::cursor::move_cursor;
+use crate::page::Page;
 use crate::regs::{Regs, high, low};
 use crate::teletype::type_character;
 use bios_modes::{Bda, Fonts};
@@ -96,11 +97,12 @@ impl StringCall {
         ensures { (bus.new, result) ≡ run B.meaning
             (type_string_plan fonts.now bda.now self block.now) bus.old }
     {
+        let page = Page::new(fonts, bda, self.page);
         let mut place = self.place;
         for i in 0..self.count {
             let character = self.character(block, i);
             let colouring = self.colouring(block, i);
-            place = type_character(bus, fonts, bda, self.page, place, character, colouring);
+            place = type_character(bus, &page, place, character, colouring);
         }
         place
     }

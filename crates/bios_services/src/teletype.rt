@@ -3,17 +3,20 @@ ghost use Rattle.std.specs.Prelude.{◌≡◌, ◌<◌, ◌≤◌, ◌+◌, ◌*
 ghost use Rattle.bios_services.specs.Plan.{run};
 ghost use Rattle.bios_services.specs.Bounds.{IsSet, StaysInMode, pages_of};
 ghost use Rattle.bios_services.specs.Cursor.{row_of, place_of};
+ghost use Rattle.bios_services.specs.Page.{IsPage};
 ghost use Rattle.bios_services.specs.Teletype.{line_feed_fill as line_feed_fill_plan};
 ghost use Rattle.bios_services.specs.Teletype.{line_feed_plan, cursor_advance_plan};
 ghost use Rattle.bios_services.specs.Teletype.{type_plan, teletype_plan};
 
-use crate::band::Direction;
 use crate::cells::cell_address;
 use crate::colouring::Colouring;
 use crate::cursor::{cell_number, move_cursor};
 use crate::cycles::get;
+use crate::direction::Direction;
 use crate::drawing::write_character;
+use crate::page::Page;
 use crate::scroll::Window;
+use crate::shift::Shift;
 use bios_modes::{Bda, Fonts, is_text};
 use vga_card::Bus;
 
@@ -52,8 +55,12 @@ fn line_feed<B: Bus>(bus: &mut B, bda: &Bda, page: u8, place: u16) -> u16
     if place / 256 < bda.last_row() as u16 {
         return place + 256;
     }
-    let colour = line_feed_fill(bus, bda, page, place);
-    Window::whole_page(bda).scroll(bus, bda, page, Direction::Up, 1, colour);
+    let shift = Shift {
+        direction: Direction::Up,
+        rows: 1,
+        colour: line_feed_fill(bus, bda, page, place),
+    };
+    Window::whole_page(bda).scroll(bus, bda, page, shift);
     place
 }
 
@@ -78,29 +85,26 @@ fn cursor_advance<B: Bus>(bus: &mut B, bda: &Bda, page: u8, place: u16) -> u16
 #[tactic(auto, using(crate::proofs::PlanRuns::run_bind), unfolding(crate::specs::Teletype::type_plan, crate::specs::Teletype::show_plan))]
 pub(crate) fn type_character<B: Bus>(
     bus: &mut B,
-    fonts: &Fonts,
-    bda: &Bda,
-    page: u8,
+    page: &Page<'_>,
     place: u16,
     character: u8,
     colouring: Colouring,
 ) -> u16
-    requires data { IsSet bda.now }
-    requires page { page < pages_of bda.now }
-    requires row { row_of place ≤ bda.now.last_row }
-    ensures place { (bus.new, result) ≡ run B.meaning
-        (type_plan fonts.now bda.now page place character colouring) bus.old }
-    ensures row { row_of result ≤ bda.now.last_row }
+    requires page { IsPage page.now }
+    requires row { row_of place ≤ page.now.bda.last_row }
+    ensures place { (bus.new, result) ≡ run B.meaning (type_plan page.now.fonts page.now.bda
+        page.now.number place character colouring) bus.old }
+    ensures row { row_of result ≤ page.now.bda.last_row }
 {
     match character {
         BELL => place,
         BACKSPACE => { if place % 256 == 0 { place } else { place - 1 } }
-        LINE_FEED => line_feed(bus, bda, page, place),
+        LINE_FEED => line_feed(bus, page.bda(), page.number(), place),
         CARRIAGE_RETURN => place / 256 * 256,
         _ => {
-            let q = cell_number(bda, place);
-            write_character(bus, fonts, bda, page, q, character, colouring);
-            cursor_advance(bus, bda, page, place)
+            let q = cell_number(page.bda(), place);
+            write_character(bus, page, q, character, colouring);
+            cursor_advance(bus, page.bda(), page.number(), place)
         }
     }
 }
@@ -123,6 +127,7 @@ pub(crate) fn teletype<B: Bus>(bus: &mut B, fonts: &Fonts, bda: &mut Bda, charac
         colour,
         is_attribute: false,
     };
-    let behind = type_character(bus, fonts, bda, page, place, character, colouring);
+    let written = Page::new(fonts, bda, page);
+    let behind = type_character(bus, &written, place, character, colouring);
     move_cursor(bus, bda, page, behind);
 }

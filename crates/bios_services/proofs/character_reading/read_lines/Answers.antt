@@ -6,10 +6,10 @@ use Rattle.bios_services.proofs.character_reading.read_lines.Goals as goal
 
 pub loop-r-preserved : goal.loop-r-preserved
 loop-r-preserved g c =
-    next_read g.B.Bus.meaning (λ r. line_plan c.args.cell.kind (address_in c.args.cell c.args.row r 0)) c.loop-r.r c.args.cell.lines c.loop-r.bus
+    next_read g.B.Bus.meaning (λ r. line_plan c.args.cell.band.kind (address_in c.args.cell.band c.args.cell.row r 0)) c.loop-r.r c.args.cell.band.lines c.loop-r.bus
     c.read_line.new.bus c.read_line.result c.loop-r.lines _ (omega arith) (omega arith) (cc) c.loop-r.invariant
 
 pub returns-clause-lines : goal.returns-clause-lines
 returns-clause-lines g c =
-    all_read g.B.Bus.meaning (λ r. line_plan c.args.cell.kind (address_in c.args.cell c.args.row r 0)) c.loop-r.r c.args.cell.lines c.loop-r.bus c.loop-r.lines
+    all_read g.B.Bus.meaning (λ r. line_plan c.args.cell.band.kind (address_in c.args.cell.band c.args.cell.row r 0)) c.loop-r.r c.args.cell.band.lines c.loop-r.bus c.loop-r.lines
     _ (omega arith) (omega arith) c.loop-r.invariant

@@ -8,5 +8,5 @@ use Rattle.bios_services.proofs.character_reading.read_lines.Given as goal
 -- the lines so far and those that are still to be read are all of them
 abbrev pub invariant-loop-r : goal.invariant-loop-r
 invariant-loop-r g l =
-    with_prefix (take l.r l.lines) (run g.B.Bus.meaning (gather (λ r. line_plan l.cell.kind (address_in l.cell l.row r 0)) (l.cell.lines - l.r) l.r) l.bus)
-    ≡ run g.B.Bus.meaning (lines_plan l.cell l.row) l.fn.bus
+    with_prefix (take l.r l.lines) (run g.B.Bus.meaning (gather (λ r. line_plan l.cell.band.kind (address_in l.cell.band l.cell.row r 0)) (l.cell.band.lines - l.r) l.r) l.bus)
+    ≡ run g.B.Bus.meaning (lines_plan l.cell.band l.cell.row) l.fn.bus

@@ -6,5 +6,5 @@ use Rattle.bios_services.proofs.drawing.draw_packed.Goals as goal
 
 pub loop-r-preserved : goal.loop-r-preserved
 loop-r-preserved g c =
-    next_turn g.B.Bus.meaning (λ r. put_dots c.args.cell c.args.row r (glyph_line c.args.fonts.now c.args.cell.lines c.args.character r) c.args.colour)
-    c.loop-r.r c.args.cell.lines c.loop-r.bus c.put_dots.new.bus _ (omega arith) (cc) c.loop-r.invariant
+    next_turn g.B.Bus.meaning (λ r. put_dots c.args.cell.band c.args.cell.row r (glyph_line c.args.fonts.now c.args.cell.band.lines c.args.character r) c.args.colour)
+    c.loop-r.r c.args.cell.band.lines c.loop-r.bus c.put_dots.new.bus _ (omega arith) (cc) c.loop-r.invariant

@@ -7,5 +7,5 @@ use Rattle.bios_services.proofs.drawing.put_dots.Given as goal
 -- what the dots from here on leave is what the whole line leaves
 abbrev pub invariant-loop-i : goal.invariant-loop-i
 invariant-loop-i g l =
-    run g.B.Bus.meaning (each (λ i. put (address_in l.cell l.row l.line i) (dot_of l.dots l.colour i)) (8 - l.i) l.i) l.bus
-    ≡ run g.B.Bus.meaning (put_dots l.cell l.row l.line l.dots l.colour) l.fn.bus
+    run g.B.Bus.meaning (each (λ i. put (address_in l.cell.band l.cell.row l.line i) (dot_of l.dots l.colour i)) (8 - l.i) l.i) l.bus
+    ≡ run g.B.Bus.meaning (put_dots l.cell.band l.cell.row l.line l.dots l.colour) l.fn.bus

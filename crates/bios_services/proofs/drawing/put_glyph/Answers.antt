@@ -7,5 +7,5 @@ use Rattle.bios_services.proofs.drawing.put_glyph.Goals as goal
 
 pub loop-r-preserved : goal.loop-r-preserved
 loop-r-preserved g c =
-    next_turn g.B.Bus.meaning (λ r. put (address_in c.args.cell c.args.row r 0) (glyph_line c.args.fonts.now c.args.cell.lines c.args.character r)) c.loop-r.r
-    c.args.cell.lines c.loop-r.bus c.put.new.bus _ (omega arith) (cc) c.loop-r.invariant
+    next_turn g.B.Bus.meaning (λ r. put (address_in c.args.cell.band c.args.cell.row r 0) (glyph_line c.args.fonts.now c.args.cell.band.lines c.args.character r)) c.loop-r.r
+    c.args.cell.band.lines c.loop-r.bus c.put.new.bus _ (omega arith) (cc) c.loop-r.invariant

@@ -8,5 +8,5 @@ use Rattle.bios_services.proofs.drawing.put_glyph.Given as goal
 -- what the lines from here on leave is what the whole glyph leaves
 abbrev pub invariant-loop-r : goal.invariant-loop-r
 invariant-loop-r g l =
-    run g.B.Bus.meaning (each (λ r. put (address_in l.cell l.row r 0) (glyph_line l.fonts l.cell.lines l.character r)) (l.r-end - l.r) l.r) l.bus
-    ≡ run g.B.Bus.meaning (put_glyph l.cell l.row l.fonts l.character) l.fn.bus
+    run g.B.Bus.meaning (each (λ r. put (address_in l.cell.band l.cell.row r 0) (glyph_line l.fonts l.cell.band.lines l.character r)) (l.r-end - l.r) l.r) l.bus
+    ≡ run g.B.Bus.meaning (put_glyph l.cell.band l.cell.row l.fonts l.character) l.fn.bus

@@ -1,6 +1,8 @@
-use Rattle.std.proofs.Common.{ℕ, ◌∙◌, ap, arith}
+use Rattle.std.proofs.Common.{ℕ, ◌∙◌, ◌≤◌, ap, subst, arith}
 use Rattle.bios_services.specs.declared.colouring.Colouring.{Colouring}
 use Rattle.bios_services.specs.Plan.{run}
+use Rattle.bios_services.specs.Cursor.{row_of}
+use Rattle.bios_services.specs.Page.{PageState, page_of}
 use Rattle.bios_services.specs.Teletype.{type_plan}
 use Rattle.bios_services.specs.Strings.{character_at, colouring_at}
 use Rattle.bios_services.proofs.PlanRuns.{next_answer}
@@ -12,12 +14,15 @@ loop-i-preserved g c =
     let s = c.args.self in
     let block = c.args.block.now in
     let i = c.loop-i.i in
-    let typed = λ (character : ℕ) (colouring : Colouring). run m (type_plan c.args.fonts.now c.args.bda.now s.page c.loop-i.place character colouring)
+    let typed = λ (p : PageState) (character : ℕ) (colouring : Colouring). run m (type_plan p.fonts p.bda p.number c.loop-i.place character colouring)
     c.loop-i.bus in
-    let now = c.type_character-place.ensures.place ∙ ap (λ character. typed character c.colouring-colouring.result) c.character-character.ensures
-    ∙ ap (typed (character_at s block i)) c.colouring-colouring.ensures in
+    let page : PageState = page_of c.args.fonts.now c.args.bda.now s.page in
+    let now = c.type_character-place.ensures.place
+    ∙ ap (λ (p : PageState). typed p c.character-character.result c.colouring-colouring.result) c.new-page.ensures
+    ∙ ap (λ character. typed page character c.colouring-colouring.result) c.character-character.ensures
+    ∙ ap (typed page (character_at s block i)) c.colouring-colouring.ensures in
     record {
-      row = c.type_character-place.ensures.row;
+      row = subst (λ (p : PageState). row_of c.type_character-place.result ≤ p.bda.last_row) c.new-page.ensures c.type_character-place.ensures.row;
       left = next_answer m (λ i place. type_plan c.args.fonts.now c.args.bda.now s.page place (character_at s block i) (colouring_at s block i)) i s.count
           c.loop-i.bus c.type_character-place.new.bus c.loop-i.place c.type_character-place.result _ (omega arith) now c.loop-i.invariant.left;
     }

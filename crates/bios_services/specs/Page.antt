@@ -1,0 +1,20 @@
+-- A page that characters are written to, with the fonts that these have.
+use Rattle.std.specs.Prelude.{ℕ, ◌<◌}
+use Rattle.bios_modes.specs.Bda.{BiosData}
+use Rattle.bios_modes.specs.Fonts.{FontSet}
+use Rattle.bios_services.specs.Bounds.{IsSet, pages_of}
+
+-- the fonts, the data of the mode, and the number of the page
+pub record PageState : Type 0 where
+  pub fonts : FontSet
+  pub bda : BiosData
+  pub number : ℕ
+
+-- these three together
+abbrev pub page_of : FontSet → BiosData → ℕ → PageState
+page_of fonts bda number = record { fonts = fonts; bda = bda; number = number }
+
+-- a mode is set, and has a page of this number
+pub record IsPage (page : PageState) : Type 0 where
+  pub set : IsSet page.bda
+  pub number : page.number < pages_of page.bda

@@ -1,0 +1,48 @@
+//! A cell of a page of dots.
+ghost use Rattle.std.specs.Prelude.{◌≡◌, ◌<◌, ◌≤◌, ◌*◌, ◌^◌};
+ghost use Rattle.bios_services.specs.Bounds.{IsSet, pages_of, reached_cells};
+ghost use Rattle.bios_services.specs.Bands.{IsBand, address_in};
+ghost use Rattle.bios_services.specs.Drawing.{cell_band, cell_row};
+
+use crate::band::Band;
+use bios_modes::Bda;
+
+/// A cell of a page of dots.
+#[derive(Clone, Copy)]
+pub struct DotCell {
+    /// Its column, as a band of the page.
+    pub band: Band,
+    /// The row of characters that it stands in.
+    pub row: u32,
+}
+
+impl DotCell {
+    /// Cell q of a page.
+    pub(crate) fn of_page(bda: &Bda, page: u8, q: u32) -> DotCell
+        requires data { IsSet bda.now }
+        requires page { page < pages_of bda.now }
+        requires cell { q < reached_cells }
+        ensures column { result.band ≡ cell_band bda.now page q }
+        ensures band { IsBand result.band }
+        ensures place { result.row ≡ cell_row bda.now q }
+        ensures row { result.row < reached_cells }
+    {
+        let columns = bda.columns() as u32;
+        DotCell {
+            band: Band::of_page(bda, page, q % columns, 1),
+            row: q / columns,
+        }
+    }
+
+    /// The address of a byte of one of its lines.
+    pub(crate) fn address(self, line: u32, byte: u32) -> u32
+        requires band { IsBand self.band }
+        requires row { self.row < reached_cells }
+        requires line { line ≤ 16 }
+        requires byte { byte ≤ 8 * 80 }
+        ensures value { result ≡ address_in self.band self.row line byte }
+        ensures small { result < 2 ^ 31 }
+    {
+        self.band.address(self.row, line, byte)
+    }
+}

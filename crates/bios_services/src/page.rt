@@ -1,0 +1,58 @@
+//! A page that characters are written to.
+ghost use Rattle.std.specs.Prelude.{◌≡◌};
+ghost use Rattle.bios_services.specs.Page.{page_of};
+
+use bios_modes::{Bda, Fonts};
+use std::marker::Model;
+
+/// A page of a mode, with the fonts that its characters have.
+///
+/// Contracts see one record: the fonts, the BIOS data and the page's number.
+#[derive(Drop)]
+pub(crate) struct Page<'a> {
+    fonts: &'a Fonts,
+    bda: &'a Bda,
+    number: u8,
+}
+
+impl<'a> Model for Page<'a> {
+    ghost use Rattle.bios_services.specs.Page.{PageState};
+
+    ghost Value = { PageState };
+
+    ghost view = { λ p. record {
+      fonts = p.fonts.now;
+      bda = p.bda.now;
+      number = p.number;
+    } };
+}
+
+impl<'a> Page<'a> {
+    /// The page with this number of the mode that the BIOS data tell.
+    pub(crate) fn new(fonts: &'a Fonts, bda: &'a Bda, number: u8) -> Page<'a>
+        ensures { result ≡ page_of fonts.now bda.now number }
+    {
+        Page { fonts, bda, number }
+    }
+
+    /// The fonts of its characters.
+    pub(crate) fn fonts(&self) -> &Fonts
+        ensures { result.now ≡ self.now.fonts }
+    {
+        self.fonts
+    }
+
+    /// The data of its mode.
+    pub(crate) fn bda(&self) -> &Bda
+        ensures { result.now ≡ self.now.bda }
+    {
+        self.bda
+    }
+
+    /// Its number.
+    pub(crate) fn number(&self) -> u8
+        ensures { result ≡ self.now.number }
+    {
+        self.number
+    }
+}
