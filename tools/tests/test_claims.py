@@ -5,6 +5,9 @@ import unittest
 from pathlib import Path
 from typing import NamedTuple
 
+from vga_report.cases import read_cases
+from vga_report.words import SUITE
+
 ROOT = Path(__file__).resolve().parents[2]
 PROOFS = ROOT / "docs" / "PROOFS.md"
 # A number of wrong bodies in a page's words.
@@ -74,6 +77,20 @@ class WrongBodies(unittest.TestCase):
         for name, counts in told.items():
             for count in counts:
                 self.assertEqual(int("".join(count).replace(",", "")), len(wrong_bodies()), name)
+
+
+class Cases(unittest.TestCase):
+    """The suite has as many cases as the pages say."""
+
+    # The pages that tell the number of all cases, and how often each does.
+    TOLD = {"README.md": 1, "docs/PROOFS.md": 2, "docs/PAGE.md": 1, "docs/RELEASE.md": 3}
+
+    def test_pages_count_them(self) -> None:
+        count = len(read_cases(str(SUITE)))
+        for name, times in self.TOLD.items():
+            with self.subTest(name):
+                told = re.findall(r"\b(\d{3,})\s+cases\b", (ROOT / name).read_text("utf-8"))
+                self.assertEqual(told, [str(count)] * times)
 
 
 class Model(unittest.TestCase):
