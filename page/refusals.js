@@ -10,7 +10,7 @@ const LEFT_OUT = { 0x3c2: "input status 0", 0x3c3: "subsystem enable", 0x3c7: "t
   0x3ca: "feature control" };
 /** The sections of docs/SERVICES.md by AH. */
 export const SERVICE_ANCHORS = { 0: "00-set-a-mode", 1: "01-set-the-cursors-scan-lines",
-  2: "02-set-the-cursors-place",
+  2: "02-set-the-cursor-position",
   3: "03-read-the-cursor", 5: "05-show-a-page", 6: "06-and-07-scroll-a-window",
     7: "06-and-07-scroll-a-window",
   8: "08-read-a-cell", 9: "09-and-0a-write-cells", 10: "09-and-0a-write-cells", 12: "0c-write-a-dot",
