@@ -18,8 +18,8 @@ function badStep(bytes, place) {
   const opcode = bytes[place];
   if (opcode === undefined) return UNKNOWN_FAULT;
   if ((opcode === 13 || opcode === 14) && bytes[4] === 2) {
-    const what = opcode === 13 ? "counts 0 or stands in another block" : "stands outside a block";
-    return `the ${OPCODE_NAMES[opcode]} of a block at offset ${place} ${what}`;
+    const what = opcode === 13 ? "counts 0 or stands in another repeat" : "stands outside a repeat";
+    return `the ${OPCODE_NAMES[opcode]} at offset ${place} ${what}`;
   }
   if (opcode < 1 || opcode > 12) {
     const behind = "the bytes before it may be at fault";
@@ -52,5 +52,5 @@ export function reasonOfBytes(bytes, status, place) {
   if (status === 105) return truncated(bytes, place);
   if (status === 106) return `the file has more bytes, and ${grouped(MOST_BYTES)} bytes are the most`;
   if (status !== 111) return UNKNOWN_FAULT;
-  return `with the block or step at ${place} the script means more than ${grouped(MOST_STEPS)} steps`;
+  return `with the repeat or step at ${place} the script means more than ${grouped(MOST_STEPS)} steps`;
 }

@@ -235,7 +235,7 @@ function mistakeInBlock(words) {
   }
   if (more && HEX_DIGITS.test(more.text)) return wrong(more, "no blank stands among the digits of a block");
   if (more && REGISTER_WORD.test(more.text)) return wrong(more,
-    "the block stands last, behind the registers");
+    "the block stands last, after the registers");
   if (more) return wordTooMany(more, CALL_USAGE);
   const count = digits.text.length;
   if (count % 2) return wrong(digits, `a block has two digits for each byte, and these are ${count}`);
@@ -278,13 +278,13 @@ function mistakeAmongLines(text, number) {
     : `${VERSION_TWO} stands once, before every other line`;
   const begin = wordsIn(first.line).map(word => word.text.toLowerCase()).join(" ");
   if (Object.hasOwn(BLOCK_LINES, line.name) && begin !== VERSION_TWO) {
-    return `blocks are of version 2: write ${VERSION_TWO} before every other line`;
+    return `repeats are of version 2: write ${VERSION_TWO} before every other line`;
   }
-  if (line.name === "end" && !opened) return "no block is open here";
+  if (line.name === "end" && !opened) return "no repeat is open here";
   if (line.name !== "repeat") return null;
-  if (opened) return `a block has no other block, and the one of line ${opened.number} is open here`;
-  return hasEnd ? `with this block the script means more than ${grouped(MOST_STEPS)} steps`
-    : "the block has no end";
+  if (opened) return `a repeat contains no other, and the one of line ${opened.number} is open here`;
+  return hasEnd ? `with this repeat the script means more than ${grouped(MOST_STEPS)} steps`
+    : "the repeat has no end";
 }
 
 /** A line of a text by its number, from 1. */

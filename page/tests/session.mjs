@@ -179,7 +179,7 @@ test("on a longer way states are kept near the step that was asked for", () => {
 test("bad lines are told with their line and reason", () => {
   for (const [text, line, reason] of [
     ["frame\nout 0x3C4 02", 2, "numbers are hexadecimal digits alone: write 3C4"],
-    ["version 2\nrepeat 2\nframe", 2, "the block has no end"],
+    ["version 2\nrepeat 2\nframe", 2, "the repeat has no end"],
     ["\ufeffframe", 1, "the text begins with a byte order mark: save the text as UTF-8 without it"],
   ]) {
     assert.throws(() => judgedText(adapter, text), { line, message: reason });
@@ -211,12 +211,12 @@ test("texts of 16 MiB of any kind are judged", () => {
   assert.equal(reasonOf(";".repeat(most)), "0 steps");
   assert.equal(reasonOf("frame ; " + "x".repeat(most - 8)), "1 steps");
   assert.match(reasonOf("a".repeat(most)), /^1: there is no step 'a{22}\.\.'/);
-  assert.equal(reasonOf("version 2\nrepeat 2\n" + "\n".repeat(most - 20)), "2: the block has no end");
+  assert.equal(reasonOf("version 2\nrepeat 2\n" + "\n".repeat(most - 20)), "2: the repeat has no end");
   assert.equal(reasonOf("frame\n".repeat(2796000) + "end"),
-    "2796001: blocks are of version 2: write version 2 before every other line");
+    "2796001: repeats are of version 2: write version 2 before every other line");
   assert.equal(reasonOf("x".repeat(most + 1)), "0: The text has more than 16,777,216 bytes.");
   assert.match(reasonOf("version 2\nrepeat 65535\n" + "frame\n".repeat(300) + "end"),
-    /^2: with this block the script means more/);
+    /^2: with this repeat the script means more/);
   assert.ok(performance.now() - begun < 60000);
 });
 

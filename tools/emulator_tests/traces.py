@@ -39,7 +39,7 @@ TRACE = TOOLS / "vga-trace"
 CONVERTED = re.compile(r"([\d,]+) cycles, ([\d,]+) steps, ([\d,]+) bytes")
 CHECKED = re.compile(r"([\d,]+) steps, ([\d,]+) refused, ([\d,]+) reads answered, ([\d,]+) differ")
 HEADER = (
-    "| Software | Cycles | Steps | Bytes | without blocks | Reads | differing | Refused | Picture |\n"
+    "| Software | Cycles | Steps | Bytes | without repeats | Reads | differing | Refused | Picture |\n"
     "|---|---|---|---|---|---|---|---|---|"
 )
 

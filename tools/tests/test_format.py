@@ -231,7 +231,7 @@ class Scripts(unittest.TestCase):
     def test_why_a_script_is_none(self) -> None:
         for data, told in (
             (b"frame\nmove 3C4\n", "it:2: F7 BadLine(2): there is no step 'move'"),
-            (b"version 2\nend\n", "it:2: F7 BadLine(2): no block is open here"),
+            (b"version 2\nend\n", "it:2: F7 BadLine(2): no repeat is open here"),
             (b"VGAS\1\1", "it: F5 Truncated(5): the step out at offset 5 is cut off: the file ends after 1 of its bytes"),
         ):
             with self.assertRaises(Trouble) as caught:

@@ -578,7 +578,7 @@ class Example(Folder):
         self.assertEqual(runs[""], runs["--no-repeat"])
 
     def test_what_it_becomes(self) -> None:
-        told = b"586 cycles, 586 steps, 2,810 bytes, 2 blocks: 186 in, 184 putw, 121 outw, 93 out, 1 getw, 1 frame\n"
+        told = b"586 cycles, 586 steps, 2,810 bytes, 2 repeats: 186 in, 184 putw, 121 outw, 93 out, 1 getw, 1 frame\n"
         self.assertEqual(run("convert", self.PATH, self.folder / "script"), (0, told, ""))
 
 
@@ -664,7 +664,7 @@ class Scripts(Folder):
     def test_version_2_where_there_are_blocks(self) -> None:
         given = BEGIN + 6 * b"- r p 3C9 0 1\n"
         text = b"version 2\nout 3C2 67\nrepeat 6\nin 3C9 ; = 00\nend\nframe\n"
-        said = f"7 cycles, 8 steps, {len(text)} bytes, 1 blocks: 6 in, 1 out, 1 frame\n"
+        said = f"7 cycles, 8 steps, {len(text)} bytes, 1 repeat: 6 in, 1 out, 1 frame\n"
         self.assertEqual(run("convert", "-", "-", "--text", given=given), (0, text, said))
         data = b"VGAS\x02" + bytes.fromhex("01C20367 0D0600 03C903 0E 0B")
         self.assertEqual(run("convert", "-", "-", given=given)[1], data)

@@ -116,7 +116,7 @@ def reason_of(name: str, place: Optional[int], data: bytes) -> str:
         return f"the version, byte 4, is {data[4]:02X}, and there are {' and '.join(f'{version:02X}' for version in HEADERS)}"
     if name == "TooMany":
         at = "" if place is None else f" at {place}"
-        return f"with the block or step{at} the script means more than {MOST_STEPS:,} steps"
+        return f"with the repeat or step{at} the script means more than {MOST_STEPS:,} steps"
     if name in ("BadStep", "Truncated") and place is not None:
         return _bad_step(data, place) if name == "BadStep" else _truncated(data, place)
     return UNKNOWN
@@ -186,8 +186,8 @@ def _bad_step(data: bytes, place: int) -> str:
     opcode, kind = data[place], data[place + 1:place + 2]
     ends = (REPEAT_CODE, END_CODE)
     if opcode in ends and data[4:5] == b"\2":
-        wrong = "counts 0 or stands in another block" if opcode == REPEAT_CODE else "stands outside a block"
-        return f"the {OPCODES[opcode]} of a block at offset {place} {wrong}"
+        wrong = "counts 0 or stands in another repeat" if opcode == REPEAT_CODE else "stands outside a repeat"
+        return f"the {OPCODES[opcode]} at offset {place} {wrong}"
     if opcode not in OPCODES or opcode in ends:
         behind = "the bytes before it may be at fault"
         return f"at offset {place} stands {opcode:02X}, which is no opcode: 01 to {SHOWS:02X} are; {behind}"

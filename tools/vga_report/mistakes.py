@@ -74,22 +74,22 @@ def mistake_among_lines(data: bytes, number: int) -> Optional[str]:
     if line.name == "version":
         return f"{FIRST_LINE} stands once, before every other line" if line is not lines[0] else None
     if line.name in BLOCK_LINES and not lines[0].has_blocks:
-        return f"blocks are of version 2: write {FIRST_LINE} before every other line"
+        return f"repeats are of version 2: write {FIRST_LINE} before every other line"
     opened = None
     for other in lines[:lines.index(line)]:
         opened = other if other.name == REPEAT else None if other.name == END else opened
     if line.name == END and opened is None:
-        return "no block is open here"
+        return "no repeat is open here"
     if line.name == REPEAT and opened is not None:
-        return f"a block has no other block, and the one of line {opened.number} is open here"
+        return f"a repeat contains no other, and the one of line {opened.number} is open here"
     return _end_of_block(lines[lines.index(line):]) if line.name == REPEAT else None
 
 
 def _end_of_block(lines: Sequence[Line]) -> str:
     """Why the block is bad that begins with the first of these lines."""
     if any(line.name == END for line in lines):
-        return f"with this block the script means more than {MOST_STEPS:,} steps"
-    return "the block has no end"
+        return f"with this repeat the script means more than {MOST_STEPS:,} steps"
+    return "the repeat has no end"
 
 
 def _odd_byte(word: Word) -> Optional[Mistake]:
@@ -287,7 +287,7 @@ def _in_block(words: Sequence[Word]) -> Optional[Mistake]:
         if HEX.fullmatch(words[2].text):
             return _wrong(words[2], "no blank stands among the digits of a block")
         if REGISTER.fullmatch(words[2].text):
-            return _wrong(words[2], "the block stands last, behind the registers")
+            return _wrong(words[2], "the block stands last, after the registers")
         return _word_too_many(words[2], "int ax=N bx=N cx=N dx=N block BYTES")
     if len(digits.text) % 2:
         return _wrong(digits, f"a block has two digits for each byte, and these are {len(digits.text)}")

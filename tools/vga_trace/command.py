@@ -55,7 +55,7 @@ def _add_listing(parser: argparse.ArgumentParser) -> None:
     parser.add_argument("--text", action="store_true", help="a script as text, with the trace's reads as expected answers")
     parser.add_argument(
         "--no-repeat", dest="repeat", action="store_false",
-        help="each step alone, in version 1 of scripts (default: rows of equal steps are blocks of version 2)",
+        help="each step alone, in version 1 of scripts (default: equal steps become repeats of version 2)",
     )
     parser.add_argument(
         "--polls", choices=[KEEP, FIRST], default=KEEP,

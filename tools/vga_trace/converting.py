@@ -181,7 +181,7 @@ class Written:
         kinds = ", ".join(f"{count:,} {kind}" for kind, count in self.kinds.most_common())
         parts = [f"{listing.count:,} cycles", f"{self.steps:,} steps", f"{length:,} bytes"]
         if self.blocks:
-            parts.append(f"{self.blocks:,} blocks")
+            parts.append(f"{self.blocks:,} repeat{'s' * (self.blocks != 1)}")
         if listing.rebuilding:
             parts.append(f"{listing.rebuilding:,} steps rebuild the state")
         return f"{', '.join(parts)}: {kinds}"
