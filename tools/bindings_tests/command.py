@@ -35,7 +35,7 @@ def _parser() -> argparse.ArgumentParser:
     parser.set_defaults(job=_run)
     given = parser.add_mutually_exclusive_group()
     given.add_argument(
-        "--library", type=Path, metavar="FOLDER", help="one that `vga-library make` has made; else it is made"
+        "--library", type=Path, metavar="FOLDER", help="takes a folder of `vga-library make` (default: makes one)"
     )
     cli.add_checks(parser, CHECKS, given)
     parser.add_argument("--ready", action="store_true", help="tests nothing, and tells what this machine lacks")

@@ -64,7 +64,7 @@ def _parser() -> argparse.ArgumentParser:
         help=f"the processor; programs of another one than {X86_64.name} run in QEMU",
     )
     parser.add_argument(
-        "--archive", type=Path, metavar="FILE", help="an archive that was built already, in the place of both compilers'"
+        "--archive", type=Path, metavar="FILE", help="takes this archive instead of those of both compilers"
     )
     cli.add_checks(parser, [*ONCE, *EACH])
     return parser

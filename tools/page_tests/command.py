@@ -36,14 +36,14 @@ def _parser() -> argparse.ArgumentParser:
     )
     parser.set_defaults(job=_test)
     parser.add_argument(
-        "--module", metavar="FILE", help="a module that was made already; else it is made"
+        "--module", metavar="FILE", help="takes this module (default: makes one)"
     )
     cli.add_checks(parser, CHECKS)
     parser.add_argument(
         "--ready", action="store_true", help="tests nothing, and tells what this machine lacks"
     )
     parser.add_argument(
-        "--browser", action="store_true", help="the page as built in Chromium, and nothing else"
+        "--browser", action="store_true", help="tests only the page as built, in Chromium"
     )
     return parser
 

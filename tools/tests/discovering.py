@@ -68,8 +68,11 @@ def _parser() -> argparse.ArgumentParser:
         cli.JUDGES,
     )
     kept = parser.add_mutually_exclusive_group()
-    kept.add_argument("--keep", type=Path, metavar="FILE", help="writes which tests want the program, which isn't built")
-    kept.add_argument("--again", type=Path, metavar="FILE", help="runs those alone; now none of them may be skipped so")
+    kept.add_argument(
+        "--keep", type=Path, metavar="FILE",
+        help="writes which tests are skipped because the program isn't built",
+    )
+    kept.add_argument("--again", type=Path, metavar="FILE", help="runs only these; none of them may be skipped now")
     parser.add_argument("--folder", type=Path, default=HERE, help=argparse.SUPPRESS)
     parser.set_defaults(job=_test)
     return parser

@@ -37,11 +37,11 @@ def _add_script(parser: argparse.ArgumentParser) -> None:
 def _add_report(parser: argparse.ArgumentParser) -> None:
     parser.add_argument(
         "report", nargs="?", default=STANDARD, metavar="REPORT",
-        help="the report, or of several scripts a folder for their reports; else standard output",
+        help="the report, or a folder for the reports of several scripts (default: standard output)",
     )
     parser.add_argument(
         "--all-registers", action="store_true",
-        help="of a call all registers as the machine has left them, and not those alone in which the service answers",
+        help="tells all registers that a call leaves, and not only those in which the service answers",
     )
 
 
@@ -54,21 +54,26 @@ def _parser() -> argparse.ArgumentParser:
     command = commands.add_parser("make", help="makes the image of a floppy or a stick that runs a script, or many")
     _add_script(command)
     command.add_argument(
-        "--disk", action="store_true", help="with a table of partitions, for a stick or a hard disk; else as a floppy"
+        "--disk", action="store_true", help="writes a partition table, for a stick or a hard disk (default: a floppy)"
     )
     command.add_argument("image", metavar="IMAGE", help="the image, of 1,474,560 bytes; - is standard output")
     command.set_defaults(job=_make)
     command = commands.add_parser("read", help="gives the report of what a run has left")
     command.add_argument("file", type=to_read, metavar="FILE", help="the image, or with --serial the record; - is standard input")
     command.add_argument("--serial", action="store_true", help="FILE is what came over the serial port")
-    command.add_argument("--part", action="store_true", help="the front of the report, of a record that ends too early")
+    command.add_argument(
+        "--part", action="store_true",
+        help="takes a record that ends too early: gives the report up to there",
+    )
     _add_report(command)
     command.set_defaults(job=_read)
     command = commands.add_parser("run", help="runs a script on an emulator, and gives the report")
     command.add_argument("--on", required=True, choices=list(MACHINES), help="the emulator")
-    command.add_argument("--bios", choices=[SEABIOS, LGPL], help="the video BIOS of qemu (else sea) or bochs (else lgpl)")
-    command.add_argument("--seconds", type=seconds, default=30, metavar="N", help="how long it may take; else 30")
-    command.add_argument("--picture", metavar="FILE", help="writes what it shows at last, as PNG")
+    command.add_argument(
+        "--bios", choices=[SEABIOS, LGPL], help="the video BIOS (default: sea on qemu, lgpl on bochs)",
+    )
+    command.add_argument("--seconds", type=seconds, default=30, metavar="N", help="how long it may take (default: 30)")
+    command.add_argument("--picture", metavar="FILE", help="writes the last screen as PNG")
     _add_script(command)
     _add_report(command)
     command.set_defaults(job=_run)

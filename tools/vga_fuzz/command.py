@@ -53,11 +53,12 @@ def _parser() -> argparse.ArgumentParser:
     for name, (usual, least, told) in numbers.items():
         most = MOST_MEBIBYTES if name in ("memory", "output") else MOST_NUMBER
         parser.add_argument(f"--{name}", type=number_to(most, least), default=usual, metavar="N", help=told)
-    for name, default, told in (("seconds", 60, "how long inputs are made"), ("timeout", 60, "how long one run may take")):
+    times = (("seconds", 60, "how long to make inputs"), ("timeout", 60, "how long one run may take"))
+    for name, default, told in times:
         parser.add_argument(
             f"--{name}", type=seconds, default=default, metavar="SECONDS", help=f"{told}, in seconds (default: {default})"
         )
-    parser.add_argument("--keep", metavar="FOLDER", help="where inputs are kept with which something is wrong")
+    parser.add_argument("--keep", metavar="FOLDER", help="keeps the inputs that show something wrong in this folder")
     parser.set_defaults(job=_run)
     return parser
 

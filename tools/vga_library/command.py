@@ -23,32 +23,38 @@ USUAL_PREFIX = "/usr/local"
 
 def _add_archive(parser: argparse.ArgumentParser) -> None:
     parser.add_argument(
-        "--target", choices=[*TARGETS], default=X86_64.name, help="the processor, with Linux; else x86_64"
+        "--target", choices=[*TARGETS], default=X86_64.name, help="the processor, with Linux (default: x86_64)"
     )
     parser.add_argument(
         "--backend", choices=BACKENDS, default=BACKENDS[0],
-        help="the compiler: llvm, or rattle, which is written in Rattle; else llvm",
+        help="the compiler: llvm, or rattle, which is written in Rattle (default: llvm)",
     )
     parser.add_argument(
         "--archive", type=to_read, metavar="FILE",
-        help=f"an archive of the crate that was built already, as {ARCHIVE.name}; else `rt lib` proves and builds it",
+        help=f"takes this archive of the crate, as {ARCHIVE.name} (default: `rt lib` proves and builds it)",
     )
 
 
 def _parser() -> argparse.ArgumentParser:
     parser = cli.tool_parser("vga-library", "Makes the library for C.", "tools/vga-library make kit", "docs/LIBRARY.md")
     commands = parser.add_subparsers(required=True, metavar="COMMAND")
-    command = commands.add_parser("make", help="makes it in a folder, which may be moved")
+    command = commands.add_parser("make", help="makes it in a folder, which you may move")
     command.add_argument("folder", metavar="FOLDER", help="gets include/, lib/ and lib/pkgconfig/")
     _add_archive(command)
     command.set_defaults(job=_make)
     command = commands.add_parser(
-        "install", help="lays it below a prefix, as packagers do; what `make` has made is taken as it is",
-        epilog="PREFIX and DESTDIR of the environment stand for --prefix and --destdir where these are left out.",
+        "install", help="installs it below a prefix, as packagers do; takes what `make` has made",
+        epilog="PREFIX and DESTDIR of the environment are the defaults of --prefix and --destdir.",
     )
-    command.add_argument("--prefix", metavar="FOLDER", help=f"where it is used; else {USUAL_PREFIX}")
-    command.add_argument("--destdir", metavar="FOLDER", help="stands before the prefix while files are laid; else nothing")
-    command.add_argument("--libdir", default="lib", metavar="NAME", help="the folder of libraries below the prefix; else lib")
+    command.add_argument("--prefix", metavar="FOLDER", help=f"the prefix (default: {USUAL_PREFIX})")
+    command.add_argument(
+        "--destdir", metavar="FOLDER",
+        help="stands before the prefix while files are installed (default: nothing)",
+    )
+    command.add_argument(
+        "--libdir", default="lib", metavar="NAME",
+        help="the folder of libraries below the prefix (default: lib)",
+    )
     _add_archive(command)
     command.set_defaults(job=_install)
     return parser

@@ -45,7 +45,10 @@ def _parser() -> argparse.ArgumentParser:
     commands = parser.add_subparsers(required=True, metavar="COMMAND")
     command = commands.add_parser("make", help="makes them below a folder")
     command.add_argument("folder", metavar="FOLDER", help="gets share/, with the four files")
-    command.add_argument("--vga", metavar="FILE", help="the program; else the one that is built here, or in the path")
+    command.add_argument(
+        "--vga", metavar="FILE",
+        help="runs this program (default: the one built here, else vga in the path)",
+    )
     command.set_defaults(job=_make)
     return parser
 

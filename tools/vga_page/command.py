@@ -23,7 +23,7 @@ MOST_MEBIBYTES = 4096
 def _add_proof(parser: argparse.ArgumentParser) -> None:
     parser.add_argument(
         "--gated", action="store_true",
-        help="over the libraries that `rt ci` left, which must have run just before; else `rt check` proves",
+        help="works over the libraries of `rt ci`, which must have run just before (default: `rt check` proves)",
     )
     parser.add_argument(
         "--proof", type=Path, metavar="FOLDER",
@@ -48,7 +48,7 @@ def _parser() -> argparse.ArgumentParser:
     )
     command.add_argument("file", metavar="FILE", help="the page, page/zaklimot.html in the repository")
     command.add_argument(
-        "--module", type=to_read, metavar="FILE", help="a module that was made already; else it is made"
+        "--module", type=to_read, metavar="FILE", help="takes this module (default: makes one)"
     )
     _add_proof(command)
     command.set_defaults(job=_make, memory=None)
@@ -59,7 +59,7 @@ def _parser() -> argparse.ArgumentParser:
     command.add_argument("file", metavar="FILE", help="the module")
     command.add_argument(
         "--memory", type=_mebibytes, metavar="MIB",
-        help="fixes the size of its memory, so that tests see it spent; else it grows",
+        help="fixes the size of its memory, so that tests see it spent (default: it grows)",
     )
     _add_proof(command)
     command.set_defaults(job=_module, module=None)

@@ -47,8 +47,11 @@ def _parser() -> argparse.ArgumentParser:
     command.add_argument("image", type=to_read, metavar="IMAGE", help="a PNG, or a PPM of the kind P6")
     command.add_argument("script", metavar="SCRIPT", help="the script")
     command.add_argument("--mode", required=True, type=str.upper, choices=list(MODES), help="the mode; 3 is text")
-    command.add_argument("--bytes", action="store_true", help="the script as bytes; else as text")
-    command.add_argument("--short", action="store_true", help="a shorter script of more cycles, by the video BIOS")
+    command.add_argument("--bytes", action="store_true", help="writes the script as bytes (default: as text)")
+    command.add_argument(
+        "--short", action="store_true",
+        help="makes a shorter script that takes more cycles, by the video BIOS",
+    )
     sizes = command.add_mutually_exclusive_group()
     sizes.add_argument(
         "--scale", dest="fit", action="store_const", const=Fit.SCALE, help="stretches an image of another size"
@@ -57,23 +60,28 @@ def _parser() -> argparse.ArgumentParser:
         "--fit", dest="fit", action="store_const", const=Fit.FIT, help="the same, but it keeps its shape on the screen, between bars"
     )
     command.add_argument(
-        "--bars", type=_colour, metavar="RRGGBB", help="the colour of the bars of --fit, eight bits a component; else black"
+        "--bars", type=_colour, metavar="RRGGBB",
+        help="the colour of the bars of --fit, eight bits a component (default: black)",
     )
     colours = command.add_mutually_exclusive_group()
     colours.add_argument(
         "--nearest", dest="fewer", action="store_const", const=Fewer.NEAREST,
-        help="where there are more colours than the mode has: the nearest of those that are chosen",
+        help="if there are too many colours: takes the nearest of the chosen ones",
     )
     colours.add_argument(
         "--dither", dest="fewer", choices=[Fewer.FLOYD, Fewer.ORDERED], type=Fewer, metavar="floyd|ordered",
-        help="the same, but they are mixed: by Floyd and Steinberg, or by a pattern of four by four dots",
+        help="does the same, but mixes them: by Floyd and Steinberg, or by a pattern of four by four dots",
     )
     command.add_argument(
-        "--fonts", type=to_read, default=str(FONTS), metavar="FILE", help="the font file of text; else the project's"
+        "--fonts", type=to_read, default=str(FONTS), metavar="FILE",
+        help="uses this font file for text (default: the project's)",
     )
-    command.add_argument("--rows", type=int, choices=list(LINES), help="rows of text; else 25")
-    command.add_argument("--own-glyphs", action="store_true", help="text with glyphs of its own, where the font's don't fit")
-    command.add_argument("--picture", metavar="FILE", help="the picture that the script is to show, as PNG")
+    command.add_argument("--rows", type=int, choices=list(LINES), help="rows of text (default: 25)")
+    command.add_argument(
+        "--own-glyphs", action="store_true",
+        help="loads glyphs of the image's own where the font's don't fit",
+    )
+    command.add_argument("--picture", metavar="FILE", help="writes the picture that the script should draw as PNG")
     command.set_defaults(job=_script, fit=Fit.EXACT, fewer=Fewer.REFUSED)
     return parser
 

@@ -30,8 +30,14 @@ def _parser() -> argparse.ArgumentParser:
         "vga-release", "Packs a release of what is checked out.", "tools/vga-release release", "docs/RELEASE.md"
     )
     parser.add_argument("folder", type=Path, metavar="FOLDER", help="where the archive goes")
-    parser.add_argument("--program", type=to_read, metavar="FILE", help="the program, built already; else `rt run` proves and builds it")
-    parser.add_argument("--archive", type=to_read, metavar="FILE", help="the same of the library; else `rt lib` does")
+    parser.add_argument(
+        "--program", type=to_read, metavar="FILE",
+        help="takes this program (default: `rt run` proves and builds one)",
+    )
+    parser.add_argument(
+        "--archive", type=to_read, metavar="FILE",
+        help="takes this archive of the library (default: `rt lib` builds one)",
+    )
     parser.add_argument(
         f"--archive-{AARCH64.name}", type=to_read, metavar="FILE", help=f"the same of the library for {AARCH64.name}"
     )

@@ -57,7 +57,7 @@ def add_checks(
 ) -> None:
     """The options of a tool that checks the library's crate; `given` gets that of the gate."""
     (given or parser).add_argument(
-        "--gated", action="store_true", help="over the libraries that `rt ci` left, which must have run just before"
+        "--gated", action="store_true", help="works over the libraries of `rt ci`, which must have run just before"
     )
     parser.add_argument(
         "--proof", type=Path, metavar="FOLDER", help="with --gated: keeps the crate's proof there, or takes it from there"

@@ -43,64 +43,85 @@ def seconds(word: str) -> float:
 
 def add_program(parser: argparse.ArgumentParser) -> None:
     """The options of a command that runs the program."""
-    parser.add_argument("--vga", metavar="PROGRAM", help="the program; else the one that is built here, or in the path")
     parser.add_argument(
-        "--fonts", type=to_read, default=str(FONTS), metavar="FILE", help="the font file; else the project's"
+        "--vga", metavar="PROGRAM",
+        help="runs this program (default: the one built here, else vga in the path)",
+    )
+    parser.add_argument(
+        "--fonts", type=to_read, default=str(FONTS), metavar="FILE", help="uses this font file (default: the project's)"
     )
 
 
 def add_shape(parser: argparse.ArgumentParser) -> None:
     """The options of a command that writes pictures."""
     parser.add_argument(
-        "--scale", type=number_to(MOST_SCALE), default=1, metavar="N", help="each dot N times as wide and as high"
+        "--scale", type=number_to(MOST_SCALE), default=1, metavar="N", help="makes each dot N times as wide and as high"
     )
-    parser.add_argument("--aspect", action="store_true", help="stretched to 4:3, the shape that a monitor shows")
+    parser.add_argument("--aspect", action="store_true", help="stretches pictures to 4:3, the shape of a monitor")
 
 
 def _add_cases(parser: argparse.ArgumentParser) -> None:
-    parser.add_argument("--list", type=to_read, default=str(SUITE), metavar="FILE", help="the list of cases; else the project's")
     parser.add_argument(
-        "--only", action="append", default=[], metavar="FRONT", help="cases whose names begin so; again and again"
+        "--list", type=to_read, default=str(SUITE), metavar="FILE",
+        help="reads this list of cases (default: the project's)",
     )
     parser.add_argument(
-        "--except", dest="except_", action="append", default=[], metavar="FRONT", help="but not those that begin so"
+        "--only", action="append", default=[], metavar="PREFIX",
+        help="takes only cases whose names begin with PREFIX; may be repeated",
+    )
+    parser.add_argument(
+        "--except", dest="except_", action="append", default=[], metavar="PREFIX",
+        help="leaves out cases whose names begin with PREFIX; may be repeated",
     )
 
 
 def _add_machine(parser: argparse.ArgumentParser) -> None:
     parser.add_argument(
         "--machine", action="store_true",
-        help="for a machine, which refuses nothing: cases that it can answer, each up to a step that is to be refused",
+        help="for a machine, which refuses nothing: cases that it can answer, each up to the first refused step",
     )
 
 
 def _add_suite(parser: argparse.ArgumentParser) -> None:
-    parser.add_argument("folder", nargs="?", metavar="FOLDER", help="where expected pictures go, behind `pictures`")
-    parser.add_argument("--keep", metavar="FOLDER", help="keeps reports and pictures of cases that don't agree")
-    parser.add_argument("--bytes", metavar="COMMAND", help="runs scripts of bytes; without it they are left out")
+    parser.add_argument(
+        "folder", nargs="?", metavar="FOLDER",
+        help="the folder for expected pictures, after the word `pictures`",
+    )
+    parser.add_argument("--keep", metavar="FOLDER", help="keeps the reports and pictures of cases that don't agree")
+    parser.add_argument(
+        "--bytes", metavar="COMMAND",
+        help="the command for scripts as bytes; without it they are skipped",
+    )
     _add_cases(parser)
     _add_machine(parser)
     parser.add_argument(
-        "--no-refusals", dest="refusals", action="store_false", help="steps that are to be refused count as skipped"
-    )
-    parser.add_argument("--timeout", type=seconds, default=60, metavar="SECONDS", help="for each case; else 60")
-    parser.add_argument(
-        "--output", type=number_to(MOST_OUTPUT), default=256, metavar="MIB", help="a case's report at most; else 256"
+        "--no-refusals", dest="refusals", action="store_false", help="counts steps that are to be refused as skipped"
     )
     parser.add_argument(
-        "--jobs", type=number_to(MOST_JOBS), default=1, metavar="N", help="so many commands at a time; else 1"
+        "--timeout", type=seconds, default=60, metavar="SECONDS",
+        help="the time of each case (default: 60)",
     )
-    parser.add_argument("--json", action="store_true", help="the table for machines")
+    parser.add_argument(
+        "--output", type=number_to(MOST_OUTPUT), default=256, metavar="MIB",
+        help="the most that a case's report may have (default: 256)",
+    )
+    parser.add_argument(
+        "--jobs", type=number_to(MOST_JOBS), default=1, metavar="N", help="runs N commands at a time (default: 1)"
+    )
+    parser.add_argument("--json", action="store_true", help="prints the table as JSON")
 
 
 def _add_run(parser: argparse.ArgumentParser) -> None:
     add_program(parser)
-    parser.add_argument("--try", dest="try_", action="store_true", help="the program without its proofs, by `rt try`")
+    parser.add_argument(
+        "--try", dest="try_", action="store_true",
+        help="runs the program without its proofs, by `rt try`",
+    )
     parser.add_argument(
         "--until", type=number_to(MOST_STEP, 0), metavar="N", help="stops after N steps, and shows the state"
     )
     parser.add_argument(
-        "--only", metavar="WHICH", help="shows these steps alone, as 10-20,refused; also read, pictures, dumps, differs"
+        "--only", metavar="WHICH", help="shows only these steps, as 10-20,refused; also read, pictures, dumps, differs"
     )
     parser.add_argument("--pictures", metavar="FOLDER", help="writes the pictures of the steps shown, as NNNN.png")
     parser.add_argument("--show", action="store_true", help="shows pictures as blocks of colour")
@@ -110,28 +131,31 @@ def _add_run(parser: argparse.ArgumentParser) -> None:
     )
     parser.add_argument("--bless", action="store_true", help="writes answers that are not as expected into the script")
     parser.add_argument("--dry-run", action="store_true", help="with --bless: lists its changes, and writes nothing")
-    parser.add_argument("--strict", action="store_true", help="a refusal that is not expected is a difference")
-    parser.add_argument("--quiet", action="store_true", help="shows the answers that differ, and the last line alone")
+    parser.add_argument("--strict", action="store_true", help="counts a refusal that is not expected as a difference")
+    parser.add_argument("--quiet", action="store_true", help="shows only the answers that differ, and the last line")
     parser.add_argument("--diff", action="store_true", help="shows what differs as a unified diff of the script instead")
     parser.add_argument("--json", metavar="FILE", help="writes steps, answers, digests and refusals as JSON")
     parser.add_argument("--junit", metavar="FILE", help="writes the result of each script as XML for test runners")
     parser.add_argument(
-        "--jobs", type=number_to(MOST_JOBS), default=1, metavar="N", help="of a folder so many scripts at a time; else 1"
+        "--jobs", type=number_to(MOST_JOBS), default=1, metavar="N",
+        help="runs N scripts of a folder at a time (default: 1)",
     )
     parser.add_argument("--watch", action="store_true", help="runs again when the script or the font file changes")
-    parser.add_argument("--build", action="store_true", help="proves and builds the program first, where it is lacking")
+    parser.add_argument("--build", action="store_true", help="proves and builds the program first, if it is missing")
     add_shape(parser)
 
 
 def _add_pictures(parser: argparse.ArgumentParser) -> None:
     parser.add_argument("folder", nargs="?", metavar="FOLDER", help="where the files go")
-    parser.add_argument("--apng", metavar="FILE", help="the pictures as one that moves, each as long as a frame lasts")
+    parser.add_argument("--apng", metavar="FILE", help="writes one picture that moves, each frame as long as it lasts")
     parser.add_argument(
-        "--script", type=to_read, metavar="SCRIPT", help="the script that tells how long; else 70 frames a second"
+        "--script", type=to_read, metavar="SCRIPT",
+        help="takes the frames' times from this script (default: 70 frames a second)",
     )
-    parser.add_argument("--ppm", action="store_true", help="the bytes as they are, as NNNN.ppm, in the place of PNG")
+    parser.add_argument("--ppm", action="store_true", help="writes the bytes as they are, as NNNN.ppm, instead of PNG")
     parser.add_argument(
-        "--step", type=number_to(MOST_STEP), action="append", default=[], metavar="N", help="of this step alone"
+        "--step", type=number_to(MOST_STEP), action="append", default=[], metavar="N",
+        help="writes only the picture of this step; may be repeated",
     )
     add_shape(parser)
 
@@ -156,14 +180,17 @@ def parser() -> argparse.ArgumentParser:
     add(text, "report")
     _add_pictures(add(pictures, "report"))
     adding = add(compare, "report", "other")
-    adding.add_argument("--all", action="store_true", help="all steps that differ, in the place of the first")
-    adding.add_argument("--picture", metavar="FILE", help="the first picture that differs as PNG, its dots marked")
-    adding.add_argument("--html", metavar="FILE", help="all steps that differ, as a page that stands alone")
+    adding.add_argument("--all", action="store_true", help="tells all steps that differ, and not only the first")
+    adding.add_argument(
+        "--picture", metavar="FILE",
+        help="writes the first picture that differs as PNG, with its differing dots marked",
+    )
+    adding.add_argument("--html", metavar="FILE", help="writes all steps that differ as one page")
     add_shape(adding)
     adding = add(compare_picture, "report")
     adding.add_argument("step", type=number_to(MOST_STEP), metavar="STEP")
     adding.add_argument("image", type=to_read, metavar="IMAGE")
-    adding.add_argument("--picture", metavar="FILE", help="the picture as PNG, its dots marked that differ")
+    adding.add_argument("--picture", metavar="FILE", help="writes the picture as PNG, with its differing dots marked")
     add_shape(adding)
     add(check, "report", "expected")
     adding = add(suite)

@@ -41,38 +41,47 @@ def _frames(word: str) -> Frames:
 
 def _add_trace(parser: argparse.ArgumentParser) -> None:
     parser.add_argument(
-        "trace", type=to_read, metavar="TRACE", help="qemu's log or lines of the plain form, by gzip too; - is standard input"
+        "trace", type=to_read, metavar="TRACE",
+        help="qemu's log or lines of the plain form, also compressed by gzip; - is standard input",
     )
     parser.add_argument(
-        "--to", type=number_to(MOST_CYCLES), metavar="N", help="the first N cycles alone (default: all)"
+        "--to", type=number_to(MOST_CYCLES), metavar="N", help="takes only the first N cycles (default: all)"
     )
     parser.add_argument(
-        "--from", dest="from_", type=number_to(MOST_CYCLES), default=1, metavar="N", help="from the Nth cycle on (default: 1)"
+        "--from", dest="from_", type=number_to(MOST_CYCLES), default=1, metavar="N",
+        help="begins with the Nth cycle (default: 1)",
     )
 
 
 def _add_listing(parser: argparse.ArgumentParser) -> None:
-    parser.add_argument("--text", action="store_true", help="a script as text, with the trace's reads as expected answers")
+    parser.add_argument(
+        "--text", action="store_true",
+        help="makes a script as text, with the trace's reads as expected answers",
+    )
     parser.add_argument(
         "--no-repeat", dest="repeat", action="store_false",
-        help="each step alone, in version 1 of scripts (default: equal steps become repeats of version 2)",
+        help="makes a script of version 1 (default: equal steps become repeats of version 2)",
     )
     parser.add_argument(
         "--polls", choices=[KEEP, FIRST], default=KEEP,
-        help="whether all reads of input status 1 stay, or of a row of them the first (default: keep)",
+        help="keeps all reads of input status 1, or only the first of several (default: keep)",
     )
-    parser.add_argument("--time", action="store_true", help="the clock goes on by the trace's times, a frame at most a pause")
+    parser.add_argument(
+        "--time", action="store_true",
+        help="lets the clock run by the trace's times, at most a frame for each pause",
+    )
     parser.add_argument(
         "--frames", type=_frames, default=END, metavar="end|flip|screens|clock|SECONDS",
-        help="a frame at the end alone, before each change of the start address, where `record` took a screen, "
-        "in each frame of the dot clock that has a write, or so often by the trace's times",
+        help="adds frames: only at the end, before each change of the start address, where `record` took a screen, "
+        "in each frame of the dot clock with a write, or every SECONDS by the trace's times",
     )
     _add_longest(parser)
 
 
 def _add_longest(parser: argparse.ArgumentParser) -> None:
     parser.add_argument(
-        "--longest", type=seconds, default=1, metavar="SECONDS", help="with frames by the clock: a silence at most (default: 1)"
+        "--longest", type=seconds, default=1, metavar="SECONDS",
+        help="with frames by the clock: the longest time without writes (default: 1)",
     )
 
 
@@ -90,32 +99,40 @@ def _screen(word: str) -> Deed:
 
 
 def _add_record(command: argparse.ArgumentParser) -> None:
-    command.add_argument("folder", metavar="FOLDER", help="where all goes: a new folder, or an empty one")
+    command.add_argument("folder", metavar="FOLDER", help="a new folder, or an empty one")
     command.add_argument(
         "--key", dest="deeds", action="append", default=[], type=_deed, metavar="[SECONDS:]KEY,..",
-        help="presses keys so many seconds after power-on, or once the software is quiet; again and again",
+        help="presses keys so many seconds after power-on, or once the software is quiet; may be repeated",
     )
     command.add_argument(
         "--screen", dest="deeds", action="append", type=_screen, metavar="quiet|SECONDS",
-        help="takes the screen, among the keys in the order of the words (default: at the end, once it is quiet)",
+        help="dumps the screen, among the keys in the order of the words (default: at the end, once it is quiet)",
     )
     command.add_argument(
-        "--quiet", type=seconds, default=3, metavar="SECONDS", help="so long without a cycle is quiet (default: 3)"
+        "--quiet", type=seconds, default=3, metavar="SECONDS",
+        help="takes the software as quiet after so long without a cycle (default: 3)",
     )
     command.add_argument(
-        "--seconds", type=seconds, default=60, metavar="SECONDS", help="the machine ends after so many (default: 60)"
+        "--seconds", type=seconds, default=60, metavar="SECONDS",
+        help="ends the machine after so many seconds (default: 60)",
     )
     command.add_argument(
-        "--chain-4", action="store_true", help="mode 13 is recorded too, by a plugin for qemu 7.2 that gcc builds"
+        "--chain-4", action="store_true", help="records mode 13 too, by a plugin for qemu 7.2 that gcc builds"
     )
-    command.add_argument("--card", default="VGA", metavar="DEVICE", help="the VGA among qemu's devices (default: VGA)")
+    command.add_argument(
+        "--card", default="VGA", metavar="DEVICE",
+        help="takes this VGA of qemu's devices (default: VGA)",
+    )
     add_program(command)
     command.set_defaults(job=_record)
 
 
 def _add_pictures(command: argparse.ArgumentParser) -> None:
-    command.add_argument("folder", nargs="?", metavar="FOLDER", help="where they go as PNG, named by the second of each")
-    command.add_argument("--apng", metavar="FILE", help="all as one that moves, in real time")
+    command.add_argument(
+        "folder", nargs="?", metavar="FOLDER",
+        help="the folder for PNG files, which are named by the second of each",
+    )
+    command.add_argument("--apng", metavar="FILE", help="writes one picture that moves, in real time")
     add_shape(command)
     _add_longest(command)
     add_program(command)
@@ -134,24 +151,27 @@ def _parser(qemu: Sequence[str] = ()) -> argparse.ArgumentParser:
     command.add_argument("script", metavar="SCRIPT", help="the script; - is standard output")
     _add_listing(command)
     command.set_defaults(job=_convert)
-    command = commands.add_parser("check", help="holds a script's report against the trace; with the options of convert")
+    command = commands.add_parser(
+        "check", help="compares a script's report with the trace; takes the options of convert"
+    )
     _add_trace(command)
     command.add_argument("report", type=to_read, metavar="REPORT", help="the report; - is standard input")
     command.add_argument(
         "--most", type=number_to(MOST_KINDS), default=40, metavar="N",
-        help="tells N kinds at most of refusals, of reads, and of reads that differ (default: 40)",
+        help="tells at most N kinds of refusals, of reads, and of reads that differ (default: 40)",
     )
     _add_listing(command)
     command.set_defaults(job=_check)
     command = commands.add_parser("kinds", help="counts a trace's cycles by kind")
     _add_trace(command)
     command.set_defaults(job=_kinds)
-    command = commands.add_parser("pictures", help="the pictures of a trace, in real time")
+    command = commands.add_parser("pictures", help="makes the pictures of a trace, in real time")
     _add_trace(command)
     _add_pictures(command)
     command = commands.add_parser(
-        "record", help="records on qemu, replays, and holds both screens against one another",
-        usage="vga-trace record [OPTION..] FOLDER -- QEMU-WORD..", epilog="Behind `--` stand words for qemu: -cdrom disc.iso",
+        "record", help="records on qemu, replays, and compares the screens of both",
+        usage="vga-trace record [OPTION..] FOLDER -- QEMU-WORD..",
+        epilog="After `--` stand qemu's words for what it boots: -cdrom disc.iso",
     )
     command.set_defaults(qemu=qemu)
     _add_record(command)
