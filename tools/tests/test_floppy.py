@@ -15,6 +15,7 @@ import time
 import unittest
 from functools import partial
 from pathlib import Path
+from unittest import mock
 from typing import Callable
 
 from vga_floppy import image as images
@@ -402,10 +403,8 @@ class Runs(Folder):
     def run_on(self, *words: str, path: str, script: str = SCRIPT.decode()) -> tuple[int, bytes, str]:
         scratch = self.folder / "scratch"
         scratch.mkdir(exist_ok=True)
-        environment = {**os.environ, "PATH": path, "TMPDIR": str(scratch)}
-        done = run(
-            "run", "--on", "dosbox", self.write("script.vga", script), *words, env=environment
-        )
+        with mock.patch.dict(os.environ, PATH=path, TMPDIR=str(scratch)):
+            done = run("run", "--on", "dosbox", self.write("script.vga", script), *words)
         self.assertEqual(list(scratch.iterdir()), [], "a folder of a run is left")
         return done
 

@@ -55,8 +55,8 @@ WRONGS = {
 }
 # A machine that has just started may take seconds for a program that ends at once.
 LIMITS = Limits(seconds=60, memory=1 << 28, output=1 << 16)
-# Those of a program that doesn't end.
-SHORT = LIMITS._replace(seconds=5)
+# Those of a program that doesn't end, whether it has begun its work or not.
+SHORT = LIMITS._replace(seconds=0.2)
 SCRIPT, TEXT = Input(False, b"VGAS\x01\x03\xda\x03", "script"), Input(True, b"in 3DA\n", "text")
 
 

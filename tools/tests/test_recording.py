@@ -83,7 +83,7 @@ class Recorded(Folder):
         super().setUp()
         self.program("bin/qemu-system-x86_64", QEMU)
         path = f"{self.folder / 'bin'}:{os.environ['PATH']}"
-        self.environment = {**os.environ, "PATH": path, "FAKE": str(self.folder), "TMPDIR": self.temporary()}
+        self.patch(mock.patch.dict(os.environ, PATH=path, FAKE=str(self.folder), TMPDIR=self.temporary()))
         self.write("lines", LINES)
         self.write("screen", PICTURE)
         self.into = self.folder / "into"
@@ -105,8 +105,7 @@ class Recorded(Folder):
         answers = [answer for count in steps for answer in ["ok"] * count + [picture] * PHASES * bool(screens)]
         program = self.fake(*answers, picture)
         done = run(
-            "record", self.into, "--vga", program, "--quiet", "0.2", "--seconds", "20", *options, "--", *words,
-            env=self.environment,
+            "record", self.into, "--vga", program, "--quiet", "0.2", "--seconds", "20", *options, "--", *words
         )
         return done[0], done[1].decode().splitlines(), done[2]
 
@@ -142,8 +141,7 @@ class Recorded(Folder):
         self.into = self.folder / "again"
         frames = ["ragged"] * (PHASES + 1)
         done = run(
-            "record", self.into, "--vga", self.fake("ok", *frames), "--quiet", "0.2", "--", "-cdrom", "disc",
-            env=self.environment,
+            "record", self.into, "--vga", self.fake("ok", *frames), "--quiet", "0.2", "--", "-cdrom", "disc"
         )
         self.assertEqual(done[0], 1)
         self.assertTrue(done[1].endswith(b"here no frame has the shape of a picture\n"))
@@ -199,7 +197,7 @@ class Recorded(Folder):
     def test_a_program_that_fails_leaves_the_trace(self) -> None:
         program = self.program("vga", "#!/bin/sh\necho oh >&2\nexit 3\n")
         status, _, said = run(
-            "record", self.into, "--vga", program, "--quiet", "0.2", "--", "-cdrom", "disc", env=self.environment
+            "record", self.into, "--vga", program, "--quiet", "0.2", "--", "-cdrom", "disc"
         )
         self.assertEqual((status, said), (2, f"vga-trace: {program}: it ended with status 3: oh\n"))
         self.assertEqual(sorted(path.name for path in self.into.iterdir()), ["script.bin", "trace.gz"])
@@ -209,7 +207,7 @@ class Recorded(Folder):
             with self.subTest(number):
                 (self.folder / "number").unlink(missing_ok=True)
                 words = ("--vga", self.fake("ok"), "--quiet", "50", "--", "-cdrom", "disc")
-                command = begin("vga-trace", "record", self.into, *words, env=self.environment)
+                command = begin("vga-trace", "record", self.into, *words)
                 self.addCleanup(command.communicate)
                 self.addCleanup(command.kill)
                 machine = int(self.wait_for(self.folder / "number", command))
@@ -222,8 +220,7 @@ class Recorded(Folder):
 
     def refused(self, name: str, value: float, word: str) -> str:
         """What is said of a machine that is given up, with a limit changed."""
-        variables = {name: self.environment[name] for name in ("PATH", "FAKE")}
-        self.patch(mock.patch.dict(os.environ, variables), mock.patch.object(recording, name, value))
+        self.patch(mock.patch.object(recording, name, value))
         options = ("--vga", self.fake("ok"), "--quiet", "0.2")
         status, _, said = call(main, "record", self.into, *options, "--", word)
         self.assertEqual((status, self.into.exists()), (2, False))

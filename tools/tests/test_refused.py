@@ -171,7 +171,7 @@ class Refused(Folder):
         tool, *rest = words.split(" ")
         status, output, said = run_tool(
             f"vga-{tool}", *(word.format(**self.places) for word in rest),
-            preexec_fn=lambda: resource.setrlimit(resource.RLIMIT_AS, (MEMORY, MEMORY)),
+            prepare=lambda: resource.setrlimit(resource.RLIMIT_AS, (MEMORY, MEMORY)),
         )
         self.assertEqual(status, 2, said)
         self.assertNotIn("Traceback", said)

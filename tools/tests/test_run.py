@@ -146,11 +146,11 @@ class Listings(Fake):
             "which README.md tells of under \"Build it\". Without it --vga runs a program that is "
             "built already, and --debug FILE writes a page that runs the script in a browser\n"
         )
-        environment = {**os.environ, "PATH": str(self.folder)}
-        self.assertEqual(run("run", self.path, "--try", env=environment), (2, b"", told))
-        with mock.patch.dict(os.environ, environment), mock.patch("vga_report.program.PROGRAM", self.folder / "none"):
-            with self.assertRaisesRegex(Trouble, "^rt: it is not in the path: "):
-                build_program(Progress())
+        with mock.patch.dict(os.environ, PATH=str(self.folder)):
+            self.assertEqual(run("run", self.path, "--try"), (2, b"", told))
+            with mock.patch("vga_report.program.PROGRAM", self.folder / "none"):
+                with self.assertRaisesRegex(Trouble, "^rt: it is not in the path: "):
+                    build_program(Progress())
         self.assertIn("## Build it\n", (TOP / "README.md").read_text("utf-8"))
 
     def test_a_release_has_no_sources(self) -> None:
@@ -369,7 +369,7 @@ class Several(Fake):
 
     def test_a_name_that_looks_like_an_option(self) -> None:
         (self.tests / "-c.vga").write_text("frame\n")
-        status, output, _ = run_tool("vga-report", "run", ".", "--vga", self.vga, cwd=self.tests)
+        status, output, _ = run_tool("vga-report", "run", ".", "--vga", self.vga, prepare=lambda: os.chdir(self.tests))
         self.assertEqual((status, output.split(b"\n")[0]), (1, b"-c.vga: 1 step, 1 picture"))
 
     def test_for_machines(self) -> None:

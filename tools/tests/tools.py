@@ -3,33 +3,82 @@
 from __future__ import annotations
 
 import contextlib
+import importlib
 import io
+import multiprocessing
 import os
+import re
 import signal
 import subprocess
 import sys
 import tempfile
 import time
 import unittest
+import warnings
+from functools import partial
 from pathlib import Path
-from typing import Any, Callable, Optional
+from typing import Any, BinaryIO, Callable, Optional, Sequence
 
 from .making import report
 
 TOOLS = Path(__file__).resolve().parents[1]
 TOP = TOOLS.parent
 EXAMPLES = TOP / "examples"
+# How a tool's script names the module that has its `main`.
+MAIN = re.compile(r"^from ([\w.]+) import main$", re.M)
+# The tools want nothing but Python's own library, and start faster where nothing else is looked for.
+PYTHON = (sys.executable, "-S")
+FORKING = multiprocessing.get_context("fork")
+# So long may a run take.
+MOST_SECONDS = 200
 # The signals that end a tool, and its exit status then.
 SIGNALS = ((signal.SIGTERM, 143), (signal.SIGHUP, 129), (signal.SIGINT, 130))
 # A child that is to be there is waited for this many seconds.
 WAITING = 60
 
 
-def run_tool(name: str, *words: str | Path, given: bytes = b"", **options: Any) -> tuple[int, bytes, str]:
-    """Exit status, output and standard error of a tool; `options` go to `subprocess.run`."""
-    words_of_all = [sys.executable, TOOLS / name, *words]
-    done = subprocess.run(words_of_all, input=given, capture_output=True, timeout=200, **options)
-    return done.returncode, done.stdout, done.stderr.decode()
+def main_of(name: str) -> Callable[[Sequence[str]], int]:
+    """The `main` of a tool."""
+    found = MAIN.search((TOOLS / name).read_text("utf-8"))
+    assert found is not None, name
+    return importlib.import_module(found[1]).main
+
+
+def _become(work: Callable[[], int], streams: Sequence[BinaryIO], prepare: Callable[[], object]) -> None:
+    """Goes on as a tool does that has just been started, with these three files as its standard streams."""
+    for number, stream in enumerate(streams):
+        os.dup2(stream.fileno(), number)
+    sys.stdin, sys.stdout, sys.stderr = open(0), open(1, "w"), open(2, "w", errors="backslashreplace")
+    warnings.simplefilter("ignore")
+    tempfile.tempdir = None
+    _heed_signals()
+    prepare()
+    sys.exit(work())
+
+
+def run_tool(
+    name: str, *words: str | bytes | Path, given: bytes = b"", prepare: Callable[[], object] = bool
+) -> tuple[int, bytes, str]:
+    """Exit status, output and standard error of a tool, which reads these bytes; its process is prepared before.
+
+    The process has the tool's modules already: to start Python for each run would take most of the tests' time.
+    """
+    work = partial(main_of(name), [os.fsdecode(word) for word in words])
+    with tempfile.TemporaryFile() as read, tempfile.TemporaryFile() as written, tempfile.TemporaryFile() as said:
+        read.write(given)
+        read.seek(0)
+        process = FORKING.Process(target=_become, args=(work, (read, written, said), prepare))
+        process.start()
+        try:
+            process.join(MOST_SECONDS)
+        finally:
+            # Where it takes too long, or the tests are ended, it ends what it has started.
+            if process.is_alive():
+                process.terminate()
+                process.join()
+        written.seek(0)
+        said.seek(0)
+        return process.exitcode, written.read(), said.read().decode()
 
 
 def call(main: Callable[[list[str]], int], *words: str | Path) -> tuple[int, str, str]:
@@ -49,7 +98,7 @@ def _heed_signals() -> None:
 def begin(name: str, *words: str | Path, **options: Any) -> subprocess.Popen[bytes]:
     """A tool that has begun, with pipes for its streams; `options` go to `subprocess.Popen`."""
     given = {"stdout": subprocess.PIPE, "stderr": subprocess.PIPE, "preexec_fn": _heed_signals, **options}
-    return subprocess.Popen([sys.executable, TOOLS / name, *words], **given)
+    return subprocess.Popen([*PYTHON, TOOLS / name, *words], **given)
 
 
 def is_running(number: int) -> bool:
@@ -77,8 +126,8 @@ class Folder(unittest.TestCase):
         return str(path)
 
     def program(self, name: str, text: str) -> str:
-        """Writes a program: of the shell, or of Python, where it has no line that names another."""
-        path = self.write(name, text if text.startswith("#!") else f"#!{sys.executable}\n{text}")
+        """Writes a program: of the shell, or of Python without packages, where it has no line that names another."""
+        path = self.write(name, text if text.startswith("#!") else f"#!{sys.executable} -S\n{text}")
         os.chmod(path, 0o755)
         return path
 
