@@ -1,7 +1,6 @@
 """What all tools have in common: how they begin and end, and run others; and the gate."""
 
 import ast
-import importlib
 import os
 import re
 import shutil
@@ -13,10 +12,8 @@ from vga_report.processes import started
 from vga_report.trouble import TROUBLE, Trouble
 from vga_report.version import version
 
-from .program import UNBUILT
-from .tools import TOOLS, TOP, Folder, call
+from .tools import PYTHON, TOOLS, TOP, Folder, call, main_of
 
-MAIN = re.compile(r"^from ([\w.]+) import main$", re.M)
 # Starts programs, of which the first sends a signal amid its start; its status tells that the signal came.
 STARTING = """
 import os, signal, sys
@@ -31,30 +28,6 @@ try:
 except KeyboardInterrupt:
     sys.exit(7)
 """
-# Tests of which some want a file in the place of the program.
-TESTS = f"""
-import os, unittest
-HAS = os.path.exists({{path!r}})
-class New(unittest.TestCase):
-    def test_one(self):
-        if not HAS: self.skipTest({UNBUILT!r})
-    @unittest.skip("another reason")
-    def test_two(self): pass
-    def test_three(self): open({{path!r}} + ".three", "a").write("3")
-class Whole(unittest.TestCase):
-    @classmethod
-    def setUpClass(cls):
-        if not HAS: raise unittest.SkipTest({UNBUILT!r})
-    def test_four(self): pass
-"""
-RUN = "import sys; from tests.discovering import main; sys.exit(main(['--folder', *sys.argv[1:]]))"
-
-
-def said(name: str, *words: str) -> tuple[int, str, str]:
-    """What a tool answers to these words: its exit status, its output, and what it says."""
-    found = MAIN.search((TOOLS / name).read_text("utf-8"))
-    assert found is not None, name
-    return call(importlib.import_module(found[1]).main, *words)
 
 
 class Words(unittest.TestCase):
@@ -66,7 +39,7 @@ class Words(unittest.TestCase):
     def test_help_has_an_example_and_names_a_page(self) -> None:
         for name in self.NAMES:
             with self.subTest(name):
-                status, output, _ = said(name, "--help")
+                status, output, _ = call(main_of(name), "--help")
                 self.assertEqual(status, 0)
                 self.assertRegex(output, rf"Example:\n  tools/{name}\b")
                 page = re.search(r"^(\S+\.md) tells more\.$", output, re.M)
@@ -76,11 +49,11 @@ class Words(unittest.TestCase):
 
     def test_the_version_is_that_of_the_header(self) -> None:
         for name in self.NAMES:
-            self.assertEqual(said(name, "--version"), (0, f"{name} {version()}\n", ""))
+            self.assertEqual(call(main_of(name), "--version"), (0, f"{name} {version()}\n", ""))
 
     def test_words_that_mean_nothing(self) -> None:
         for name in self.NAMES:
-            status, output, errors = said(name, "--no-such-word")
+            status, output, errors = call(main_of(name), "--no-such-word")
             self.assertEqual((status, output), (TROUBLE, ""))
             self.assertIn(f"{name}: error: ", errors)
 
@@ -90,7 +63,7 @@ class Endings(unittest.TestCase):
 
     def ended(self, name: str, rest: str) -> tuple[int, str]:
         """Exit status and standard error of a tool's help, with its streams as a shell sets them."""
-        words = ["/bin/sh", "-c", f'"$@" {rest}', "sh", sys.executable, TOOLS / name, "--help"]
+        words = ["/bin/sh", "-c", f'"$@" {rest}', "sh", *PYTHON, TOOLS / name, "--help"]
         done = subprocess.run(words, capture_output=True, text=True, timeout=60)
         return done.returncode, done.stderr
 
@@ -107,7 +80,7 @@ class Endings(unittest.TestCase):
                 os.close(reader)
                 try:
                     done = subprocess.run(
-                        [sys.executable, TOOLS / name, "--help"], stdout=writer, stderr=subprocess.PIPE, timeout=60
+                        [*PYTHON, TOOLS / name, "--help"], stdout=writer, stderr=subprocess.PIPE, timeout=60
                     )
                 finally:
                     os.close(writer)
@@ -141,38 +114,6 @@ class Sources(unittest.TestCase):
             with self.subTest(path.relative_to(TOOLS)):
                 is_late = any(isinstance(node, ast.ImportFrom) and node.module == "__future__" for node in nodes)
                 self.assertEqual([] if is_late else unions, [])
-
-
-class Again(Folder):
-    def run_tests(self, *words: str) -> tuple[int, str]:
-        """Exit status and standard error of the tests in a folder."""
-        command = [sys.executable, "-c", RUN, str(self.folder / "new"), *words]
-        done = subprocess.run(command, cwd=TOOLS, capture_output=True, text=True, timeout=60)
-        return done.returncode, done.stdout + done.stderr
-
-    def test_tests_that_were_skipped_run_and_may_not_be_skipped(self) -> None:
-        program, kept = self.folder / "program", str(self.folder / "kept")
-        self.write("new/__init__.py", "")
-        self.write("new/test_new.py", TESTS.format(path=str(program)))
-        status, said = self.run_tests("--keep", kept)
-        self.assertEqual((status, said.splitlines()[-1]), (0, "OK (skipped=3)"))
-        status, said = self.run_tests("--again", kept)
-        self.assertEqual(status, 1)
-        self.assertIn("skipped, though the program is to be built: ", said)
-        program.touch()
-        status, said = self.run_tests("--again", kept)
-        self.assertEqual((status, said.splitlines()[-1]), (0, "OK"))
-        self.assertIn("Ran 2 tests", said)
-        # What needs no program ran in the first run alone.
-        self.assertEqual((self.folder / "program.three").read_text(), "3")
-
-    def test_a_signal_ends_them(self) -> None:
-        self.write("new/__init__.py", "")
-        lines = "import os, signal, unittest\nclass New(unittest.TestCase):\n"
-        lines += "    def test_one(self): os.kill(os.getpid(), signal.SIGTERM)\n    def test_two(self): print('two')\n"
-        self.write("new/test_new.py", lines)
-        status, said = self.run_tests()
-        self.assertEqual((status, "two" in said), (143, False))
 
 
 @unittest.skipIf(sys.platform == "win32", "a script is a program on POSIX")
