@@ -154,6 +154,14 @@ class Folder(unittest.TestCase):
             time.sleep(0.01)
         return path.read_text()
 
+    def within(self, work: Callable[[int], Any], begun: Path) -> Any:
+        """What comes of work that is ended after so many seconds: after more, where no file tells that it had begun."""
+        for seconds in (2, 8, 32):
+            made = work(seconds)
+            if begun.exists():
+                return made
+        self.fail(f"{begun} is not written")
+
     def assert_ended(self, *numbers: int) -> None:
         """That processes end soon."""
         until = time.monotonic() + 10
