@@ -32,10 +32,7 @@ class Shell(Fakes):
     def environment(self, **more: str) -> dict[str, str]:
         """No setting of the user is read, and nothing is left elsewhere."""
         path, folder = f"{self.folder / 'bin'}:{os.environ['PATH']}", str(self.folder)
-        return {
-            "HOME": folder, "XDG_RUNTIME_DIR": folder, "PATH": path, "LANG": "C.UTF-8",
-            "TERM": "dumb", **more,
-        }
+        return {"HOME": folder, "XDG_RUNTIME_DIR": folder, "PATH": path, "LANG": "C.UTF-8", "TERM": "dumb", **more}
 
     def assert_offered(self, helps: Mapping[str, str], table: Mapping[str, list[str]]) -> None:
         """What is offered for lines, by the completion that is made of these helps."""

@@ -39,9 +39,7 @@ class Bundling(unittest.TestCase):
     def test_a_module_stands_after_those_that_it_imports(self) -> None:
         told = joined({
             "a.js": 'import { c } from "./c.js";\nexport const a = c + 1;\n',
-            "b.js": (
-                'import { a } from "./a.js";\nimport { c } from "./c.js";\n\nexport class B {\n  c = a + c;\n}\n'
-            ),
+            "b.js": ('import { a } from "./a.js";\nimport { c } from "./c.js";\n\nexport class B {\n  c = a + c;\n}\n'),
             "c.js": "export const c = 1;\n",
             "main.js": 'import { B } from "./b.js";\nimport { a } from "./a.js";\n\nnew B(a);\n',
         })

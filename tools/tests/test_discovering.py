@@ -108,7 +108,3 @@ class Running(Folder):
                 self.assertEqual((process.returncode, output, said), (status, b"", b""))
                 self.assert_ended(*numbers)
                 self.assertEqual(os.listdir(temporary), [])
-
-
-if __name__ == "__main__":
-    unittest.main()

@@ -117,9 +117,7 @@ class Monitors(Folder):
 
             serving = threading.Thread(target=serve)
             serving.start()
-            with self.assertRaisesRegex(
-                Trouble, "^qemu: its monitor doesn't do no_such: there is none$"
-            ):
+            with self.assertRaisesRegex(Trouble, "^qemu: its monitor doesn't do no_such: there is none$"):
                 with monitor_at(path) as do:
                     do("screendump", filename="a")
                     do("no_such")

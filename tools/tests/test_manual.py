@@ -189,8 +189,7 @@ class Pages(Fakes):
         page = self.made(kept_helps())[PAGE]
         sections = dict(re.findall(r"^\.SH (.*)\n((?:(?!\.SH ).*\n)+)", page, re.M))
         self.assertEqual(list(sections), [
-            "NAME", "SYNOPSIS", "DESCRIPTION", "OPTIONS", "COMMANDS", "EXAMPLES", "EXIT STATUS",
-            "VERSION", "SEE ALSO",
+            "NAME", "SYNOPSIS", "DESCRIPTION", "OPTIONS", "COMMANDS", "EXAMPLES", "EXIT STATUS", "VERSION", "SEE ALSO",
         ])
         # The program's number is that of the library's header, and stands nowhere else.
         self.assertIn(f'.TH VGA 1 "" "Zaklimot {version()}" ', page)
@@ -219,8 +218,7 @@ class Pages(Fakes):
 
     def test_letters_that_mean_more(self) -> None:
         self.assertEqual(prose([".a", "'b' \"c\" \\n", "d-e --f `g-h` <I>"]), [
-            "\\&.a", "\\(aqb\\(aq \\(dqc\\(dq \\en",
-            "d\\-e \\fB\\-\\-f\\fR \\fBg\\-h\\fR \\fII\\fR",
+            "\\&.a", "\\(aqb\\(aq \\(dqc\\(dq \\en", "d\\-e \\fB\\-\\-f\\fR \\fBg\\-h\\fR \\fII\\fR",
         ])
         accented = ["as \\fBx", "y\\fR, \\[u00E9]\\(ha\\(ti"]
         self.assertEqual(prose(["as `x", "y`, \u00e9^~"]), accented)

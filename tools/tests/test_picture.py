@@ -610,9 +610,7 @@ class Refusals(Folder):
         with self.subTest(told):
             done = call(main, "script", image, script, "--mode", "13")
             self.assertEqual(done, (2, "", f"vga-picture: {image}: {told}\n"))
-            self.assertEqual(
-                (self.names(), Path(script).read_bytes()), (["image", "s.vga"], b"old")
-            )
+            self.assertEqual((self.names(), Path(script).read_bytes()), (["image", "s.vga"], b"old"))
 
     def test_what_is_no_image(self) -> None:
         good = self.GOOD

@@ -22,9 +22,7 @@ for number, step in enumerate(steps, 1):
 
 @unittest.skipIf(os.name != "posix", "a script is a program on POSIX")
 class Specimens(Folder):
-    def run_preview(
-        self, wrong: str = "False", more: str = "", frame: str = 'step == "frame"'
-    ) -> tuple[int, str, str]:
+    def run_preview(self, wrong: str = "False", more: str = "", frame: str = 'step == "frame"') -> tuple[int, str, str]:
         """How it ends with a program of which something is wrong, more, or otherwise a frame."""
         program = self.program("program", GOOD.format(wrong=wrong, frame=frame) + more)
         out = self.folder / "out"

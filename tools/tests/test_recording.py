@@ -104,9 +104,7 @@ class Recorded(Folder):
         """Exit status, lines and what is said of a recording whose script has so many steps before each of its screens."""
         answers = [answer for count in steps for answer in ["ok"] * count + [picture] * PHASES * bool(screens)]
         program = self.fake(*answers, picture)
-        done = run(
-            "record", self.into, "--vga", program, "--quiet", "0.2", "--seconds", "20", *options, "--", *words
-        )
+        done = run("record", self.into, "--vga", program, "--quiet", "0.2", "--seconds", "20", *options, "--", *words)
         return done[0], done[1].decode().splitlines(), done[2]
 
     def asked(self) -> list[str]:
@@ -140,9 +138,7 @@ class Recorded(Folder):
         self.assertEqual((status, "another size: they have 5x1 and 3x2 dots" in lines[-2]), (1, True))
         self.into = self.folder / "again"
         frames = ["ragged"] * (PHASES + 1)
-        done = run(
-            "record", self.into, "--vga", self.fake("ok", *frames), "--quiet", "0.2", "--", "-cdrom", "disc"
-        )
+        done = run("record", self.into, "--vga", self.fake("ok", *frames), "--quiet", "0.2", "--", "-cdrom", "disc")
         self.assertEqual(done[0], 1)
         self.assertTrue(done[1].endswith(b"here no frame has the shape of a picture\n"))
 
@@ -196,9 +192,7 @@ class Recorded(Folder):
 
     def test_a_program_that_fails_leaves_the_trace(self) -> None:
         program = self.program("vga", "#!/bin/sh\necho oh >&2\nexit 3\n")
-        status, _, said = run(
-            "record", self.into, "--vga", program, "--quiet", "0.2", "--", "-cdrom", "disc"
-        )
+        status, _, said = run("record", self.into, "--vga", program, "--quiet", "0.2", "--", "-cdrom", "disc")
         self.assertEqual((status, said), (2, f"vga-trace: {program}: it ended with status 3: oh\n"))
         self.assertEqual(sorted(path.name for path in self.into.iterdir()), ["script.bin", "trace.gz"])
 
@@ -410,7 +404,3 @@ class RealTime(Folder):
         self.assertEqual((status, said.startswith("vga-trace: ")), (2, True), said)
         told = "vga-trace: the pictures want a folder, or --apng a file\n"
         self.assertEqual(run("pictures", trace, "--vga", program)[2], told)
-
-
-if __name__ == "__main__":
-    unittest.main()

@@ -230,10 +230,7 @@ class Installing(Folder):
 class Packed(Folder):
     def test_the_archive_and_its_checksum(self) -> None:
         given = self.write("given", "built")
-        made = {
-            "clean_commit": lambda: COMMIT, "release_entries": lambda *_: ENTRIES,
-            "check_program": lambda _: None,
-        }
+        made = {"clean_commit": lambda: COMMIT, "release_entries": lambda *_: ENTRIES, "check_program": lambda _: None}
         self.patch(mock.patch.multiple(command, **made))
         words = ["--program", given, "--archive", given, "--archive-aarch64", given]
         status, output, _ = call(command.main, self.folder, *words)
