@@ -15,12 +15,13 @@ from unittest import mock
 from vga_report.trouble import Trouble
 from vga_trace import recording
 from vga_trace.command import main
-from vga_trace.known import ALL, PAGE, known
+from vga_trace.known import ALLOWED, PAGE, SEEN, Names, Screen, known, whole_rows
 from vga_trace.passing import Clocked
 from vga_trace.recording import PHASES, Deed, Machine, Session
 from vga_trace.state import State
 from vga_trace.step import ADVANCE, FRAME, IN, OUT, PUT, Step
 from vga_trace.trace import SCREEN
+from zaklimot.format import Picture
 
 from .making import BLACK, RED, WHITE, ppm
 from .test_trace import BEGIN, listed, qemu, registers
@@ -132,6 +133,32 @@ class Recorded(Folder):
         self.assertTrue(lines[-2].endswith("behind cycle 1: 2 of 6 dots differ, in columns 1 to 2 and rows 1 to 1"), lines)
         self.assertIn("may be what is known of qemu: palette address source", lines[-1])
         self.assertTrue((self.into / "differing-1.png").exists())
+
+    def test_a_screen_that_lacks_a_row_which_is_not_whole(self) -> None:
+        lines = LINES + qemu("write 3d4 209 2") + qemu("write 3c0 20 1")
+        whole, part = RED * 3 + WHITE * 3 + RED * 3, BLACK * 3
+        other = RED * 3 + WHITE * 3 + RED * 2 + WHITE
+        for number, (shown, told, names) in enumerate((
+            (whole, "it lacks the last 1 of 4 lines; the others are equal, 3x3, six bits a component", 1),
+            (other, "it lacks the last 1 of 4 lines; 1 of 9 dots differ, in columns 2 to 2 and rows 2 to 2", 2),
+        )):
+            self.write("lines", lines)
+            self.write("screen", ppm(3, 3, shown))
+            self.into = self.folder / f"into{number}"
+            status, said, _ = self.record(picture=ppm(3, 4, whole + part), steps=(3,))
+            self.assertEqual((status, said[2].partition(": ")[2]), (1, told), said)
+            known_of_qemu = "  is what is known of qemu: last row of text that isn't whole; docs/EMULATORS.md tells of it"
+            self.assertEqual((said[3], len(said)), (known_of_qemu, 3 + names))
+            self.assertEqual((self.into / "differing-1.png").exists(), names == 2)
+
+    def test_a_screen_whose_split_begins_within_a_row(self) -> None:
+        graphics = [qemu(f"write {cycle} 2") for cycle in ("3ce 106", "3d4 107", "3d4 109", "3d4 218")]
+        self.write("lines", LINES + b"".join(graphics))
+        self.write("screen", picture_of("aab abbcc").ppm)
+        status, lines, _ = self.record(picture=picture_of("aab aabbc").ppm, steps=(5,))
+        self.assertTrue(lines[-2].endswith("4 of 16 dots differ, in columns 0 to 1 and rows 4 to 6"), lines)
+        told = "  is what is known of qemu: split within a row; docs/EMULATORS.md tells of it"
+        self.assertEqual((status, lines[-1]), (1, told))
 
     def test_a_screen_of_another_size_and_a_frame_without_a_picture(self) -> None:
         status, lines, _ = self.record(picture=ppm(5, 1, RED * 5))
@@ -281,18 +308,24 @@ class Screens(unittest.TestCase):
 class Knowledge(unittest.TestCase):
     def test_each_is_on_the_page(self) -> None:
         page = " ".join((TOP / PAGE).read_text("utf-8").split())
-        for one in ALL:
+        for one in (*SEEN, *ALLOWED):
             self.assertIn(one.name, page)
 
-    def names(self, *steps: Step, dots: tuple[tuple[int, int], ...] = ()) -> list[str]:
-        """The names in a state behind these steps, in text whose palette is shown."""
+    def state(self, *steps: Step) -> State:
+        """The state behind these steps, in text whose palette is shown."""
         state = State()
         usual = [Step(OUT, 0x3C2, 0x67), Step(OUT, 0x3C0, 0x20), *crtc(0x07, 0x1F), *crtc(0x09, 0x4F), *crtc(0x14, 0x1F),
                  *crtc(0x12, 0x8F), *crtc(0x18, 0xFF), *sequencer(4, 2), *sequencer(2, 3), *graphics(6, 0x0E),
                  *graphics(8, 0xFF)]
         for step in [*usual, *steps]:
             state.take(step)
-        return list(known(state, dots))
+        return state
+
+    def names(self, *steps: Step, dots: tuple[tuple[int, int], ...] = ()) -> list[str]:
+        """The names that such a state allows."""
+        found = known(Screen(self.state(*steps), dots))
+        self.assertEqual(list(found.seen), [])
+        return list(found.allowed)
 
     def test_what_may_show_in_a_state(self) -> None:
         ninth = attribute(0x10, 4)
@@ -314,6 +347,59 @@ class Knowledge(unittest.TestCase):
             with self.subTest(names):
                 self.assertEqual(self.names(*steps, dots=((8, 0), (17, 3))), names)
         self.assertEqual(self.names(*ninth, dots=((8, 0), (9, 0))), [])
+
+    def split(self, here: str, there: str, *steps: Step) -> Names:
+        """What is known of two pictures in graphics, whose line compare is 2 and whose rows have two lines."""
+        picture, image = picture_of(here), picture_of(there)
+        steps = (*graphics(6, 5), *crtc(0x18, 2), *crtc(7, 0x0F), *crtc(9, 1), *crtc(8, 1), *steps)
+        dots = [(x, y) for y in range(picture.height) for x in range(2) if picture.row(y) != image.row(y)]
+        return known(Screen(self.state(*steps), dots, picture, image))
+
+    def test_a_split_within_a_row(self) -> None:
+        found = Names(["split within a row"])
+        # The second line of a row is under way, with two lines to it and with four; and three of four lines have been.
+        self.assertEqual(self.split("aab aabbc", "aab abbcc"), found)
+        self.assertEqual(self.split("aab aabb", "aab abbx"), found)
+        for rows in (crtc(9, 3), crtc(9, 0x81)):
+            self.assertEqual(self.split("aaa aaaabb", "aaa abbbbc", *rows), found)
+        self.assertEqual(self.split("aa aaaabb", "aa aabbbb", *crtc(9, 3), *crtc(0x18, 1)), found)
+        # Bits 8 and 9 of line compare put it below the picture.
+        for high in (crtc(7, 0x1F), crtc(9, 0x41)):
+            self.assertEqual(self.split("aab aabbc", "aab abbcc", *high), Names([], ["preset row scan"]))
+
+    def test_what_is_no_split_within_a_row(self) -> None:
+        allowed = Names([], ["preset row scan"])
+        for here, there, steps in (
+            ("aabb aabbc", "aabb abbcc", crtc(0x18, 3)),
+            ("aab aabbc", "aab abbcx", []),
+            ("aab aabbc", "axb abbcc", []),
+            ("aab aabbc", "aab aabbx", []),
+            ("aab aabbc", "aab abbcc", crtc(0x18, 8)),
+            ("aab aabbc", "aab abbcc", crtc(9, 0)),
+        ):
+            with self.subTest(here=here, there=there, steps=steps):
+                self.assertEqual(self.split(here, there, *steps), allowed)
+        self.assertNotIn("split within a row", self.split("aab aabbc", "aab abbcc", *graphics(6, 0x0E)).seen)
+
+    def test_a_last_row_that_is_not_whole(self) -> None:
+        picture, rows = picture_of("aaabbbcc"), crtc(9, 2)
+        for steps, height in (
+            (rows, 6), (crtc(9, 3), 8), (crtc(9, 7), 8), (crtc(9, 8), 8), (crtc(9, 0x82), 8), (rows + graphics(6, 5), 8),
+            (crtc(9, 0x42), 6),
+        ):
+            part = whole_rows(self.state(*steps), picture)
+            self.assertEqual((part.height, part is picture), (height, height == 8))
+            self.assertEqual([part.row(y) for y in range(height)], [picture.row(y) for y in range(height)])
+        state = self.state(*rows, *crtc(8, 1))
+        cut = "last row of text that isn't whole"
+        self.assertEqual(known(Screen(state, cut=2)), Names([cut]))
+        self.assertEqual(known(Screen(state, [(0, 1)], cut=2)), Names([cut], ["preset row scan"]))
+
+
+def picture_of(rows: str) -> Picture:
+    """A picture of two dots a row. A letter is a row's colour, and blanks don't count."""
+    letters = rows.replace(" ", "")
+    return Picture.of_dots(2, len(letters), b"".join(bytes([ord(letter) - ord("a")]) * 6 for letter in letters))
 
 
 def crtc(index: int, value: int) -> list[Step]:

@@ -315,7 +315,7 @@ def _judge(machine: Machine, folder: Path, program: str, fonts: str, progress: P
     are_equal = replayed.checked.agrees and bool(screens)
     for number, at in enumerate(screens):
         verdict = replayed.verdicts.get(number)
-        are_equal &= verdict is not None and verdict.count == 0
+        are_equal &= verdict is not None and verdict.is_equal
         if verdict is None:
             lines.append(f"screen {number + 1} at {at:.1f} s: here no frame has the shape of a picture")
             continue

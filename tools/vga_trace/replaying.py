@@ -8,12 +8,12 @@ from pathlib import Path
 from threading import Event
 from typing import BinaryIO, Iterator, Mapping, Optional, Sequence
 
-from vga_report.images import image_bytes, image_of
+from vga_report.images import Image, image_bytes, image_of
 from vga_report.png import Animation, Shape, write_marked_png, write_png
 from vga_report.processes import Limits, run_command, said_last
 from vga_report.progress import Progress
 from vga_report.report import Report
-from vga_report.reports import delays_of, held
+from vga_report.reports import Held, delays_of, held
 from vga_report.streams import reading, writing
 from vga_report.trouble import Trouble
 from zaklimot.format import Answer, Picture
@@ -21,7 +21,7 @@ from zaklimot.format.picture import marks_in_row
 
 from .checking import FRAME_ANSWERS, Checked, check
 from .converting import SCREENS, Form, Listing, Wanted, convert
-from .known import PAGE, Dots, known
+from .known import Dots, Names, Screen, known, whole_rows
 from .recording import PHASES, dump
 from .state import State
 from .step import Step
@@ -34,47 +34,71 @@ MOST_PACKED = 1 << 29
 
 @dataclass
 class Verdict:
-    """The dump of a screen that is nearest to the picture, and how they differ: in no dot, or where."""
+    """The dump of a screen that is nearest to the picture, and how they differ: in no dot, or where.
+
+    `part` is what was held of the picture: all of it, or its front where qemu leaves out the last lines.
+    """
 
     number: int
     seconds: float
     cycle: int
     dump: Path
     picture: Picture
-    how: str
-    count: Optional[int]
+    part: Picture
+    held: Held
     dots: Dots
-    image: Optional[Picture]
-    names: Sequence[str]
+    names: Names
     lacking: str
+
+    @property
+    def is_equal(self) -> bool:
+        """Whether qemu shows the picture, each dot of it."""
+        return self.held.count == 0 and self.part is self.picture
 
     def lines(self) -> Iterator[str]:
         """What is told of it."""
-        place = f"screen {self.number} at {self.seconds:.1f} s, behind cycle {self.cycle:,}"
-        if self.count == 0:
-            yield f"{place}: equal, {self.how}"
+        yield f"screen {self.number} at {self.seconds:.1f} s, behind cycle {self.cycle:,}: {self._told()}"
+        if self.is_equal:
             return
-        if self.count is None:
-            yield f"{place}: another size: {self.how}"
-        else:
-            (left, right), (top, bottom) = ((min(at), max(at)) for at in zip(*self.dots))
-            where = f"in columns {left} to {right} and rows {top} to {bottom}"
-            yield f"{place}: {self.count:,} of {self.picture.width * self.picture.height:,} dots differ, {where}"
         if self.lacking:
             yield f"  {self.lacking}"
-        elif self.names:
-            yield f"  may be what is known of qemu: {', '.join(self.names)}; {PAGE} tells of it"
+        elif any(self.names):
+            yield from (f"  {line}" for line in self.names.lines())
         else:
             yield "  nothing that is known of qemu shows in this state"
+
+    def _told(self) -> str:
+        """How the two differ."""
+        part, cut = self.part, self.picture.height - self.part.height
+        if self.is_equal:
+            return f"equal, {self.held.how}"
+        if self.held.count is None:
+            return f"another size: {self.held.how}"
+        lacking = f"it lacks the last {cut} of {self.picture.height} lines; " if cut else ""
+        if not self.dots:
+            return f"{lacking}the others are equal, {self.held.how}"
+        (left, right), (top, bottom) = ((min(at), max(at)) for at in zip(*self.dots))
+        where = f"in columns {left} to {right} and rows {top} to {bottom}"
+        return f"{lacking}{self.held.count:,} of {part.width * part.height:,} dots differ, {where}"
 
     def write(self, folder: Path) -> None:
         """Leaves the dump, the picture, and where they differ."""
         self.dump.replace(folder / f"screen-{self.number}.ppm")
         with writing(str(folder / f"picture-{self.number}.png")) as stream:
             write_png(stream, self.picture, Shape())
-        if self.image is not None and self.count:
+        if self.held.image is not None and self.held.count:
             with writing(str(folder / f"differing-{self.number}.png")) as stream:
-                write_marked_png(stream, self.picture, self.image, Shape())
+                write_marked_png(stream, self.part, self.held.image, Shape())
+
+
+def _held_part(state: State, picture: Picture, image: Image) -> tuple[Picture, Held]:
+    """What is held against qemu's image: the picture, or its front without a row that isn't whole."""
+    found = held(picture, image)
+    part = picture if found.count is not None else whole_rows(state, picture)
+    if part is picture:
+        return picture, found
+    again = held(part, image)
+    return (picture, found) if again.count is None else (part, again)
 
 
 def _dots(picture: Picture, image: Optional[Picture]) -> Dots:
@@ -85,6 +109,11 @@ def _dots(picture: Picture, image: Optional[Picture]) -> Dots:
         (x, y) for y in range(picture.height) if picture.row(y) != image.row(y)
         for x, mark in enumerate(marks_in_row(picture.row(y), image.row(y))) if mark
     ]
+
+
+def _is_nearer(found: Held, last: Held) -> bool:
+    """Whether fewer dots differ; where the sizes do, all are taken to."""
+    return found.count is not None and (last.count is None or found.count < last.count)
 
 
 @dataclass
@@ -120,16 +149,19 @@ class Judge:
         path = dump(self.base, self._dumps)
         if not isinstance(picture, Picture):
             return
-        found = held(picture, image_of(image_bytes(str(path)), str(path)))
+        part, found = _held_part(self.state, picture, image_of(image_bytes(str(path)), str(path)))
         last = self.verdicts.get(screen)
-        if last is not None and (found.count is None or last.count is not None and found.count >= last.count):
+        if last is not None and not _is_nearer(found, last.held):
             return
-        dots = _dots(picture, found.image) if found.count else ()
-        names = list(known(self.state, dots)) if found.count != 0 else ()
-        self.verdicts[screen] = Verdict(
-            screen + 1, self.screens[screen], self.cycles[self._dumps], path, picture, found.how, found.count, dots,
-            found.image, names, self.listing.lacking,
+        dots = _dots(part, found.image) if found.count else ()
+        seen = (part, found.image) if found.image is not None else (None, None)
+        verdict = Verdict(
+            screen + 1, self.screens[screen], self.cycles[self._dumps], path, picture, part, found, dots, Names(),
+            self.listing.lacking,
         )
+        if not verdict.is_equal:
+            verdict.names = known(Screen(self.state, dots, *seen, cut=picture.height - part.height))
+        self.verdicts[screen] = verdict
 
 
 def run_script(program: str, fonts: str, script: Path, report: Path) -> None:
