@@ -11,13 +11,16 @@ import signal
 import struct
 import subprocess
 import sys
+import time
 import unittest
+from contextlib import ExitStack
 from functools import partial
 from pathlib import Path
 from typing import Callable
 from unittest import mock
 
 from vga_floppy import image as images
+from vga_floppy import running
 from vga_floppy.answers import report_lines
 from vga_floppy.command import main
 from vga_floppy.image import CODE, Run, image_for, read_image
@@ -26,6 +29,7 @@ from vga_floppy.image import read_record
 from vga_floppy.table import reset_steps, table_for
 from vga_floppy.table_page import FIRST_MARK, LAST_MARK
 from vga_report.cases import read_cases
+from vga_report.processes import started
 from vga_report.script import script_of
 from vga_report.trouble import Trouble
 from vga_report.words import SUITE
@@ -442,6 +446,37 @@ class Runs(Folder):
         self.assertEqual((status, output), (2, b""))
         self.assertRegex(said, r"^vga-floppy: dosbox: the script has not ended within \d+ seconds\n$")
         self.assert_ended(int(told.read_text()))
+
+    def test_the_limit_leaves_out_what_an_emulator_waits(self) -> None:
+        (self.folder / "script.img").write_bytes(bytes(images.IMAGE_SIZE))
+        process = mock.Mock(pid=1, poll=lambda: None)
+        for waiting, least in ((0.0, 0.3), (0.5, 0.8)):
+            began = time.monotonic()
+            with mock.patch.object(running, "waited", return_value=waiting), self.assertRaises(Trouble) as caught:
+                running._wait(MACHINES["dosbox"], process, self.folder, 0.3)
+            self.assertEqual(str(caught.exception), "dosbox: the script has not ended within 0.3 seconds")
+            self.assertGreaterEqual(time.monotonic() - began, least)
+
+    @unittest.skipUnless(Path("/proc/self/schedstat").exists(), "the system doesn't tell how long a process waits")
+    def test_how_long_a_process_waits(self) -> None:
+        code = (
+            "import os, time; os.sched_setaffinity(0, {min(os.sched_getaffinity(0))}); print(end='.', flush=True)\n"
+        )
+        # Of three that want one processor all the time two wait, and one that sleeps doesn't.
+        with ExitStack() as stack:
+            processes = [
+                stack.enter_context(started([sys.executable, "-c", code + rest], stdout=subprocess.PIPE))
+                for rest in 3 * ["while True: pass"] + ["time.sleep(100)"]
+            ]
+            for process in processes:
+                self.assertEqual(process.stdout.read(1), b".")
+            time.sleep(0.5)
+            before = [running.waited(process.pid) for process in processes]
+            time.sleep(2)
+            *busy, asleep = (running.waited(process.pid) - was for process, was in zip(processes, before))
+        self.assertGreater(sum(busy), 2.5)
+        self.assertLess(asleep, sum(busy) / 2)
+        self.assertEqual(running.waited(processes[0].pid), 0)
 
     @unittest.skipUnless(sys.platform.startswith("linux"), "Linux alone ends a process with its parent")
     def test_an_emulator_ends_with_a_command_that_is_killed(self) -> None:

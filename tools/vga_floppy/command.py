@@ -72,7 +72,10 @@ def _parser() -> argparse.ArgumentParser:
     command.add_argument(
         "--bios", choices=[SEABIOS, LGPL], help="the video BIOS (default: sea on qemu, lgpl on bochs)",
     )
-    command.add_argument("--seconds", type=seconds, default=30, metavar="N", help="how long it may take (default: 30)")
+    command.add_argument(
+        "--seconds", type=seconds, default=30, metavar="N",
+        help="how long it may take, without the time that it waits for a processor (default: 30)",
+    )
     command.add_argument("--picture", metavar="FILE", help="writes the last screen as PNG")
     _add_script(command)
     _add_report(command)
