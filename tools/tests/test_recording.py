@@ -12,18 +12,20 @@ from functools import partial
 from pathlib import Path
 from unittest import mock
 
+from vga_report.reports import Held
 from vga_report.trouble import Trouble
 from vga_trace import recording
 from vga_trace.command import main
 from vga_trace.known import ALLOWED, PAGE, SEEN, Names, Screen, known, whole_rows
 from vga_trace.passing import Clocked
 from vga_trace.recording import PHASES, Deed, Machine, Session
+from vga_trace.replaying import _is_nearer
 from vga_trace.state import State
 from vga_trace.step import ADVANCE, FRAME, IN, OUT, PUT, Step
 from vga_trace.trace import SCREEN
 from zaklimot.format import Picture
 
-from .making import BLACK, RED, WHITE, ppm
+from .making import BLACK, RED, WHITE, png_rows, ppm
 from .test_trace import BEGIN, listed, qemu, registers
 from .tools import SIGNALS, TOP, Folder, begin, call, is_running, run_tool
 
@@ -150,6 +152,12 @@ class Recorded(Folder):
             known_of_qemu = "  is what is known of qemu: last row of text that isn't whole; docs/EMULATORS.md tells of it"
             self.assertEqual((said[3], len(said)), (known_of_qemu, 3 + names))
             self.assertEqual((self.into / "differing-1.png").exists(), names == 2)
+        self.assertEqual(png_rows((self.into / "differing-1.png").read_bytes())[:2], (3, 3))
+        self.write("screen", ppm(5, 1, RED * 5))
+        self.into = self.folder / "other"
+        status, said, _ = self.record(picture=ppm(3, 4, whole + part), steps=(3,))
+        self.assertIn("another size: they have 3x4 and 5x1 dots", said[2])
+        self.assertNotIn("last row", said[3])
 
     def test_a_screen_whose_split_begins_within_a_row(self) -> None:
         graphics = [qemu(f"write {cycle} 2") for cycle in ("3ce 106", "3d4 107", "3d4 109", "3d4 218")]
@@ -303,6 +311,16 @@ class Screens(unittest.TestCase):
     def test_none_in_the_plain_form(self) -> None:
         with self.assertRaisesRegex(Trouble, "^trace:2: it is no cycle"):
             listed(BEGIN + SCREEN + b"\n", frames="screens")
+
+
+class Nearest(unittest.TestCase):
+    def test_the_dump_of_which_fewer_dots_differ(self) -> None:
+        other, far, near = Held(None, ""), Held(5, ""), Held(3, "")
+        for found, last, is_nearer in (
+            (near, far, True), (far, near, False), (near, near, False), (far, other, True), (other, far, False),
+            (other, other, False),
+        ):
+            self.assertEqual(_is_nearer(found, last), is_nearer)
 
 
 class Knowledge(unittest.TestCase):
