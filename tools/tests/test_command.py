@@ -328,6 +328,8 @@ class Suite(Folder):
         self.case("a/one", "get A0000\nout 3C2 01\ncrash\nget A0000\n", "1 FF\n2 ok\n3 E1 NotDecoded\n4 55\n")
         self.case("a/two", "version 2\nrepeat 2\nget A0000\nend\ncrash\n", "1 FF\n2 FF\n3 E4 BadFunction\n")
         self.case("a/three", "frame\n", "1 ragged\n")
+        block = "version 2 ; a block\nrepeat 2\nget A0000\nend\n"
+        self.case("a/four", block, "1 FF\n2 FF\n")
         output = self.run_suite("--machine")[1]
         self.assertIn("a/one: 2 of 4 steps are skipped, the others agree\n", output)
         self.assertIn("a/two: 1 of 3 steps are skipped, the others agree\n", output)
@@ -337,6 +339,8 @@ class Suite(Folder):
         self.assertEqual((scripts / "a" / "one.vga").read_text(), "get A0000\nout 3C2 01\n")
         self.assertEqual((scripts / "a" / "two.vga").read_text(), "get A0000\nget A0000\n")
         self.assertFalse((scripts / "a" / "three.vga").exists())
+        # A block of which each step is taken is the machine's to repeat.
+        self.assertEqual((scripts / "a" / "four.vga").read_text(), block)
 
     def test_answers_that_are_compared_are_counted(self) -> None:
         self.case("a/one", "out 3C2 01\nget A0000\nframe\nget A0000\nget A0000\n", "1 ok\n2 55\n3 ragged\n4 FF\n5 55\n")

@@ -50,9 +50,11 @@ debug: action=ignore
 sound: driver=dummy
 private_colormap: enabled=0
 """
+# Run by root, dosbox else gives itself more of the processor than others have, whatever `nice` it was begun with.
 DOSBOX_CONFIGURATION = """[sdl]
 output=surface
 fullscreen=false
+priority=lowest,lowest
 [dosbox]
 machine=vgaonly
 memsize=8

@@ -102,9 +102,18 @@ class Case(NamedTuple):
         )
 
     def machine_script(self) -> bytes:
-        """Its script for a machine: text ends before the first step that is to be refused, and bytes are whole."""
-        taken = sum(1 for _ in takewhile(_is_taken, self._expected_steps()))
-        return self.script() if self.is_bytes else _front_of(self.stopped_script(), taken)
+        """Its script for a machine: text ends before the first step that is to be refused, and bytes are whole.
+
+        Text that ends so has its blocks spelt out. All other text is handed over as it stands.
+        """
+        if self.is_bytes:
+            return self.script()
+        taken, script = 0, self.stopped_script()
+        for step in self._expected_steps():
+            if not _is_taken(step):
+                return _front_of(script, taken)
+            taken += 1
+        return script
 
     def handed(self, is_for_machine: bool, can_stop: bool) -> bytes:
         """Its script as a command gets it, which can stop a run or not."""
