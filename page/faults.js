@@ -34,7 +34,7 @@ function badStep(bytes, place) {
 }
 
 function truncated(bytes, place) {
-  if (place >= bytes.length) return "nothing stands behind the magic: the version is lacking";
+  if (place >= bytes.length) return "nothing stands after the magic: the version is lacking";
   const step = `the step ${OPCODE_NAMES[bytes[place]] ?? ""} at offset ${place}`;
   return `${step} is cut off: the file ends after ${bytes.length - place} of its bytes`;
 }

@@ -76,7 +76,7 @@ function unknownStep(word) {
   const text = word.text.toLowerCase(), bare = ends(text, ",;:.");
   if (startsComment(text) || COMMENT_WORDS.includes(text)) return wrong(word, "comments begin with ;");
   if (ALL_NAMES.includes(bare)) {
-    return wrong(word, `nothing stands behind the name of a step but blanks: write ${bare}`);
+    return wrong(word, `nothing stands after the name of a step but blanks: write ${bare}`);
   }
   const longest = Object.keys(SHAPES).filter(name => SHAPES[name].length).sort((a, b) => b.length - a.length);
   const glued = longest.find(name => text.startsWith(name));
@@ -218,7 +218,7 @@ function noRegister(word, name, behind) {
   }
   if (isRegister) return wrong(word, `${name} has no value: write ${name}=0`);
   if (HEX_DIGITS.test(word.text) || isForeignHex(word.text)) {
-    return wrong(word, "a call is always interrupt 10, and its numbers stand behind their registers: ax=3");
+    return wrong(word, "a call is always interrupt 10, and its numbers stand after their registers: ax=3");
   }
   const hint = nearest(name, [BLOCK]) ? "did you mean block?" : "a call has ax=, bx=, cx=, dx= and block";
   return wrong(word, `'${shortened(word.text)}' is no register; ${hint}`);

@@ -44,7 +44,7 @@ export function readReport(report, first, count, take) {
       at = readAnswer(report, at, i, take);
     }
   }
-  if (at !== report.length) throw new Trouble("The report goes on behind its last answer.");
+  if (at !== report.length) throw new Trouble("The report goes on after its last answer.");
 }
 
 /** The texts of answers of two and of four letters, by their letters: in long runs most answers are such. */

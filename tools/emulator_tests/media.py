@@ -98,7 +98,7 @@ def _report(run: Run, name: str) -> list[bytes]:
 
 def wrong(folder: Path, base: str, text: Sequence[bytes], expected: Sequence[bytes]) -> list[str]:
     """What is wrong with how a run has ended."""
-    told = [] if text == expected and len(set(b"".join(text))) > 1 else ["the text behind the key is lacking"]
+    told = [] if text == expected and len(set(b"".join(text))) > 1 else ["the text after the key is missing"]
     left = read_image((folder / f"{base}.img").read_bytes(), base)
     sent = read_record((folder / f"{base}.record").read_bytes(), base)
     if not sent.is_whole or _report(left, base) != _report(sent, base):

@@ -70,7 +70,7 @@ def check_advances(built: Built, folder: Path) -> str:
     made = folder / "advances"
     build(built.compilers[0].c, built, [SOURCES / "advances.c"], made, *SANITIZED)
     count = int(run([*built.runner, made, FONTS, str(ADVANCES)]))
-    return f"{count} advances, each the same with a look behind it"
+    return f"{count} advances, each the same with a read after it"
 
 
 def check_lines(built: Built, folder: Path) -> str:

@@ -231,7 +231,7 @@ class Damage(unittest.TestCase):
             (b"1 \xff\n", "1: the line is empty, or has bytes that no answer has", 0),
             (b"1 ok\r\n", "1: the line ends with a carriage return: a report is bytes, not a system's text", 0),
             (b"1 " + bytes([0x30]) * 300000, "1: the line is longer than any answer", 0),
-            (b"F2 BadMagic\n1 ok\n", "2: something stands behind a fault", 0),
+            (b"F2 BadMagic\n1 ok\n", "2: something stands after a fault", 0),
             *((f"1 ok\n2 {picture}\n3 ok\n".encode(), f"2: step 2 has a picture of no length: '{picture}'", 1)
               for picture in pictures),
         ]:
@@ -243,8 +243,8 @@ class Damage(unittest.TestCase):
         for length, data, message in [
             (16, good[:12], "the picture of step 2 is cut off: of 16 bytes there are 12"),
             (16, b"", "the picture of step 2 is cut off: of 16 bytes there are 0"),
-            (16, good, "no newline stands behind the 16 bytes of the picture of step 2"),
-            (15, good + b"\n", "no newline stands behind the 15 bytes of the picture of step 2"),
+            (16, good, "no newline stands after the 16 bytes of the picture of step 2"),
+            (15, good + b"\n", "no newline stands after the 15 bytes of the picture of step 2"),
             (15, good[:-1] + b"\n", "step 2: a picture of 2x1 dots has 16 bytes, and not 15"),
             (16, good.replace(b"63", b"31") + b"\n",
              "step 2: the picture doesn't begin as a PPM of the kind P6, width, height and 63"),

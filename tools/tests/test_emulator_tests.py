@@ -44,7 +44,7 @@ class Media(Folder):
         other = BootedMachine(image_for({"": script_of(UNFIT + b"in 3CE\n", "unfit")}, "unfit"), Adapter())
         other.run()
         lacking, differing, silent = (
-            "the text behind the key is lacking", "the disk and the serial port have other answers", "the speaker was silent"
+            "the text after the key is missing", "the disk and the serial port have other answers", "the speaker was silent"
         )
         for changed, text, told in (
             ({}, self.TEXT, []), ({}, self.TEXT[::-1], [lacking]), ({"record": b"".join(other.record)}, self.TEXT, [differing]),

@@ -118,7 +118,7 @@ class Recorded(Folder):
     def test_a_screen_that_is_equal(self) -> None:
         status, lines, said = self.record()
         self.assertEqual((status, said), (0, ""))
-        self.assertRegex(lines[-1], r"^screen 1 at \d+\.\d s, behind cycle 1: equal, 3x2, six bits a component$")
+        self.assertRegex(lines[-1], r"^screen 1 at \d+\.\d s, after cycle 1: equal, 3x2, six bits a component$")
         self.assertEqual(lines[0], "1 cycles, 8 steps, 16 bytes: 7 frame, 1 out")
         self.assertEqual(lines[1], "8 steps, 0 refused, 0 reads answered, 0 differ")
         names = sorted(path.name for path in self.into.iterdir())
@@ -132,7 +132,7 @@ class Recorded(Folder):
         other = ppm(3, 2, RED * 3 + WHITE + BLACK + BLACK)
         status, lines, _ = self.record(picture=other)
         self.assertEqual(status, 1)
-        self.assertTrue(lines[-2].endswith("behind cycle 1: 2 of 6 dots differ, in columns 1 to 2 and rows 1 to 1"), lines)
+        self.assertTrue(lines[-2].endswith("after cycle 1: 2 of 6 dots differ, in columns 1 to 2 and rows 1 to 1"), lines)
         self.assertIn("may be what is known of qemu: palette address source", lines[-1])
         self.assertTrue((self.into / "differing-1.png").exists())
 
@@ -200,7 +200,7 @@ class Recorded(Folder):
         self.assertEqual(status, 0)
         expected = ["qmp_capabilities", "screen", "send-key c", "send-key ctrl-l", "screen", "send-key ret", "screen", "quit"]
         self.assertEqual(self.asked(), expected)
-        places = [line.partition("behind ")[2].partition(":")[0] for line in lines[-3:]]
+        places = [line.partition("after ")[2].partition(":")[0] for line in lines[-3:]]
         self.assertEqual(places, ["cycle 1", "cycle 3", "cycle 4"])
 
     def test_a_machine_that_is_never_quiet_ends(self) -> None:
@@ -285,7 +285,7 @@ class Words(Folder):
         self.write("full/file", "")
         for words, told in (
             ((self.folder / "full", "--vga", program, "--", "-cdrom", "x"), "it has files: name a new folder"),
-            ((self.folder / "new", "--vga", program), "qemu wants words behind `--`"),
+            ((self.folder / "new", "--vga", program), "qemu needs words after `--`"),
             ((self.folder / "new", "--key", "2:"), "'2:' is no key of qemu's"),
             ((self.folder / "new", "--key", "x:ret"), "'x' is no number of seconds"),
             ((self.folder / "new", "--screen", "soon"), "'soon' is no number of seconds"),

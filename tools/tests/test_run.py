@@ -174,7 +174,7 @@ class Listings(Fake):
     def test_a_report_that_goes_on_behind_its_script(self) -> None:
         self.change_program("", "", "if words[0] == 'go': out.write(b'7 ok\\n')\n")
         status, _, said = self.run_script()
-        self.assertEqual((status, said), (2, f"vga-report: {self.path}: the report goes on behind the last step, 6\n"))
+        self.assertEqual((status, said), (2, f"vga-report: {self.path}: the report goes on after the last step, 6\n"))
 
     def test_long_scripts_take_no_longer_a_step(self) -> None:
         path = self.write("long.vga", "out 3c4 02\n" * 50_000)

@@ -362,7 +362,7 @@ class Converting(Folder):
         path, script = self.trace(BEGIN + steps), str(self.folder / "script")
         with mock.patch.multiple(converting, MOST_BYTES=200, FOR_THE_END=64):
             most = "more than 200 bytes, or means more than 16,777,216 steps"
-            told = f"{most}; `--to 32` ends before that, and `--from 33` goes on behind it"
+            told = f"{most}; `--to 32` ends before that, and `--from 33` goes on after it"
             self.assertEqual(
                 call(main, "convert", path, script),
                 (2, "", f"vga-trace: {path}: the script has {told}\n"),
@@ -682,6 +682,6 @@ class Scripts(Folder):
         with mock.patch.multiple(converting, MOST_STEPS=200, FOR_THE_END=10):
             status, _, said = call(main, "convert", path, script)
         self.assertEqual(status, 2)
-        told = "200 steps; `--to 1` ends before that, and `--from 2` goes on behind it"
+        told = "200 steps; `--to 1` ends before that, and `--from 2` goes on after it"
         self.assertIn(f"or means more than {told}", said)
         self.assertFalse(script.exists())

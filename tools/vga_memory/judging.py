@@ -73,5 +73,5 @@ def judge_program(answers: Sequence[Answer], whole: Answer, fronts: Sequence[byt
         raise Wrong("a growth was refused while words were read, and nothing said so")
     written = {answer.written for answer, was_refused in zip(answers, were_refused) if was_refused}
     if written != set(fronts):
-        raise Wrong(f"runs ended behind {sorted(written)}, and not behind each of {sorted(fronts)}")
+        raise Wrong(f"runs ended after {sorted(written)}, and not after each of {sorted(fronts)}")
     return sum(were_refused)

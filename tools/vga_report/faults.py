@@ -202,7 +202,7 @@ def _bad_step(data: bytes, place: int) -> str:
 
 def _truncated(data: bytes, place: int) -> str:
     if place >= len(data):
-        return "nothing stands behind the magic: the version is lacking"
+        return "nothing stands after the magic: the version is lacking"
     left = len(data) - place
     step = f"the step {OPCODES.get(data[place], '')} at offset {place}"
     return f"{step} is cut off: the file ends after {left} of its bytes"

@@ -172,7 +172,7 @@ class Script:
                     # Behind the last there are the looks of a stopped run.
                     yield Row(step, looks[step.number - taken - 1])
                 elif self.count is not None:
-                    raise Trouble(f"the report goes on behind the last step, {taken + len(looks)}", self.shown)
+                    raise Trouble(f"the report goes on after the last step, {taken + len(looks)}", self.shown)
                 else:
                     yield Row(step, "")
         if outcome.status:

@@ -123,7 +123,7 @@ def _unknown_step(word: Word) -> Mistake:
     if text.startswith(COMMENT_SIGNS) or text in COMMENT_WORDS:
         return _wrong(word, "comments begin with ;")
     if text.rstrip(PUNCTUATION) in NAMES:
-        return _wrong(word, f"nothing stands behind the name of a step but blanks: write {text.rstrip(PUNCTUATION)}")
+        return _wrong(word, f"nothing stands after the name of a step but blanks: write {text.rstrip(PUNCTUATION)}")
     longest = sorted((name for name, numbers in SHAPES.items() if numbers), key=len, reverse=True)
     glued = next((name for name in longest if text.startswith(name)), None)
     if glued and HEX.fullmatch(text[len(glued):]) and len(text) > len(glued) + 1:
@@ -268,7 +268,7 @@ def _no_register(word: Word, name: str, behind: Sequence[Word]) -> Mistake:
     if name in REGISTERS:
         return _wrong(word, f"{name} has no value: write {name}=0")
     if HEX.fullmatch(word.text) or FOREIGN_HEX.fullmatch(word.text):
-        return _wrong(word, "a call is always interrupt 10, and its numbers stand behind their registers: ax=3")
+        return _wrong(word, "a call is always interrupt 10, and its numbers stand after their registers: ax=3")
     near = difflib.get_close_matches(name, [BLOCK], 1)
     hint = f"did you mean {near[0]}?" if near else "a call has ax=, bx=, cx=, dx= and block"
     return _wrong(word, f"'{_short(word.text)}' is no register; {hint}")

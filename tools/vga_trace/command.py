@@ -188,7 +188,7 @@ def _wanted(words: argparse.Namespace) -> Wanted:
 def _check_range(words: argparse.Namespace) -> None:
     """Ends the work where no cycle is from the first on that is wanted to the last."""
     if words.to is not None and words.from_ > words.to:
-        raise Trouble(f"--from {words.from_} is behind --to {words.to}: no cycle is both")
+        raise Trouble(f"--from {words.from_} is after --to {words.to}: no cycle is both")
 
 
 def _opened(words: argparse.Namespace) -> ContextManager[Trace]:
@@ -276,7 +276,7 @@ def _pictures(words: argparse.Namespace, _: Progress) -> int:
 def _record(words: argparse.Namespace, progress: Progress) -> int:
     """Records, replays, and says how each screen compares."""
     if not words.qemu:
-        raise Trouble("qemu wants words behind `--`, as `-- -cdrom disc.iso`")
+        raise Trouble("qemu needs words after `--`, as `-- -cdrom disc.iso`")
     program, folder = found_program(words.vga), Path(words.folder)
     check_folder(words.folder)
     if folder.exists() and any(folder.iterdir()):

@@ -206,4 +206,4 @@ def _too_long(last: int) -> str:
     most = f"more than {MOST_BYTES:,} bytes, or means more than {MOST_STEPS:,} steps"
     if last == 0:
         return f"the script has {most}, and no cycle fits"
-    return f"the script has {most}; `--to {last}` ends before that, and `--from {last + 1}` goes on behind it"
+    return f"the script has {most}; `--to {last}` ends before that, and `--from {last + 1}` goes on after it"

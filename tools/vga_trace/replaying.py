@@ -57,7 +57,7 @@ class Verdict:
 
     def lines(self) -> Iterator[str]:
         """What is told of it."""
-        yield f"screen {self.number} at {self.seconds:.1f} s, behind cycle {self.cycle:,}: {self._told()}"
+        yield f"screen {self.number} at {self.seconds:.1f} s, after cycle {self.cycle:,}: {self._told()}"
         if self.is_equal:
             return
         if self.lacking:

@@ -80,7 +80,7 @@ def _narrowed(number: int, cycle: Cycle) -> Iterator[Step]:
 def steps_of(cycles: Iterable[Cycle], apart: Sequence[int] = ()) -> Iterator[Step]:
     """The steps of cycles. A byte of memory at an even address and the next one become a word, as software meant them.
 
-    The two stay apart behind cycles of some numbers, which may be found while the cycles pass.
+    The two stay apart after cycles of some numbers, which may be found while the cycles pass.
     """
     held: Optional[Step] = None
     numbered = ((number, cycle) for number, cycle in enumerate(cycles, 1) if cycle.space != VBE)

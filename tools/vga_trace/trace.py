@@ -111,7 +111,7 @@ class Trace:
                     raise self._without_cycle(f"it has no cycle in its first {MOST_BEFORE:,} bytes")
                 yield line
         except (EOFError, gzip.BadGzipFile, zlib.error) as error:
-            raise self.trouble(f"its compressed bytes are damaged behind this line: {error}") from error
+            raise self.trouble(f"its compressed bytes are damaged after this line: {error}") from error
         except OSError as error:
             raise self.trouble(error.strerror or str(error)) from error
 

@@ -18,7 +18,7 @@ class Step(NamedTuple):
 
     number: int
     answer: str
-    """what stands behind the number; a dump of several lines has newlines in it"""
+    """what stands after the number; a dump of several lines has newlines in it"""
     picture: Optional[Picture] = None
 
     @property

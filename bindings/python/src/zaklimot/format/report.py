@@ -141,7 +141,7 @@ class Report:
     def _fault(self, text: str) -> Answer:
         """A fault in the place of a report, behind which nothing may stand."""
         if self._next_line():
-            raise self._error("something stands behind a fault")
+            raise self._error("something stands after a fault")
         return Answer(0, 1, text)
 
     def _next_line(self) -> bytes:
@@ -177,7 +177,7 @@ class Report:
         if len(ppm) < length:
             raise self._error(f"the picture of step {number} is cut off: of {length} bytes there are {len(ppm)}")
         if newline != b"\n":
-            raise self._error(f"no newline stands behind the {length} bytes of the picture of step {number}")
+            raise self._error(f"no newline stands after the {length} bytes of the picture of step {number}")
         if self._heard is not None:
             self._heard(self.line)
         try:
