@@ -261,7 +261,7 @@ class Several(Folder):
         self.assertTrue(said.startswith(f"vga-floppy: {folder}/two.vga:1: F7 BadLine(1): "))
 
     def test_a_name_of_a_file_elsewhere(self) -> None:
-        for name in ("../one", "/tmp/one"):
+        for name in ("../one", str(self.folder / "one")):
             image = image_for({name: Script(), "two": Script()}, "it")
             path = self.folder / "image"
             path.write_bytes(Machine(image, Adapter()).run())
