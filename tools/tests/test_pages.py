@@ -13,6 +13,8 @@ LINK = re.compile(r"\]\(([^()\s]+)\)")
 HEADING, ANCHOR = re.compile(r"#{1,6} +(.*?)\s*$"), re.compile(r'<a (?:id|name)="([^"]+)">')
 FENCE = re.compile(r"^ *(```|~~~)")
 OUTSIDE = ("http:", "https:", "mailto:")
+# How a command of the repository begins. In prose its path stands between back quotes.
+COMMAND = re.compile(r"(?:\$ )?(?:tools|crates|bench|examples|page|\.ci)/\S+( |$)")
 
 
 def prose(text: str) -> Iterator[str]:
@@ -60,6 +62,11 @@ def broken(page: Path, text: str) -> list[str]:
     return wrong
 
 
+def commands_in_prose(text: str) -> list[str]:
+    """The lines of a page that are commands, and that a reader sees as a paragraph."""
+    return [line for line in prose(text) if COMMAND.match(line)]
+
+
 def pages() -> list[Path]:
     """The pages of the repository."""
     listed = subprocess.run(
@@ -85,6 +92,20 @@ class Links(unittest.TestCase):
 
     def test_headings_of_one_name(self) -> None:
         self.assertEqual(anchors('# A b\n\n# A b\n\n<a id="x.y"></a>\n```\n# no\n```\n'), {"a-b", "a-b-1", "x.y"})
+
+
+class Commands(unittest.TestCase):
+    """Each command of the repository that stands on a line of its own is code."""
+
+    def test_each_is_indented_or_fenced(self) -> None:
+        for page in pages():
+            with self.subTest(page.relative_to(ROOT)):
+                self.assertEqual(commands_in_prose(page.read_text("utf-8")), [])
+
+    def test_one_that_lost_its_indentation_is_found(self) -> None:
+        lost = "tools/vga-report text report.txt"
+        text = f"# One\n\n{lost}\n\n    {lost}\n\n```\n{lost}\n```\n`{lost}` is a\ntools-of-tests/one\n"
+        self.assertEqual(commands_in_prose(text), [lost])
 
 
 # The reference pages, and their sections that are examples and no rules.
