@@ -13,6 +13,7 @@ from library_tests.programs import expect
 from library_tests.suite import judged
 from vga_library import making, toolchain
 from vga_library.targets import X86_64
+from vga_release import gathering
 from vga_report import TOP, crates
 from vga_report.version import HEADER, Version, calls_of, version_of, without_comments
 from vga_library.making import MOVING, Place, cmake_text, cmake_version_text, package_text
@@ -149,7 +150,7 @@ class Page(unittest.TestCase):
     def test_its_version_is_the_header_s(self) -> None:
         told = version_of(TEXT)
         self.assertIn(f"this is version {told}.", " ".join(PAGE.read_text("utf-8").split()))
-        for page in (PAGE, PAGE.with_name("RELEASE.md")):
+        for page in (PAGE, TOP / gathering.PAGE):
             self.assertEqual(set(re.findall(r"zaklimot-(\d+\.\d+)-", page.read_text("utf-8"))), {str(told)}, page.name)
 
     def test_each_call_has_its_function_in_cpp(self) -> None:

@@ -24,6 +24,7 @@ from vga_release.packing import Entry, pack
 from vga_report.processes import Done
 from vga_report.trouble import TROUBLE
 
+from .test_pages import anchors, prose
 from .tools import Folder, call
 
 ENTRIES: dict[str, Entry] = {
@@ -131,6 +132,17 @@ class Whole(unittest.TestCase):
             if posixpath.normpath(posixpath.join(posixpath.dirname(page), link)) not in self.places
         ]
         self.assertEqual(dead, [])
+
+    def test_each_anchor_is_in_the_page_that_its_link_leads_to(self) -> None:
+        found = {page: anchors(text) for page, text in self.pages.items()}
+        links = [
+            (page, posixpath.normpath(posixpath.join(posixpath.dirname(page), place)) if place else page, anchor)
+            for page, text in self.pages.items()
+            for place, anchor in re.findall(r"\]\((?!https?:)([^()\s#]*)#([^()\s]+)\)", "\n".join(prose(text)))
+        ]
+        self.assertIn((FRONT, "docs/LIBRARY.md", "a-release"), links)
+        self.assertIn(("docs/LIBRARY.md", f"docs/{FRONT}", "build-it"), links)
+        self.assertEqual([link for link in links if link[2] not in found.get(link[1], ())], [])
 
     def test_each_command_is_there_or_told_to_be_elsewhere(self) -> None:
         elsewhere = re.findall(r"`([^`]+)`", self.pages[FRONT].partition("These prove, build or test")[2].partition("\n\n")[0])

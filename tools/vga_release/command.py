@@ -27,7 +27,7 @@ SUM = "sha256"
 
 def _parser() -> argparse.ArgumentParser:
     parser = cli.tool_parser(
-        "vga-release", "Packs a release of what is checked out.", "tools/vga-release release", "docs/RELEASE.md"
+        "vga-release", "Packs a release of what is checked out.", "tools/vga-release release", "docs/LIBRARY.md"
     )
     parser.add_argument("folder", type=Path, metavar="FOLDER", help="where the archive goes")
     parser.add_argument(

@@ -20,13 +20,13 @@ from .packing import Entry
 
 # The tools that need no toolchain: the command of each, and its package.
 TOOLS = tuple(f"tools/vga{mark}{name}" for name in ("floppy", "fuzz", "picture", "report", "trace") for mark in "-_")
+# The front page of a release is this one, and the repository's lies beside the other pages.
+PAGE, FRONT = "tools/vga_release/README.md", "README.md"
 # What of the commit goes into a release, where it lies in the repository.
 PATHS = (
-    "CHANGELOG.md", "LICENSE", "README.md", "SECURITY.md", "bindings", "crates/vga_suite/data", "docs", "examples", "fonts",
+    "CHANGELOG.md", "LICENSE", FRONT, PAGE, "SECURITY.md", "bindings", "crates/vga_suite/data", "docs", "examples", "fonts",
     "include", "page/zaklimot.html", "tools/README.md", *TOOLS,
 )
-# The front page of a release is this one of its pages, and the repository's lies beside the others.
-PAGE, FRONT = "docs/RELEASE.md", "README.md"
 MOVED = {PAGE: FRONT, FRONT: f"docs/{FRONT}"}
 INSTALL = "install.sh"
 # Other names of what is built, so that the commands of all pages run in a release as they stand.
