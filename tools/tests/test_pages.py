@@ -108,6 +108,19 @@ class Commands(unittest.TestCase):
         self.assertEqual(commands_in_prose(text), [lost])
 
 
+class Front(unittest.TestCase):
+    """The front page stays short: it is read in a few minutes, and the rest stands on pages of its own."""
+
+    MOST_LINES, MOST_COLUMNS = 110, 100
+
+    def test_it_has_few_lines_and_none_is_long(self) -> None:
+        lines = (ROOT / "README.md").read_text("utf-8").splitlines()
+        self.assertLessEqual(len(lines), self.MOST_LINES)
+        # A row of a table and a picture are one line each, however long.
+        wrapped = [line for line in lines if not line.startswith(("|", "!["))]
+        self.assertEqual([line for line in wrapped if len(line) > self.MOST_COLUMNS], [])
+
+
 # The reference pages, and their sections that are examples and no rules.
 REFERENCE = {
     "REGISTERS": set(), "HOST-PATH": {"Worked example"}, "RASTER": {"Two examples"}, "MODES": set(),
