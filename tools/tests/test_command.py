@@ -13,10 +13,9 @@ from functools import partial
 from pathlib import Path
 
 from vga_report.cases import Case, read_cases
-from vga_report.trouble import Trouble
 
 from .making import BLACK, RED, WHITE, png_rows, ppm, report
-from .tools import TOOLS, Folder, begin, run_tool
+from .tools import TOOLS, Folder, begin, ended, refused, run_tool
 
 PROGRAM = TOOLS / "vga-report"
 ADAPTER = shlex.join([sys.executable, str(TOOLS / "tests" / "adapter.py")]) + " {script}"
@@ -65,13 +64,6 @@ class Pictures(Folder):
         status, picture, _ = run("pictures", path, "-", "--step", "3")
         self.assertEqual((status, png_rows(picture)), (0, (1, 1, [b"\xff\xff\xff"])))
         self.assertEqual(run("pictures", path, "-", "--ppm"), (0, PICTURE + ppm(1, 1, WHITE), ""))
-
-    def test_no_picture(self) -> None:
-        path, folder = self.report("r", "ok", PICTURE), self.folder / "a"
-        message = f"vga-report: {path}: step 1 has no picture; there are 2 steps\n"
-        self.assertEqual(run("pictures", path, folder, "--step", "1"), (2, b"", message))
-        message = "vga-report: standard input: no step has a picture\n"
-        self.assertEqual(run("pictures", "-", folder, given=b"1 ok\n"), (2, b"", message))
 
     def test_an_enlarged_picture_has_at_most_100_million_dots(self) -> None:
         path, folder = self.report("r", ppm(100, 101, BLACK * 10100)), self.folder / "a"
@@ -134,28 +126,6 @@ class Compare(Folder):
         message = "vga-report: standard input:2: the picture is shown by its digest, and its dots are not in the file\n"
         self.assertEqual(run("pictures", "-", self.folder / "p", given=shown), (2, b"", message))
 
-
-class Pipes(Folder):
-    def test_the_writer_of_standard_input_is_not_cut_off(self) -> None:
-        data = report(PICTURE, *("ok" for _ in range(50000)))
-        streams = {"stdin": subprocess.PIPE, "stdout": subprocess.DEVNULL, "stderr": None}
-        process = begin(PROGRAM.name, "pictures", "-", "-", "--step", "1", **streams)
-        assert process.stdin is not None
-        with process, process.stdin:
-            process.stdin.write(data)
-        self.assertEqual(process.returncode, 0)
-
-    def test_a_full_disk(self) -> None:
-        path = self.report("r", *("ok" for _ in range(50000)))
-        if not Path("/dev/full").exists():
-            self.skipTest("this system has no disk that is always full")
-        with open("/dev/full", "wb") as full:
-            done = subprocess.run([sys.executable, PROGRAM, "text", path], stdout=full, stderr=subprocess.PIPE)
-        message = b"vga-report: standard output: No space left on device\n"
-        self.assertEqual((done.returncode, done.stderr), (2, message))
-
-
-class Check(Folder):
     def test_as_expected_and_not(self) -> None:
         path, expected = self.report("r", "ok", "ok", "55"), self.folder / "e"
         for text, status, said in [
@@ -169,52 +139,47 @@ class Check(Folder):
                 self.assertEqual(run("check", path, expected), (status, said.encode(), ""))
 
 
-class Words(Folder):
+class Streams(Folder):
+    """Standard streams that are closed, or full, or the file that is read; and names of any bytes."""
+
+    def test_the_writer_of_standard_input_is_not_cut_off(self) -> None:
+        data = report(PICTURE, *("ok" for _ in range(50000)))
+        streams = {"stdin": subprocess.PIPE, "stdout": subprocess.DEVNULL, "stderr": None}
+        process = begin(PROGRAM.name, "pictures", "-", "-", "--step", "1", **streams)
+        assert process.stdin is not None
+        with process, process.stdin:
+            process.stdin.write(data)
+        self.assertEqual(process.returncode, 0)
+
     @unittest.skipIf(sys.platform in ("win32", "darwin"), "names of any bytes are of Linux")
     def test_names_of_any_bytes(self) -> None:
         folder = bytes(self.folder) + b"/\xff\xfe "
-        path = self.report("r", PICTURE)
-        words = [os.fsencode(sys.executable), bytes(PROGRAM), b"pictures", path.encode(), folder]
-        done = subprocess.run(words, capture_output=True)
-        self.assertEqual((done.returncode, done.stdout, done.stderr), (0, folder + b"/0001.png\n", b""))
+        path, run = self.report("r", PICTURE), partial(ended, sys.executable, PROGRAM, text=False)
+        self.assertEqual(run("pictures", path, folder), (0, folder + b"/0001.png\n", b""))
         os.rename(path, folder + b"/r")
-        done = subprocess.run([*words[:2], b"text", folder + b"/r", folder], capture_output=True)
-        self.assertEqual(done.returncode, 2)
-        done = subprocess.run([*words[:2], b"compare", folder + b"/r", folder + b"/r"], capture_output=True)
-        self.assertEqual((done.returncode, done.stderr), (0, b""))
-        self.assertIn(folder + b"/r agree", done.stdout.replace(b"\n", b" "))
-        done = subprocess.run([*words[:2], b"text", folder + b"/none"], capture_output=True)
-        self.assertEqual((done.returncode, done.stdout), (2, b""))
-        self.assertIn(b"\\udcff\\udcfe /none: No such file or directory\n", done.stderr)
-
-
-class Closed(Folder):
-    """Standard streams that are closed."""
+        self.assertEqual(run("text", folder + b"/r", folder)[0], 2)
+        status, output, said = run("compare", folder + b"/r", folder + b"/r")
+        self.assertEqual((status, said), (0, b""))
+        self.assertIn(folder + b"/r agree", output.replace(b"\n", b" "))
+        status, output, said = run("text", folder + b"/none")
+        self.assertEqual((status, output), (2, b""))
+        self.assertIn(b"\\udcff\\udcfe /none: No such file or directory\n", said)
 
     def test_each_is_told_or_not_wanted(self) -> None:
-        path, told = self.report("r", "ok"), "vga-report: standard {}put: it is closed\n"
-        for closing, word, status, output, said in (
-            (">&-", path, 2, b"", told.format("out")),
-            ("<&-", "-", 2, b"", told.format("in")), ("<&-", path, 0, b"1 ok\n", ""),
+        path, long = self.report("r", "ok"), self.report("long", *("ok" for _ in range(50000)))
+        told = "vga-report: standard {}put: {}\n".format
+        for streams, word, status, output, said in (
+            (">&-", path, 2, "", told("out", "it is closed")),
+            ("<&-", "-", 2, "", told("in", "it is closed")), ("<&-", path, 0, "1 ok\n", ""),
             # Nothing is said on standard output in the place of a closed error.
-            ("2>&-", str(self.folder / "none"), 2, b"", ""),
+            ("2>&-", str(self.folder / "none"), 2, "", ""),
+            (">/dev/full", long, 2, "", told("out", "No space left on device")),
+            (f">>{path}", path, 2, "", told("out", f"it is read as {path}, so it isn't written")),
         ):
-            with self.subTest(closing, word=word):
-                line = shlex.join([sys.executable, str(PROGRAM), "text", word]) + " " + closing
-                done = subprocess.run(line, shell=True, capture_output=True)
-                self.assertEqual((done.returncode, done.stdout, done.stderr.decode()), (status, output, said))
-
-
-class Inputs(Folder):
-    """A file that is read is never written."""
-
-    def test_standard_output_that_is_appended_to_the_report(self) -> None:
-        path = self.report("a", "ok", "ok")
-        with open(path, "ab") as output:
-            done = subprocess.run([sys.executable, PROGRAM, "text", path], stdout=output, stderr=subprocess.PIPE)
-        message = f"vga-report: standard output: it is read as {path}, so it isn't written\n"
-        self.assertEqual((done.returncode, done.stderr.decode()), (2, message))
-        self.assertEqual(Path(path).read_bytes(), b"1 ok\n2 ok\n")
+            with self.subTest(streams, word=word):
+                line = shlex.join([sys.executable, str(PROGRAM), "text", word])
+                self.assertEqual(ended("sh", "-c", f"{line} {streams}"), (status, output, said))
+        self.assertEqual(Path(path).read_bytes(), b"1 ok\n")
 
 
 # Cases of a suite, each a script with the report that is expected of it; the words of the command;
@@ -484,11 +449,11 @@ class Suite(Folder):
 
 
 class Cases(Folder):
+    """What a list says of its cases: their files, their scripts and their rules."""
+
     def cases(self, text: str) -> list[Case]:
         return read_cases(self.write("list.txt", text))
 
-
-class Lists(Cases):
     def test_each_kind_of_line(self) -> None:
         cases = self.cases(
             "# Heading\n\nfonts zero.fnt\na/one\na/two until 5\nwrong a/three\nwrong a/three until 2\n"
@@ -509,12 +474,9 @@ class Lists(Cases):
 
     def test_a_line_that_is_no_case(self) -> None:
         for line in ("a b", "a until", "a until x", "bytes a b"):
-            with self.subTest(line), self.assertRaises(Trouble) as caught:
-                self.cases("fonts zero.fnt\n" + line + "\n")
-            self.assertEqual(str(caught.exception), f"{self.folder}/list.txt:2: no case: '{line}'")
+            told = f"{self.folder}/list.txt:2: no case: '{line}'"
+            self.assertEqual(refused(self.cases, f"fonts zero.fnt\n{line}\n"), told)
 
-
-class Scripts(Cases):
     def script(self, line: str, **files: str) -> bytes:
         """The script of the only case of a list."""
         self.write("one.txt", "1 ok\n")
@@ -552,12 +514,9 @@ class Scripts(Cases):
 
     def test_digits_that_are_none(self) -> None:
         for word in ("5", "567", "GG", "56*", "56*0", "56*x"):
-            with self.subTest(word), self.assertRaises(Trouble) as caught:
-                self.script("bytes one\n", one_hex="56\n" + word + "\n")
-            self.assertEqual(str(caught.exception), f"{self.folder}/one.hex:2: '{word}' is no byte")
+            told = refused(partial(self.script, "bytes one\n", one_hex=f"56\n{word}\n"))
+            self.assertEqual(told, f"{self.folder}/one.hex:2: '{word}' is no byte")
 
-
-class Rules(Cases):
     def test_the_first_line_of_the_first_comment(self) -> None:
         for text, rule in [
             ("; The rule.\n; More.\nframe\n", "The rule."),

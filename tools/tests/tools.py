@@ -19,6 +19,8 @@ from functools import partial
 from pathlib import Path
 from typing import Any, BinaryIO, Callable, Optional, Sequence
 
+from vga_report.trouble import Trouble
+
 from .making import report
 
 TOOLS = Path(__file__).resolve().parents[1]
@@ -87,6 +89,22 @@ def call(main: Callable[[list[str]], int], *words: str | Path) -> tuple[int, str
     with contextlib.redirect_stdout(output), contextlib.redirect_stderr(errors):
         status = main([str(word) for word in words])
     return status, output.getvalue(), errors.getvalue()
+
+
+def ended(*words: str | bytes | Path, **options: Any) -> tuple[int, Any, Any]:
+    """The same of any command; `options` go to `subprocess.run`, and `text=False` among them asks for bytes."""
+    given = {"stdout": subprocess.PIPE, "stderr": subprocess.PIPE, "text": True, "timeout": MOST_SECONDS, **options}
+    done = subprocess.run(words, **given)
+    return done.returncode, done.stdout, done.stderr
+
+
+def refused(work: Callable[..., object], *words: object) -> str:
+    """What is told of work that a Trouble ends."""
+    try:
+        work(*words)
+    except Trouble as trouble:
+        return str(trouble)
+    raise AssertionError("it is not refused")
 
 
 def _heed_signals() -> None:
