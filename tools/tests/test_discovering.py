@@ -1,13 +1,9 @@
-"""How the tests are run: each module in a process, what is told of them, and what is left of them."""
+"""How the tests are run: each module in a process, and what is told of them."""
 
-import os
-import sys
-import tempfile
-import unittest
 from pathlib import Path
 
 from .program import UNBUILT
-from .tools import SIGNALS, Folder, begin, run_tool
+from .tools import Folder, run_tool
 
 # Tests of which some want a file in the place of the program.
 WANTING = f"""
@@ -36,17 +32,6 @@ BAD = {
     "is_killed": ("os.kill(os.getpid(), 9)", 0, NO_ANSWER.format("is_killed", -9)),
     "is_asked_to_end": ("os.kill(os.getpid(), 15)", 0, NO_ANSWER.format("is_asked_to_end", 143)),
 }
-# Starts a process in a group of its own, as tools do, which it ends when it is asked to; leaves a file, and sleeps.
-SLEEPING = """
-import os, subprocess, tempfile, unittest
-from vga_report.processes import started
-class Sleeping(unittest.TestCase):
-    def test_one(self):
-        tempfile.mkstemp()
-        with started(["sleep", "600"]) as process:
-            open(os.environ["CHILD"], "w").write(f"{process.pid} {os.getpid()}\\n")
-            process.wait()
-"""
 
 
 class Running(Folder):
@@ -92,19 +77,3 @@ class Running(Folder):
         for name, (_, count, told) in BAD.items():
             self.assertIn(f"failed  new.test_{name}, {count} test", said)
             self.assertIn(told, said)
-
-    @unittest.skipUnless(sys.platform == "linux", "processes are looked at as Linux shows them")
-    def test_signals_end_all_that_was_begun(self) -> None:
-        self.lay("one", SLEEPING)
-        for number, status in SIGNALS:
-            with self.subTest(number), tempfile.TemporaryDirectory() as temporary:
-                child = self.folder / "child"
-                child.unlink(missing_ok=True)
-                environment = {**os.environ, "TMPDIR": temporary, "CHILD": str(child)}
-                with begin("tests-of-tools", "--folder", self.folder / "new", env=environment) as process:
-                    numbers = map(int, self.wait_for(child, process).split())
-                    process.send_signal(number)
-                    output, said = process.communicate(timeout=60)
-                self.assertEqual((process.returncode, output, said), (status, b"", b""))
-                self.assert_ended(*numbers)
-                self.assertEqual(os.listdir(temporary), [])

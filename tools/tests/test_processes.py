@@ -34,11 +34,23 @@ SLEEPING = """import os, time
 open(os.environ['CHILD'], 'w').write(f'{os.getpid()}\\n')
 time.sleep(600)
 """
+# Tests, of which one does the same of a process in a group of its own, and leaves a temporary file too.
+TESTS = """
+import os, subprocess, tempfile, unittest
+from vga_report.processes import started
+class Sleeping(unittest.TestCase):
+    def test_one(self):
+        tempfile.mkstemp()
+        with started(["sleep", "600"]) as process:
+            open(os.environ["CHILD"], "w").write(f"{process.pid} {os.getpid()}\\n")
+            process.wait()
+"""
 # The words of tools that start programs.
 STARTING = (
     "vga-report suite {harness} --list {list}", "vga-report run {script} --try", "vga-memory",
     "vga-library make {made}", "vga-page module {made}", "vga-fuzz {vga}",
-    "vga-floppy run --on dosbox {script} {made}",
+    "vga-floppy run --on dosbox {script} {made}", "tests-of-tools --folder {new}",
+    "vga-trace record {made} --vga {vga} --quiet 50 -- -cdrom disc",
 )
 
 
@@ -87,12 +99,15 @@ class Signals(Folder):
         self.write("one.vga", "frame\n")
         self.write("one.txt", "1 ok\n")
         harness = self.write("harness.py", PARENT + "time.sleep(600)")
+        self.write("new/__init__.py", "")
         self.program("bin/rt", RT)
+        self.program("bin/qemu-system-x86_64", SLEEPING)
         self.program("bin/dosbox", f"#!/bin/sh\nexec {sys.executable} {TOOLS / 'tests' / 'floppy.py'} wait $CHILD\n")
         places = {
             "harness": f"{sys.executable} {harness} {self.folder}/child {{script}}",
             "list": self.write("list.txt", "fonts two.fnt\none\n"), "script": str(self.folder / "one.vga"),
             "vga": self.program("bin/vga", SLEEPING), "made": str(self.folder / "made"),
+            "new": str(Path(self.write("new/test_one.py", TESTS)).parent),
         }
         for line in STARTING:
             tool, *words = (word.format(**places) for word in line.split())

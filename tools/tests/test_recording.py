@@ -27,7 +27,7 @@ from zaklimot.format import Picture
 
 from .making import BLACK, RED, WHITE, png_rows, ppm
 from .test_trace import BEGIN, listed, qemu, registers
-from .tools import SIGNALS, TOP, Folder, begin, call, is_running, run_tool
+from .tools import TOP, Folder, call, run_tool
 
 run = partial(run_tool, "vga-trace")
 PICTURE = ppm(3, 2, RED * 3 + WHITE * 3)
@@ -231,22 +231,6 @@ class Recorded(Folder):
         self.assertEqual((status, said), (2, f"vga-trace: {program}: it ended with status 3: oh\n"))
         self.assertEqual(sorted(path.name for path in self.into.iterdir()), ["script.bin", "trace.gz"])
 
-    def test_signals_leave_nothing(self) -> None:
-        for number, status in SIGNALS:
-            with self.subTest(number):
-                (self.folder / "number").unlink(missing_ok=True)
-                words = ("--vga", self.fake("ok"), "--quiet", "50", "--", "-cdrom", "disc")
-                command = begin("vga-trace", "record", self.into, *words)
-                self.addCleanup(command.communicate)
-                self.addCleanup(command.kill)
-                machine = int(self.wait_for(self.folder / "number", command))
-                self.assertTrue(is_running(machine))
-                command.send_signal(number)
-                self.assertEqual(command.wait(60), status)
-                self.assert_ended(machine)
-                self.assertFalse(self.into.exists())
-                self.assertEqual(list((self.folder / "temporary").iterdir()), [])
-
     def refused(self, name: str, value: float, word: str) -> str:
         """What is said of a machine that is given up, with a limit changed."""
         self.patch(mock.patch.object(recording, name, value))
@@ -277,27 +261,6 @@ class Quiet(unittest.TestCase):
         self.assertTrue(session.is_due(Deed()))
         keeper.size = 0
         self.assertFalse(session.is_due(Deed()))
-
-
-class Words(Folder):
-    def test_what_is_refused(self) -> None:
-        program = self.program("vga", "#!/bin/sh\n")
-        self.write("full/file", "")
-        for words, told in (
-            ((self.folder / "full", "--vga", program, "--", "-cdrom", "x"), "it has files: name a new folder"),
-            ((self.folder / "new", "--vga", program), "qemu needs words after `--`"),
-            ((self.folder / "new", "--key", "2:"), "'2:' is no key of qemu's"),
-            ((self.folder / "new", "--key", "x:ret"), "'x' is no number of seconds"),
-            ((self.folder / "new", "--screen", "soon"), "'soon' is no number of seconds"),
-        ):
-            with self.subTest(told):
-                status, _, said = call(main, "record", *words)
-                self.assertEqual(status, 2)
-                self.assertIn(told, said)
-        self.assertEqual(self.names(), ["full", "vga"])
-        given = BEGIN.decode()
-        status, _, said = run("convert", "-", "-", "--time", "--frames", "clock", given=given.encode())
-        self.assertEqual(said, "vga-trace: frames by the clock have the time already: without --time\n")
 
 
 class Screens(unittest.TestCase):
