@@ -106,12 +106,6 @@ class ComparePicture(Folder):
         blurred = b"\0" + b"\xff\0\0" * 7 + b"\x80\0\0" + bytes(30)
         self.assertEqual(self.compared(png(18, 1, blurred))[0], 1)
 
-    def test_no_picture(self) -> None:
-        path = self.report("r", "ok", PICTURE)
-        (self.folder / "i").write_bytes(PICTURE)
-        status, _, message = run("compare-picture", path, "1", str(self.folder / "i"))
-        self.assertEqual((status, message), (2, f"vga-report: {path}: step 1 has no picture; there are 2 steps\n"))
-
 
 class Animations(Folder):
     def frames(self, data: bytes) -> list[tuple[bytes, bytes]]:

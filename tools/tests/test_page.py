@@ -106,9 +106,6 @@ class Runs(Alone, Fake):
         status, output, said = self.run_script("--html", "-")
         self.assertEqual((status, said), (0, "6 steps, 1 refused, 1 picture, 4 of 4 answers as expected\n"))
         self.assert_stands_alone(output)
-        self.assertEqual(self.run_script("--html", "-", "--show")[0], 2)
-        self.assertEqual(self.run_script("--html", self.path)[2],
-                         f"vga-report: {self.path}: it is read as {self.path}, so it isn't written\n")
 
 
 class Comparisons(Alone):

@@ -542,11 +542,6 @@ class Text(unittest.TestCase):
         )
         self.assertTrue(text.endswith(b"picture 720x400 %s\n" % Picture.of_ppm(drawn(text)[0]).sum.encode()))
 
-    def test_rows_of_other_modes(self) -> None:
-        for words in (("--rows", "28"), ("--own-glyphs",)):
-            status, text, said = run("script", "-", "-", "--mode", "12", *words, given=b"")
-            self.assertEqual((status, text, said), (2, b"", "vga-picture: --rows and --own-glyphs are of text, which is mode 3\n"))
-
     def test_how_many_cells_are_as_in_the_image(self) -> None:
         dots = text_dots()
         dots[0][0] = next(colour for colour in dots[5] if colour != dots[0][0])
@@ -557,11 +552,6 @@ class Text(unittest.TestCase):
 
 class Sizes(unittest.TestCase):
     RED, BLUE = (63, 0, 0), (0, 0, 63)
-
-    def test_another_size_is_refused(self) -> None:
-        status, text, said = run("script", "-", "-", "--mode", "12", given=png_of([[self.RED] * 3] * 2))
-        told = "the image has 3x2 dots, and mode 12 has 640x480: --scale stretches it, --fit keeps its shape"
-        self.assertEqual((status, text, said), (2, b"", f"vga-picture: standard input: {told}\n"))
 
     def test_stretched(self) -> None:
         said, text = made_of(png_of([[self.RED, self.BLUE]]), "--mode", "0D", "--scale")
@@ -585,16 +575,6 @@ class Sizes(unittest.TestCase):
                     said, text = made_of(image, "--mode", "13", "--fit", *words)
                     self.assertIn(f"mode 13: {told}, 3 colours; ", said)
                     self.assertEqual(drawn(text)[0], shown(rows, 2, 2))
-
-    def test_bars_that_are_none(self) -> None:
-        image = png_of([[self.RED] * 3] * 2)
-        for words, told in (
-            (("--scale", "--bars", "ff0000"), "vga-picture: --bars is the colour of the bars that --fit makes\n"),
-            (("--fit", "--bars", "ff000"), "'ff000' is no colour of six hexadecimal digits, as FFFFFF for white\n"),
-        ):
-            status, text, said = run("script", "-", "-", "--mode", "12", *words, given=image)
-            self.assertEqual((status, text), (2, b""))
-            self.assertTrue(said.endswith(told), said)
 
     def test_a_dot_is_the_one_under_its_middle(self) -> None:
         few = [[(at // 60, 0, 0) for at in range(960)]] * 2
@@ -633,11 +613,6 @@ class Refusals(Folder):
         line = b"\0" + b"\x80\x7f" * (3 * 320)
         picture, _ = drawn(script(png(320, 200, line * 200, depth=16), "--mode", "13"))
         self.assertEqual(picture, shown([[(32, 32, 32)] * 320] * 200, 2, 2))
-
-    def test_fonts(self) -> None:
-        fonts = self.write("fonts", bytes(9))
-        status, _, said = run("script", "-", "-", "--mode", "3", "--fonts", fonts, given=self.GOOD)
-        self.assertEqual((status, said), (2, f"vga-picture: {fonts}: a font file has 9,728 bytes, and this has 9\n"))
 
 
 class Examples(unittest.TestCase):

@@ -27,6 +27,7 @@ PROGRAM = "#!/bin/sh\n[ \"$1\" = go ] && exec cat \"${0%/*}/r\"\nexit 0\n"
 FILES: dict[str, str | bytes] = {
     "r": report(PICTURE), "r2": report(OTHER), "i": PICTURE, "s.vga": "frame\n", "m": IMAGE,
     "t": "- w p 3C4 02 1\n", "empty/notes": "", "made/share": "", f"full/{FISH}/file": "",
+    "ok": report("ok", PICTURE), "none": report("ok"),
 }
 # The words of tools, and what is said of them. {o} is a file that is not there, {d} the folder.
 REFUSED = {
@@ -99,6 +100,9 @@ REFUSED = {
     "report pictures {r}": "the pictures want a folder, or --apng a file",
     "report pictures {r} {o} --apng {o}": "--apng writes one file, with neither a folder nor --ppm",
     "report pictures {r} {o} --ppm --aspect": "--ppm gives the bytes as they are",
+    "report pictures {ok} - --step 1": "vga-report: {ok}: step 1 has no picture; there are 2 steps\n",
+    "report pictures {none} -": "vga-report: {none}: no step has a picture\n",
+    "report compare-picture {ok} 1 {i}": "vga-report: {ok}: step 1 has no picture; there are 2 steps\n",
     "report scripts -": "vga-report: the files want a folder\n",
     "trace": "usage: vga-trace",
     "trace convert {t}": "usage: vga-trace",
@@ -112,6 +116,24 @@ REFUSED = {
     "picture script - - --mode 13 --nearest --dither floyd": "usage: vga-picture",
     "picture script - - --mode 13 --dither none": "usage: vga-picture",
     "picture script - - --mode 13 --dither refused": "usage: vga-picture",
+    "picture script {i} - --mode 12 --rows 28":
+        "vga-picture: --rows and --own-glyphs are of text, which is mode 3\n",
+    "picture script {i} - --mode 12 --own-glyphs":
+        "vga-picture: --rows and --own-glyphs are of text, which is mode 3\n",
+    "picture script {i} - --mode 12 --scale --bars ff0000":
+        "vga-picture: --bars is the colour of the bars that --fit makes\n",
+    "picture script {i} - --mode 12 --fit --bars ff000":
+        "'ff000' is no colour of six hexadecimal digits, as FFFFFF for white\n",
+    "picture script {i} - --mode 12":
+        "vga-picture: {i}: the image has 9x1 dots, and mode 12 has 640x480: --scale stretches it, --fit keeps its shape\n",
+    "picture script {i} - --mode 3 --fonts {t}": "vga-picture: {t}: a font file has 9,728 bytes, and this has 15\n",
+    "trace record {d}/full --vga {p} -- -cdrom x": "it has files: name a new folder",
+    "trace record {o} --vga {p}": "qemu needs words after `--`",
+    "trace record {o} --key 2:": "'2:' is no key of qemu's",
+    "trace record {o} --key x:ret": "'x' is no number of seconds",
+    "trace record {o} --screen soon": "'soon' is no number of seconds",
+    "trace convert - - --time --frames clock":
+        "vga-trace: frames by the clock have the time already: without --time\n",
     # Numbers have ranges.
     "report run {s} --until -1 --vga {p}": "'-1' is no number from 0 to 4294967295\n",
     **{
