@@ -138,11 +138,8 @@ def _parser() -> argparse.ArgumentParser:
         "tools/README.md", cli.JUDGES,
     )
     kept = parser.add_mutually_exclusive_group()
-    kept.add_argument(
-        "--keep", type=Path, metavar="FILE",
-        help="writes which tests are skipped because the program isn't built",
-    )
-    kept.add_argument("--again", type=Path, metavar="FILE", help="runs only these; none of them may be skipped now")
+    cli.add(kept, "--keep FILE", "writes which tests are skipped because the program isn't built", type=Path)
+    cli.add(kept, "--again FILE", "runs only these; none of them may be skipped now", type=Path)
     parser.add_argument("--folder", type=Path, default=HERE, help=argparse.SUPPRESS)
     # What a process is to run, and where its answer is to be.
     parser.add_argument("--answer", type=Path, help=argparse.SUPPRESS)

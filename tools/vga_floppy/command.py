@@ -6,6 +6,7 @@ import argparse
 import os
 
 from vga_report import cli
+from vga_report.cli import add
 from vga_report.images import Image
 from vga_report.output import AGREED, name_of, refuse_twice
 from vga_report.progress import Progress
@@ -18,10 +19,9 @@ from vga_report.words import seconds
 from zaklimot.format import MOST_BYTES, Script
 
 from .answers import Reports, report_lines
-from .image import IMAGE_SIZE, Run, image_for, read_image
+from .image import IMAGE_SIZE, Run, image_for, read_image, read_record
 from .machines import LGPL, MACHINES, SEABIOS
 from .running import Wanted, run_on
-from .image import read_record
 from .table_page import write_tables
 
 # A longer file is no image and no record.
@@ -29,20 +29,15 @@ MOST_READ = 1 << 26
 
 
 def _add_script(parser: argparse.ArgumentParser) -> None:
-    parser.add_argument(
-        "script", type=to_read, metavar="SCRIPT", help="the script, as text or bytes, or a folder of `vga-report scripts`; - is standard input"
-    )
+    told = "the script, as text or bytes, or a folder of `vga-report scripts`; - is standard input"
+    add(parser, "SCRIPT", told, type=to_read)
 
 
 def _add_report(parser: argparse.ArgumentParser) -> None:
-    parser.add_argument(
-        "report", nargs="?", default=STANDARD, metavar="REPORT",
-        help="the report, or a folder for the reports of several scripts (default: standard output)",
-    )
-    parser.add_argument(
-        "--all-registers", action="store_true",
-        help="tells all registers that a call leaves, and not only those in which the service answers",
-    )
+    told = "the report, or a folder for the reports of several scripts (default: standard output)"
+    add(parser, "REPORT", told, nargs="?", default=STANDARD)
+    told = "tells all registers that a call leaves, and not only those in which the service answers"
+    add(parser, "--all-registers", told)
 
 
 def _parser() -> argparse.ArgumentParser:
@@ -51,39 +46,27 @@ def _parser() -> argparse.ArgumentParser:
         "tools/vga-floppy run --on dosbox examples/asked-of-machines.vga", "docs/REAL-MACHINES.md",
     )
     commands = parser.add_subparsers(required=True, metavar="COMMAND")
-    command = commands.add_parser("make", help="makes the image of a floppy or a stick that runs a script, or many")
-    _add_script(command)
-    command.add_argument(
-        "--disk", action="store_true", help="writes a partition table, for a stick or a hard disk (default: a floppy)"
-    )
-    command.add_argument("image", metavar="IMAGE", help="the image, of 1,474,560 bytes; - is standard output")
-    command.set_defaults(job=_make)
-    command = commands.add_parser("read", help="gives the report of what a run has left")
-    command.add_argument("file", type=to_read, metavar="FILE", help="the image, or with --serial the record; - is standard input")
-    command.add_argument("--serial", action="store_true", help="FILE is what came over the serial port")
-    command.add_argument(
-        "--part", action="store_true",
-        help="takes a record that ends too early: gives the report up to there",
-    )
-    _add_report(command)
-    command.set_defaults(job=_read)
-    command = commands.add_parser("run", help="runs a script on an emulator, and gives the report")
-    command.add_argument("--on", required=True, choices=list(MACHINES), help="the emulator")
-    command.add_argument(
-        "--bios", choices=[SEABIOS, LGPL], help="the video BIOS (default: sea on qemu, lgpl on bochs)",
-    )
-    command.add_argument(
-        "--seconds", type=seconds, default=30, metavar="N",
-        help="how long it may take, without the time that it waits for a processor (default: 30)",
-    )
-    command.add_argument("--picture", metavar="FILE", help="writes the last screen as PNG")
-    _add_script(command)
-    _add_report(command)
-    command.set_defaults(job=_run)
-    command = commands.add_parser("table", help="writes the suite's results into a page")
-    command.add_argument("page", metavar="PAGE", help="the page, with the marks between which they stand")
-    command.add_argument("results", nargs="+", type=to_read, metavar="RESULTS", help="what `vga-report suite --json` printed of `run`")
-    command.set_defaults(job=_table)
+    told = "makes the image of a floppy or a stick that runs a script, or many"
+    made = cli.command(commands, "make", _make, told)
+    _add_script(made)
+    add(made, "--disk", "writes a partition table, for a stick or a hard disk (default: a floppy)")
+    add(made, "IMAGE", "the image, of 1,474,560 bytes; - is standard output")
+    made = cli.command(commands, "read", _read, "gives the report of what a run has left")
+    add(made, "FILE", "the image, or with --serial the record; - is standard input", type=to_read)
+    add(made, "--serial", "FILE is what came over the serial port")
+    add(made, "--part", "takes a record that ends too early: gives the report up to there")
+    _add_report(made)
+    made = cli.command(commands, "run", _run, "runs a script on an emulator, and gives the report")
+    add(made, "--on", "the emulator", required=True, choices=list(MACHINES))
+    add(made, "--bios", "the video BIOS (default: sea on qemu, lgpl on bochs)", choices=[SEABIOS, LGPL])
+    told = "how long it may take, without the time that it waits for a processor (default: 30)"
+    add(made, "--seconds N", told, type=seconds, default=30)
+    add(made, "--picture FILE", "writes the last screen as PNG")
+    _add_script(made)
+    _add_report(made)
+    made = cli.command(commands, "table", _table, "writes the suite's results into a page")
+    add(made, "PAGE", "the page, with the marks between which they stand")
+    add(made, "RESULTS", "what `vga-report suite --json` printed of `run`", nargs="+", type=to_read)
     return parser
 
 

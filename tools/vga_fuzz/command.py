@@ -40,9 +40,8 @@ def _parser() -> argparse.ArgumentParser:
         "vga-fuzz", "Feeds vga with scripts and texts made at random.", "tools/vga-fuzz --seed 1 --seconds 3600 --keep kept",
         "tools/README.md", cli.JUDGES,
     )
-    parser.add_argument(
-        "program", nargs="?", type=to_read, default=str(PROGRAM), help="the program (default: the one that is built)"
-    )
+    told = "the program (default: the one that is built)"
+    parser.add_argument("program", nargs="?", type=to_read, default=str(PROGRAM), help=told)
     numbers = {
         "seed": (1, 0, "where the random numbers begin (default: 1)"),
         "inputs": (0, 0, "how many inputs are made at most (default: any number)"),
@@ -52,13 +51,10 @@ def _parser() -> argparse.ArgumentParser:
     }
     for name, (usual, least, told) in numbers.items():
         most = MOST_MEBIBYTES if name in ("memory", "output") else MOST_NUMBER
-        parser.add_argument(f"--{name}", type=number_to(most, least), default=usual, metavar="N", help=told)
-    times = (("seconds", 60, "how long to make inputs"), ("timeout", 60, "how long one run may take"))
-    for name, default, told in times:
-        parser.add_argument(
-            f"--{name}", type=seconds, default=default, metavar="SECONDS", help=f"{told}, in seconds (default: {default})"
-        )
-    parser.add_argument("--keep", metavar="FOLDER", help="keeps the inputs that show something wrong in this folder")
+        cli.add(parser, f"--{name} N", told, type=number_to(most, least), default=usual)
+    for name, told in (("seconds", "how long to make inputs"), ("timeout", "how long one run may take")):
+        cli.add(parser, f"--{name} SECONDS", f"{told}, in seconds (default: 60)", type=seconds, default=60)
+    cli.add(parser, "--keep FOLDER", "keeps the inputs that show something wrong in this folder")
     parser.set_defaults(job=_run)
     return parser
 

@@ -6,6 +6,7 @@ import tempfile
 from pathlib import Path
 
 from vga_report import cli
+from vga_report.cli import add
 from vga_report.crates import phases
 from vga_report.processes import check_program
 from vga_report.progress import Progress
@@ -22,41 +23,28 @@ USUAL_PREFIX = "/usr/local"
 
 
 def _add_archive(parser: argparse.ArgumentParser) -> None:
-    parser.add_argument(
-        "--target", choices=[*TARGETS], default=X86_64.name, help="the processor, with Linux (default: x86_64)"
-    )
-    parser.add_argument(
-        "--backend", choices=BACKENDS, default=BACKENDS[0],
-        help="the compiler: llvm, or rattle, which is written in Rattle (default: llvm)",
-    )
-    parser.add_argument(
-        "--archive", type=to_read, metavar="FILE",
-        help=f"takes this archive of the crate, as {ARCHIVE.name} (default: `rt lib` proves and builds it)",
-    )
+    told = "the processor, with Linux (default: x86_64)"
+    add(parser, "--target", told, choices=[*TARGETS], default=X86_64.name)
+    told = "the compiler: llvm, or rattle, which is written in Rattle (default: llvm)"
+    add(parser, "--backend", told, choices=BACKENDS, default=BACKENDS[0])
+    told = f"takes this archive of the crate, as {ARCHIVE.name} (default: `rt lib` proves and builds it)"
+    add(parser, "--archive FILE", told, type=to_read)
 
 
 def _parser() -> argparse.ArgumentParser:
     parser = cli.tool_parser("vga-library", "Makes the library for C.", "tools/vga-library make kit", "docs/LIBRARY.md")
     commands = parser.add_subparsers(required=True, metavar="COMMAND")
-    command = commands.add_parser("make", help="makes it in a folder, which you may move")
-    command.add_argument("folder", metavar="FOLDER", help="gets include/, lib/ and lib/pkgconfig/")
-    _add_archive(command)
-    command.set_defaults(job=_make)
-    command = commands.add_parser(
-        "install", help="installs it below a prefix, as packagers do; takes what `make` has made",
+    made = cli.command(commands, "make", _make, "makes it in a folder, which you may move")
+    add(made, "FOLDER", "gets include/, lib/ and lib/pkgconfig/")
+    _add_archive(made)
+    made = cli.command(
+        commands, "install", _install, "installs it below a prefix, as packagers do; takes what `make` has made",
         epilog="PREFIX and DESTDIR of the environment are the defaults of --prefix and --destdir.",
     )
-    command.add_argument("--prefix", metavar="FOLDER", help=f"the prefix (default: {USUAL_PREFIX})")
-    command.add_argument(
-        "--destdir", metavar="FOLDER",
-        help="stands before the prefix while files are installed (default: nothing)",
-    )
-    command.add_argument(
-        "--libdir", default="lib", metavar="NAME",
-        help="the folder of libraries below the prefix (default: lib)",
-    )
-    _add_archive(command)
-    command.set_defaults(job=_install)
+    add(made, "--prefix FOLDER", f"the prefix (default: {USUAL_PREFIX})")
+    add(made, "--destdir FOLDER", "stands before the prefix while files are installed (default: nothing)")
+    add(made, "--libdir NAME", "the folder of libraries below the prefix (default: lib)", default="lib")
+    _add_archive(made)
     return parser
 
 

@@ -43,13 +43,9 @@ def _parser() -> argparse.ArgumentParser:
         "tools/vga-manual make manual", "tools/README.md",
     )
     commands = parser.add_subparsers(required=True, metavar="COMMAND")
-    command = commands.add_parser("make", help="makes them below a folder")
-    command.add_argument("folder", metavar="FOLDER", help="gets share/, with the four files")
-    command.add_argument(
-        "--vga", metavar="FILE",
-        help="runs this program (default: the one built here, else vga in the path)",
-    )
-    command.set_defaults(job=_make)
+    made = cli.command(commands, "make", _make, "makes them below a folder")
+    cli.add(made, "FOLDER", "gets share/, with the four files")
+    cli.add(made, "--vga FILE", "runs this program (default: the one built here, else vga in the path)")
     return parser
 
 

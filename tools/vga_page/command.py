@@ -3,7 +3,6 @@
 from __future__ import annotations
 
 import argparse
-from pathlib import Path
 
 from vga_report.crates import phases
 from vga_report import cli
@@ -20,17 +19,6 @@ from .wasm import MOST_MODULE, check_module
 MOST_MEBIBYTES = 4096
 
 
-def _add_proof(parser: argparse.ArgumentParser) -> None:
-    parser.add_argument(
-        "--gated", action="store_true",
-        help="works over the libraries of `rt ci`, which must have run just before (default: `rt check` proves)",
-    )
-    parser.add_argument(
-        "--proof", type=Path, metavar="FOLDER",
-        help="with --gated: keeps the crate's proof there, or takes it from there",
-    )
-
-
 def _mebibytes(word: str) -> int:
     """Reads a number of MiB; how many bytes they are."""
     return number_to(MOST_MEBIBYTES)(word) * MEBIBYTE
@@ -42,27 +30,19 @@ def _parser() -> argparse.ArgumentParser:
         "tools/README.md",
     )
     commands = parser.add_subparsers(required=True, metavar="COMMAND")
-    command = commands.add_parser(
-        "make", help="makes the page",
-        description=f"Makes the page: one file of at most {MOST_BYTES:,} bytes.",
-    )
-    command.add_argument("file", metavar="FILE", help="the page, page/zaklimot.html in the repository")
-    command.add_argument(
-        "--module", type=to_read, metavar="FILE", help="takes this module (default: makes one)"
-    )
-    _add_proof(command)
-    command.set_defaults(job=_make, memory=None)
-    command = commands.add_parser(
-        "module", help="makes the module alone",
-        description="Proves the library's crate, and makes a WebAssembly module of 64-bit memory of it.",
-    )
-    command.add_argument("file", metavar="FILE", help="the module")
-    command.add_argument(
-        "--memory", type=_mebibytes, metavar="MIB",
-        help="fixes the size of its memory, so that tests see it spent (default: it grows)",
-    )
-    _add_proof(command)
-    command.set_defaults(job=_module, module=None)
+    told, usually = f"Makes the page: one file of at most {MOST_BYTES:,} bytes.", " (default: `rt check` proves)"
+    made = cli.command(commands, "make", _make, "makes the page", description=told)
+    cli.add(made, "FILE", "the page, page/zaklimot.html in the repository")
+    cli.add(made, "--module FILE", "takes this module (default: makes one)", type=to_read)
+    cli.add_proof(made, usually=usually)
+    made.set_defaults(memory=None)
+    told = "Proves the library's crate, and makes a WebAssembly module of 64-bit memory of it."
+    made = cli.command(commands, "module", _module, "makes the module alone", description=told)
+    cli.add(made, "FILE", "the module")
+    told = "fixes the size of its memory, so that tests see it spent (default: it grows)"
+    cli.add(made, "--memory MIB", told, type=_mebibytes)
+    cli.add_proof(made, usually=usually)
+    made.set_defaults(module=None)
     return parser
 
 

@@ -8,6 +8,7 @@ import re
 import sys
 
 from vga_report import cli
+from vga_report.cli import add
 from vga_report.images import image_bytes
 from vga_report.output import AGREED, counted, name_of, refuse_twice
 from vga_report.png import Shape, write_png
@@ -43,46 +44,28 @@ def _parser() -> argparse.ArgumentParser:
         "tools/vga-picture script card.png card.vga --mode 12", "docs/PICTURES.md",
     )
     commands = parser.add_subparsers(required=True, metavar="COMMAND")
-    command = commands.add_parser("script", help="makes a script that draws an image")
-    command.add_argument("image", type=to_read, metavar="IMAGE", help="a PNG, or a PPM of the kind P6")
-    command.add_argument("script", metavar="SCRIPT", help="the script")
-    command.add_argument("--mode", required=True, type=str.upper, choices=list(MODES), help="the mode; 3 is text")
-    command.add_argument("--bytes", action="store_true", help="writes the script as bytes (default: as text)")
-    command.add_argument(
-        "--short", action="store_true",
-        help="makes a shorter script that takes more cycles, by the video BIOS",
-    )
-    sizes = command.add_mutually_exclusive_group()
-    sizes.add_argument(
-        "--scale", dest="fit", action="store_const", const=Fit.SCALE, help="stretches an image of another size"
-    )
-    sizes.add_argument(
-        "--fit", dest="fit", action="store_const", const=Fit.FIT, help="the same, but it keeps its shape on the screen, between bars"
-    )
-    command.add_argument(
-        "--bars", type=_colour, metavar="RRGGBB",
-        help="the colour of the bars of --fit, eight bits a component (default: black)",
-    )
-    colours = command.add_mutually_exclusive_group()
-    colours.add_argument(
-        "--nearest", dest="fewer", action="store_const", const=Fewer.NEAREST,
-        help="if there are too many colours: takes the nearest of the chosen ones",
-    )
-    colours.add_argument(
-        "--dither", dest="fewer", choices=[Fewer.FLOYD, Fewer.ORDERED], type=Fewer, metavar="floyd|ordered",
-        help="does the same, but mixes them: by Floyd and Steinberg, or by a pattern of four by four dots",
-    )
-    command.add_argument(
-        "--fonts", type=to_read, default=str(FONTS), metavar="FILE",
-        help="uses this font file for text (default: the project's)",
-    )
-    command.add_argument("--rows", type=int, choices=list(LINES), help="rows of text (default: 25)")
-    command.add_argument(
-        "--own-glyphs", action="store_true",
-        help="loads glyphs of the image's own where the font's don't fit",
-    )
-    command.add_argument("--picture", metavar="FILE", help="writes the picture that the script should draw as PNG")
-    command.set_defaults(job=_script, fit=Fit.EXACT, fewer=Fewer.REFUSED)
+    made = cli.command(commands, "script", _script, "makes a script that draws an image")
+    add(made, "IMAGE", "a PNG, or a PPM of the kind P6", type=to_read)
+    add(made, "SCRIPT", "the script")
+    add(made, "--mode", "the mode; 3 is text", required=True, type=str.upper, choices=list(MODES))
+    add(made, "--bytes", "writes the script as bytes (default: as text)")
+    add(made, "--short", "makes a shorter script that takes more cycles, by the video BIOS")
+    sizes, constant = made.add_mutually_exclusive_group(), {"action": "store_const", "dest": "fit"}
+    add(sizes, "--scale", "stretches an image of another size", const=Fit.SCALE, **constant)
+    add(sizes, "--fit", "the same, but it keeps its shape on the screen, between bars", const=Fit.FIT, **constant)
+    add(made, "--bars RRGGBB", "the colour of the bars of --fit, eight bits a component (default: black)", type=_colour)
+    colours = made.add_mutually_exclusive_group()
+    told = "if there are too many colours: takes the nearest of the chosen ones"
+    add(colours, "--nearest", told, dest="fewer", action="store_const", const=Fewer.NEAREST)
+    told = "does the same, but mixes them: by Floyd and Steinberg, or by a pattern of four by four dots"
+    ways = [Fewer.FLOYD, Fewer.ORDERED]
+    add(colours, "--dither floyd|ordered", told, dest="fewer", choices=ways, type=Fewer)
+    told = "uses this font file for text (default: the project's)"
+    add(made, "--fonts FILE", told, type=to_read, default=str(FONTS))
+    add(made, "--rows", "rows of text (default: 25)", type=int, choices=list(LINES))
+    add(made, "--own-glyphs", "loads glyphs of the image's own where the font's don't fit")
+    add(made, "--picture FILE", "writes the picture that the script should draw as PNG")
+    made.set_defaults(fit=Fit.EXACT, fewer=Fewer.REFUSED)
     return parser
 
 

@@ -6,7 +6,7 @@ import signal
 import sys
 from contextlib import contextmanager
 from pathlib import Path
-from typing import IO, Callable, Iterable, Iterator, Optional, Sequence
+from typing import IO, Any, Callable, Iterable, Iterator, Optional, Sequence
 
 from .progress import Progress
 from .trouble import TROUBLE, Trouble
@@ -52,19 +52,41 @@ def tool_parser(name: str, does: str, example: str, page: str, statuses: str = D
     return made
 
 
-def add_checks(
-    parser: argparse.ArgumentParser, checks: Iterable[str], given: Optional[argparse._ActionsContainer] = None,
+def add(parser: argparse._ActionsContainer, spelt: str, told: str, **given: Any) -> None:
+    """Adds a word as a usage spells it: `FILE`, `--flag` or `--option VALUE`. `given` goes to argparse."""
+    name, _, value = spelt.partition(" ")
+    if not name.startswith("-"):
+        given = {"metavar": name, **given}
+    elif value:
+        given = {"metavar": value, **given}
+    elif "choices" not in given:
+        given = {"action": "store_true", **given}
+    parser.add_argument(name if name.startswith("-") else name.lower(), help=told, **given)
+
+
+def command(commands: Any, name: str, job: Callable[..., object], told: str, **given: Any) -> argparse.ArgumentParser:
+    """Adds a command, which does a job, to those of a tool."""
+    made: argparse.ArgumentParser = commands.add_parser(name, help=told, **given)
+    made.set_defaults(job=job)
+    return made
+
+
+def add_proof(
+    parser: argparse.ArgumentParser, gate: Optional[argparse._ActionsContainer] = None, usually: str = ""
 ) -> None:
-    """The options of a tool that checks the library's crate; `given` gets that of the gate."""
-    (given or parser).add_argument(
-        "--gated", action="store_true", help="works over the libraries of `rt ci`, which must have run just before"
-    )
-    parser.add_argument(
-        "--proof", type=Path, metavar="FOLDER", help="with --gated: keeps the crate's proof there, or takes it from there"
-    )
-    parser.add_argument(
-        "--only", action="append", default=[], choices=checks, help="this check alone; again and again",
-    )
+    """The options of a tool that proves the library's crate; `gate` gets that of the gate."""
+    told = f"works over the libraries of `rt ci`, which must have run just before{usually}"
+    add(gate or parser, "--gated", told)
+    told = "with --gated: keeps the crate's proof there, or takes it from there"
+    add(parser, "--proof FOLDER", told, type=Path)
+
+
+def add_checks(
+    parser: argparse.ArgumentParser, checks: Iterable[str], gate: Optional[argparse._ActionsContainer] = None,
+) -> None:
+    """The same of a tool that checks the crate."""
+    add_proof(parser, gate)
+    add(parser, "--only", "this check alone; again and again", action="append", default=[], choices=checks)
 
 
 def refuse_to_check(words: argparse.Namespace, lacking: Sequence[str] = ()) -> None:

@@ -12,6 +12,7 @@ from tempfile import TemporaryDirectory
 from typing import ContextManager, Optional, Sequence, TextIO
 
 from vga_report import cli
+from vga_report.cli import add
 from vga_report.output import AGREED, DIFFERED, name_of, refuse_twice, write_name
 from vga_report.png import Shape, write_png
 from vga_report.program import Built, found_program
@@ -40,49 +41,29 @@ def _frames(word: str) -> Frames:
 
 
 def _add_trace(parser: argparse.ArgumentParser) -> None:
-    parser.add_argument(
-        "trace", type=to_read, metavar="TRACE",
-        help="qemu's log or lines of the plain form, also compressed by gzip; - is standard input",
-    )
-    parser.add_argument(
-        "--to", type=number_to(MOST_CYCLES), metavar="N", help="takes only the first N cycles (default: all)"
-    )
-    parser.add_argument(
-        "--from", dest="from_", type=number_to(MOST_CYCLES), default=1, metavar="N",
-        help="begins with the Nth cycle (default: 1)",
-    )
+    told = "qemu's log or lines of the plain form, also compressed by gzip; - is standard input"
+    add(parser, "TRACE", told, type=to_read)
+    add(parser, "--to N", "takes only the first N cycles (default: all)", type=number_to(MOST_CYCLES))
+    told = "begins with the Nth cycle (default: 1)"
+    add(parser, "--from N", told, dest="from_", type=number_to(MOST_CYCLES), default=1)
 
 
 def _add_listing(parser: argparse.ArgumentParser) -> None:
-    parser.add_argument(
-        "--text", action="store_true",
-        help="makes a script as text, with the trace's reads as expected answers",
-    )
-    parser.add_argument(
-        "--no-repeat", dest="repeat", action="store_false",
-        help="makes a script of version 1 (default: equal steps become repeats of version 2)",
-    )
-    parser.add_argument(
-        "--polls", choices=[KEEP, FIRST], default=KEEP,
-        help="keeps all reads of input status 1, or only the first of several (default: keep)",
-    )
-    parser.add_argument(
-        "--time", action="store_true",
-        help="lets the clock run by the trace's times, at most a frame for each pause",
-    )
-    parser.add_argument(
-        "--frames", type=_frames, default=END, metavar="end|flip|screens|clock|SECONDS",
-        help="adds frames: only at the end, before each change of the start address, where `record` took a screen, "
-        "in each frame of the dot clock with a write, or every SECONDS by the trace's times",
-    )
+    add(parser, "--text", "makes a script as text, with the trace's reads as expected answers")
+    told = "makes a script of version 1 (default: equal steps become repeats of version 2)"
+    add(parser, "--no-repeat", told, dest="repeat", action="store_false")
+    told = "keeps all reads of input status 1, or only the first of several (default: keep)"
+    add(parser, "--polls", told, choices=[KEEP, FIRST], default=KEEP)
+    add(parser, "--time", "lets the clock run by the trace's times, at most a frame for each pause")
+    told = "adds frames: only at the end, before each change of the start address, where `record` took a screen, " \
+        "in each frame of the dot clock with a write, or every SECONDS by the trace's times"
+    add(parser, "--frames end|flip|screens|clock|SECONDS", told, type=_frames, default=END)
     _add_longest(parser)
 
 
 def _add_longest(parser: argparse.ArgumentParser) -> None:
-    parser.add_argument(
-        "--longest", type=seconds, default=1, metavar="SECONDS",
-        help="with frames by the clock: the longest time without writes (default: 1)",
-    )
+    told = "with frames by the clock: the longest time without writes (default: 1)"
+    add(parser, "--longest SECONDS", told, type=seconds, default=1)
 
 
 def _deed(word: str) -> Deed:
@@ -98,45 +79,26 @@ def _screen(word: str) -> Deed:
     return Deed(None if word == QUIET else seconds(word))
 
 
-def _add_record(command: argparse.ArgumentParser) -> None:
-    command.add_argument("folder", metavar="FOLDER", help="a new folder, or an empty one")
-    command.add_argument(
-        "--key", dest="deeds", action="append", default=[], type=_deed, metavar="[SECONDS:]KEY,..",
-        help="presses keys so many seconds after power-on, or once the software is quiet; may be repeated",
-    )
-    command.add_argument(
-        "--screen", dest="deeds", action="append", type=_screen, metavar="quiet|SECONDS",
-        help="dumps the screen, among the keys in the order of the words (default: at the end, once it is quiet)",
-    )
-    command.add_argument(
-        "--quiet", type=seconds, default=3, metavar="SECONDS",
-        help="takes the software as quiet after so long without a cycle (default: 3)",
-    )
-    command.add_argument(
-        "--seconds", type=seconds, default=60, metavar="SECONDS",
-        help="ends the machine after so many seconds (default: 60)",
-    )
-    command.add_argument(
-        "--chain-4", action="store_true", help="records mode 13 too, by a plugin for qemu 7.2 that gcc builds"
-    )
-    command.add_argument(
-        "--card", default="VGA", metavar="DEVICE",
-        help="takes this VGA of qemu's devices (default: VGA)",
-    )
-    add_program(command)
-    command.set_defaults(job=_record)
+def _add_record(parser: argparse.ArgumentParser) -> None:
+    add(parser, "FOLDER", "a new folder, or an empty one")
+    told = "presses keys so many seconds after power-on, or once the software is quiet; may be repeated"
+    add(parser, "--key [SECONDS:]KEY,..", told, dest="deeds", action="append", default=[], type=_deed)
+    told = "dumps the screen, among the keys in the order of the words (default: at the end, once it is quiet)"
+    add(parser, "--screen quiet|SECONDS", told, dest="deeds", action="append", type=_screen)
+    told = "takes the software as quiet after so long without a cycle (default: 3)"
+    add(parser, "--quiet SECONDS", told, type=seconds, default=3)
+    add(parser, "--seconds SECONDS", "ends the machine after so many seconds (default: 60)", type=seconds, default=60)
+    add(parser, "--chain-4", "records mode 13 too, by a plugin for qemu 7.2 that gcc builds")
+    add(parser, "--card DEVICE", "takes this VGA of qemu's devices (default: VGA)", default="VGA")
+    add_program(parser)
 
 
-def _add_pictures(command: argparse.ArgumentParser) -> None:
-    command.add_argument(
-        "folder", nargs="?", metavar="FOLDER",
-        help="the folder for PNG files, which are named by the second of each",
-    )
-    command.add_argument("--apng", metavar="FILE", help="writes one picture that moves, in real time")
-    add_shape(command)
-    _add_longest(command)
-    add_program(command)
-    command.set_defaults(job=_pictures)
+def _add_pictures(parser: argparse.ArgumentParser) -> None:
+    add(parser, "FOLDER", "the folder for PNG files, which are named by the second of each", nargs="?")
+    add(parser, "--apng FILE", "writes one picture that moves, in real time")
+    add_shape(parser)
+    _add_longest(parser)
+    add_program(parser)
 
 
 def _parser(qemu: Sequence[str] = ()) -> argparse.ArgumentParser:
@@ -146,35 +108,28 @@ def _parser(qemu: Sequence[str] = ()) -> argparse.ArgumentParser:
         "tools/vga-trace convert examples/typed-line.trace script.bin", "docs/TRACES.md", cli.DIFFERS,
     )
     commands = parser.add_subparsers(required=True, metavar="COMMAND")
-    command = commands.add_parser("convert", help="makes a script of a trace")
-    _add_trace(command)
-    command.add_argument("script", metavar="SCRIPT", help="the script; - is standard output")
-    _add_listing(command)
-    command.set_defaults(job=_convert)
-    command = commands.add_parser(
-        "check", help="compares a script's report with the trace; takes the options of convert"
-    )
-    _add_trace(command)
-    command.add_argument("report", type=to_read, metavar="REPORT", help="the report; - is standard input")
-    command.add_argument(
-        "--most", type=number_to(MOST_KINDS), default=40, metavar="N",
-        help="tells at most N kinds of refusals, of reads, and of reads that differ (default: 40)",
-    )
-    _add_listing(command)
-    command.set_defaults(job=_check)
-    command = commands.add_parser("kinds", help="counts a trace's cycles by kind")
-    _add_trace(command)
-    command.set_defaults(job=_kinds)
-    command = commands.add_parser("pictures", help="makes the pictures of a trace, in real time")
-    _add_trace(command)
-    _add_pictures(command)
-    command = commands.add_parser(
-        "record", help="records on qemu, replays, and compares the screens of both",
+    made = cli.command(commands, "convert", _convert, "makes a script of a trace")
+    _add_trace(made)
+    add(made, "SCRIPT", "the script; - is standard output")
+    _add_listing(made)
+    told = "compares a script's report with the trace; takes the options of convert"
+    made = cli.command(commands, "check", _check, told)
+    _add_trace(made)
+    add(made, "REPORT", "the report; - is standard input", type=to_read)
+    told = "tells at most N kinds of refusals, of reads, and of reads that differ (default: 40)"
+    add(made, "--most N", told, type=number_to(MOST_KINDS), default=40)
+    _add_listing(made)
+    _add_trace(cli.command(commands, "kinds", _kinds, "counts a trace's cycles by kind"))
+    made = cli.command(commands, "pictures", _pictures, "makes the pictures of a trace, in real time")
+    _add_trace(made)
+    _add_pictures(made)
+    made = cli.command(
+        commands, "record", _record, "records on qemu, replays, and compares the screens of both",
         usage="vga-trace record [OPTION..] FOLDER -- QEMU-WORD..",
         epilog="After `--` stand qemu's words for what it boots: -cdrom disc.iso",
     )
-    command.set_defaults(qemu=qemu)
-    _add_record(command)
+    made.set_defaults(qemu=qemu)
+    _add_record(made)
     return parser
 
 
