@@ -62,7 +62,6 @@ class Chooser:
     """Chooses for a cell of an image the character and the attribute of the least error."""
 
     def __init__(self, font: bytes, mode: Mode, colours: Sequence[Colour]) -> None:
-        self._mode = mode
         # How far each colour is from all of them, as one number with 32 bits for each: so sums of all are one addition.
         self._lanes = struct.Struct(f"<{len(colours)}I")
         self._far = [
@@ -76,10 +75,9 @@ class Chooser:
 
     def chosen(self, cell: bytes) -> Chosen:
         """The choice for a cell, whose dots are numbers of colours, line by line."""
-        found = self._known.get(cell)
-        if found is None:
-            found = self._known[cell] = self._best(cell)
-        return found
+        if cell not in self._known:
+            self._known[cell] = self._best(cell)
+        return self._known[cell]
 
     def _best(self, cell: bytes) -> Chosen:
         """A character that shows the cell as it is, or else the nearest; of those with the same error the first."""
@@ -110,13 +108,8 @@ class Chooser:
         return best
 
 
-def _count(dots: Dots) -> int:
-    """How many dots there are."""
-    return bin(dots).count("1")
-
-
-# Python 3.10 and later count by themselves.
-_count = getattr(int, "bit_count", _count)
+# How many dots there are: Python 3.10 and later count by themselves.
+_count: Callable[[Dots], int] = getattr(int, "bit_count", lambda dots: bin(dots).count("1"))
 
 
 def _dots_of(cell: bytes, colour: int) -> Dots:

@@ -126,11 +126,6 @@ def _nearest(rows: Sequence[Row], colours: Sequence[Colour]) -> Iterator[bytes]:
     return _by_table(rows, {colour: nearest(colour) for colour in counted(rows)})
 
 
-def _own(rows: Sequence[Row], colours: Sequence[Colour]) -> Iterator[bytes]:
-    """Rows whose colours are all there."""
-    return _by_table(rows, {colour: number for number, colour in enumerate(colours)})
-
-
 def _by_table(rows: Sequence[Row], numbers: Mapping[Colour, int]) -> Iterator[bytes]:
     """Rows of numbers, one for each colour."""
     made = {id(row): bytes(map(numbers.__getitem__, row)) for row in {id(row): row for row in rows}.values()}
@@ -179,7 +174,7 @@ def indexed(rows: Sequence[Row], most: int, fewer: Fewer, name: str) -> tuple[In
     counts = counted(rows)
     colours = [colour for colour, _ in sorted(counts.items(), key=lambda entry: (-entry[1], entry[0]))]
     if len(colours) <= most:
-        made = list(_own(rows, colours))
+        made = list(_by_table(rows, {colour: number for number, colour in enumerate(colours)}))
     elif fewer is Fewer.REFUSED:
         told = f"it has {len(colours):,} colours of six bits a component, and the mode {most}"
         raise Trouble(f"{told}: --nearest takes the nearest of {most}, --dither mixes them", name)

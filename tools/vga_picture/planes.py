@@ -10,7 +10,7 @@ from __future__ import annotations
 from collections import Counter
 from functools import lru_cache
 from itertools import combinations
-from typing import Iterator, Mapping, NamedTuple, Optional, Sequence
+from typing import Iterable, Iterator, Mapping, NamedTuple, Optional, Sequence, TypeVar
 
 from vga_trace.step import OUTW, PUT, PUTW, Step
 
@@ -32,6 +32,7 @@ DIGITS = tuple(bytes(48 + (number >> plane & 1) for number in range(256)) for pl
 
 Rows = Sequence[bytes]
 Planes = tuple[bytes, ...]
+Value = TypeVar("Value")
 
 
 def planes_of(rows: Rows) -> Planes:
@@ -55,17 +56,13 @@ def is_all_planes(steps: Sequence[Step]) -> bool:
 
 def put_steps(window: int, written: Mapping[int, int]) -> Iterator[Step]:
     """Bytes by their offsets as words where two stand side by side, and else as bytes."""
-    held = -2
+    done = -1
     for offset in sorted(written):
-        if offset == held + 1:
-            yield Step(PUTW, window + held, written[held] | written[offset] << 8)
-            held = -2
-            continue
-        if held >= 0:
-            yield Step(PUT, window + held, written[held])
-        held = offset
-    if held >= 0:
-        yield Step(PUT, window + held, written[held])
+        if offset + 1 in written and offset > done:
+            done = offset + 1
+            yield Step(PUTW, window + offset, written[offset] | written[done] << 8)
+        elif offset > done:
+            yield Step(PUT, window + offset, written[offset])
 
 
 def _word(planes: Sequence[bytes]) -> Word:
@@ -100,11 +97,8 @@ def drawing(have: Planes, want: Planes) -> list[Step]:
 
 def _cost(colours: Sequence[int], numbers: Sequence[int]) -> int:
     """Cycles of a word that has these colours: how many different planes but empty ones it has."""
-    planes = set()
-    for bit in (1, 2, 4, 8):
-        planes.add(sum(1 << at for at, colour in enumerate(colours) if numbers[colour] & bit))
-    planes.discard(0)
-    return len(planes)
+    planes = (sum(1 << at for at, colour in enumerate(colours) if numbers[colour] & bit) for bit in (1, 2, 4, 8))
+    return len(set(planes) - {0})
 
 
 def best_numbers(rows: Rows, count: int) -> list[int]:
@@ -155,9 +149,9 @@ class Word(NamedTuple):
     high: Bytes
 
 
-def _masks(values: Bytes) -> dict[int, int]:
+def _masks(values: Iterable[Value]) -> dict[Value, int]:
     """The planes of each value."""
-    masks: dict[int, int] = {}
+    masks: dict[Value, int] = {}
     for plane, value in enumerate(values):
         masks[value] = masks.get(value, 0) | 1 << plane
     return masks
@@ -171,13 +165,9 @@ def _changed(have: Bytes, want: Bytes) -> int:
 def _by_words(have: Word, want: Word) -> list[Write]:
     """A write for each different word."""
     lows, highs = _changed(have.low, want.low), _changed(have.high, want.high)
-    masks: dict[tuple[int, int], int] = {}
-    for plane in range(PLANES):
-        if (lows | highs) >> plane & 1:
-            word = want.low[plane], want.high[plane]
-            masks[word] = masks.get(word, 0) | 1 << plane
     return [
-        Write(mask, low if mask & lows else None, high if mask & highs else None) for (low, high), mask in masks.items()
+        Write(mask & (lows | highs), low if mask & lows else None, high if mask & highs else None)
+        for (low, high), mask in _masks(zip(want.low, want.high)).items() if mask & (lows | highs)
     ]
 
 
@@ -228,12 +218,8 @@ def _searched(have: Word, want: Word, most: int) -> Optional[tuple[Write, ...]]:
 def _least(have: Word, want: Word) -> tuple[Write, ...]:
     by_words, by_bytes = _by_words(have, want), _by_bytes(have, want)
     best = by_words if len(by_words) <= len(by_bytes) else by_bytes
-    lows, highs = _changed(have.low, want.low), _changed(have.high, want.high)
-    least = max(
-        sum(1 for mask in _masks(want.low).values() if mask & lows),
-        sum(1 for mask in _masks(want.high).values() if mask & highs),
-    )
-    if len(best) > least:
+    lows = sum(write.low is not None for write in by_bytes)
+    if len(best) > max(lows, len(by_bytes) - lows):
         return _searched(have, want, len(best) - 1) or tuple(best)
     return tuple(best)
 

@@ -2,7 +2,6 @@
 
 from __future__ import annotations
 
-from abc import ABC, abstractmethod
 from typing import Sequence
 
 from vga_trace.step import Step
@@ -16,31 +15,36 @@ from .steps import Item, Service
 Rows = Sequence[bytes]
 
 
-class Screen(ABC):
-    """A screen of pixels, cleared by its mode set."""
+class Screen:
+    """A screen of pixels, cleared by its mode set: of 256 colours, a byte for each pixel by chain 4."""
 
     def __init__(self, mode: Mode) -> None:
         self.mode = mode
 
-    @abstractmethod
     def numbered(self, image: Indexed) -> Indexed:
         """The image with the numbers of colours that are drawn in few cycles."""
+        return image
 
-    @abstractmethod
     def drawn(self, have: Rows, want: Rows) -> list[Step]:
         """The steps that make rows others, from the map mask on that a mode set leaves."""
+        written = {}
+        for y, (old, new) in enumerate(zip(have, want)):
+            if old != new:
+                start = y * self.mode.width
+                written.update({start + x: new[x] for x in range(len(new)) if old[x] != new[x]})
+        return list(put_steps(WINDOW, written))
 
-    @abstractmethod
     def restored(self, steps: Sequence[Step]) -> list[Item]:
         """Steps, and then what it takes to have that map mask again."""
+        return list(steps)
 
-    @abstractmethod
     def window_cycles(self, columns: int, rows: int, blank: int) -> int:
         """Cycles of function 06 or 07 on a window of cells, of whose rows so many become blank."""
+        return 64 * columns * (2 * (rows - blank) + blank)
 
 
 class PlaneScreen(Screen):
-    """Sixteen colours, in four planes."""
+    """One of sixteen colours, in four planes."""
 
     def numbered(self, image: Indexed) -> Indexed:
         numbers = best_numbers(image.rows, len(image.colours))
@@ -56,30 +60,9 @@ class PlaneScreen(Screen):
         return 2 * self.mode.cell_height * columns * rows + 8
 
 
-class ByteScreen(Screen):
-    """256 colours, a byte for each pixel by chain 4."""
-
-    def numbered(self, image: Indexed) -> Indexed:
-        return image
-
-    def drawn(self, have: Rows, want: Rows) -> list[Step]:
-        written = {}
-        for y, (old, new) in enumerate(zip(have, want)):
-            if old != new:
-                start = y * self.mode.width
-                written.update({start + x: new[x] for x in range(len(new)) if old[x] != new[x]})
-        return list(put_steps(WINDOW, written))
-
-    def restored(self, steps: Sequence[Step]) -> list[Item]:
-        return list(steps)
-
-    def window_cycles(self, columns: int, rows: int, blank: int) -> int:
-        return 64 * columns * (2 * (rows - blank) + blank)
-
-
 def screen_of(mode: Mode) -> Screen:
     """The screen of a graphics mode."""
-    return PlaneScreen(mode) if mode.kind is Kind.PLANES else ByteScreen(mode)
+    return PlaneScreen(mode) if mode.kind is Kind.PLANES else Screen(mode)
 
 
 def scroll(screen: Screen, window: tuple[int, int, int, int], lines: int, colour: int = 0) -> Service:
