@@ -6,19 +6,18 @@ import io
 import struct
 import unittest
 import zlib
-from typing import Callable
+from typing import Optional
 
 from vga_report.images import image_of
-from vga_report.png import MARK, Shape, write_marked_png, write_png
+from vga_report.png import MARK, Shape, write_png
 from vga_report.timing import USUAL, Timing
 from vga_report.trouble import Trouble
 from zaklimot.format import Picture, parse_text
 
-from .making import BLACK, RED, WHITE, png_rows, ppm
+from .making import BLACK, RED, WHITE, png_chunks, png_rows, ppm
 from .test_command import PICTURE, run
 from .tools import Folder
 
-Filter = Callable[[bytes, bytes, int], bytes]
 GREY = b"\x15\x15\x15"
 
 
@@ -108,22 +107,12 @@ class ComparePicture(Folder):
 
 
 class Animations(Folder):
-    def frames(self, data: bytes) -> list[tuple[bytes, bytes]]:
-        at, found = 8, []
-        while at < len(data):
-            (length,) = struct.unpack_from(">I", data, at)
-            kind, body = data[at + 4:at + 8], data[at + 8:at + 8 + length]
-            self.assertEqual(data[at + 8 + length:at + 12 + length], struct.pack(">I", zlib.crc32(kind + body)))
-            found.append((kind, body))
-            at += 12 + length
-        return found
-
     def test_frames_with_their_times(self) -> None:
         path, moving = self.report("r", "ok", PICTURE, "ok", ppm(9, 1, BLACK * 9)), self.folder / "m.png"
         script = self.write("s.vga", "int ax=3\nframe\nint ax=12\nframe\n")
         status, output, message = run("pictures", path, "--apng", str(moving), "--script", script)
         self.assertEqual((status, output.decode(), message), (0, f"{moving}: 2 frames, 0.031 seconds\n", ""))
-        chunks = self.frames(moving.read_bytes())
+        chunks = png_chunks(moving.read_bytes())
         self.assertEqual([kind for kind, _ in chunks], [b"IHDR", b"sBIT", b"acTL", b"fcTL", b"IDAT", b"fcTL", b"fdAT", b"IEND"])
         times = [struct.unpack(">IIIIIHHBB", body) for kind, body in chunks if kind == b"fcTL"]
         self.assertEqual([time[0] for time in times], [0, 1])
@@ -180,15 +169,9 @@ class Animations(Folder):
                 self.assertAlmostEqual(timing.frame(), seconds)
 
 
-def shown(picture: Picture, shape: Shape = Shape()) -> tuple[int, int, list[bytes]]:
+def shown(picture: Picture, shape: Shape = Shape(), other: Optional[Picture] = None) -> tuple[int, int, list[bytes]]:
     stream = io.BytesIO()
-    write_png(stream, picture, shape)
-    return png_rows(stream.getvalue())
-
-
-def marked(picture: Picture, other: Picture) -> tuple[int, int, list[bytes]]:
-    stream = io.BytesIO()
-    write_marked_png(stream, picture, other, Shape())
+    write_png(stream, picture, shape, other)
     return png_rows(stream.getvalue())
 
 
@@ -203,7 +186,7 @@ class Colours(unittest.TestCase):
 
     def test_the_six_bits_are_told(self) -> None:
         stream = io.BytesIO()
-        write_png(stream, Picture.of_dots(1, 1, RED), Shape())
+        write_png(stream, Picture.of_dots(1, 1, RED))
         self.assertIn(b"sBIT\x06\x06\x06", stream.getvalue())
 
 
@@ -243,10 +226,11 @@ class Marks(unittest.TestCase):
         picture = Picture.of_dots(3, 2, WHITE + BLACK + GREY + RED + RED + RED)
         other = Picture.of_dots(3, 2, WHITE + RED + GREY + RED + RED + BLACK)
         white, grey, red = b"\x55\x55\x55", b"\x1c\x1c\x1c", b"\x55\x00\x00"
-        self.assertEqual(marked(picture, other), (3, 2, [white + MARK + grey, red + red + MARK]))
+        marked = shown(picture, other=other)
+        self.assertEqual(marked, (3, 2, [white + MARK + grey, red + red + MARK]))
 
     def test_what_one_picture_lacks_is_marked(self) -> None:
         picture, other = Picture.of_dots(2, 1, BLACK * 2), Picture.of_dots(1, 2, BLACK * 2)
         expected = (2, 2, [BLACK + MARK, MARK * 2])
-        self.assertEqual(marked(picture, other), expected)
-        self.assertEqual(marked(other, picture), expected)
+        self.assertEqual(shown(picture, other=other), expected)
+        self.assertEqual(shown(other, other=picture), expected)

@@ -19,9 +19,8 @@ from vga_picture.colours import Fewer, indexed
 from vga_picture.command import main
 from vga_picture.mode import MODES
 from vga_picture.nearest import Nearest, distance
-from vga_picture.planes import best_numbers, planes_of, put_steps
-from vga_picture.planes import MASKS, Bytes, Word, Write, least_writes
-from vga_report.png import Shape, write_png
+from vga_picture.planes import MASKS, Bytes, Word, Write, best_numbers, least_writes, planes_of, put_steps
+from vga_report.png import write_png
 from vga_report.program import FONTS
 from zaklimot.format import Picture
 
@@ -49,7 +48,7 @@ def ppm_of(dots: Dots) -> bytes:
 def png_of(dots: Dots) -> bytes:
     """The PNG of dots of six bits a component."""
     stream = io.BytesIO()
-    write_png(stream, Picture.of_ppm(ppm_of(dots)), Shape())
+    write_png(stream, Picture.of_ppm(ppm_of(dots)))
     return stream.getvalue()
 
 

@@ -10,7 +10,7 @@ from vga_report.cli import add
 from vga_report.images import Image
 from vga_report.output import AGREED, name_of, refuse_twice
 from vga_report.progress import Progress
-from vga_report.png import Shape, write_png
+from vga_report.png import save_png
 from vga_report.script import script_of
 from vga_report.streams import STANDARD, read_at_most, reading, to_read, write_file, writing
 from vga_report.suite import LIST, empty_folder
@@ -90,12 +90,10 @@ def _write_report(words: argparse.Namespace, run: Run, name: str) -> None:
     """Writes the report of a run, or those of its scripts into a folder."""
     scripts = run.table.scripts()
     # A script of a folder has a name, and its report is a file of a folder too, be it the only one.
-    if len(scripts) == 1 and (not scripts[0].name or words.report == STANDARD):
+    if words.report == STANDARD or len(scripts) == 1 and not scripts[0].name:
         with writing(words.report) as stream:
             stream.writelines(report_lines(run, name, words.all_registers))
         return
-    if words.report == STANDARD:
-        raise Trouble(f"it has the answers of {len(scripts)} scripts: name a folder for their reports", name)
     folder, reports = empty_folder(words.report), Reports(run, name, words.all_registers)
     for script in scripts:
         path = folder / f"{script.name}.report"
@@ -141,8 +139,7 @@ def _run(words: argparse.Namespace, _: Progress) -> int:
 
 def _write_picture(path: str, image: Image) -> None:
     """Writes what an emulator shows, in the six bits of a component that the DAC has."""
-    with writing(path) as stream:
-        write_png(stream, image.picture(2 if image.most == 255 else 0), Shape())
+    save_png(path, image.picture(2 if image.most == 255 else 0))
 
 
 def _table(words: argparse.Namespace, _: Progress) -> int:

@@ -11,7 +11,7 @@ from vga_report import cli
 from vga_report.cli import add
 from vga_report.images import image_bytes
 from vga_report.output import AGREED, counted, name_of, refuse_twice
-from vga_report.png import Shape, write_png
+from vga_report.png import save_png
 from vga_report.program import FONTS
 from vga_report.progress import Progress
 from vga_report.streams import STANDARD, read_at_most, refuse_input, to_read, writing
@@ -110,8 +110,7 @@ def _script(words: argparse.Namespace, progress: Progress) -> int:
     with writing(words.script) as stream:
         figures = write_script(stream, drawn.parts, drawn.answer, not words.bytes)
         if words.picture is not None:
-            with writing(words.picture) as picture:
-                write_png(picture, drawn.picture, Shape())
+            save_png(words.picture, drawn.picture)
     line = f"mode {words.mode}: {told}{drawn.told}; {figures.line()}"
     print(line, file=sys.stderr if STANDARD in (words.script, words.picture) else sys.stdout)
     return AGREED

@@ -12,7 +12,7 @@ from zaklimot.format import Picture
 from .differences import Difference
 from .expecting import answer_of
 from .listing import Row
-from .png import Shape, write_marked_png, write_png
+from .png import write_png
 from .streams import filled
 from .trouble import Trouble
 
@@ -34,10 +34,7 @@ class Frame(NamedTuple):
 def _data_of(picture: Picture, other: Optional[Picture] = None) -> str:
     """A picture as an address that is the picture itself; with another one, its differing dots marked."""
     stream = io.BytesIO()
-    if other is None:
-        write_png(stream, picture, Shape())
-    else:
-        write_marked_png(stream, picture, other, Shape())
+    write_png(stream, picture, other=other)
     return "data:image/png;base64," + base64.b64encode(stream.getvalue()).decode("ascii")
 
 

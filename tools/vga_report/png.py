@@ -7,6 +7,7 @@ from typing import BinaryIO, Iterable, Iterator, NamedTuple, Optional
 from zaklimot.format import Picture
 from zaklimot.format.picture import marks_in_row
 
+from .streams import writing
 from .trouble import Trouble
 
 # Six bits widened to eight, so that 0 stays 0 and 3F is FF.
@@ -92,11 +93,6 @@ def _rows(picture: Picture) -> Iterator[bytes]:
     return (picture.row(y).translate(WIDENED) for y in range(picture.height))
 
 
-def write_png(stream: BinaryIO, picture: Picture, shape: Shape) -> None:
-    """Writes a picture."""
-    _write(stream, (picture.width, picture.height), _rows(picture), shape)
-
-
 def _marked_row(picture: Picture, other: Picture, width: int, y: int) -> bytes:
     """A row darkened, with the dots marked that differ or stand in one of the pictures alone."""
     if y >= picture.height or y >= other.height:
@@ -110,11 +106,21 @@ def _marked_row(picture: Picture, other: Picture, width: int, y: int) -> bytes:
     return dark + MARK * (width - shared // 3)
 
 
-def write_marked_png(stream: BinaryIO, picture: Picture, other: Picture, shape: Shape) -> None:
-    """Writes a picture darkened, with the dots marked in which another differs."""
-    width, height = max(picture.width, other.width), max(picture.height, other.height)
-    rows = (_marked_row(picture, other, width, y) for y in range(height))
+def write_png(
+    stream: BinaryIO, picture: Picture, shape: Shape = Shape(), other: Optional[Picture] = None
+) -> None:
+    """Writes a picture; beside another one it is darkened, and the dots are marked in which that differs."""
+    width, height, rows = picture.width, picture.height, _rows(picture)
+    if other is not None:
+        width, height = max(width, other.width), max(height, other.height)
+        rows = (_marked_row(picture, other, width, y) for y in range(height))
     _write(stream, (width, height), rows, shape)
+
+
+def save_png(path: str, picture: Picture, shape: Shape = Shape(), other: Optional[Picture] = None) -> None:
+    """The same into a file."""
+    with writing(path) as stream:
+        write_png(stream, picture, shape, other)
 
 
 class Animation:

@@ -13,7 +13,7 @@ from .expected import Expected
 from .images import Image, image_bytes, image_of, image_of_picture
 from .output import AGREED, DIFFERED, name_of, refuse_twice, say, write, write_name
 from .page import Page
-from .png import Animation, Shape, write_marked_png, write_png
+from .png import Animation, Shape, save_png
 from .progress import Progress
 from .report import Report
 from .script import read_script, script_of
@@ -124,11 +124,10 @@ def _write_picture(words: argparse.Namespace, stem: str, picture: Picture, shape
     path = STANDARD
     if words.folder != STANDARD:
         path = os.path.join(words.folder, stem + (".ppm" if words.ppm else ".png"))
-    with writing(path) as stream:
-        if words.ppm:
-            stream.write(picture.ppm)
-        else:
-            write_png(stream, picture, shape)
+    if words.ppm:
+        write_file(path, picture.ppm)
+    else:
+        save_png(path, picture, shape)
     if path != STANDARD:
         write_name(path)
 
@@ -170,8 +169,7 @@ def _tell_differences(
             progress.clear()
             _tell(_difference_text(difference, names), words)
         if wants_picture and found is not None:
-            with writing(words.picture) as stream:
-                write_marked_png(stream, *found, Shape(words.scale, words.aspect))
+            save_png(words.picture, found[0], Shape(words.scale, words.aspect), found[1])
             wants_picture = False
         if page is not None:
             page.add_difference(difference)
@@ -298,6 +296,5 @@ def compare_picture(words: argparse.Namespace, progress: Progress) -> int:
     if found.image is not None:
         write(f"  {found.told}\n")
         if words.picture is not None:
-            with writing(words.picture) as stream:
-                write_marked_png(stream, picture, found.image, Shape(words.scale, words.aspect))
+            save_png(words.picture, picture, Shape(words.scale, words.aspect), found.image)
     return DIFFERED

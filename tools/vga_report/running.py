@@ -13,10 +13,10 @@ from zaklimot.format import FAULT, Answer, Picture
 from .cases import Case, printable
 from .differences import Comparison, Told
 from .expected import Expected
-from .png import Shape, write_marked_png, write_png
+from .png import save_png
 from .processes import Limits, Outcome, run_command
 from .report import Report
-from .streams import write_file, writing
+from .streams import write_file
 from .trouble import Trouble
 
 AGREES, SKIPPED, DIFFERS, FAILED = "agrees", "skipped", "differs", "failed"
@@ -187,11 +187,9 @@ def _write_pictures(stem: str, picture: Optional[Picture], expected: object) -> 
     wanted = expected if isinstance(expected, Picture) else None
     for some, end in ((picture, ".png"), (wanted, "-expected.png")):
         if some is not None:
-            with writing(stem + end) as stream:
-                write_png(stream, some, Shape())
+            save_png(stem + end, some)
     if picture is not None and wanted is not None and picture.ppm != wanted.ppm:
-        with writing(f"{stem}-differing.png") as stream:
-            write_marked_png(stream, picture, wanted, Shape())
+        save_png(f"{stem}-differing.png", picture, other=wanted)
 
 
 def _pictures_of(report: Path) -> Iterator[Answer]:

@@ -16,7 +16,7 @@ from .debugging import debug_page, link_to
 from .listing import Choice, Row, Script, heading, listed
 from .output import AGREED, DIFFERED, counted, name_of, write
 from .page import Page
-from .png import Shape, block_lines, write_png
+from .png import Shape, block_lines, save_png
 from .program import Built, Tried, build_program, found_program
 from .progress import Progress
 from .script import read_script
@@ -246,8 +246,7 @@ def _show(row: Row, width: int, words: argparse.Namespace, why: str) -> None:
     picture, more = row.step.picture, ""
     if isinstance(picture, Picture) and words.pictures is not None:
         path = os.path.join(words.pictures, f"{row.step.number:04}.png")
-        with writing(path) as stream:
-            write_png(stream, picture, Shape(words.scale, words.aspect))
+        save_png(path, picture, Shape(words.scale, words.aspect))
         more = f"  {path}"
     write("\n".join(listed(row, width, more, why)) + "\n")
     if isinstance(picture, Picture) and words.show:

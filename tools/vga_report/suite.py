@@ -4,17 +4,17 @@ import argparse
 import json
 from pathlib import Path
 from threading import Event
-from typing import Iterator, Optional
+from typing import Iterator, NamedTuple, Optional
 
 from zaklimot.format import Picture
 
 from .cases import Case, chosen_cases, read_cases
 from .output import AGREED, DIFFERED, counted, name_of, write, write_name
-from .png import Shape, write_png
+from .png import save_png
 from .processes import MEBIBYTE, Limits, in_parallel
 from .progress import Progress
 from .running import AGREES, DIFFERS, FAILED, SKIPPED, Command, Kind, Result, expected_pictures, run_case
-from .streams import STANDARD, write_file, writing
+from .streams import STANDARD, write_file
 from .trouble import Trouble
 
 # The word in the place of a command that asks for the expected pictures.
@@ -50,8 +50,7 @@ def _write_expected(words: argparse.Namespace) -> int:
             assert isinstance(step.picture, Picture)
             path = folder / f"{case.name}-{step.number:04}.png"
             path.parent.mkdir(parents=True, exist_ok=True)
-            with writing(str(path)) as stream:
-                write_png(stream, step.picture, Shape())
+            save_png(str(path), step.picture)
             write_name(path)
     return AGREED
 
@@ -131,13 +130,12 @@ def _copied_font(font: Optional[Path], folder: Path, fonts: dict[Path, str]) -> 
     return fonts[font]
 
 
-class Rule:
+class Rule(NamedTuple):
     """A rule, with the cases that show it."""
 
-    def __init__(self, text: str, group: str) -> None:
-        self.text = text
-        self.group = group
-        self.results: list[Result] = []
+    text: str
+    group: str
+    results: list[Result]
 
     @property
     def answer(self) -> str:
@@ -150,7 +148,7 @@ def rules_of(results: list[Result]) -> list[Rule]:
     rules: dict[tuple[str, str], Rule] = {}
     for result in results:
         place = (result.case.group, result.rule)
-        rules.setdefault(place, Rule(result.rule, result.case.group)).results.append(result)
+        rules.setdefault(place, Rule(result.rule, result.case.group, [])).results.append(result)
     groups = list(dict.fromkeys(group for group, _ in rules))
     return sorted(rules.values(), key=lambda rule: groups.index(rule.group))
 

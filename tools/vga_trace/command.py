@@ -14,7 +14,7 @@ from typing import ContextManager, Optional, Sequence, TextIO
 from vga_report import cli
 from vga_report.cli import add
 from vga_report.output import AGREED, DIFFERED, name_of, refuse_twice, write_name
-from vga_report.png import Shape, write_png
+from vga_report.png import Shape, save_png
 from vga_report.program import Built, found_program
 from vga_report.progress import Progress
 from vga_report.report import Report
@@ -214,8 +214,7 @@ def _pictures(words: argparse.Namespace, _: Progress) -> int:
             for picture, lasts in pictures_of(outcome.report, script, words.longest):
                 if words.folder is not None:
                     path = Path(words.folder) / f"{shown:09.3f}.png"
-                    with writing(str(path)) as stream:
-                        write_png(stream, picture, shape)
+                    save_png(str(path), picture, shape)
                     write_name(path)
                 if words.apng is not None:
                     moving.add(picture, lasts)

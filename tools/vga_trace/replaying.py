@@ -9,7 +9,7 @@ from threading import Event
 from typing import BinaryIO, Iterator, Mapping, Optional, Sequence
 
 from vga_report.images import Image, image_bytes, image_of
-from vga_report.png import Animation, Shape, write_marked_png, write_png
+from vga_report.png import Animation, Shape, save_png
 from vga_report.processes import Limits, run_command, said_last
 from vga_report.progress import Progress
 from vga_report.report import Report
@@ -84,11 +84,9 @@ class Verdict:
     def write(self, folder: Path) -> None:
         """Leaves the dump, the picture, and where they differ."""
         self.dump.replace(folder / f"screen-{self.number}.ppm")
-        with writing(str(folder / f"picture-{self.number}.png")) as stream:
-            write_png(stream, self.picture, Shape())
+        save_png(str(folder / f"picture-{self.number}.png"), self.picture)
         if self.held.image is not None and self.held.count:
-            with writing(str(folder / f"differing-{self.number}.png")) as stream:
-                write_marked_png(stream, self.part, self.held.image, Shape())
+            save_png(str(folder / f"differing-{self.number}.png"), self.part, other=self.held.image)
 
 
 def _held_part(state: State, picture: Picture, image: Image) -> tuple[Picture, Held]:
