@@ -11,8 +11,7 @@ import unittest
 from pathlib import Path
 
 from emulator_tests.media import UNFIT, wrong
-from emulator_tests.software import MOST_SECTORS, NO_CALL, SECTOR, Call, caller, screen
-from emulator_tests.software import SOFTWARE, archive_file
+from emulator_tests.software import MOST_SECTORS, NO_CALL, SECTOR, SOFTWARE, Call, archive_file, caller, screen
 from emulator_tests.traces import Replayed
 
 from vga_floppy.image import image_for

@@ -23,9 +23,8 @@ from vga_floppy import image as images
 from vga_floppy import running
 from vga_floppy.answers import report_lines
 from vga_floppy.command import main
-from vga_floppy.image import CODE, Run, image_for, read_image
+from vga_floppy.image import CODE, Run, image_for, read_image, read_record
 from vga_floppy.machines import DOSBOX, MACHINES
-from vga_floppy.image import read_record
 from vga_floppy.table import reset_steps, table_for
 from vga_floppy.table_page import FIRST_MARK, LAST_MARK
 from vga_report.cases import read_cases

@@ -5,6 +5,7 @@ from __future__ import annotations
 import os
 import re
 import shutil
+from contextlib import suppress
 from dataclasses import dataclass
 from pathlib import Path
 from typing import Callable, Mapping, Optional
@@ -149,30 +150,20 @@ def _dosbox_words(folder: Path, _: str, __: bool) -> list[str]:
     return ["dosbox", "-conf", "dosbox.conf"]
 
 
-def _said(*words: str) -> str:
-    """What a command says of itself; nothing where there is none."""
-    try:
+def _asked_version(pattern: str, *words: str, lacking: str = "") -> str:
+    """A version that stands in what a command says of itself; a Trouble where it can't be asked for."""
+    with suppress(Trouble):
         done = captured(words, seconds=SECONDS)
-    except Trouble:
-        return ""
-    return (done.output + done.errors).decode("utf-8", "replace")
-
-
-def _asked_version(pattern: str, *words: str) -> str:
-    """A version that stands in what a command says of itself."""
-    found = re.search(pattern, _said(*words))
-    if found is None:
-        raise Trouble(f"{words[0]} does not tell its version")
-    return found[1]
+        found = re.search(pattern, (done.output + done.errors).decode("utf-8", "replace"))
+        if found is not None:
+            return found[1]
+    raise Trouble(lacking or f"{words[0]} does not tell its version")
 
 
 def _package_version(package: str) -> str:
-    """The version of a Debian package, without Debian's own part; a Trouble where it can't be asked for."""
-    said = _said("dpkg-query", "--show", "--showformat=${Version}", package)
-    found = re.match(r"(?:\d+:)?([0-9][0-9A-Za-z.]*)", said)
-    if found is None:
-        raise Trouble(f"the version of the package {package} can't be told")
-    return found[1]
+    """The version of a Debian package, without Debian's own part."""
+    words, lacking = ("dpkg-query", "--show", "--showformat=${Version}"), f"the version of the package {package} can't be told"
+    return _asked_version(r"\A(?:\d+:)?([0-9][0-9A-Za-z.]*)", *words, package, lacking=lacking)
 
 
 MACHINES = {

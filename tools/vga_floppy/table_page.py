@@ -32,15 +32,10 @@ class Results:
     version: str
     rules: Sequence[dict[str, Any]]
 
-    def cases(self, folder: str | None = None) -> list[dict[str, Any]]:
-        """All cases, or those of a folder."""
-        return [case for rule in self.rules if folder in (None, rule["folder"]) for case in rule["cases"]]
-
-    def rule(self, text: str, folder: str) -> list[dict[str, Any]]:
-        """The cases of a rule."""
-        return [
-            case for rule in self.rules if (rule["rule"], rule["folder"]) == (text, folder) for case in rule["cases"]
-        ]
+    def cases(self, folder: str | None = None, text: str | None = None) -> list[dict[str, Any]]:
+        """All cases, or those of a folder, or those of a rule in it."""
+        rules = (one for one in self.rules if folder in (None, one["folder"]) and text in (None, one["rule"]))
+        return [case for rule in rules for case in rule["cases"]]
 
 
 def _read(path: str) -> Results:
@@ -135,7 +130,7 @@ def _rules(results: Sequence[Results]) -> Iterator[str]:
     yield from _heading(results, "Rule of the suite", "Case")
     rules = dict.fromkeys((rule["rule"], rule["folder"]) for result in results for rule in result.rules)
     for text, folder in rules:
-        found = [result.rule(text, folder) for result in results]
+        found = [result.cases(folder, text) for result in results]
         wrong = [case for cases in found for case in cases if case["answer"] in (DIFFERS, FAILED)]
         if wrong:
             yield _row(text, f"`{wrong[0]['name']}`", *map(_rule_cell, found))

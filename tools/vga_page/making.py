@@ -7,8 +7,7 @@ import tempfile
 from pathlib import Path
 from typing import Callable, Optional, Sequence
 
-from vga_library.toolchain import proving_words
-from vga_library.toolchain import CRATE, kit_folder
+from vga_library.toolchain import CRATE, kit_folder, proving_words
 from vga_report.processes import Hearer, ended_well, run
 from vga_report.trouble import Trouble
 

@@ -38,9 +38,8 @@ class Image(NamedTuple):
         if any(self.rows[y] != self.rows[y - y % down] for y in range(self.height)):
             return False
         return all(
-            row[3 * at::3 * across] == row[::3 * across] and row[3 * at + 1::3 * across] == row[1::3 * across]
-            and row[3 * at + 2::3 * across] == row[2::3 * across]
-            for row in self.rows[::down] for at in range(1, across)
+            row[3 * at + part::3 * across] == row[part::3 * across]
+            for row in self.rows[::down] for at in range(1, across) for part in range(3)
         )
 
     def repeated(self, across: int, down: int) -> Image:

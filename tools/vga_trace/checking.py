@@ -43,12 +43,9 @@ class Checked:
         refused, reads, differing = (sum(kinds.values()) for kinds in (self.refused, self.reads, self.differing))
         skipped = f", {self.skipped:,} skipped" if self.skipped else ""
         yield f"{self.steps:,} steps, {refused:,} refused, {reads:,} reads answered, {differing:,} differ{skipped}"
-        for kind, count in self.refused.most_common(most):
-            yield f"  refused {count:9,} {kind} ({self.examples[kind]})"
-        for kind, count in self.reads.most_common(most):
-            yield f"  read    {count:9,} {kind}"
-        for kind, count in self.differing.most_common(most):
-            yield f"  differ  {count:9,} {kind} ({self.examples[kind]})"
+        for name, kinds in (("refused", self.refused), ("read", self.reads), ("differ", self.differing)):
+            for kind, count in kinds.most_common(most):
+                yield f"  {name:7} {count:9,} {kind}" + ("" if name == "read" else f" ({self.examples[kind]})")
 
     def refuse(self, kind: str, number: int) -> None:
         """Counts a refusal."""

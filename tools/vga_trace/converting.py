@@ -10,13 +10,12 @@ from vga_report.output import counted
 from vga_report.trouble import Trouble
 from zaklimot.format import FIRST_LINE, HEADERS, MOST_BYTES, MOST_STEPS
 
-from .trace import Cycle
 from .folding import Coded, Row, alone, folded
 from .passing import Clocked, Flips, Pauses, with_frames_every
 from .rebuilding import rebuilt
 from .state import State
 from .step import FRAME, NAMES, Step, steps_of, without_polls
-from .trace import Trace
+from .trace import Cycle, Trace
 from .watch import Watch
 
 # When a script has a frame: at its end alone, before each page flip, where a screen was taken, once in each frame of the dot

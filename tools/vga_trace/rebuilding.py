@@ -4,10 +4,8 @@ from __future__ import annotations
 
 from typing import Iterator
 
-from .state import TAKEN
-from .state import PLANE_BYTES, PLANES
-from .state import PROTECT
-from .state import ATTRIBUTE, DAC_DATA, DAC_WRITE, ENABLE_MEMORY, GRAPHICS, MASK, MISC, SEQUENCER, STATUS, State
+from .state import ATTRIBUTE, DAC_DATA, DAC_WRITE, ENABLE_MEMORY, GRAPHICS, MASK, MISC, SEQUENCER, STATUS
+from .state import PLANE_BYTES, PLANES, PROTECT, TAKEN, State
 from .step import ADVANCE, GET, IN, OUT, OUTW, PUT, PUTW, READS, Step
 
 FIRST_ADDRESS = 0xA0000

@@ -5,8 +5,7 @@ from __future__ import annotations
 from itertools import islice
 from typing import Iterator, Optional
 
-from .trace import MEMORY, VBE, Cycle
-from .trace import Trace
+from .trace import MEMORY, VBE, Cycle, Trace
 
 MISCELLANEOUS_OUTPUT = 0x3C2
 SEQUENCER_INDEX, SEQUENCER_DATA = 0x3C4, 0x3C5
