@@ -9,6 +9,8 @@ from typing import Iterator, NamedTuple
 
 from .making import ppm
 
+# Where the font file has the glyphs of each height; and the palettes.
+FONTS_AT = {8: 0, 14: 256 * 8, 16: 256 * 22}
 LARGE, SMALL = [0, 1, 2, 3, 4, 5, 0x14, 7, *range(0x38, 0x40)], [*range(8), *range(0x10, 0x18)]
 
 
@@ -157,9 +159,8 @@ class Screen:
 
     def load_font(self, height: int) -> None:
         """Gives each character the glyph of so many lines, and text this height."""
-        start = {8: 0, 14: 256 * 8, 16: 256 * 22}[height]
         for character in range(256):
-            self.load(character, self.font[start + height * character:start + height * (character + 1)])
+            self.load(character, self.font[FONTS_AT[height] + height * character:][:height])
         self.lines_of_text = height
 
     def load(self, character: int, glyph: bytes) -> None:
@@ -181,12 +182,9 @@ class Screen:
 
     def service_06(self, lines: int, bx: int, cx: int, dx: int, block: bytes) -> None:
         assert lines == 0
-        self.scroll(lines, bx >> 8, cx, dx)
+        self.service_07(lines, bx, cx, dx, block)
 
     def service_07(self, lines: int, bx: int, cx: int, dx: int, block: bytes) -> None:
-        self.scroll(lines, bx >> 8, cx, dx)
-
-    def scroll(self, lines: int, fill: int, cx: int, dx: int) -> None:
         """Scrolls a window down, and blanks the rows that become free."""
         top, left, bottom, right = cx >> 8, cx & 0xFF, dx >> 8, dx & 0xFF
         assert self.mode != 3 and top <= bottom < self.shape.rows and left <= right < self.shape.columns
@@ -195,7 +193,7 @@ class Screen:
             for target in self.lines(row, left, right):
                 self.copy(target, lines * self.shape.lines * self.shape.columns * self.times)
         free = [at for row in range(top, top + lines) for line in self.lines(row, left, right) for at in line]
-        self.blank(free, fill)
+        self.blank(free, bx >> 8)
 
     @property
     def times(self) -> int:

@@ -4,7 +4,6 @@ from __future__ import annotations
 
 import io
 import random
-import subprocess
 import sys
 import tempfile
 import unittest
@@ -22,12 +21,12 @@ from vga_picture.nearest import Nearest, distance
 from vga_picture.planes import MASKS, Bytes, Word, Write, best_numbers, least_writes, planes_of, put_steps
 from vga_report.png import write_png
 from vga_report.program import FONTS
-from zaklimot.format import Picture
+from zaklimot.format import Picture, encode, parse_text
 
 from .making import png_rows, ppm
 from .program import run_texts
-from .screen import Screen
-from .tools import EXAMPLES, Folder, call, run_tool
+from .screen import FONTS_AT, Screen
+from .tools import EXAMPLES, Folder, call, ended, run_tool
 from .test_images import png
 
 run = partial(run_tool, "vga-picture")
@@ -99,10 +98,6 @@ def script(image: bytes, *words: str) -> bytes:
 SIZES = {"0D": (320, 200, 16, 1, 2), "10": (640, 350, 16, 1, 1), "12": (640, 480, 16, 1, 1), "13": (320, 200, 200, 2, 2)}
 
 
-# Where the font file has the glyphs of each height.
-FONTS_AT = {8: 0, 14: 256 * 8, 16: 256 * 22}
-
-
 def text_dots(seed: int = 3, height: int = 16, own: int = 0) -> Dots:
     """A page of cells at random, in sixteen colours, a third of it blank; as the font of so many lines shows them.
 
@@ -146,14 +141,6 @@ def all_scripts() -> dict[str, tuple[bytes, bytes]]:
             words = ["--mode", "3", "--rows", str(rows), "--own-glyphs", *option]
             made[f"3 of {rows} rows {option}"] = script(ppm_of(dots), *words), ppm_of(dots)
     return made
-
-
-class Cards(unittest.TestCase):
-    def test_a_card_that_can_not_be_written(self) -> None:
-        words = [sys.executable, EXAMPLES / "test_card.py", "320x200", "/no-such-folder/card.png"]
-        done = subprocess.run(words, capture_output=True, text=True, timeout=60)
-        told = "test_card.py: /no-such-folder/card.png: No such file or directory\n"
-        self.assertEqual((done.returncode, done.stdout, done.stderr), (2, "", told))
 
 
 class Drawing(Folder):
@@ -217,28 +204,8 @@ class Drawing(Folder):
 
 
 def assembled(text: bytes) -> bytes:
-    """The bytes of a script's text, by docs/SCRIPT.md."""
-    made = bytearray(b"VGAS\x01")
-    for line in text.decode().splitlines():
-        words = line.partition(";")[0].split()
-        if not words:
-            continue
-        name, numbers = words[0], words[1:]
-        if name == "version":
-            made[4] = 2
-        elif name in ("repeat", "end"):
-            made += b"\x0d" + int(numbers[0]).to_bytes(2, "little") if numbers else b"\x0e"
-        elif name == "frame":
-            made += b"\x0b"
-        elif name == "int":
-            values = dict(word.split("=") for word in numbers if "=" in word)
-            block = bytes.fromhex(numbers[-1]) if "block" in numbers else b""
-            registers = [int(values.get(register, "0"), 16) for register in ("ax", "bx", "cx", "dx")]
-            made += b"\x09" + b"".join(number.to_bytes(2, "little") for number in [*registers, len(block)]) + block
-        else:
-            opcode, place, size = {"outw": (2, 2, 2), "put": (5, 4, 1), "putw": (6, 4, 2)}[name]
-            made += bytes([opcode]) + int(numbers[0], 16).to_bytes(place, "little") + int(numbers[1], 16).to_bytes(size, "little")
-    return bytes(made)
+    """The bytes of a script's text."""
+    return encode(parse_text(text))
 
 
 def can_be_made(have: Word, want: Word, most: int) -> bool:
@@ -624,6 +591,11 @@ class Examples(unittest.TestCase):
                 text = (EXAMPLES / f"test-card-{size}.vga").read_bytes()
                 self.assertTrue(text == script(ppm_of(card.rows), "--mode", mode, "--short"), "another script")
                 self.assertTrue(drawn(text)[0] == shown(card.rows, across, down), "another picture")
+
+    def test_a_card_that_can_not_be_written(self) -> None:
+        words = (sys.executable, EXAMPLES / "test_card.py", "320x200", "/no-such-folder/card.png")
+        told = "test_card.py: /no-such-folder/card.png: No such file or directory\n"
+        self.assertEqual(ended(*words), (2, "", told))
 
     def test_what_the_page_shows(self) -> None:
         page = (EXAMPLES.parent / "docs" / "PICTURES.md").read_text()

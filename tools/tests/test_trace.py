@@ -14,7 +14,7 @@ import unittest
 from functools import partial
 from pathlib import Path
 from random import Random
-from typing import Iterable, Iterator
+from typing import Iterable
 from unittest import mock
 
 from vga_report.timing import Timing
@@ -27,11 +27,12 @@ from vga_trace.folding import Coded, Row, alone, folded
 from vga_trace.passing import Flips, Pauses, with_frames_every
 from vga_trace.step import ADVANCE, FRAME, IN, NAMES, OUT, OUTW, PUT, Step, steps_of, without_polls
 from vga_trace.trace import MEMORY, PORT, VBE, Cycle, Trace
+from zaklimot.format import HEADERS, Block, decode, encoded
 from zaklimot.format import Step as ScriptStep
 
 from .making import ppm, report
 from .program import run_texts
-from .tools import EXAMPLES, Folder, begin, call, run_tool
+from .tools import EXAMPLES, Folder, begin, call, refused, run_tool
 
 run = partial(run_tool, "vga-trace")
 # What a trace from power-on begins with.
@@ -104,32 +105,25 @@ class Lines(unittest.TestCase):
             Cycle(True, MEMORY, 0xB8000, 0x123456789ABCDEF, 8, 13),
         ])
 
-    def test_faults_of_the_plain_form(self) -> None:
-        no_cycle = "it is no cycle: `TIME r|w p|m ADDRESS VALUE SIZE` is one"
-        for line, reason in (
-            (b"0 w p 3C4 302", no_cycle), (b"0 x p 3C4 2 1", no_cycle), (b"0 w q 3C4 2 1", no_cycle),
-            (b"0.5 w p 3C4 2 1", no_cycle), (b"0 w p 0x3C4 2 1", no_cycle), (b"0 w p 3C4 2 1 2", no_cycle),
-            (b"0 w p 3C4 2 3", "a cycle has 1, 2, 4 or 8 bytes, and not 3"),
-            (b"0 w p 3C4 302 1", "the value 302 has more than 1 bytes"),
-            (b"0 w p FFFF 302 2", "there is no port of address FFFF"),
-            (b"0 w m FFFFFFFF 302 2", "there is no memory of address FFFFFFFF"),
+    def test_faults(self) -> None:
+        none = "it has no cycle, neither of qemu's log nor of the plain form"
+        bad = "0 w p 3C4 302/0 x p 3C4 2 1/0 w q 3C4 2 1/0.5 w p 3C4 2 1/0 w p 0x3C4 2 1/0 w p 3C4 2 1 2".split("/")
+        no_cycle = "2: it is no cycle: `TIME r|w p|m ADDRESS VALUE SIZE` is one"
+        for data, told in (
+            *((BEGIN + f"{line}\n".encode(), no_cycle) for line in bad),
+            (BEGIN + b"0 w p 3C4 2 3\n", "2: a cycle has 1, 2, 4 or 8 bytes, and not 3"),
+            (BEGIN + b"0 w p 3C4 302 1\n", "2: the value 302 has more than 1 bytes"),
+            (BEGIN + b"0 w p FFFF 302 2\n", "2: there is no port of address FFFF"),
+            (BEGIN + b"0 w m FFFFFFFF 302 2\n", "2: there is no memory of address FFFFFFFF"),
+            (b";\n0 w p 3C2 67\n" + BEGIN, "2: a line before the first cycle is neither a cycle nor a comment"),
+            (b"", f" {none}"), (b"; nothing\n", f" {none}"),
+            # The line of a mistake, where no line has a cycle.
+            (b"0 w p 3C2 67\n", f"1: {none}; this line is the first that is no comment"),
+            (b"0 x p 3C2 67 1", f"1: {none}; this line is the first that is no comment"),
+            (b"; good\n\nhello\noh\n", f"3: {none}; this line is the first that is no comment"),
         ):
-            with self.subTest(line), self.assertRaisesRegex(Trouble, "^" + f"trace:2: {reason}".replace("|", r"\|") + "$"):
-                cycles(BEGIN + line + b"\n")
-
-    def test_a_line_before_the_first_of_the_plain_form(self) -> None:
-        with self.assertRaisesRegex(Trouble, "^trace:2: a line before the first cycle is neither"):
-            cycles(b"; good\n0 w p 3C2 67\n" + BEGIN)
-
-    def test_no_cycle_at_all(self) -> None:
-        for data in (b"", b"; nothing\n"):
-            with self.subTest(data), self.assertRaisesRegex(Trouble, "^trace: it has no cycle"):
-                cycles(data)
-
-    def test_the_line_of_a_mistake_where_no_line_has_a_cycle(self) -> None:
-        for data, line in ((b"0 w p 3C2 67\n", 1), (b"0 x p 3C2 67 1", 1), (b"; good\n\nhello\noh\n", 3)):
-            with self.subTest(data), self.assertRaisesRegex(Trouble, f"^trace:{line}: it has no cycle.* first that is no comment$"):
-                cycles(data)
+            with self.subTest(data):
+                self.assertEqual(refused(cycles, data), f"trace:{told}")
 
 
 class Steps(unittest.TestCase):
@@ -154,13 +148,12 @@ class Steps(unittest.TestCase):
         self.assertEqual((Step(FRAME).text(), Step(FRAME).data()), (b"frame\n", b"\x0b"))
         self.assertEqual((Step(ADVANCE, 258).text(), Step(ADVANCE, 258).data()), (b"advance 258\n", b"\x0a\x02\x01\0\0"))
 
-    def test_bytes_join_to_words(self) -> None:
-        self.assertEqual(self.steps("w m B8000 41 1", "w m B8001 1F 1"), ["putw B8000 1F41"])
-        self.assertEqual(self.steps("r m B8000 41 1", "r m B8001 1F 1"), ["getw B8000 ; = 1F41"])
-        self.assertEqual(self.steps(*(f"w m B800{at} 0{at} 1" for at in range(4))), ["putw B8000 0100", "putw B8002 0302"])
-
-    def test_bytes_that_are_no_word_stay(self) -> None:
+    def test_which_bytes_become_words(self) -> None:
         for lines, steps in (
+            (("w m B8000 41 1", "w m B8001 1F 1"), ["putw B8000 1F41"]),
+            (("r m B8000 41 1", "r m B8001 1F 1"), ["getw B8000 ; = 1F41"]),
+            ((f"w m B800{at} 0{at} 1" for at in range(4)), ["putw B8000 0100", "putw B8002 0302"]),
+            # Those that are no word stay.
             (("w m B8001 41 1", "w m B8002 1F 1"), ["put B8001 41", "put B8002 1F"]),
             (("w m B8001 41 1", "w m B8000 1F 1"), ["put B8001 41", "put B8000 1F"]),
             (("w m B8000 41 1", "w m B8003 1F 1"), ["put B8000 41", "put B8003 1F"]),
@@ -170,17 +163,14 @@ class Steps(unittest.TestCase):
             (("w m B8000 41 1", "w m B8000 42 1", "w m B8001 43 1"), ["put B8000 41", "putw B8000 4342"]),
             (("w p 3C4 2 1", "w p 3C5 F 1"), ["out 3C4 02", "out 3C5 0F"]),
             (("w m B8000 41 1",), ["put B8000 41"]),
+            # Wider cycles are words from the first.
+            (("w m A0000 44332211 4",), ["putw A0000 2211", "putw A0002 4433"]),
+            (("r p 3C4 44332211 4",), ["inw 3C4 ; = 2211", "inw 3C6 ; = 4433"]),
+            (("w m A0001 8877665544332211 8",),
+             ["putw A0001 2211", "putw A0003 4433", "putw A0005 6655", "putw A0007 8877"]),
         ):
-            with self.subTest(lines):
+            with self.subTest(steps):
                 self.assertEqual(self.steps(*lines), steps)
-
-    def test_wider_cycles_become_words(self) -> None:
-        self.assertEqual(self.steps("w m A0000 44332211 4"), ["putw A0000 2211", "putw A0002 4433"])
-        self.assertEqual(self.steps("r p 3C4 44332211 4"), ["inw 3C4 ; = 2211", "inw 3C6 ; = 4433"])
-        self.assertEqual(
-            self.steps("w m A0001 8877665544332211 8"),
-            ["putw A0001 2211", "putw A0003 4433", "putw A0005 6655", "putw A0007 8877"],
-        )
 
     def test_vbe_is_left_out_and_separates_nothing(self) -> None:
         lines = qemu("write b8000 41 1", "vga-lowmem") + qemu("write 1ce 4 2", "vbe") + qemu("write b8001 1f 1", "vga-lowmem")
@@ -204,32 +194,23 @@ def registers(misc: int, clocking: int) -> list[Step]:
 
 
 class Passing(unittest.TestCase):
-    def dots(self, misc: int, clocking: int, *times: int) -> list[int]:
-        """The dots of `advance` before steps at these times, behind the registers that choose the clock."""
-        steps = registers(misc, clocking) + [Step(IN, 0x3DA, time=time) for time in times]
-        return [step.address for step in Pauses().steps(steps) if step.opcode == ADVANCE]
-
-    def test_dots_by_the_clock(self) -> None:
-        self.assertEqual(self.dots(0x67, 0, 0, 1000), [28_322])
-        self.assertEqual(self.dots(0x63, 0, 0, 1000), [25_175])
-        self.assertEqual(self.dots(0x67, 8, 0, 1000), [14_161])
-        self.assertEqual(self.dots(0x63, 1, 0, 1000, 3000), [25_175, 50_350])
-
-    def test_a_frame_is_the_most(self) -> None:
-        self.assertEqual(self.dots(0x67, 0, 0, 60_000_000), [900 * 449])
-        self.assertEqual(self.dots(0x67, 1, 0, 60_000_000), [800 * 449])
-
-    def test_short_times_are_put_together(self) -> None:
-        self.assertEqual(self.dots(0x67, 0, 0, 10, 20, 29, 30, 59, 60), [849, 849])
-
-    def test_no_time_where_no_clock_is_known(self) -> None:
-        self.assertEqual(self.dots(0x6B, 0, 0, 1000), [])
+    def test_the_dots_of_pauses(self) -> None:
+        """Those of `advance` before steps at some times, behind registers that choose the clock."""
+        for told, misc, clocking, times, dots in (
+            ("28 MHz", 0x67, 0, (0, 1000), [28_322]), ("25 MHz", 0x63, 0, (0, 1000), [25_175]),
+            ("half a clock", 0x67, 8, (0, 1000), [14_161]),
+            ("two pauses", 0x63, 1, (0, 1000, 3000), [25_175, 50_350]),
+            ("a frame is the most", 0x67, 0, (0, 60_000_000), [900 * 449]),
+            ("a frame of narrow characters", 0x67, 1, (0, 60_000_000), [800 * 449]),
+            ("short times are put together", 0x67, 0, (0, 10, 20, 29, 30, 59, 60), [849, 849]),
+            ("no clock that is known", 0x6B, 0, (0, 1000), []),
+            ("time that runs back", 0x67, 0, (2000, 1000, 2000), [28_322]),
+        ):
+            steps = registers(misc, clocking) + [Step(IN, 0x3DA, time=time) for time in times]
+            with self.subTest(told):
+                self.assertEqual([s.address for s in Pauses().steps(steps) if s.opcode == ADVANCE], dots)
         steps = [Step(OUT, 0x3C2, 0x67), Step(IN, 0x3DA, time=0), Step(IN, 0x3DA, time=1000)]
         self.assertEqual(list(Pauses().steps(steps)), steps)
-
-    def test_time_that_runs_back_is_no_pause(self) -> None:
-        self.assertEqual(self.dots(0x67, 0, 2000, 1000, 2000), [28_322])
-        self.assertEqual(warned(b"2 w p 3C2 67 1\n1 r p 3DA 0 1\n", has_time=True), ["the time runs back 1 times, which is no pause"])
 
     def test_the_clock_is_that_before_the_pause(self) -> None:
         change = Step(OUT, 0x3C2, 0x63, 1000)
@@ -287,35 +268,31 @@ class Frames(unittest.TestCase):
 
 
 class Warnings(unittest.TestCase):
-    def test_a_good_trace_has_none(self) -> None:
-        self.assertEqual(warned(b"- r p 3CC 0 1\n" + BEGIN + b"- w m A0000 1 1\n"), [])
-
-    def test_no_beginning_at_power_on(self) -> None:
-        told = ["cycle 2 writes first, and not port 3C2: the trace doesn't begin at power-on"]
-        self.assertEqual(warned(b"- r p 3CC 0 1\n- w m B8000 1 1\n" + BEGIN), told)
-        self.assertEqual(warned(b"- r p 3CC 0 1\n- w p 3C4 1 1\n" + BEGIN), told)
-
-    def test_vbe(self) -> None:
+    def test_what_a_trace_lacks(self) -> None:
         def vbe(index: str, value: str) -> bytes:
             return qemu("write 3c2 67 1") + qemu(f"write 1ce {index} 2", "vbe") + qemu(f"write 1cf {value} 2", "vbe")
 
-        self.assertEqual(warned(vbe("4", "41")), ["cycle 3 turns VBE on: what follows is no VGA's, and its memory isn't traced"])
-        self.assertEqual(warned(vbe("4", "0")), [])
-        self.assertEqual(warned(vbe("3", "1")), [])
-
-    def test_chain_4_without_memory(self) -> None:
-        told = "chain 4 with map mask 0F has no cycle of memory, first from cycle 3 on: qemu traces none there without the plugin"
+        begin = "cycle 2 writes first, and not port 3C2: the trace doesn't begin at power-on"
+        enabled = "cycle 3 turns VBE on: what follows is no VGA's, and its memory isn't traced"
+        silent = "chain 4 with map mask 0F has no cycle of memory, first from cycle 3 on: " \
+            "qemu traces none there without the plugin"
         chained = BEGIN + b"- w p 3C4 0F02 2\n- w p 3C4 0E04 2\n"
-        self.assertEqual(warned(chained), [told])
-        self.assertEqual(warned(chained + b"- w p 3C4 0604 2\n- w m A0000 1 1\n"), [told])
-        self.assertEqual(warned(BEGIN + b"- w p 3C4 4 1\n- w p 3C5 E 1\n- w p 3C4 0F02 2\n"), [told.replace("3 on", "4 on")])
-        self.assertEqual(warned(chained + b"- w p 3C4 0E04 2\n- w m A0000 1 1\n- w p 3C4 0604 2\n"), [])
-        self.assertEqual(warned(BEGIN + b"- w p 3C4 0702 2\n- w p 3C4 0E04 2\n"), [])
-
-    def test_damaged_lines(self) -> None:
-        self.assertEqual(
-            warned(qemu("write 3c2 67 1") + b"memory_region_ops_\n"), ["1 lines of cycles are damaged and left out, line 2 first"]
-        )
+        for data, told in (
+            (b"- r p 3CC 0 1\n" + BEGIN + b"- w m A0000 1 1\n", ""),
+            (b"- r p 3CC 0 1\n- w m B8000 1 1\n" + BEGIN, begin),
+            (b"- r p 3CC 0 1\n- w p 3C4 1 1\n" + BEGIN, begin),
+            (vbe("4", "41"), enabled), (vbe("4", "0"), ""), (vbe("3", "1"), ""),
+            (chained, silent), (chained + b"- w p 3C4 0604 2\n- w m A0000 1 1\n", silent),
+            (BEGIN + b"- w p 3C4 4 1\n- w p 3C5 E 1\n- w p 3C4 0F02 2\n", silent.replace("3 on", "4 on")),
+            (chained + b"- w p 3C4 0E04 2\n- w m A0000 1 1\n- w p 3C4 0604 2\n", ""),
+            (BEGIN + b"- w p 3C4 0702 2\n- w p 3C4 0E04 2\n", ""),
+            (qemu("write 3c2 67 1") + b"memory_region_ops_\n",
+             "1 lines of cycles are damaged and left out, line 2 first"),
+        ):
+            with self.subTest(data):
+                self.assertEqual(warned(data), [told] if told else [])
+        told = "the time runs back 1 times, which is no pause"
+        self.assertEqual(warned(b"2 w p 3C2 67 1\n1 r p 3DA 0 1\n", has_time=True), [told])
 
 
 class Converting(Folder):
@@ -592,26 +569,6 @@ def lines(steps: Iterable[Step]) -> list[str]:
     return b"".join(row.text for row in folded(coded(steps, is_text=True))).decode().splitlines()
 
 
-def meant(data: bytes) -> Iterator[bytes]:
-    """The bytes of the steps that a script's body means, read without the tool's own code. Blocks have no blocks."""
-    lengths = {1: 4, 2: 5, 3: 3, 4: 3, 5: 6, 6: 7, 7: 5, 8: 5, 0x0A: 5, 0x0B: 1}
-    at, block, count = 0, [], 1
-    while at < len(data):
-        if data[at] == 0x0D:
-            block, count, at = [], int.from_bytes(data[at + 1:at + 3], "little"), at + 3
-            assert count > 1, "a block of one round"
-            continue
-        if data[at] == 0x0E:
-            yield from block * count
-            block, count, at = [], 1, at + 1
-            continue
-        step, at = data[at:at + lengths[data[at]]], at + lengths[data[at]]
-        if count > 1:
-            block.append(step)
-        else:
-            yield step
-
-
 class Folding(unittest.TestCase):
     def test_rows_of_equal_steps(self) -> None:
         self.assertEqual(lines([WRITE, *[POLL] * 100, WRITE]), ["out 3C0 20", "repeat 100", "in 3DA", "end", "out 3C0 20"])
@@ -650,7 +607,9 @@ class Folding(unittest.TestCase):
                 rows = list(folded(coded(steps)))
                 data = b"".join(row.data for row in rows)
                 plain = b"".join(row.data for row in alone(coded(steps)))
-                self.assertEqual(b"".join(meant(data)), plain)
+                script = decode(HEADERS[2] + data)
+                self.assertEqual(b"".join(map(encoded, script.steps())), plain)
+                self.assertGreater(min(item.count for item in script.items if isinstance(item, Block)), 1)
                 self.assertEqual(sum(row.steps for row in rows), len(steps))
                 self.assertLess(len(data), len(plain))
 
