@@ -125,7 +125,8 @@ REFUSED = {
     "picture script {i} - --mode 12 --fit --bars ff000":
         "'ff000' is no colour of six hexadecimal digits, as FFFFFF for white\n",
     "picture script {i} - --mode 12":
-        "vga-picture: {i}: the image has 9x1 dots, and mode 12 has 640x480: --scale stretches it, --fit keeps its shape\n",
+        "vga-picture: {i}: the image has 9x1 dots, and mode 12 has 640x480: "
+        "--scale stretches it, --fit keeps its shape\n",
     "picture script {i} - --mode 3 --fonts {t}": "vga-picture: {t}: a font file has 9,728 bytes, and this has 15\n",
     "trace record {d}/full --vga {p} -- -cdrom x": "it has files: name a new folder",
     "trace record {o} --vga {p}": "qemu needs words after `--`",

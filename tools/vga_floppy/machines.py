@@ -162,8 +162,8 @@ def _asked_version(pattern: str, *words: str, lacking: str = "") -> str:
 
 def _package_version(package: str) -> str:
     """The version of a Debian package, without Debian's own part."""
-    words, lacking = ("dpkg-query", "--show", "--showformat=${Version}"), f"the version of the package {package} can't be told"
-    return _asked_version(r"\A(?:\d+:)?([0-9][0-9A-Za-z.]*)", *words, package, lacking=lacking)
+    words, lacking = ("dpkg-query", "--show", "--showformat=${Version}"), f"the version of the package {package}"
+    return _asked_version(r"\A(?:\d+:)?([0-9][0-9A-Za-z.]*)", *words, package, lacking=f"{lacking} can't be told")
 
 
 MACHINES = {

@@ -107,7 +107,8 @@ def _add_run(parser: argparse.ArgumentParser) -> None:
 def _add_pictures(parser: argparse.ArgumentParser) -> None:
     add(parser, "FOLDER", "where the files go", nargs="?")
     add(parser, "--apng FILE", "writes one picture that moves, each frame as long as it lasts")
-    add(parser, "--script SCRIPT", "takes the frames' times from this script (default: 70 frames a second)", type=to_read)
+    told = "takes the frames' times from this script (default: 70 frames a second)"
+    add(parser, "--script SCRIPT", told, type=to_read)
     add(parser, "--ppm", "writes the bytes as they are, as NNNN.ppm, instead of PNG")
     steps = {"type": number_to(MOST_STEP), "action": "append", "default": []}
     add(parser, "--step N", "writes only the picture of this step; may be repeated", **steps)
