@@ -30,12 +30,13 @@ from vga_floppy.table_page import FIRST_MARK, LAST_MARK
 from vga_report.cases import read_cases
 from vga_report.processes import started
 from vga_report.script import script_of
-from vga_report.trouble import Trouble
 from vga_report.words import SUITE
+from vga_trace.state import State
+from vga_trace.step import IN, OUT, Step
 from zaklimot.format import Script
 
 from .floppy import ANSWERS, MARK, Adapter, Machine
-from .tools import TOOLS, TOP, Folder, begin, call, run_tool
+from .tools import TOOLS, TOP, Folder, begin, call, ended, refused, run_tool
 
 run = partial(run_tool, "vga-floppy")
 FLOPPY = Path(__file__).with_name("floppy.py")
@@ -145,29 +146,18 @@ class Interpreting(unittest.TestCase):
             })
 
     def registers(self, before: list[tuple[object, ...]]) -> dict[str, object]:
-        """What cycles leave in an adapter's registers."""
-        files: dict[int, list[object]] = {0x3C4: [None] * 5, 0x3CE: [None] * 9, 0x3D4: [None] * 25}
-        indexes, attributes, is_data = {port: 0 for port in files}, [None] * 21, False
-        found: dict[str, object] = {}
+        """What cycles leave in an adapter's registers, of which each had another value."""
+        state = State()
+        banks = {"seq": state.seq, "gfx": state.gfx, "crtc": state.crtc, "attr": state.attr}
+        state.misc = state.dac.mask = state.attr.is_data = 0x54
+        for bank in banks.values():
+            bank.index, bank.registers = 1, [0x55] * len(bank.registers)
         for kind, port, *value in before[1:]:
-            if kind == "in" and port == 0x3DA:
-                is_data = False
-            elif kind == "out" and port == 0x3C0:
-                if is_data:
-                    attributes[indexes[0x3C0]] = value[0]  # type: ignore[call-overload]
-                else:
-                    indexes[0x3C0] = value[0]  # type: ignore[assignment]
-                is_data = not is_data
-            elif kind == "out" and port in files:
-                indexes[port] = value[0]  # type: ignore[index, assignment]
-            elif kind == "out" and port - 1 in files:  # type: ignore[operator]
-                files[port - 1][indexes[port - 1]] = value[0]  # type: ignore[operator, index]
-            elif kind == "out":
-                found[{0x3C2: "misc", 0x3C6: "mask"}.get(port, "other")] = value[0]  # type: ignore[call-overload]
-        self.assertFalse(is_data)
-        self.assertEqual(set(indexes.values()), {0})
-        found.pop("other")
-        return {**found, "seq": files[0x3C4], "gfx": files[0x3CE], "crtc": files[0x3D4], "attr": attributes}
+            if kind in ("in", "out"):
+                state.take(Step(OUT if kind == "out" else IN, port, *value))  # type: ignore[arg-type]
+        self.assertFalse(state.attr.is_data)
+        self.assertEqual({bank.index for bank in banks.values()}, {0})
+        return {"misc": state.misc, "mask": state.dac.mask, **{name: bank.registers for name, bank in banks.items()}}
 
     def test_progress_goes_out_with_the_answers(self) -> None:
         booted, _ = machine(b"version 2\nrepeat 5000\nin 3CC\nend\n")
@@ -182,10 +172,8 @@ class Interpreting(unittest.TestCase):
 
     @unittest.skipUnless(shutil.which("nasm"), "nasm isn't installed")
     def test_the_bytes_kept_are_those_of_the_source(self) -> None:
-        made = subprocess.run(
-            ["nasm", "-f", "bin", str(CODE.with_suffix(".asm")), "-o", "/dev/stdout"], capture_output=True, check=True
-        )
-        self.assertEqual(made.stdout, CODE.read_bytes())
+        made = ended("nasm", "-f", "bin", CODE.with_suffix(".asm"), "-o", "/dev/stdout", text=False)
+        self.assertEqual(made, (0, CODE.read_bytes(), b""))
 
     def test_the_layout_is_that_of_the_source(self) -> None:
         source = CODE.with_suffix(".asm").read_text("ascii")
@@ -280,9 +268,7 @@ class Left(Folder):
 
     def trouble(self, read: Callable[[bytes, str], Run], data: bytes) -> str:
         """What is told of an image or a record."""
-        with self.assertRaises(Trouble) as caught:
-            list(report_lines(read(data, "it"), "it"))
-        return str(caught.exception)
+        return refused(lambda: list(report_lines(read(data, "it"), "it")))
 
     def changed(self, at: int, byte: int) -> bytes:
         return self.image[:at] + bytes([byte]) + self.image[at + 1:]
@@ -310,9 +296,7 @@ class Left(Folder):
     def test_answers_of_another_number_than_steps(self) -> None:
         table = read_image(self.image, "it").table
         for answers, message in ((b"\1", "it: it has no answer for step 4"), (bytes(99), "it: it has 99 bytes of answers, and its steps have 40")):
-            with self.subTest(len(answers)), self.assertRaises(Trouble) as caught:
-                list(report_lines(Run(table, answers), "it"))
-            self.assertEqual(str(caught.exception), message)
+            self.assertEqual(self.trouble(lambda data, _: Run(table, data), answers), message)
 
     def test_records_that_are_damaged(self) -> None:
         lines = self.record.split(b"\r\n")
@@ -414,29 +398,22 @@ class Runs(Folder):
         self.assertEqual(self.run_on(path=self.path_with()), (0, REPORT, ""))
 
     def test_a_full_disk_beneath_the_run(self) -> None:
-        words = [
-            "sh", "-c", 'ulimit -f 100 && exec "$@"', "sh", sys.executable,
-            str(TOOLS / "vga-floppy"), "run", "--on", "dosbox", "-",
-        ]
-        done = subprocess.run(
-            words, input=b"frame\n", capture_output=True, timeout=60,
-            env={**os.environ, "PATH": self.path_with(), "TMPDIR": str(self.folder)},
-        )
-        self.assertEqual((done.returncode, done.stdout), (2, b""))
-        self.assertRegex(done.stderr, rb"^vga-floppy: .*/script.img: File too large\n$")
-        self.assertEqual([path.name for path in self.folder.iterdir()], ["bin"])
+        environment = {**os.environ, "PATH": self.path_with(), "TMPDIR": str(self.folder)}
+        words = ("sh", "-c", 'ulimit -f 100 && exec "$@"', "sh", sys.executable, TOOLS / "vga-floppy")
+        status, output, said = ended(*words, "run", "--on", "dosbox", "-", input="frame\n", env=environment)
+        self.assertEqual((status, output), (2, ""))
+        self.assertRegex(said, r"^vga-floppy: .*/script.img: File too large\n$")
+        self.assertEqual(self.names(), ["bin"])
 
-    def test_an_emulator_that_ends_too_early(self) -> None:
-        message = "vga-floppy: dosbox: it ended before the script did: no such part\n"
-        self.assertEqual(self.run_on(path=self.path_with("crash")), (2, b"", message))
-
-    def test_an_emulator_that_is_not_there(self) -> None:
-        message = "vga-floppy: there is no dosbox: Debian's package dosbox has it\n"
-        self.assertEqual(self.run_on(path=str(self.folder)), (2, b"", message))
-
-    def test_a_bios_that_an_emulator_does_not_take(self) -> None:
-        message = "vga-floppy: dosbox has a video BIOS of its own\n"
-        self.assertEqual(self.run_on("--bios", "lgpl", path=self.path_with()), (2, b"", message))
+    def test_emulators_that_do_not_do_it(self) -> None:
+        for what, words, told in (
+            ("crash", [], "dosbox: it ended before the script did: no such part"),
+            (None, [], "there is no dosbox: Debian's package dosbox has it"),
+            ("", ["--bios", "lgpl"], "dosbox has a video BIOS of its own"),
+        ):
+            path = str(self.folder) if what is None else self.path_with(what)
+            with self.subTest(told):
+                self.assertEqual(self.run_on(*words, path=path), (2, b"", f"vga-floppy: {told}\n"))
 
     def test_the_limit_ends_all_that_was_started(self) -> None:
         told = self.folder / "child"
@@ -451,9 +428,9 @@ class Runs(Folder):
         process = mock.Mock(pid=1, poll=lambda: None)
         for waiting, least in ((0.0, 0.3), (0.5, 0.8)):
             began = time.monotonic()
-            with mock.patch.object(running, "waited", return_value=waiting), self.assertRaises(Trouble) as caught:
-                running._wait(MACHINES["dosbox"], process, self.folder, 0.3)
-            self.assertEqual(str(caught.exception), "dosbox: the script has not ended within 0.3 seconds")
+            with mock.patch.object(running, "waited", return_value=waiting):
+                told = refused(running._wait, MACHINES["dosbox"], process, self.folder, 0.3)
+            self.assertEqual(told, "dosbox: the script has not ended within 0.3 seconds")
             self.assertGreaterEqual(time.monotonic() - began, least)
 
     @unittest.skipUnless(Path("/proc/self/schedstat").exists(), "the system doesn't tell how long a process waits")
@@ -484,7 +461,7 @@ class Runs(Folder):
         words = ["vga-floppy", "run", "--on", "dosbox", self.write("script.vga", "frame\n")]
         with begin(*words, env=environment) as process:
             child = self.wait_for(told, process)
-            emulators = subprocess.run(["ps", "-o", "pid=", "--ppid", str(process.pid)], capture_output=True).stdout.split()
+            emulators = ended("ps", "-o", "pid=", "--ppid", str(process.pid))[1].split()
             process.kill()
         self.assertEqual(len(emulators), 1)
         self.assert_ended(int(emulators[0]))
