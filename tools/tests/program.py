@@ -3,13 +3,13 @@
 from __future__ import annotations
 
 import os
-import subprocess
 import unittest
 from pathlib import Path
 from typing import Mapping, NamedTuple, Optional
 
 from vga_report.program import FONTS, PROGRAM
 
+from .tools import ended
 
 # So long may a run take.
 MOST_SECONDS = 60
@@ -33,8 +33,8 @@ class Ran(NamedTuple):
 
 def run_program(*words: str | bytes | Path, given: bytes = b"", folder: Optional[Path] = None) -> Ran:
     """How a run of the program with these words ends."""
-    done = subprocess.run([PROGRAM, *words], cwd=folder, input=given, capture_output=True, timeout=MOST_SECONDS)
-    return Ran(done.returncode, done.stdout, done.stderr.decode())
+    status, report, said = ended(PROGRAM, *words, cwd=folder, input=given, text=False, timeout=MOST_SECONDS)
+    return Ran(status, report, said.decode())
 
 
 def run_texts(texts: Mapping[str, bytes]) -> dict[str, Ran]:

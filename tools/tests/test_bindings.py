@@ -17,7 +17,7 @@ from vga_report.processes import Done, tested
 from vga_report.trouble import TROUBLE, Wrong
 from vga_report.version import version
 
-from .tools import call
+from .tools import call, ended
 
 
 class Words(unittest.TestCase):
@@ -89,9 +89,7 @@ class Finding(unittest.TestCase):
 
     def built(self, **names: str) -> tuple[int, str, str]:
         """How the build ends, what it tells cargo, and what it says."""
-        environment = {"PATH": os.environ["PATH"], **names}
-        done = subprocess.run([self.folder / "build"], env=environment, capture_output=True, text=True, timeout=60)
-        return done.returncode, done.stdout, done.stderr
+        return ended(self.folder / "build", env={"PATH": os.environ["PATH"], **names})
 
     def test_what_is_found(self) -> None:
         full = self.folder / "full"

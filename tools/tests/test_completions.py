@@ -10,6 +10,7 @@ import unittest
 from pathlib import Path
 from typing import Mapping
 
+from .tools import ended
 from .test_manual import BARS, COMMANDS, FISH, ZSH, Fakes, kept_helps, more_helps
 
 # Seconds that a shell may take for one answer.
@@ -53,12 +54,10 @@ class Fish(Shell):
 
     def lines(self, line: str) -> list[str]:
         """What fish lists for a line: words, each with what is told of it."""
-        done = subprocess.run(
-            ["fish", "-c", "complete -C $argv[1]", line], cwd=self.files,
-            env=self.environment(), capture_output=True, text=True, timeout=PATIENCE,
-        )
-        self.assertEqual((done.returncode, done.stderr), (0, ""))
-        return done.stdout.splitlines()
+        words = ("fish", "-c", "complete -C $argv[1]", line)
+        status, output, said = ended(*words, cwd=self.files, env=self.environment())
+        self.assertEqual((status, said), (0, ""))
+        return output.splitlines()
 
     def offered(self, line: str) -> list[str]:
         return [told.partition("\t")[0] for told in self.lines(line)]

@@ -2,7 +2,6 @@
 
 import base64
 import shutil
-import subprocess
 import sys
 import unittest
 from pathlib import Path
@@ -14,7 +13,7 @@ from vga_report.program import FONTS
 
 from .test_page import Alone
 from .test_run import Fake
-from .tools import TOOLS, Folder
+from .tools import TOOLS, Folder, ended
 
 TEXT = "; A script.\nint ax=3 ; = ax=0003\nframe ; <!-- </script> \u00e9\n"
 OTHER_FONTS = bytes(9728)
@@ -48,10 +47,9 @@ class Release(Folder):
 
     def ran(self, *words: str, given: bytes = b"") -> tuple[int, str, str]:
         """Exit status, standard output and standard error of `run` with the font file of this folder."""
-        tool = self.top / "tools" / "vga-report"
-        command = [sys.executable, tool, "run", "--fonts", self.fonts, *words]
-        done = subprocess.run(command, input=given, capture_output=True, timeout=100, cwd=self.folder)
-        return done.returncode, done.stdout.decode(), done.stderr.decode()
+        front = (sys.executable, self.top / "tools" / "vga-report", "run", "--fonts", self.fonts)
+        status, *told = ended(*front, *words, input=given, text=False, cwd=self.folder)
+        return status, told[0].decode(), told[1].decode()
 
     def opened(self, page: str) -> dict[str, Any]:
         """What a page is told to open. Nothing else of it is otherwise than the page as built."""

@@ -14,7 +14,7 @@ from vga_report.program import FONTS, PROGRAM
 
 from .program import MOST_SECONDS, run_program, want_program
 from .test_words import PRINTED, REPORT, SCRIPT, TEXT, Program
-from .tools import Folder
+from .tools import Folder, ended
 
 # The program keeps so many bytes back before it writes them.
 BUFFER_LEN = 262_144
@@ -137,11 +137,9 @@ class Streams(Program):
             (("go", "text", "--fonts", "fonts"), REPORT, 7),
         ]:
             with self.subTest(words), open(self.folder / "full", "wb") as full:
-                done = subprocess.run(
-                    [PROGRAM, *words], cwd=self.folder, stdout=full, stderr=subprocess.PIPE, timeout=MOST_SECONDS,
-                    preexec_fn=lambda room=room: limit_files(room),
-                )
-                self.assertEqual((done.returncode, done.stderr), (1, b"vga: F9 WriteFault\n"))
+                limit = {"preexec_fn": lambda room=room: limit_files(room)}
+                done = ended(PROGRAM, *words, cwd=self.folder, stdout=full, **limit)
+                self.assertEqual((done[0], done[2]), (1, "vga: F9 WriteFault\n"))
                 self.assertEqual((self.folder / "full").read_bytes(), output[:room])
 
     def test_a_report_is_written_in_large_pieces(self) -> None:
@@ -156,10 +154,9 @@ class Streams(Program):
         with ours:
             with its:
                 reading.start()
-                words = [PROGRAM, "go", "text", "--fonts", "fonts"]
-                done = subprocess.run(words, cwd=self.folder, stdout=its, timeout=MOST_SECONDS)
+                status, _, _ = ended(PROGRAM, "go", "text", "--fonts", "fonts", cwd=self.folder, stdout=its)
             reading.join(MOST_SECONDS)
-        self.assertEqual(done.returncode, 0)
+        self.assertEqual(status, 0)
         report = b"".join(b"%d ok\n" % number for number in range(1, steps + 1))
         self.assertTrue(b"".join(pieces) == report)
         # A call writes all that is kept back but the line for which no room is left.

@@ -4,7 +4,6 @@ from __future__ import annotations
 
 import socket
 import struct
-import subprocess
 import sys
 import threading
 import unittest
@@ -21,7 +20,7 @@ from vga_report.trouble import Trouble
 
 from .floppy import Adapter
 from .floppy import Machine as BootedMachine
-from .tools import Folder
+from .tools import Folder, ended
 
 PROGRAM = Path(__file__).resolve().parents[1] / "emulator_tests" / "traces.py"
 MODES = (3, 7, 0x0D, 0x10, 0x12, 0x13)
@@ -140,9 +139,7 @@ class Traces(unittest.TestCase):
             self.assertFalse(self.REPLAYED._replace(**changed).is_as_known(software))
 
     def test_the_command_tells_its_software(self) -> None:
-        told = subprocess.run([sys.executable, PROGRAM, "--help"], capture_output=True, text=True)
-        self.assertEqual(told.returncode, 0)
-        self.assertIn("grub-planar", told.stdout)
-        told = subprocess.run([sys.executable, PROGRAM, "folder", "none"], capture_output=True, text=True)
-        self.assertEqual(told.returncode, 2)
-        self.assertIn("there is no software none", told.stderr)
+        status, told, _ = ended(sys.executable, PROGRAM, "--help")
+        self.assertEqual((status, "grub-planar" in told), (0, True))
+        status, _, said = ended(sys.executable, PROGRAM, "folder", "none")
+        self.assertEqual((status, "there is no software none" in said), (2, True))

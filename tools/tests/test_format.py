@@ -3,7 +3,6 @@
 import doctest
 import io
 import re
-import subprocess
 import sys
 import unittest
 from unittest import mock
@@ -11,7 +10,6 @@ from unittest import mock
 from vga_report.cases import read_cases
 from vga_report.program import TOP
 from vga_report.script import script_of
-from vga_report.trouble import Trouble
 from vga_report.words import SUITE
 from zaklimot import format
 from zaklimot.format import (
@@ -20,6 +18,8 @@ from zaklimot.format import (
     print_text, read,
 )
 from zaklimot.format.table import CODES
+
+from .tools import ended, refused
 
 DOCS, CRATES = TOP / "docs", TOP / "crates"
 
@@ -234,9 +234,7 @@ class Scripts(unittest.TestCase):
             (b"version 2\nend\n", "it:2: F7 BadLine(2): no repeat is open here"),
             (b"VGAS\1\1", "it: F5 Truncated(5): the step out at offset 5 is cut off: the file ends after 1 of its bytes"),
         ):
-            with self.assertRaises(Trouble) as caught:
-                script_of(data, "it")
-            self.assertTrue(str(caught.exception).startswith(told), str(caught.exception))
+            self.assertEqual(refused(script_of, data, "it")[:len(told)], told)
 
     def test_its_own_examples(self) -> None:
         self.assertEqual(doctest.testmod(format).failed, 0)
@@ -285,7 +283,6 @@ class Importing(unittest.TestCase):
         program = f"import sys; sys.path.insert(0, {str(TOP / 'tools')!r}); import vga_report.cli\n"
         program += "print(*sorted(name for name in sys.modules if name.startswith('zaklimot') and '.format' not in name))\n"
         program += "print('zaklimot.format.table' in sys.modules, 'mmap' in sys.modules, 'fractions' in sys.modules)"
-        words = [sys.executable, "-I", "-S", "-B", "-c", program]
         # A library that can't be found would be told where it is wanted.
-        done = subprocess.run(words, env={"ZAKLIMOT_LIBRARY": "/no-such-file"}, capture_output=True, text=True, timeout=60)
-        self.assertEqual((done.stdout, done.stderr), ("zaklimot\nTrue False False\n", ""))
+        done = ended(sys.executable, "-I", "-S", "-B", "-c", program, env={"ZAKLIMOT_LIBRARY": "/no-such-file"})
+        self.assertEqual(done, (0, "zaklimot\nTrue False False\n", ""))

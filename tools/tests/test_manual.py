@@ -2,7 +2,6 @@
 
 import re
 import shutil
-import subprocess
 import unittest
 from pathlib import Path
 from typing import Mapping
@@ -14,12 +13,12 @@ from vga_manual.helps import Entry, Help, read_help
 from vga_manual.page import literal, prose
 from vga_report.processes import MEBIBYTE, Limits
 from vga_report.program import PROGRAM
-from vga_report.trouble import TROUBLE, Trouble
+from vga_report.trouble import TROUBLE
 from vga_report.version import version
 
 from .program import want_program
 from .test_words import HELP
-from .tools import Folder, call
+from .tools import Folder, call, ended, refused
 
 PAGE, BASH, ZSH, FISH = PLACES
 HEADINGS = ("Commands:", "Arguments:", "Options:", "Examples:")
@@ -235,13 +234,12 @@ class Pages(Fakes):
             (kept_helps(), 100, kept), (more_helps(), 100, kept + added), (kept_helps(), 40, []),
         ):
             words = ["groff", "-man", "-Tascii", "-P-cbou", "-ww", f"-rLL={columns}n"]
-            data = self.made(helps)[PAGE].encode("ascii")
-            done = subprocess.run(words, input=data, capture_output=True, timeout=60)
-            self.assertEqual((done.returncode, done.stderr), (0, b""))
+            status, shown, said = ended(*words, input=self.made(helps)[PAGE], encoding="ascii")
+            self.assertEqual((status, said), (0, ""))
             for line in wanted:
-                self.assertRegex(done.stdout.decode("ascii"), rf"(?m)^ +{re.escape(line)}")
+                self.assertRegex(shown, rf"(?m)^ +{re.escape(line)}")
             if columns == 40:
-                self.assertNotRegex(done.stdout.decode("ascii"), r"[\w-]-\n")
+                self.assertNotRegex(shown, r"[\w-]-\n")
 
 
 class Completions(Fakes):
@@ -274,9 +272,8 @@ class Completions(Fakes):
         made = self.made(more_helps())
         for shell, place in (("bash", BASH), ("zsh", ZSH), ("fish", FISH)):
             if shutil.which(shell):
-                words = [shell, "-n", self.write("completion", made[place])]
-                done = subprocess.run(words, capture_output=True, timeout=60)
-                self.assertEqual((done.returncode, done.stderr), (0, b""), shell)
+                done = ended(shell, "-n", self.write("completion", made[place]))
+                self.assertEqual((done[0], done[2]), (0, ""), shell)
 
 
 FILES = ["bars.bin", "bars.vga", "fonts", "one two.vga", "zaklimot.fnt"]
@@ -312,14 +309,12 @@ class Bash(Fakes):
         files = self.lay_files()
         for helps, offered in OFFERED:
             completion = self.write("completion", self.made(helps())[BASH])
+            bash = ["bash", "--norc", "--noprofile", COMPLETING, completion, "vga"]
             for words, wanted in offered.items():
                 with self.subTest(words, helps=helps.__name__):
-                    command = ["bash", "--norc", "--noprofile", COMPLETING, completion]
-                    done = subprocess.run(
-                        [*command, "vga", *words.split(" ")], cwd=files, capture_output=True, text=True, timeout=60
-                    )
-                    self.assertEqual((done.returncode, done.stderr), (0, ""))
-                    self.assertEqual(sorted(filter(None, done.stdout.split("\n"))), wanted)
+                    status, output, said = ended(*bash, *words.split(" "), cwd=files)
+                    self.assertEqual((status, said), (0, ""))
+                    self.assertEqual(sorted(filter(None, output.split("\n"))), wanted)
 
 
 FORM = "it does not have the form of"
@@ -358,9 +353,8 @@ class Bad(Fakes):
     """A program whose help has another form is told with the place."""
 
     def assert_told(self, program: str, wanted: str) -> None:
-        with self.subTest(wanted), self.assertRaises(Trouble) as raised:
-            manual_files(program)
-        self.assertEqual(str(raised.exception), wanted)
+        with self.subTest(wanted):
+            self.assertEqual(refused(manual_files, program), wanted)
 
     def test_what_is_wrong(self) -> None:
         for *change, told in BAD:

@@ -2,11 +2,10 @@
 
 import os
 import shutil
-import subprocess
 import sys
 import unittest
 
-from .tools import TOP, Folder
+from .tools import TOP, Folder, ended
 
 PREVIEW = TOP / "fonts" / "preview.py"
 # A program that does each call, and whose picture is black.
@@ -27,8 +26,7 @@ class Specimens(Folder):
         program = self.program("program", GOOD.format(wrong=wrong, frame=frame) + more)
         out = self.folder / "out"
         out.mkdir(exist_ok=True)
-        done = subprocess.run([sys.executable, PREVIEW, program, "--out", out], capture_output=True, text=True)
-        return done.returncode, done.stdout, done.stderr
+        return ended(sys.executable, PREVIEW, program, "--out", out)
 
     def test_each_height(self) -> None:
         names = "specimen-8.png\nspecimen-14.png\nspecimen-16.png\n"
@@ -58,14 +56,11 @@ class Fonts(Folder):
         fonts = self.folder / "fonts"
         shutil.copytree(PREVIEW.parent, fonts)
         art = (fonts / "glyphs-8.txt").read_bytes()
-        done = subprocess.run(
-            [sys.executable, fonts / "make_font.py", fonts / "glyphs-8.txt"], capture_output=True, text=True
-        )
-        self.assertEqual((done.returncode, done.stdout), (1, ""))
-        self.assertEqual(done.stderr, f"make_font.py: {fonts}/glyphs-8.txt: it is read, so it isn't written\n")
+        told = f"make_font.py: {fonts}/glyphs-8.txt: it is read, so it isn't written\n"
+        self.assertEqual(ended(sys.executable, fonts / "make_font.py", fonts / "glyphs-8.txt"), (1, "", told))
         self.assertEqual((fonts / "glyphs-8.txt").read_bytes(), art)
 
     def test_the_font_is_made_again(self) -> None:
         made = self.folder / "made.fnt"
-        subprocess.run([sys.executable, PREVIEW.parent / "make_font.py", made], check=True, capture_output=True)
+        self.assertEqual(ended(sys.executable, PREVIEW.parent / "make_font.py", made)[0], 0)
         self.assertEqual(made.read_bytes(), (PREVIEW.parent / "zaklimot.fnt").read_bytes())

@@ -383,19 +383,12 @@ def picture_of(rows: str) -> Picture:
     return Picture.of_dots(2, len(letters), b"".join(bytes([ord(letter) - ord("a")]) * 6 for letter in letters))
 
 
-def crtc(index: int, value: int) -> list[Step]:
-    """A register of the CRT controller."""
-    return [Step(OUT, 0x3D4, index), Step(OUT, 0x3D5, value)]
+def register(port: int, index: int, value: int) -> list[Step]:
+    """A register behind the port of its index."""
+    return [Step(OUT, port, index), Step(OUT, port + 1, value)]
 
 
-def sequencer(index: int, value: int) -> list[Step]:
-    """A register of the sequencer."""
-    return [Step(OUT, 0x3C4, index), Step(OUT, 0x3C5, value)]
-
-
-def graphics(index: int, value: int) -> list[Step]:
-    """A register of the graphics controller."""
-    return [Step(OUT, 0x3CE, index), Step(OUT, 0x3CF, value)]
+crtc, sequencer, graphics = (partial(register, port) for port in (0x3D4, 0x3C4, 0x3CE))
 
 
 def attribute(index: int, value: int) -> list[Step]:

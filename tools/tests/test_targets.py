@@ -3,7 +3,6 @@
 import io
 import os
 import shutil
-import subprocess
 import unittest
 import zipfile
 from pathlib import Path
@@ -21,7 +20,7 @@ from vga_report.trouble import TROUBLE
 from vga_report.version import version
 
 from .test_release import sources
-from .tools import Folder, call
+from .tools import Folder, call, ended
 
 # A program that notes its words; and one that takes blocks of memory in each way.
 FAKE = Path(__file__).with_name("noting.sh").read_text("ascii")
@@ -124,9 +123,8 @@ class Heap(Folder):
     def test_what_it_answers(self) -> None:
         program = self.folder / "taking"
         # A compiler that knows malloc would warn of so large a request.
-        words = ["cc", *HEAP_OPTIONS, "-fno-builtin", TAKING, HEAP, "-o", program]
-        subprocess.run(words, check=True, timeout=60)
-        self.assertEqual(subprocess.run([program], timeout=60).returncode, 0)
+        self.assertEqual(ended("cc", *HEAP_OPTIONS, "-fno-builtin", TAKING, HEAP, "-o", program), (0, "", ""))
+        self.assertEqual(ended(program)[0], 0)
 
 
 class Testing(Folder):

@@ -4,7 +4,6 @@ import ast
 import os
 import re
 import shutil
-import subprocess
 import sys
 import unittest
 
@@ -12,7 +11,7 @@ from vga_report.processes import started
 from vga_report.trouble import TROUBLE, Trouble
 from vga_report.version import version
 
-from .tools import PYTHON, TOOLS, TOP, Folder, call, main_of
+from .tools import PYTHON, TOOLS, TOP, Folder, call, ended, main_of
 
 # Starts programs, of which the first sends a signal amid its start; its status tells that the signal came.
 STARTING = """
@@ -61,30 +60,24 @@ class Words(unittest.TestCase):
 class Endings(unittest.TestCase):
     """What it writes may find no room, no reader, and no open stream."""
 
-    def ended(self, name: str, rest: str) -> tuple[int, str]:
+    def told(self, name: str, rest: str) -> tuple[int, str]:
         """Exit status and standard error of a tool's help, with its streams as a shell sets them."""
-        words = ["/bin/sh", "-c", f'"$@" {rest}', "sh", *PYTHON, TOOLS / name, "--help"]
-        done = subprocess.run(words, capture_output=True, text=True, timeout=60)
-        return done.returncode, done.stderr
+        status, _, said = ended("/bin/sh", "-c", f'"$@" {rest}', "sh", *PYTHON, TOOLS / name, "--help")
+        return status, said
 
     def test_an_output_that_takes_nothing_or_is_closed(self) -> None:
         for name in Words.NAMES:
             for rest, told in ((">/dev/full", "No space left on device"), (">&-", "it is closed")):
                 with self.subTest(name, rest=rest):
-                    self.assertEqual(self.ended(name, rest), (TROUBLE, f"{name}: standard output: {told}\n"))
+                    self.assertEqual(self.told(name, rest), (TROUBLE, f"{name}: standard output: {told}\n"))
 
     def test_a_reader_that_has_gone(self) -> None:
         for name in Words.NAMES:
             with self.subTest(name):
                 reader, writer = os.pipe()
                 os.close(reader)
-                try:
-                    done = subprocess.run(
-                        [*PYTHON, TOOLS / name, "--help"], stdout=writer, stderr=subprocess.PIPE, timeout=60
-                    )
-                finally:
-                    os.close(writer)
-                self.assertEqual((done.returncode, done.stderr), (141, b""))
+                with open(writer, "wb"):
+                    self.assertEqual(ended(*PYTHON, TOOLS / name, "--help", stdout=writer), (141, None, ""))
 
 
 class Programs(unittest.TestCase):
@@ -99,8 +92,8 @@ class Programs(unittest.TestCase):
                 self.fail("it is started")
 
     def test_no_signal_is_lost_while_one_is_started(self) -> None:
-        done = subprocess.run([sys.executable, "-c", STARTING.format(tools=str(TOOLS))], capture_output=True, timeout=60)
-        self.assertEqual((done.returncode, done.stderr), (7, b""))
+        status, _, said = ended(sys.executable, "-c", STARTING.format(tools=str(TOOLS)))
+        self.assertEqual((status, said), (7, ""))
 
 
 class Sources(unittest.TestCase):
@@ -132,9 +125,6 @@ class Failing(Folder):
             self.program(f"gate/tools/{name}", text)
         temporary = self.folder / "tmp"
         temporary.mkdir()
-        done = subprocess.run(
-            [gate / ".ci" / "run"], capture_output=True, timeout=60, env={**os.environ, "TMPDIR": str(temporary)}
-        )
-        self.assertEqual(done.returncode, 1)
+        self.assertEqual(ended(gate / ".ci" / "run", env={**os.environ, "TMPDIR": str(temporary)})[0], 1)
         self.assert_ended(int(number.read_text()))
         self.assertEqual(list(temporary.iterdir()), [])

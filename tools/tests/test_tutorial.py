@@ -4,7 +4,6 @@ from __future__ import annotations
 
 import os
 import re
-import subprocess
 import sys
 import unittest
 import zlib
@@ -18,7 +17,7 @@ from zaklimot import Script, format
 
 from .making import png_chunks
 from .program import run_program, want_program
-from .tools import EXAMPLES, TOP, Folder, run_tool
+from .tools import EXAMPLES, TOP, Folder, ended, run_tool
 
 PAGE = TOP / "docs" / "TUTORIAL.md"
 TEXT = PAGE.read_text("utf-8")
@@ -109,11 +108,9 @@ class Words(unittest.TestCase):
 class Circle(unittest.TestCase):
     def test_the_program_writes_the_script(self) -> None:
         environment = {**os.environ, "PYTHONPATH": str(TOP / "bindings" / "python" / "src")}
-        words = [sys.executable, "-B", CIRCLE]
-        done = subprocess.run(words, env=environment, capture_output=True, text=True, timeout=60)
-        self.assertEqual((done.returncode, done.stderr), (0, ""))
-        script = (SCRIPTS / "circle.vga").read_text("ascii")
-        self.assertTrue(done.stdout == steps_of(script), "another script")
+        status, output, said = ended(sys.executable, "-B", CIRCLE, env=environment)
+        self.assertEqual((status, said), (0, ""))
+        self.assertTrue(output == steps_of((SCRIPTS / "circle.vga").read_text("ascii")), "another script")
 
     def test_what_the_page_counts(self) -> None:
         steps = steps_of((SCRIPTS / "circle.vga").read_text("ascii")).splitlines()

@@ -3,13 +3,12 @@
 from __future__ import annotations
 
 import os
-import subprocess
 from pathlib import Path
 
 from vga_report.program import FONTS, PROGRAM
 
-from .program import MOST_SECONDS, Ran, run_program, want_program
-from .tools import Folder
+from .program import Ran, run_program, want_program
+from .tools import Folder, ended
 
 # The text of a script, with a comment; its bytes; its printed text; and its report.
 TEXT = b"OUT 3c2 63 ; colour addresses\n\nput A0000 ff\r\nin 3CC"
@@ -89,8 +88,7 @@ class Refused(Program):
                 self.assertNotEqual(ran.said, "")
 
     def test_no_word_at_all(self) -> None:
-        done = subprocess.run(["vga"], executable=PROGRAM, capture_output=True, timeout=MOST_SECONDS)
-        self.assertEqual((done.returncode, done.stdout), (2, b""))
+        self.assertEqual(ended("vga", executable=PROGRAM)[:2], (2, ""))
 
     def test_the_number_behind_until_is_digits_alone(self) -> None:
         for number in NO_NUMBERS:
