@@ -18,21 +18,12 @@ from vga_page.bundling import joined
 from vga_page.page import DATA, SCRIPT, STYLE, Sources, about, data_of, examples, make_page, packed, page_text
 from vga_page.retargeting import LAYOUTS, TRIPLES, retargeted
 from vga_page.wasm import check_module, exports_of, kit_of, with_kit
-from vga_report.trouble import TROUBLE, Trouble, Wrong
+from vga_report.trouble import TROUBLE, Wrong
 from vga_report.debugging import page_data
 
-from .tools import Folder, call
+from .tools import Folder, call, refused
 
 FRAME = f"<!DOCTYPE html>\n{STYLE}\n{DATA}\n{SCRIPT}\n"
-
-
-def refused(work: object, *words: object) -> str:
-    """What ends the work."""
-    try:
-        work(*words)  # type: ignore[operator]
-    except Trouble as trouble:
-        return str(trouble)
-    raise AssertionError("it is not refused")
 
 
 class Bundling(unittest.TestCase):
@@ -336,14 +327,12 @@ class Tests(Folder):
             for module_under_test, page_under_test in (
                 (wrong, made), (module, other_page), (module, other_data), (module, no_data),
             ):
-                with self.assertRaises(Wrong):
-                    built.check_built(module_under_test, page_under_test)
+                self.assertRaises(Wrong, built.check_built, module_under_test, page_under_test)
 
     def test_two_modules_that_differ(self) -> None:
         module = module_of(Modules.right)
         self.assertIn("the same twice", tests_command.check_modules([module, module]))
-        with self.assertRaises(Wrong):
-            tests_command.check_modules([module, with_kit(module, "kit")])
+        self.assertRaises(Wrong, tests_command.check_modules, [module, with_kit(module, "kit")])
 
     def test_reports_that_differ_and_cases_that_were_not_run(self) -> None:
         ways = {"bytes": 2, "text": 1, "steps, all at once": 2}

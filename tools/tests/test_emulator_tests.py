@@ -81,8 +81,8 @@ class Discs(Folder):
                 self.assertGreater(len(calls), 700)
 
     def test_too_many_calls(self) -> None:
-        with self.assertRaisesRegex(ValueError, "^5,001 calls are too many"):
-            caller(iter([Call(3)] * 5000), self.folder / "disc")
+        words = (iter([Call(3)] * 5000), self.folder / "disc")
+        self.assertRaisesRegex(ValueError, "^5,001 calls are too many", caller, *words)
 
     def test_a_file_of_an_archive(self) -> None:
         packed = archive_file("init", 0o100755, b"#!x")

@@ -272,8 +272,7 @@ class Reports(unittest.TestCase):
 
         self.assertEqual(numbers(7), [7, 8, 9])
         for first in (1, 8):
-            with self.assertRaises(ReportError):
-                numbers(first)
+            self.assertRaises(ReportError, numbers, first)
 
 
 class Importing(unittest.TestCase):

@@ -192,8 +192,8 @@ class Drawing(Folder):
         self.assertIn(b"int ax=1012 cx=100 block ", text)
         self.assertTrue(drawn(text)[0] == shown(dots, 2, 2), "another picture")
         dots[0][0] = (63, 63, 63)
-        with self.assertRaisesRegex(AssertionError, "it has 257 colours of six bits a component, and the mode 256: "):
-            script(png_of(dots), "--mode", "13")
+        told = "it has 257 colours of six bits a component, and the mode 256: "
+        self.assertRaisesRegex(AssertionError, told, script, png_of(dots), "--mode", "13")
 
     def test_the_picture_as_a_file(self) -> None:
         dots, path = some_dots(320, 200, 16), self.folder / "p.png"

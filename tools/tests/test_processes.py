@@ -88,8 +88,8 @@ class Commands(Folder):
         self.assertEqual(self.run_python("import time; time.sleep(600)", Limits(), is_ended).status, None)
 
     def test_no_program(self) -> None:
-        with self.assertRaises(Trouble):
-            run_command(["/none/there"], self.folder / "out", self.folder / "said", Limits(), Event())
+        files = (self.folder / "out", self.folder / "said")
+        self.assertRaises(Trouble, run_command, ["/none/there"], *files, Limits(), Event())
 
 
 @unittest.skipUnless(Path("/proc/self/stat").exists(), "processes are looked at as Linux shows them")

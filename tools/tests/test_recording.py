@@ -13,7 +13,6 @@ from pathlib import Path
 from unittest import mock
 
 from vga_report.reports import Held
-from vga_report.trouble import Trouble
 from vga_trace import recording
 from vga_trace.command import main
 from vga_trace.known import ALLOWED, PAGE, SEEN, Names, Screen, known, whole_rows
@@ -27,7 +26,7 @@ from zaklimot.format import Picture
 
 from .making import BLACK, RED, WHITE, png_rows, ppm
 from .test_trace import BEGIN, listed, qemu, registers
-from .tools import TOP, Folder, call, run_tool
+from .tools import TOP, Folder, call, refused, run_tool
 
 run = partial(run_tool, "vga-trace")
 PICTURE = ppm(3, 2, RED * 3 + WHITE * 3)
@@ -272,8 +271,8 @@ class Screens(unittest.TestCase):
         self.assertEqual(listed(text, frames="screens"), steps)
 
     def test_none_in_the_plain_form(self) -> None:
-        with self.assertRaisesRegex(Trouble, "^trace:2: it is no cycle"):
-            listed(BEGIN + SCREEN + b"\n", frames="screens")
+        told = refused(partial(listed, BEGIN + SCREEN + b"\n", frames="screens"))
+        self.assertRegex(told, "^trace:2: it is no cycle")
 
 
 class Nearest(unittest.TestCase):

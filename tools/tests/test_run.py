@@ -25,7 +25,7 @@ from zaklimot.format import Answer, count_in, steps_in
 from .making import BLACK, RED, ppm, stream
 from .program import run_texts
 from .test_command import run
-from .tools import EXAMPLES, TOP, Folder, begin, run_tool
+from .tools import EXAMPLES, TOP, Folder, begin, refused, run_tool
 
 # A program that understands texts of a few steps: `asm` copies, `dis` prints in upper case, `go` answers by the name.
 FAKE = """import sys
@@ -149,17 +149,14 @@ class Listings(Fake):
         with mock.patch.dict(os.environ, PATH=str(self.folder)):
             self.assertEqual(run("run", self.path, "--try"), (2, b"", told))
             with mock.patch("vga_report.program.PROGRAM", self.folder / "none"):
-                with self.assertRaisesRegex(Trouble, "^rt: it is not in the path: "):
-                    build_program(Progress())
+                self.assertRegex(refused(build_program, Progress()), "^rt: it is not in the path: ")
         self.assertIn("## Build it\n", (TOP / "README.md").read_text("utf-8"))
 
     def test_a_release_has_no_sources(self) -> None:
         with mock.patch("vga_report.program.CRATE", self.folder), mock.patch("vga_report.program.PROGRAM", self.folder / "none"):
-            with self.assertRaisesRegex(Trouble, "^the program's sources in Rattle are not here"):
-                with Tried().running(Path(self.path), self.path, None, False):
-                    self.fail("there is nothing to run")
-            with self.assertRaisesRegex(Trouble, "^the program's sources in Rattle are not here"):
-                build_program(Progress())
+            running = Tried().running(Path(self.path), self.path, None, False)
+            for work, *words in ((running.__enter__,), (build_program, Progress())):
+                self.assertRegex(refused(work, *words), "^the program's sources in Rattle are not here")
 
     def test_a_report_that_ends_before_its_script(self) -> None:
         self.change_program("in enumerate(numbered[:stop], 1)", "in enumerate(numbered[:2], 1)")
@@ -391,8 +388,7 @@ class Several(Fake):
         crate = Path(self.write("crate/src/main.rt", "")).parents[1]
         path = {"PATH": f"{Path(rt).parent}{os.pathsep}{os.environ['PATH']}"}
         with mock.patch.dict(os.environ, path), mock.patch.multiple(program, CRATE=crate, PROGRAM=crate / "out"):
-            with self.assertRaisesRegex(Trouble, "^rt: it ended with status 3"):
-                program.build_program(Progress())
+            self.assertRegex(refused(program.build_program, Progress()), "^rt: it ended with status 3")
         self.assertEqual((crate / "asked").read_text(), "run -- --help\n")
 
 

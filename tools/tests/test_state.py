@@ -2,10 +2,10 @@
 
 import io
 import unittest
+from functools import partial
 from typing import Iterable, Iterator, Mapping, Optional
 
 from vga_report.report import Report
-from vga_report.trouble import Trouble
 from vga_trace.state import Beam, Shape, State
 from vga_trace.converting import Listing, Wanted
 from vga_trace.rebuilding import rebuilt
@@ -15,6 +15,7 @@ from vga_trace.trace import Trace
 from .making import stream
 from .noise import noise
 from .program import run_texts
+from .tools import refused
 
 # Steps that enable memory, in planar order with all planes open and no bits masked.
 PLANAR = [Step(OUT, 0x3C2, 0x03), Step(OUTW, 0x3C4, 0x0604), Step(OUTW, 0x3C4, 0x0F02), Step(OUTW, 0x3CE, 0xFF08)]
@@ -269,8 +270,8 @@ class Cuts(unittest.TestCase):
         self.assertEqual(steps[-1], Step(FRAME))
 
     def test_no_cycle_there(self) -> None:
-        with self.assertRaisesRegex(Trouble, "^trace: it has 5 cycles, and none from 6 on becomes a step$"):
-            listed(noise(1, 5), first=6)
+        told = refused(partial(listed, noise(1, 5), first=6))
+        self.assertEqual(told, "trace: it has 5 cycles, and none from 6 on becomes a step")
 
     def test_empty_memory_takes_no_steps(self) -> None:
         count = sum(step.opcode == PUTW for step in rebuilt(state_of(PLANAR)))
