@@ -15,7 +15,7 @@ from pathlib import Path
 from vga_report.cases import Case, read_cases
 
 from .making import BLACK, RED, WHITE, png_rows, ppm, report
-from .tools import TOOLS, Folder, begin, ended, refused, run_tool
+from .tools import TOOLS, Folder, begin, ended, hold, refused, run_tool
 
 PROGRAM = TOOLS / "vga-report"
 ADAPTER = shlex.join([sys.executable, str(TOOLS / "tests" / "adapter.py")]) + " {script}"
@@ -485,15 +485,13 @@ class Cases(Folder):
         return self.cases(line)[-1].stopped_script()
 
     def test_the_bytes_that_a_case_stands_for(self) -> None:
-        for line, files, script in [
+        hold(self, lambda line, files: self.script(line, **files), [
             ("one\n", {"one_vga": "; é\nframe\n"}, "; é\nframe\n".encode()),
             ("front f\none\n", {"f": "out 3C2 01\n", "one_vga": "frame\n"}, b"out 3C2 01\nframe\n"),
             # A script with a mistake stays whole.
             ("one until 0\n", {"one_vga": "fram\n", "one_txt": "F7 BadLine(1)\n"}, b"fram\n"),
             ("bytes one\n", {"one_hex": "; x\n56 47\t4a*3\n00*2 ; 11\n"}, b"VGJJJ\0\0"),
-        ]:
-            with self.subTest(line):
-                self.assertEqual(self.script(line, **files), script)
+        ])
 
     def test_a_run_that_is_stopped_shows_the_state(self) -> None:
         looks = b"show regs\nshow beam\nshow latches\nshow bda\n"

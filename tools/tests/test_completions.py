@@ -10,7 +10,7 @@ import unittest
 from pathlib import Path
 from typing import Mapping
 
-from .tools import ended
+from .tools import ended, hold
 from .test_manual import BARS, COMMANDS, FISH, ZSH, Fakes, kept_helps, more_helps
 
 # Seconds that a shell may take for one answer.
@@ -38,9 +38,7 @@ class Shell(Fakes):
     def assert_offered(self, helps: Mapping[str, str], table: Mapping[str, list[str]]) -> None:
         """What is offered for lines, by the completion that is made of these helps."""
         self.complete_by(helps)
-        for line, wanted in table.items():
-            with self.subTest(line):
-                self.assertEqual(self.offered(f"vga {line}"), wanted)
+        hold(self, lambda line: self.offered(f"vga {line}"), table.items())
 
 
 @unittest.skipUnless(shutil.which("fish"), "fish isn't installed")

@@ -6,6 +6,7 @@ import base64
 import gzip
 import json
 import unittest
+from functools import partial
 from pathlib import Path
 from unittest import mock
 
@@ -21,7 +22,7 @@ from vga_page.wasm import check_module, exports_of, kit_of, with_kit
 from vga_report.trouble import TROUBLE, Wrong
 from vga_report.debugging import page_data
 
-from .tools import Folder, call, refused
+from .tools import Folder, call, hold, refused
 
 FRAME = f"<!DOCTYPE html>\n{STYLE}\n{DATA}\n{SCRIPT}\n"
 
@@ -84,7 +85,7 @@ class Bundling(unittest.TestCase):
 
     def test_what_does_not_fit_together(self) -> None:
         one = 'import { a } from "./a.js";\n'
-        for sources, reason in (
+        hold(self, partial(refused, joined), (
             ({"main.js": one}, "a.js: there is no such module, and main.js imports it"),
             ({"main.js": one, "a.js": "const a = 1;\n"}, "main.js: it imports a, which a.js doesn't export"),
             ({"main.js": one, "a.js": 'import { b } from "./b.js";\nexport const a = b;\n',
@@ -92,9 +93,7 @@ class Bundling(unittest.TestCase):
              "a.js: it is imported in a circle: a.js imports b.js imports a.js"),
             ({"main.js": "", "a.js": ""}, "a.js: no module that main.js leads to imports it"),
             ({"a.js": ""}, "main.js: there is no such module, and the page imports it"),
-        ):
-            with self.subTest(reason):
-                self.assertEqual(refused(joined, sources), reason)
+        ))
 
 
 def small_sources(script: str = "start();\n", style: str = "p {}\n") -> Sources:
@@ -150,16 +149,14 @@ class Pages(unittest.TestCase):
         self.assertGreater(sum(map(bool, told.values())), 14)
 
     def test_what_an_example_is_about(self) -> None:
-        for text, told in (
+        hold(self, about, (
             ("; A screen. Numbers are\n; hexadecimal.\n\nframe\n", "A screen."),
             ("; A screen\n; of text.\nframe ; a picture\n", "A screen of text."),
             ("frame\nout 3C2 3 ; memory on\n; more.\n", ""), ("; A bar: red! More.\n", "A bar: red!"),
             ("\n; one\n\n; two\n", "one"),
             ("frame\n", ""),
             ("", ""),
-        ):
-            with self.subTest(text):
-                self.assertEqual(about(text), told)
+        ))
 
 
 NATIVE = f"""target datalayout = "{LAYOUTS[0]}"
@@ -265,11 +262,10 @@ class Modules(unittest.TestCase):
 
 class Running(unittest.TestCase):
     def test_what_ends_badly_is_told(self) -> None:
-        for words, reason in (
+        hold(self, partial(refused, run), (
             (["sh", "-c", "echo a >&2; exit 3"], "sh: it ended with status 3\n  sh -c echo a >&2; exit 3\na\n"),
             (["no-such-program"], "no-such-program: it is not in the path"),
-        ):
-            self.assertEqual(refused(run, words), reason)
+        ))
         with self.assertRaises(Failed) as raised:
             run(["sleep", "60"], seconds=0.1)
         self.assertEqual(str(raised.exception), "sleep: it had not ended after 0 seconds")

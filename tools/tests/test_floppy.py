@@ -36,7 +36,7 @@ from vga_trace.step import IN, OUT, Step
 from zaklimot.format import Script
 
 from .floppy import ANSWERS, MARK, Adapter, Machine
-from .tools import TOOLS, TOP, Folder, begin, call, ended, refused, run_tool
+from .tools import TOOLS, TOP, Folder, begin, call, ended, hold, refused, run_tool
 
 run = partial(run_tool, "vga-floppy")
 FLOPPY = Path(__file__).with_name("floppy.py")
@@ -274,7 +274,7 @@ class Left(Folder):
         return self.image[:at] + bytes([byte]) + self.image[at + 1:]
 
     def test_images_that_are_damaged(self) -> None:
-        for image, message in (
+        hold(self, partial(self.trouble, read_image), (
             (b"", "it: it is no image of vga-floppy"),
             (bytes(len(self.image)), "it: it is no image of vga-floppy"),
             (self.image[:ANSWERS], "it: its answers are damaged"),
@@ -289,28 +289,26 @@ class Left(Folder):
             (self.changed(512 * 5 + 4, 2), "it: its table is of version 2, and this tool reads version 1"),
             (self.changed(512 * 5 + 20, 0x77), "it: its table of steps is damaged"),
             (self.changed(512 * 5 + 11, 0x77), "it: its table of steps is damaged"),
-        ):
-            with self.subTest(message):
-                self.assertEqual(self.trouble(read_image, image), message)
+        ))
 
     def test_answers_of_another_number_than_steps(self) -> None:
         table = read_image(self.image, "it").table
-        for answers, message in ((b"\1", "it: it has no answer for step 4"), (bytes(99), "it: it has 99 bytes of answers, and its steps have 40")):
-            self.assertEqual(self.trouble(lambda data, _: Run(table, data), answers), message)
+        hold(self, partial(self.trouble, lambda data, _: Run(table, data)), (
+            (b"\1", "it: it has no answer for step 4"),
+            (bytes(99), "it: it has 99 bytes of answers, and its steps have 40"),
+        ))
 
     def test_records_that_are_damaged(self) -> None:
         lines = self.record.split(b"\r\n")
         at = next(at for at, line in enumerate(lines) if line.startswith(b"A"))
-        for record, message in (
+        hold(self, partial(self.trouble, read_record), (
             (b"nothing\n", "it: it holds no record of vga-floppy"),
             (self.record.replace(b"\r\nA 000000 CC", b"\r\nA 000000 CD"), f"it:{at + 1}: the line's sum is wrong: bytes were lost on their way"),
             (b"\r\n".join(lines[:at] + lines[at + 1:]), f"it:{at + 1}: bytes from 0 on are to come, and not from 16 on"),
             (b"\r\n".join(lines[:at] + [b"A 0000"] + lines[at + 1:]), f"it:{at + 1}: no line of a record: 'A 0000'"),
             (b"\r\n".join(lines[:6]), "it: its table of steps is damaged"),
             (b"\r\n".join(lines[:at + 2] + lines[at + 3:]), "it: the end of the record tells of other answers"),
-        ):
-            with self.subTest(message):
-                self.assertEqual(self.trouble(read_record, record), message)
+        ))
 
     def test_the_last_of_two_records_counts(self) -> None:
         other, _ = machine(b"in 3CC\n")

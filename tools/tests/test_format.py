@@ -19,7 +19,7 @@ from zaklimot.format import (
 )
 from zaklimot.format.table import CODES
 
-from .tools import ended, refused
+from .tools import ended, hold, refused
 
 DOCS, CRATES = TOP / "docs", TOP / "crates"
 
@@ -185,8 +185,7 @@ class Scripts(unittest.TestCase):
     def test_what_the_page_shows_of_faults(self) -> None:
         rows = re.findall(r"^\| .*\| `([0-9A-F ]+)` \| `(F\d+ .*)` \|$", page("SCRIPT.md"), re.M)
         self.assertGreater(len(rows), 15)
-        for digits, answer in rows:
-            self.assertEqual(fault_of(bytes.fromhex(digits)), answer, digits)
+        hold(self, lambda digits: fault_of(bytes.fromhex(digits)), rows)
         many = b"VGAS\2\x0d\xff\xff" + b"\x0b" * 257 + b"\x0e"
         self.assertEqual((fault_of(many), fault_of(many[:-2] + b"\x0e")), ("F11 TooMany(5)", ""))
         one_more = encode(Script((Block(4096, (Step("frame"),) * 4096), Step("frame")), 2))
@@ -202,12 +201,11 @@ class Scripts(unittest.TestCase):
         for line in ("version 2", "version 1", "version 02", "repeat 0", "repeat 65536", "repeat 1F", "repeat", "end", "end 3"):
             self.assertIn(f"`{line}`", second)
             self.assertEqual(fault_of(f"version 2\n{line}\n".encode(), parse_text), "F7 BadLine(2)", line)
-        for text, answer in (
+        hold(self, lambda text: fault_of(f"version 2\n{text}".encode(), parse_text), (
             ("repeat 2\nrepeat 2\nend\nend", "F7 BadLine(3)"), ("repeat 2\nfr\n", "F7 BadLine(3)"),
             ("repeat 2\nframe\n", "F7 BadLine(2)"), ("repeat 65535\n" + "frame\n" * 257 + "end", "F7 BadLine(2)"),
             ("repeat 4096\n" + "frame\n" * 4096 + "end\nframe", "F7 BadLine(4100)"),
-        ):
-            self.assertEqual(fault_of(f"version 2\n{text}".encode(), parse_text), answer, text[:20])
+        ))
         with mock.patch("zaklimot.format.text.MOST_BYTES", 1000):
             self.assertEqual([fault_of(b"int\n" * count, parse_text) for count in (90, 91)], ["", "F6 TooLong"])
 

@@ -16,7 +16,7 @@ from zaklimot.format import (
     FORMS, HEADERS, MAGIC, MOST_COUNT, Block, Script, Step, decode, encoded, parse_text, print_text,
 )
 
-from .tools import Folder, begin, call
+from .tools import Folder, begin, call, hold
 
 # A program that takes each text as the same script, prints bytes as they are, and answers each script alike.
 GOOD = """import os, signal, sys, time
@@ -86,7 +86,7 @@ class Judging(Fuzzed):
 
     def test_commands_that_do_not_agree(self) -> None:
         bad = Input(True, b"move 1\n", "text")
-        for given, wrong, trouble in (
+        hold(self, lambda given, wrong: self.fed(given, self.program_that(wrong)).trouble, (
             (SCRIPT, "sys.exit('vga: F7 BadLine(1)') if command == 'run' else None",
              "vga run answers F7 BadLine(1), and not done"),
             (bad, "", "vga go: step 1 is answered, and the script has none"),
@@ -95,9 +95,7 @@ class Judging(Fuzzed):
             # A printed text may answer otherwise.
             (SCRIPT, "print('1 54' if command == 'go' else '1 55')",
              "vga run and vga go of what vga dis prints have reports that differ"),
-        ):
-            with self.subTest(wrong):
-                self.assertEqual(self.fed(given, self.program_that(wrong)).trouble, trouble)
+        ))
 
     def test_a_text_that_spells_another_script(self) -> None:
         path = self.program("program", GOOD.replace("buffer.write(data)", "buffer.write(data + b'x')"))

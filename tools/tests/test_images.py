@@ -16,7 +16,7 @@ from zaklimot.format import Picture, parse_text
 
 from .making import BLACK, RED, WHITE, png_chunks, png_rows, ppm
 from .test_command import PICTURE, run
-from .tools import Folder
+from .tools import Folder, hold
 
 GREY = b"\x15\x15\x15"
 
@@ -35,7 +35,7 @@ def png(width: int, height: int, lines: bytes, depth: int = 8, colour: int = 2, 
 class Images(unittest.TestCase):
     def test_forms_of_png(self) -> None:
         red, white = b"\xff\x00\x00", b"\xff\xff\xff"
-        for data, rows in [
+        hold(self, lambda data: list(image_of(data, "i").rows), [
             (png(2, 1, b"\0" + red + white), [red + white]),
             (png(2, 1, b"\0" + red + b"\x01" + white + b"\x80", colour=6), [red + white]),
             (png(2, 1, b"\0\xff\0\xff\0\0\0" + b"\xff\0" * 3, depth=16), [b"\xff\xff\0" + white]),
@@ -46,9 +46,7 @@ class Images(unittest.TestCase):
             (png(2, 2, b"\x01" + red + b"\0\xff\xff" + b"\x02" + b"\0" * 6), [red + white] * 2),
             (png(2, 2, b"\0" + red + white + b"\x03" + b"\x80\x00\x00\x00\x80\x80"), [red + white] * 2),
             (png(2, 2, b"\0" + red + white + b"\x04" + b"\0" * 3 + b"\0" * 3), [red + white] * 2),
-        ]:
-            with self.subTest(rows):
-                self.assertEqual(list(image_of(data, "i").rows), rows)
+        ])
 
     def test_ppm(self) -> None:
         self.assertEqual(image_of(b"P6 # a\n1\t1\n255\n\x01\x02\x03", "i").rows, (b"\x01\x02\x03",))
@@ -199,15 +197,14 @@ class Sizes(unittest.TestCase):
         self.assertEqual(shown(picture, Shape(scale=3)), (6, 6, expected))
 
     def test_the_shape_of_a_monitor(self) -> None:
-        for size, expected in [
+        hold(self, lambda size: Shape(is_monitor=True).size(*size), [
             ((720, 400), (720, 540)),
             ((640, 480), (640, 480)),
             ((640, 350), (640, 480)),
             ((320, 400), (533, 400)),
             ((320, 200), (320, 240)),
             ((9, 1), (9, 7)),
-        ]:
-            self.assertEqual(Shape(is_monitor=True).size(*size), expected)
+        ])
         self.assertEqual(Shape(3, True).size(720, 400), (2160, 1620))
 
     def test_stretching_loses_no_row_and_no_column(self) -> None:

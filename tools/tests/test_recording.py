@@ -26,7 +26,7 @@ from zaklimot.format import Picture
 
 from .making import BLACK, RED, WHITE, png_rows, ppm
 from .test_trace import BEGIN, listed, qemu, registers
-from .tools import TOP, Folder, call, refused, run_tool
+from .tools import TOP, Folder, call, hold, refused, run_tool
 
 run = partial(run_tool, "vga-trace")
 PICTURE = ppm(3, 2, RED * 3 + WHITE * 3)
@@ -278,11 +278,10 @@ class Screens(unittest.TestCase):
 class Nearest(unittest.TestCase):
     def test_the_dump_of_which_fewer_dots_differ(self) -> None:
         other, far, near = Held(None, ""), Held(5, ""), Held(3, "")
-        for found, last, is_nearer in (
+        hold(self, _is_nearer, (
             (near, far, True), (far, near, False), (near, near, False), (far, other, True), (other, far, False),
             (other, other, False),
-        ):
-            self.assertEqual(_is_nearer(found, last), is_nearer)
+        ))
 
 
 class Knowledge(unittest.TestCase):
@@ -309,7 +308,7 @@ class Knowledge(unittest.TestCase):
 
     def test_what_may_show_in_a_state(self) -> None:
         ninth = attribute(0x10, 4)
-        for steps, names in (
+        hold(self, lambda steps: self.names(*steps, dots=((8, 0), (17, 3))), (
             ((), []),
             ((Step(OUT, 0x3C0, 0x00), Step(OUT, 0x3C0, 0x00)), ["palette address source"]),
             (sequencer(1, 0x20), ["screen off"]),
@@ -323,9 +322,7 @@ class Knowledge(unittest.TestCase):
             (attribute(0x10, 8) + [Step(PUT, 0xB8001, 0x87)], ["blinking"]),
             (attribute(0x10, 8) + [Step(PUT, 0xB8001, 0x07)], []),
             (ninth, ["ninth dot"]),
-        ):
-            with self.subTest(names):
-                self.assertEqual(self.names(*steps, dots=((8, 0), (17, 3))), names)
+        ))
         self.assertEqual(self.names(*ninth, dots=((8, 0), (9, 0))), [])
 
     def split(self, here: str, there: str, *steps: Step) -> Names:

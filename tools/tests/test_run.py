@@ -7,6 +7,7 @@ import signal
 import sys
 import unittest
 from concurrent.futures import ThreadPoolExecutor
+from functools import partial
 from pathlib import Path
 from unittest import mock
 from xml.etree import ElementTree
@@ -25,7 +26,7 @@ from zaklimot.format import Answer, count_in, steps_in
 from .making import BLACK, RED, ppm, stream
 from .program import run_texts
 from .test_command import run
-from .tools import EXAMPLES, TOP, Folder, begin, refused, run_tool
+from .tools import EXAMPLES, TOP, Folder, begin, hold, refused, run_tool
 
 # A program that understands texts of a few steps: `asm` copies, `dis` prints in upper case, `go` answers by the name.
 FAKE = """import sys
@@ -93,12 +94,10 @@ class Listings(Fake):
         return [line.split()[1] for line in self.run_script(*words)[1].splitlines()[1:-1]]
 
     def test_some_steps_alone(self) -> None:
-        for which, numbers in [
+        hold(self, partial(self.shown, "--only"), [
             ("1-2,5", ["1", "2", "5"]), ("refused", ["3"]), ("read", ["2"]), ("pictures", ["4"]), ("differs", []),
             ("refused,1", ["1", "3"]),
-        ]:
-            with self.subTest(which):
-                self.assertEqual(self.shown("--only", which), numbers)
+        ])
         message = "vga-report: --only has numbers of steps, as 10-20, and refused, read, pictures, dumps, differs, and not 'x'\n"
         self.assertEqual(self.run_script("--only", "x"), (2, "", message))
 
@@ -292,9 +291,9 @@ class Expectations(unittest.TestCase):
                     self.assertEqual(is_as_expected(step, expected, name), expected in good)
 
     def test_comments(self) -> None:
-        for comment, expected in [("= 55", "55"), (" =55 ; more", "55"), ("55", None), ("= E6  WrongKind", "E6 WrongKind"), ("=", "")]:
-            with self.subTest(comment):
-                self.assertEqual(expected_in(comment.encode()), expected)
+        hold(self, lambda comment: expected_in(comment.encode()), [
+            ("= 55", "55"), (" =55 ; more", "55"), ("55", None), ("= E6  WrongKind", "E6 WrongKind"), ("=", ""),
+        ])
         self.assertEqual([line.number for line in steps_in(io.BytesIO(b"; a\n\nframe ; =\n \t\r\nframe"))], [3, 5])
         self.assertEqual(blessed_line("frame", "ok"), "frame ; = ok")
 
@@ -317,11 +316,10 @@ class Expectations(unittest.TestCase):
 
     def test_what_is_worth_telling(self) -> None:
         self.assertEqual(handed_in("int ax=3 dx=12"), "ax=0003 bx=0000 cx=0000 dx=0012")
-        for answer, words, is_worth in [
+        hold(self, lambda answer, words: is_worth_telling(Answer(1, 1, answer), words), [
             ("ok", "out 3C2 1", False), ("55", "get 0", True), ("ax=0003 bx=0000 cx=0000 dx=0000", "int ax=3", False),
             ("ax=0300 bx=0000 cx=0D0E dx=0000", "int ax=300", True),
-        ]:
-            self.assertEqual(is_worth_telling(Answer(1, 1, answer), words), is_worth)
+        ])
 
     def test_choices(self) -> None:
         self.assertTrue(Choice(None).has(Row(Answer(1, 1, "ok"), "")))

@@ -15,7 +15,7 @@ from vga_trace.trace import Trace
 from .making import stream
 from .noise import noise
 from .program import run_texts
-from .tools import refused
+from .tools import hold, refused
 
 # Steps that enable memory, in planar order with all planes open and no bits masked.
 PLANAR = [Step(OUT, 0x3C2, 0x03), Step(OUTW, 0x3C4, 0x0604), Step(OUTW, 0x3C4, 0x0F02), Step(OUTW, 0x3CE, 0xFF08)]
@@ -133,7 +133,7 @@ class Registers(unittest.TestCase):
 
     def test_indexes_protection_and_places(self) -> None:
         protected = [Step(OUTW, 0x3B4, value) for value in (0x8011, 0xFF00, 0xFF07)]
-        for steps, read in (
+        hold(self, lambda steps: self.read(*steps), (
             # A refused word leaves its index.
             ([Step(OUT, 0x3CE, 8), Step(OUTW, 0x3CE, 0x2005), Step(INW, 0x3CE)], [8]),
             ([Step(OUTW, 0x3C8, 0x1102), Step(OUTW, 0x3C9, 0x11), Step(IN, 0x3C8)], [2]),
@@ -142,8 +142,7 @@ class Registers(unittest.TestCase):
             # The CRT controller is at 3B4 or at 3D4.
             ([Step(IN, 0x3D4), Step(IN, 0x3B4)], [None, 0]),
             ([Step(OUT, 0x3C2, 1), Step(IN, 0x3D4), Step(IN, 0x3BA)], [0, None]),
-        ):
-            self.assertEqual(self.read(*steps), read)
+        ))
 
     def test_attributes(self) -> None:
         def out(*values: int) -> list[Step]:

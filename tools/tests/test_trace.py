@@ -32,7 +32,7 @@ from zaklimot.format import Step as ScriptStep
 
 from .making import ppm, report
 from .program import run_texts
-from .tools import EXAMPLES, Folder, begin, call, refused, run_tool
+from .tools import EXAMPLES, Folder, begin, call, hold, refused, run_tool
 
 run = partial(run_tool, "vga-trace")
 # What a trace from power-on begins with.
@@ -149,7 +149,7 @@ class Steps(unittest.TestCase):
         self.assertEqual((Step(ADVANCE, 258).text(), Step(ADVANCE, 258).data()), (b"advance 258\n", b"\x0a\x02\x01\0\0"))
 
     def test_which_bytes_become_words(self) -> None:
-        for lines, steps in (
+        hold(self, lambda lines: self.steps(*lines), (
             (("w m B8000 41 1", "w m B8001 1F 1"), ["putw B8000 1F41"]),
             (("r m B8000 41 1", "r m B8001 1F 1"), ["getw B8000 ; = 1F41"]),
             ((f"w m B800{at} 0{at} 1" for at in range(4)), ["putw B8000 0100", "putw B8002 0302"]),
@@ -168,9 +168,7 @@ class Steps(unittest.TestCase):
             (("r p 3C4 44332211 4",), ["inw 3C4 ; = 2211", "inw 3C6 ; = 4433"]),
             (("w m A0001 8877665544332211 8",),
              ["putw A0001 2211", "putw A0003 4433", "putw A0005 6655", "putw A0007 8877"]),
-        ):
-            with self.subTest(steps):
-                self.assertEqual(self.steps(*lines), steps)
+        ))
 
     def test_vbe_is_left_out_and_separates_nothing(self) -> None:
         lines = qemu("write b8000 41 1", "vga-lowmem") + qemu("write 1ce 4 2", "vbe") + qemu("write b8001 1f 1", "vga-lowmem")
@@ -277,20 +275,18 @@ class Warnings(unittest.TestCase):
         silent = "chain 4 with map mask 0F has no cycle of memory, first from cycle 3 on: " \
             "qemu traces none there without the plugin"
         chained = BEGIN + b"- w p 3C4 0F02 2\n- w p 3C4 0E04 2\n"
-        for data, told in (
-            (b"- r p 3CC 0 1\n" + BEGIN + b"- w m A0000 1 1\n", ""),
-            (b"- r p 3CC 0 1\n- w m B8000 1 1\n" + BEGIN, begin),
-            (b"- r p 3CC 0 1\n- w p 3C4 1 1\n" + BEGIN, begin),
-            (vbe("4", "41"), enabled), (vbe("4", "0"), ""), (vbe("3", "1"), ""),
-            (chained, silent), (chained + b"- w p 3C4 0604 2\n- w m A0000 1 1\n", silent),
-            (BEGIN + b"- w p 3C4 4 1\n- w p 3C5 E 1\n- w p 3C4 0F02 2\n", silent.replace("3 on", "4 on")),
-            (chained + b"- w p 3C4 0E04 2\n- w m A0000 1 1\n- w p 3C4 0604 2\n", ""),
-            (BEGIN + b"- w p 3C4 0702 2\n- w p 3C4 0E04 2\n", ""),
+        hold(self, warned, (
+            (b"- r p 3CC 0 1\n" + BEGIN + b"- w m A0000 1 1\n", []),
+            (b"- r p 3CC 0 1\n- w m B8000 1 1\n" + BEGIN, [begin]),
+            (b"- r p 3CC 0 1\n- w p 3C4 1 1\n" + BEGIN, [begin]),
+            (vbe("4", "41"), [enabled]), (vbe("4", "0"), []), (vbe("3", "1"), []),
+            (chained, [silent]), (chained + b"- w p 3C4 0604 2\n- w m A0000 1 1\n", [silent]),
+            (BEGIN + b"- w p 3C4 4 1\n- w p 3C5 E 1\n- w p 3C4 0F02 2\n", [silent.replace("3 on", "4 on")]),
+            (chained + b"- w p 3C4 0E04 2\n- w m A0000 1 1\n- w p 3C4 0604 2\n", []),
+            (BEGIN + b"- w p 3C4 0702 2\n- w p 3C4 0E04 2\n", []),
             (qemu("write 3c2 67 1") + b"memory_region_ops_\n",
-             "1 lines of cycles are damaged and left out, line 2 first"),
-        ):
-            with self.subTest(data):
-                self.assertEqual(warned(data), [told] if told else [])
+             ["1 lines of cycles are damaged and left out, line 2 first"]),
+        ))
         told = "the time runs back 1 times, which is no pause"
         self.assertEqual(warned(b"2 w p 3C2 67 1\n1 r p 3DA 0 1\n", has_time=True), [told])
 

@@ -17,7 +17,7 @@ import unittest
 import warnings
 from functools import partial
 from pathlib import Path
-from typing import Any, BinaryIO, Callable, Optional, Sequence
+from typing import Any, BinaryIO, Callable, Iterable, Optional, Sequence
 
 from vga_report.trouble import Trouble
 
@@ -96,6 +96,13 @@ def ended(*words: str | bytes | Path, **options: Any) -> tuple[int, Any, Any]:
     given = {"stdout": subprocess.PIPE, "stderr": subprocess.PIPE, "text": True, "timeout": MOST_SECONDS, **options}
     done = subprocess.run(words, **given)
     return done.returncode, done.stdout, done.stderr
+
+
+def hold(test: unittest.TestCase, work: Callable[..., object], table: Iterable[tuple[Any, ...]]) -> None:
+    """Holds what work makes of the front of each row of a table to the row's last."""
+    for *given, wanted in table:
+        with test.subTest(given):
+            test.assertEqual(work(*given), wanted)
 
 
 def refused(work: Callable[..., object], *words: object) -> str:
