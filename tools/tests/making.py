@@ -15,18 +15,10 @@ def ppm(width: int, height: int, dots: bytes) -> bytes:
     return b"P6\n%d %d\n63\n" % (width, height) + dots
 
 
-def picture_step(number: int, picture: bytes) -> bytes:
-    """A step with a picture, as it stands in a report."""
-    return b"%d picture %d\n" % (number, len(picture)) + picture + b"\n"
-
-
 def report(*answers: str | bytes) -> bytes:
     """A report of steps with these answers. Bytes are a picture."""
-    steps = enumerate(answers, 1)
-    return b"".join(
-        picture_step(number, answer) if isinstance(answer, bytes) else f"{number} {answer}\n".encode()
-        for number, answer in steps
-    )
+    told = (b"picture %d\n" % len(one) + one if isinstance(one, bytes) else one.encode() for one in answers)
+    return b"".join(b"%d %b\n" % step for step in enumerate(told, 1))
 
 
 def stream(data: bytes) -> io.BufferedReader:

@@ -88,23 +88,15 @@ def read_image(image: bytes, name: str) -> Run:
     if len(image) < ANSWERS_AT:
         raise Trouble(f"the image is cut off: it has {len(image):,} bytes of {IMAGE_SIZE:,}", name)
     table = Table(image[CODE_SIZE:MARK_AT], name)
-    answers = answers_in(image, table, name)
-    if answers is None:
-        raise Trouble("no run has ended: the machine has not written its mark", name)
-    return Run(table, answers)
-
-
-def answers_in(image: bytes, table: Table, name: str) -> Optional[bytes]:
-    """The answers to a table's steps in an image; None where no run has ended."""
     first, second, length, total, check = MARK.unpack_from(image, MARK_AT)
     if (first, second) != MARK_NAMES:
-        return None
+        raise Trouble("no run has ended: the machine has not written its mark", name)
     if check != table.check:
         raise Trouble("its answers are those of another script", name)
     answers = image[ANSWERS_AT:ANSWERS_AT + length]
     if len(answers) < length or sum(answers) & 0xFFFF != total:
         raise Trouble("its answers are damaged", name)
-    return answers
+    return Run(table, answers)
 
 
 def has_ended(path: Path) -> bool:

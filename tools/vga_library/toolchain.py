@@ -67,18 +67,13 @@ def _libraries(kit: Path) -> list[str | Path]:
     return words
 
 
-def crate_words(kit: Path) -> list[str | Path]:
-    """What the compiler is told of the crate, whatever it is to do."""
-    words = ["--crate-name", CRATE.name, "src/lib.rt", *_libraries(kit)]
-    words += ["--antt-project", kit / "rattle" / "logic" / "antt-project.json"]
-    return [*words, "--links", f"{CRATE.name}=", "--crate-type", "staticlib"]
-
-
 def proving_words(kit: Path, kept: str | Path) -> list[str | Path]:
     """What the compiler is told where it proves the crate, over what a folder keeps of its proof."""
     jobs = min(4, os.cpu_count() or 1)
-    words = [*crate_words(kit), "--logic-built", kit / "logic_built", "--jobs", str(jobs)]
-    return [*words, "--incremental", kept]
+    words = ["--crate-name", CRATE.name, "src/lib.rt", *_libraries(kit)]
+    words += ["--antt-project", kit / "rattle" / "logic" / "antt-project.json"]
+    words += ["--links", f"{CRATE.name}=", "--crate-type", "staticlib"]
+    return [*words, "--logic-built", kit / "logic_built", "--jobs", str(jobs), "--incremental", kept]
 
 
 def gated_archive(backend: str, kept: Path, made: Path, target: Target = X86_64) -> Path:

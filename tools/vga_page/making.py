@@ -125,11 +125,8 @@ class Maker:
 
 
 def made_modules(
-    phase: Phase,
-    is_gated: bool = False,
-    proof: Optional[Path] = None,
-    memories: Sequence[Optional[int]] = (None,),
-    times: int = 1,
+    phase: Phase, is_gated: bool = False, proof: Optional[Path] = None,
+    memories: Sequence[Optional[int]] = (None,), times: int = 1,
 ) -> list[list[bytes]]:
     """Proves the crate once, and makes its modules so many times, one for each size of memory.
 

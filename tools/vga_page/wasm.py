@@ -90,17 +90,14 @@ def kit_of(module: bytes) -> str:
     return found[-1][len(begin):].decode("ascii", "replace") if found else ""
 
 
-def _exports(section: bytes) -> Iterator[Export]:
-    reader = _Reader(section)
-    for _ in range(reader.number()):
-        name, kind = reader.name(), reader.byte()
-        reader.number()
-        yield Export(name, kind)
-
-
 def exports_of(module: bytes) -> list[Export]:
     """What a module exports, in its order."""
-    return list(_exports(sections(module).get(EXPORTS, b"\0")))
+    reader, found = _Reader(sections(module).get(EXPORTS, b"\0")), []
+    for _ in range(reader.number()):
+        found.append(Export(reader.name(), reader.byte()))
+        # Its place among others of its kind.
+        reader.number()
+    return found
 
 
 def _listed(names: Iterable[str]) -> str:

@@ -27,14 +27,12 @@ class Expected:
 
     def steps(self) -> Iterator[Answer]:
         """The steps in their order."""
-        text = self._next_line()
-        while text is not None:
+        for text in iter(self._next_line, None):
             alike = OK_STEPS.fullmatch(text)
             if alike is not None:
                 yield from self._ok_steps(int(alike[1]), int(alike[2]))
             else:
                 yield self._step(text)
-            text = self._next_line()
 
     def _ok_steps(self, first: int, last: int) -> Iterator[Answer]:
         """The steps that a line such as `1-35 ok` stands for."""

@@ -170,10 +170,8 @@ def _is_utf_16(data: bytes) -> bool:
     """Whether each other byte of a file's front is 0, as of letters of two bytes, and the others are a text."""
     begin = 2 if data.startswith((b"\xff\xfe", b"\xfe\xff")) else 0
     pairs = data[begin:begin + LOOKED_AT // 2 * 2]
-    for low, high in ((pairs[0::2], pairs[1::2]), (pairs[1::2], pairs[0::2])):
-        if high and not any(high) and low and _is_text(low):
-            return True
-    return False
+    halves = pairs[0::2], pairs[1::2]
+    return any(high and not any(high) and _is_text(low) for low, high in (halves, halves[::-1]))
 
 
 def _is_text(data: bytes) -> bool:

@@ -13,7 +13,7 @@ from typing import Iterator, NamedTuple, Optional, Sequence
 
 from zaklimot.format import (
     BLOCK, BLOCK_LINES, END, FIRST_LINE, FORMS, MOST_BLOCK, MOST_STEPS, PLANE_BYTES, REGISTERS, REPEAT, SHOWN, Field,
-    Line, lines_in,
+    lines_in,
 )
 
 WORD = re.compile(r"[^ \t\r]+")
@@ -82,14 +82,10 @@ def mistake_among_lines(data: bytes, number: int) -> Optional[str]:
         return "no repeat is open here"
     if line.name == REPEAT and opened is not None:
         return f"a repeat contains no other, and the one of line {opened.number} is open here"
-    return _end_of_block(lines[lines.index(line):]) if line.name == REPEAT else None
-
-
-def _end_of_block(lines: Sequence[Line]) -> str:
-    """Why the block is bad that begins with the first of these lines."""
-    if any(line.name == END for line in lines):
-        return f"with this repeat the script means more than {MOST_STEPS:,} steps"
-    return "the repeat has no end"
+    if line.name != REPEAT:
+        return None
+    has_end = any(other.name == END for other in lines[lines.index(line):])
+    return f"with this repeat the script means more than {MOST_STEPS:,} steps" if has_end else "the repeat has no end"
 
 
 def _odd_byte(word: Word) -> Optional[Mistake]:

@@ -58,9 +58,9 @@ def _head(width: int, height: int) -> bytes:
 
 def _write(stream: BinaryIO, size: tuple[int, int], rows: Iterable[bytes], shape: Shape) -> None:
     """Writes rows of this size in a shape."""
-    stream.write(_head(*shape.size(*size)))
-    packer = zlib.compressobj(COMPRESSION)
-    for row in _shaped(rows, size, shape):
+    new, packer = shape.size(*size), zlib.compressobj(COMPRESSION)
+    stream.write(_head(*new))
+    for row in rows if new == size else _stretched(rows, size, new):
         packed = packer.compress(b"\0" + row)
         if packed:
             stream.write(chunk(b"IDAT", packed))
@@ -80,12 +80,6 @@ def _stretched(rows: Iterable[bytes], size: tuple[int, int], new: tuple[int, int
         # The new rows that this one gives: those whose number times height / new_height is y and a bit.
         for _ in range(-(-y * new_height // height), -(-(y + 1) * new_height // height)):
             yield stretched
-
-
-def _shaped(rows: Iterable[bytes], size: tuple[int, int], shape: Shape) -> Iterable[bytes]:
-    """Rows of this size in a shape."""
-    new = shape.size(*size)
-    return rows if new == size else _stretched(rows, size, new)
 
 
 def _rows(picture: Picture) -> Iterator[bytes]:
@@ -153,15 +147,11 @@ class Animation:
         """Writes all frames; they begin anew without an end."""
         width, height = self._size
         stream.write(_head(width, height) + chunk(b"acTL", struct.pack(">II", len(self.frames), 0)))
-        sequence = 0
         for at, (packed, time, part) in enumerate(self.frames):
-            stream.write(chunk(b"fcTL", struct.pack(">IIIIIHHBB", sequence, width, height, 0, 0, time, part, 0, 0)))
-            sequence += 1
-            if at == 0:
-                stream.write(chunk(b"IDAT", packed))
-            else:
-                stream.write(chunk(b"fdAT", struct.pack(">I", sequence) + packed))
-                sequence += 1
+            # These chunks are counted, but for the first frame's dots.
+            number = max(0, 2 * at - 1)
+            stream.write(chunk(b"fcTL", struct.pack(">IIIIIHHBB", number, width, height, 0, 0, time, part, 0, 0)))
+            stream.write(chunk(b"fdAT", struct.pack(">I", 2 * at) + packed) if at else chunk(b"IDAT", packed))
         stream.write(chunk(b"IEND", b""))
 
 

@@ -154,10 +154,7 @@ def compare(words: argparse.Namespace, progress: Progress) -> int:
 
 
 def _tell_differences(
-    differences: Iterator[Difference],
-    names: tuple[str, str],
-    words: argparse.Namespace,
-    progress: Progress,
+    differences: Iterator[Difference], names: tuple[str, str], words: argparse.Namespace, progress: Progress,
     page: Optional[Page],
 ) -> int:
     """Tells the first difference or all, and writes the first picture with its differing dots marked."""
