@@ -346,23 +346,6 @@ class Commands(Folder):
         self.assertEqual(run("read", "-", self.folder / "report", given=image.read_bytes()), (0, b"", ""))
         self.assertEqual((self.folder / "report").read_bytes(), REPORT)
 
-    def test_files_that_are_wrong(self) -> None:
-        script = self.write("script.vga", "frame\nmove\n")
-        text = self.write("text", "no image")
-        image = self.folder / "image"
-        for words, message in (
-            (("make", script, image), f"{script}:2: F7 BadLine(2): there is no step 'move'; "),
-            (("make", script, self.folder / "no" / "image"), f"{script}:2: "),
-            (("read", text), f"{text}: it is no image of vga-floppy\n"),
-            (("read", "--serial", text), f"{text}: it holds no record of vga-floppy\n"),
-            (("run", "--on", "dosbox", script), f"{script}:2: F7 BadLine(2): "),
-        ):
-            status, output, said = run(*words)
-            self.assertEqual((status, output), (2, b""))
-            self.assertTrue(said.startswith("vga-floppy: " + message), said)
-            self.assertEqual(len(said.splitlines()), 3 if "BadLine" in said else 1)
-        self.assertFalse(image.exists())
-
     def test_a_script_that_is_too_long_for_a_machine(self) -> None:
         for script, message in (
             (b"out 3C4 02\n" * 110_000, f"standard input: its steps take {440_004 + len(reset_steps()):,} bytes, and a machine has room for 423,920\n"),

@@ -11,7 +11,6 @@ from typing import Optional
 from vga_report.images import image_of
 from vga_report.png import MARK, Shape, write_png
 from vga_report.timing import USUAL, Timing
-from vga_report.trouble import Trouble
 from zaklimot.format import Picture, parse_text
 
 from .making import BLACK, RED, WHITE, png_chunks, png_rows, ppm
@@ -51,17 +50,6 @@ class Images(unittest.TestCase):
     def test_ppm(self) -> None:
         self.assertEqual(image_of(b"P6 # a\n1\t1\n255\n\x01\x02\x03", "i").rows, (b"\x01\x02\x03",))
         self.assertEqual(image_of(ppm(1, 1, RED), "i").most, 63)
-
-    def test_what_is_no_image(self) -> None:
-        good = png(1, 1, b"\0" + bytes(3))
-        for data in (
-            b"", b"GIF89a", b"P6 1", b"P6\n1 1\n255\n\0", b"P6\n1 1\n65535\n123456", good[:-1], good[:40],
-            good.replace(b"IDAT", b"iDAT"), png(1, 2, b"\0" + bytes(3)), png(1, 1, b"\0\0", colour=3, palette=b""),
-            png(1, 1, b"\0" + bytes(3), interlace=1), png(1, 1, b"\0", colour=5),
-            png(1, 1, b"\5" + bytes(3)), png(1, 1, b"\xff" + bytes(3)),
-        ):
-            with self.subTest(data[:60]), self.assertRaises(Trouble):
-                image_of(data, "i")
 
 
 class ComparePicture(Folder):

@@ -180,6 +180,11 @@ class Drawing(Folder):
         start = picture.index(b"\n63\n") + 4
         self.assertEqual(picture[start:start + 6 * 85:6], bytes(value >> 2 for value in range(0, 255, 3)))
 
+    def test_depths_of_png(self) -> None:
+        line = b"\0" + b"\x80\x7f" * (3 * 320)
+        picture, _ = drawn(script(png(320, 200, line * 200, depth=16), "--mode", "13"))
+        self.assertEqual(picture, shown([[(32, 32, 32)] * 320] * 200, 2, 2))
+
     def test_an_image_of_one_colour_is_a_mode_set_and_its_colour(self) -> None:
         text = script(png_of([[(7, 8, 9)] * 320] * 200), "--mode", "0D")
         _, screen = drawn(text)
@@ -545,40 +550,6 @@ class Sizes(unittest.TestCase):
     def test_a_dot_is_the_one_under_its_middle(self) -> None:
         few = [[(at // 60, 0, 0) for at in range(960)]] * 2
         self.assertEqual(drawn(script(png_of(few), "--mode", "13", "--scale"))[0], shown([few[0][1::3]] * 200, 2, 2))
-
-
-class Refusals(Folder):
-    GOOD = png_of([[(1, 2, 3)] * 320] * 200)
-
-    def refused(self, told: str, given: bytes) -> None:
-        """A refusal in one line, and nothing written."""
-        script, image = self.write("s.vga", "old"), self.write("image", given)
-        with self.subTest(told):
-            done = call(main, "script", image, script, "--mode", "13")
-            self.assertEqual(done, (2, "", f"vga-picture: {image}: {told}\n"))
-            self.assertEqual((self.names(), Path(script).read_bytes()), (["image", "s.vga"], b"old"))
-
-    def test_what_is_no_image(self) -> None:
-        good = self.GOOD
-        for told, given in (
-            ("this is neither a PNG nor a PPM of the kind P6", b""),
-            ("this is neither a PNG nor a PPM of the kind P6", b"GIF89a"),
-            ("the PNG is damaged", good[:-1]), ("the PNG is damaged", good[:20]),
-            ("the PNG is damaged", good.replace(b"IDAT", b"IDAX")),
-            ("the header of the PPM is damaged", b"P6\n320 200\n"),
-            ("the PPM of 320x200 dots is damaged", ppm(320, 200, bytes(100))),
-            ("the components go to 1000; 63 and 255 can be read", b"P6\n1 1\n1000\n123456"),
-            ("a row of the PNG has filter 5, and the filters are 0 to 4", png(1, 2, b"\0" + bytes(3) + b"\5" + bytes(3))),
-            ("an interlaced PNG can't be read: save it without interlace", png(1, 1, b"\0" + bytes(3), interlace=1)),
-            ("the image has 5000x5000 dots, and 16,777,216 are the most", png(5000, 5000, b"")),
-            ("the image has 9999999x2 dots, and 16,777,216 are the most", b"P6 9999999 2 255\n"),
-        ):
-            self.refused(told, given)
-
-    def test_depths_of_png(self) -> None:
-        line = b"\0" + b"\x80\x7f" * (3 * 320)
-        picture, _ = drawn(script(png(320, 200, line * 200, depth=16), "--mode", "13"))
-        self.assertEqual(picture, shown([[(32, 32, 32)] * 320] * 200, 2, 2))
 
 
 class Examples(unittest.TestCase):

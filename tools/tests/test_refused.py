@@ -13,6 +13,7 @@ from zaklimot.format import parse_text
 
 from .floppy import Adapter, Machine
 from .making import BLACK, ppm, report
+from .test_images import png
 from .tools import Folder, run_tool
 
 # Each tool may take so much memory, in bytes.
@@ -27,8 +28,10 @@ PROGRAM = "#!/bin/sh\n[ \"$1\" = go ] && exec cat \"${0%/*}/r\"\nexit 0\n"
 FILES: dict[str, str | bytes] = {
     "r": report(PICTURE), "r2": report(OTHER), "i": PICTURE, "s.vga": "frame\n", "m": IMAGE,
     "t": "- w p 3C4 02 1\n", "empty/notes": "", "made/share": "", f"full/{FISH}/file": "",
-    "ok": report("ok", PICTURE), "none": report("ok"),
+    "ok": report("ok", PICTURE), "none": report("ok"), "move.vga": "frame\nmove\n",
 }
+NAMES = "out, outw, in, inw, put, putw, get, getw, advance, frame, int, show, version, repeat, end"
+MOVE = f"vga-floppy: {{move}}:2: F7 BadLine(2): there is no step 'move'; the steps are {NAMES}\n  move\n  ^^^^\n"
 # The words of tools, and what is said of them. {o} is a file that is not there, {d} the folder.
 REFUSED = {
     # Files without an end.
@@ -77,6 +80,9 @@ REFUSED = {
     "picture script {o} - --mode 13": "vga-picture: {o}: No such file or directory\n",
     "floppy make {o} {d}/image": "vga-floppy: {o}: No such file or directory\n",
     "floppy make {d} {o}": "vga-floppy: {d}: Is a directory\n",
+    "floppy make {move} {o}": MOVE, "floppy make {move} {o}/image": MOVE, "floppy run --on dosbox {move}": MOVE,
+    "floppy read {t}": "vga-floppy: {t}: it is no image of vga-floppy\n",
+    "floppy read --serial {t}": "vga-floppy: {t}: it holds no record of vga-floppy\n",
     "fuzz {o}": "it is no program",
     "fuzz {d}": "it is no program",
     "fuzz /bin/true": "vga asm: status 0, and it has written no script",
@@ -148,6 +154,29 @@ REFUSED = {
         for number in numbers.split()
     },
 }
+GOOD = png(1, 1, bytes(4))
+# What is said of images that are none, or can't be read.
+for told, *images in (
+    ("this is neither a PNG nor a PPM of the kind P6", b"", b"GIF89a"),
+    ("the PNG is damaged", GOOD[:-1], GOOD[:20], GOOD[:40], png(1, 2, bytes(4))),
+    ("the PNG is damaged", GOOD.replace(b"IDAT", b"IDAX"), GOOD.replace(b"IDAT", b"iDAT")),
+    ("the header of the PPM is damaged", b"P6\n320 200\n", b"P6 1"),
+    ("the PPM of 320x200 dots is damaged", ppm(320, 200, bytes(100))),
+    ("the PPM of 1x1 dots is damaged", b"P6\n1 1\n255\n\0"),
+    ("the components go to 1000; 63 and 255 can be read", b"P6\n1 1\n1000\n123456"),
+    ("the components go to 65535; 63 and 255 can be read", b"P6\n1 1\n65535\n123456"),
+    ("a row of the PNG has filter 5, and the filters are 0 to 4", png(1, 2, bytes(4) + b"\5" + bytes(3))),
+    ("a row of the PNG has filter 255, and the filters are 0 to 4", png(1, 1, b"\xff" + bytes(3))),
+    ("the PNG names a colour that it does not have", png(1, 1, b"\0\0", colour=3)),
+    ("a PNG of this form can't be read: 1x1, depth 8, colour type 5", png(1, 1, b"\0", colour=5)),
+    ("an interlaced PNG can't be read: save it without interlace", png(1, 1, bytes(4), interlace=1)),
+    ("the image has 5000x5000 dots, and 16,777,216 are the most", png(5000, 5000, b"")),
+    ("the image has 9999999x2 dots, and 16,777,216 are the most", b"P6 9999999 2 255\n"),
+):
+    for image in images:
+        name = f"image{len(FILES)}"
+        FILES[name] = image
+        REFUSED[f"picture script {{{name}}} {{o}} --mode 13"] = f"vga-picture: {{{name}}}: {told}\n"
 # Words of the tools, in which the file {in} is read, what it has, and the other name of it in the folder, which would
 # be written.
 READ_AND_WRITTEN = [
