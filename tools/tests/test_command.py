@@ -25,6 +25,7 @@ run = partial(run_tool, PROGRAM.name)
 
 class Text(Folder):
     def test_a_file_and_standard_input(self) -> None:
+        # The frame at power-on; the sum is that of `md5sum` over its 37 bytes.
         path = self.report("r", "ok", ppm(9, 1, 9 * BLACK))
         text = b"1 ok\n2 picture 37 9x1 8f4a7758d19428aa7b8da8bb8fc0c974\n"
         self.assertEqual(run("text", path), (0, text, ""))

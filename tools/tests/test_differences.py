@@ -187,19 +187,9 @@ class Answers(unittest.TestCase):
         (step,) = steps_of(report("ax=1017 bx=0000 cx=0100 dx=0000 block " + 65535 * "0F"))
         self.assertEqual(len(step.answer), 38 + 131070)
 
-
-class Text(unittest.TestCase):
-    def text(self, data: bytes) -> str:
-        return "".join(step.text() for step in steps_of(data))
-
-    def test_a_picture_is_one_line(self) -> None:
-        # The frame at power-on; the sum is that of `md5sum` over its 37 bytes.
-        data = report("ok", ppm(9, 1, 9 * BLACK), "ragged")
-        self.assertEqual(self.text(data), "1 ok\n2 picture 37 9x1 8f4a7758d19428aa7b8da8bb8fc0c974\n3 ragged\n")
-
-    def test_all_other_lines_stay(self) -> None:
-        for data in (report("ok", REGISTERS, "55", "E1", "E1 NotDecoded"), b"F2 BadMagic\n", b""):
-            self.assertEqual(self.text(data).encode(), data)
+    def test_all_lines_stay_but_pictures(self) -> None:
+        for data in (report("ok", REGISTERS, "55", "E1", "E1 NotDecoded", "ragged"), b"F2 BadMagic\n", b""):
+            self.assertEqual("".join(step.text() for step in steps_of(data)).encode(), data)
 
 
 class Damage(unittest.TestCase):

@@ -199,8 +199,8 @@ class Interpreting(unittest.TestCase):
         self.assertEqual(b"".join(report_lines(read_image(Machine(disk, Adapter()).run(), "disk"), "disk")), REPORT)
 
 
-class Several(Folder):
-    """Scripts that run one after the other."""
+class Images(Folder):
+    """Images of one script, and of several that run one after the other."""
 
     def folder_of_scripts(self, **scripts: str) -> Path:
         for name, text in scripts.items():
@@ -255,6 +255,24 @@ class Several(Folder):
             status, _, said = run("read", path, self.folder / "reports")
             self.assertEqual((status, said), (2, f"vga-floppy: {path}: a script has the name of a file outside of a folder: '{name}'\n"))
             self.assertEqual(list((self.folder / "reports").iterdir()), [])
+
+    def test_an_image_is_made_and_read(self) -> None:
+        script, image = self.write("script.vga", SCRIPT.decode()), self.folder / "image"
+        self.assertEqual(run("make", script, image), (0, b"", ""))
+        self.assertEqual(run("make", "-", "-", given=SCRIPT)[1], image.read_bytes())
+        self.assertEqual(image.read_bytes()[64], 0)
+        image.write_bytes(Machine(image.read_bytes(), Adapter()).run())
+        self.assertEqual(run("read", image), (0, REPORT, ""))
+        self.assertEqual(run("read", "-", self.folder / "report", given=image.read_bytes()), (0, b"", ""))
+        self.assertEqual((self.folder / "report").read_bytes(), REPORT)
+
+    def test_a_script_that_is_too_long_for_a_machine(self) -> None:
+        for script, message in (
+            (b"out 3C4 02\n" * 110_000, f"standard input: its steps take {440_004 + len(reset_steps()):,} bytes, and a machine has room for 423,920\n"),
+            (b"version 2\nrepeat 65535\nin 3CC\nend\nin 3CC\n", "standard input: its answers take 65,536 bytes, and a machine has room for 65,535\n"),
+        ):
+            self.assertEqual(run("make", "-", self.folder / "image", given=script), (2, b"", "vga-floppy: " + message))
+        self.assertEqual(list(self.folder.iterdir()), [])
 
 
 class Left(Folder):
@@ -333,26 +351,6 @@ class Left(Folder):
         with_all = b"".join(report_lines(run_left, "it", True)).splitlines()
         self.assertEqual(with_all[11], b"12 ax=DEAD bx=1234 cx=1234 dx=1234")
         self.assertEqual(with_all[12], b"13 ax=DEAD bx=1234 cx=1234 dx=1234 block 000102030405")
-
-
-class Commands(Folder):
-    def test_an_image_is_made_and_read(self) -> None:
-        script, image = self.write("script.vga", SCRIPT.decode()), self.folder / "image"
-        self.assertEqual(run("make", script, image), (0, b"", ""))
-        self.assertEqual(run("make", "-", "-", given=SCRIPT)[1], image.read_bytes())
-        self.assertEqual(image.read_bytes()[64], 0)
-        image.write_bytes(Machine(image.read_bytes(), Adapter()).run())
-        self.assertEqual(run("read", image), (0, REPORT, ""))
-        self.assertEqual(run("read", "-", self.folder / "report", given=image.read_bytes()), (0, b"", ""))
-        self.assertEqual((self.folder / "report").read_bytes(), REPORT)
-
-    def test_a_script_that_is_too_long_for_a_machine(self) -> None:
-        for script, message in (
-            (b"out 3C4 02\n" * 110_000, f"standard input: its steps take {440_004 + len(reset_steps()):,} bytes, and a machine has room for 423,920\n"),
-            (b"version 2\nrepeat 65535\nin 3CC\nend\nin 3CC\n", "standard input: its answers take 65,536 bytes, and a machine has room for 65,535\n"),
-        ):
-            self.assertEqual(run("make", "-", self.folder / "image", given=script), (2, b"", "vga-floppy: " + message))
-        self.assertEqual(list(self.folder.iterdir()), [])
 
 
 @unittest.skipUnless(Path("/proc/self/stat").exists(), "processes are looked at as Linux shows them")

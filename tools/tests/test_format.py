@@ -258,8 +258,6 @@ class Answers(unittest.TestCase):
                 self.assertTrue(is_answer_to(step, Answer(1, 1, answer)), line)
         self.assertGreaterEqual(len(rows), 5)
 
-
-class Reports(unittest.TestCase):
     def test_one_of_a_slice_begins_behind_the_first_step(self) -> None:
         def numbers(first: int) -> list[int]:
             stream = io.BufferedReader(io.BytesIO(b"7 ok\n8 E1 NotDecoded\n9 00\n"))  # type: ignore[arg-type]

@@ -161,7 +161,7 @@ def shown(picture: Picture, shape: Shape = Shape(), other: Optional[Picture] = N
     return png_rows(stream.getvalue())
 
 
-class Colours(unittest.TestCase):
+class Written(unittest.TestCase):
     def test_six_bits_become_eight(self) -> None:
         dots = bytes(range(0, 63, 3)) + b"\x3f" + bytes([1, 2])
         (row,) = shown(Picture.of_dots(8, 1, dots))[2]
@@ -175,8 +175,6 @@ class Colours(unittest.TestCase):
         write_png(stream, Picture.of_dots(1, 1, RED))
         self.assertIn(b"sBIT\x06\x06\x06", stream.getvalue())
 
-
-class Sizes(unittest.TestCase):
     def test_scale_repeats_dots_and_rows(self) -> None:
         picture = Picture.of_dots(2, 2, RED + BLACK + BLACK + WHITE)
         full = b"\xff\xff\xff"
@@ -205,8 +203,6 @@ class Sizes(unittest.TestCase):
         self.assertEqual((width, height, len(stretched)), (8, 6, 6))
         self.assertEqual([value >> 2 for value in stretched[0][::3]], [0, 0, 1, 2, 3, 3, 4, 5])
 
-
-class Marks(unittest.TestCase):
     def test_dots_that_differ_are_marked_and_others_darkened(self) -> None:
         picture = Picture.of_dots(3, 2, WHITE + BLACK + GREY + RED + RED + RED)
         other = Picture.of_dots(3, 2, WHITE + RED + GREY + RED + RED + BLACK)

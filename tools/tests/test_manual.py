@@ -387,10 +387,6 @@ class Made(Fakes):
         self.assertEqual(done, (TROUBLE, "", f"vga-manual: {command.NO_PROGRAM}\n"))
         self.assertFalse(new.exists())
 
-
-class Built(Fakes):
-    """The program as it is built."""
-
     def test_its_files_are_those_of_the_kept_helps(self) -> None:
         want_program()
         kept = manual_files(self.printing(kept_helps()))

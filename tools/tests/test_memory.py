@@ -30,7 +30,7 @@ def fault(written: bytes = b"") -> Answer:
     return Answer(1, written, FAULT)
 
 
-class Reading(unittest.TestCase):
+class Trying(unittest.TestCase):
     def test_answers_are_read(self) -> None:
         output = b"== 000\na: b\n== 001\n== 002\n"
         errors = (
@@ -42,6 +42,17 @@ class Reading(unittest.TestCase):
             answers_of(output, errors),
             {"000": Answer(0, b"a: b\n", ""), "001": Answer(1, b"", "Error: no\n"), "002": Answer(-1, b"", "")},
         )
+
+    def test_the_main_of_the_program_grows_first(self) -> None:
+        source = (CRATES / "vga" / "src" / "main.rt").read_text()
+        changed = growing(source)
+        self.assertIn("    let _ = grow(&rt);\n    ExitCode::from(status_of_job(&rt))\n", changed)
+        self.assertTrue(changed.startswith(source[:source.index("    ExitCode::from(")]))
+
+    def test_another_main_is_not_changed(self) -> None:
+        for source in ("fn main() {}\n", 2 * "    ExitCode::from(status_of_job(&rt))\n"):
+            with self.subTest(source), self.assertRaisesRegex(Wrong, "^main.rt has [02] lines "):
+                growing(source)
 
 
 class Calls(unittest.TestCase):
@@ -85,19 +96,6 @@ class Jobs(unittest.TestCase):
         cases = cases_of(1, job)
         self.assertEqual([case for case in cases], sorted(cases))
         self.assertEqual({len(case.given) for case in cases.values()}, set(range(job.first, GROWTH)))
-
-
-class Growing(unittest.TestCase):
-    def test_the_main_of_the_program_grows_first(self) -> None:
-        source = (CRATES / "vga" / "src" / "main.rt").read_text()
-        changed = growing(source)
-        self.assertIn("    let _ = grow(&rt);\n    ExitCode::from(status_of_job(&rt))\n", changed)
-        self.assertTrue(changed.startswith(source[:source.index("    ExitCode::from(")]))
-
-    def test_another_main_is_not_changed(self) -> None:
-        for source in ("fn main() {}\n", 2 * "    ExitCode::from(status_of_job(&rt))\n"):
-            with self.subTest(source), self.assertRaisesRegex(Wrong, "^main.rt has [02] lines "):
-                growing(source)
 
 
 class Program(unittest.TestCase):

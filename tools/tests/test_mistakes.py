@@ -43,10 +43,6 @@ class Mistakes(unittest.TestCase):
             with self.subTest(line):
                 self.assertIsNone(mistake_in(line))
 
-
-class Judged(Folder):
-    """The judgement is the program's."""
-
     def test_the_program_refuses_each(self) -> None:
         texts = {f"line-{at}": line.encode() + b"\n" for at, (line, _, _) in enumerate(LINES)}
         texts.update({f"text-{at}": text for at, (text, _) in enumerate(TEXTS)})

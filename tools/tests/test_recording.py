@@ -248,7 +248,9 @@ class Recorded(Folder):
         self.assertIn("qemu-system-x86_64: it doesn't end within 2 seconds", self.refused("ANSWERING", 2, "-stays"))
 
 
-class Quiet(unittest.TestCase):
+class Parts(unittest.TestCase):
+    """What a recording does, as far as it needs no machine."""
+
     def test_a_key_is_given_time_before_it_is_quiet(self) -> None:
         keeper = mock.Mock(size=5, last=0.0, trouble=None)
         session = Session(Machine((), quiet=0.2), mock.Mock(), keeper, Path("base"), mock.Mock())
@@ -261,8 +263,6 @@ class Quiet(unittest.TestCase):
         keeper.size = 0
         self.assertFalse(session.is_due(Deed()))
 
-
-class Screens(unittest.TestCase):
     def test_a_frame_at_each_screen(self) -> None:
         mark = SCREEN + b"\n"
         text = mark + qemu("write 3c2 67 1") + mark + mark + qemu("write b8000 41 1", "vga-lowmem") + mark
@@ -274,8 +274,6 @@ class Screens(unittest.TestCase):
         told = refused(partial(listed, BEGIN + SCREEN + b"\n", frames="screens"))
         self.assertRegex(told, "^trace:2: it is no cycle")
 
-
-class Nearest(unittest.TestCase):
     def test_the_dump_of_which_fewer_dots_differ(self) -> None:
         other, far, near = Held(None, ""), Held(5, ""), Held(3, "")
         hold(self, _is_nearer, (

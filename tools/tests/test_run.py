@@ -389,8 +389,6 @@ class Several(Fake):
             self.assertRegex(refused(program.build_program, Progress()), "^rt: it ended with status 3")
         self.assertEqual((crate / "asked").read_text(), "run -- --help\n")
 
-
-class Watching(Fake):
     def test_it_runs_again_when_the_script_changes(self) -> None:
         words = ["run", self.path, "--vga", self.vga, "--quiet", "--watch"]
         process = begin("vga-report", *words, text=True)

@@ -217,6 +217,14 @@ class Program(unittest.TestCase):
                 row = bytes(word >> 8 * plane & 0xFF for word in state.memory.words[offset:offset + 256])
                 yield f"plane {plane} {offset:04X}: {row.hex(' ').upper()}"
 
+    def test_the_end_is_that_of_the_whole(self) -> None:
+        wanted = {f"{seed} {first}": (seed, first) for seed in SEEDS for first in (1, 2, 150, 399)}
+        runs = run_whole({name: listed(noise(seed, 400), first=first, has_time=True) for name, (seed, first) in wanted.items()})
+        shown = len(REGISTERS) + len(MEMORY)
+        for name, (seed, _) in wanted.items():
+            with self.subTest(name):
+                self.assertEqual(runs[name][-shown - 1:], runs[f"{seed} 1"][-shown - 1:])
+
 
 def seen(state: State) -> dict[str, object]:
     """All that later steps can see of a state."""
@@ -278,13 +286,3 @@ class Cuts(unittest.TestCase):
         filled = [step for at in range(0, 1024, 2) for step in (Step(PUTW, 0xA0000 + at, 0x5555),)]
         steps = [step for step in rebuilt(state_of([*PLANAR, *filled])) if step.opcode == PUTW]
         self.assertEqual(steps, filled)
-
-
-class CutsByTheProgram(unittest.TestCase):
-    def test_the_end_is_that_of_the_whole(self) -> None:
-        wanted = {f"{seed} {first}": (seed, first) for seed in SEEDS for first in (1, 2, 150, 399)}
-        runs = run_whole({name: listed(noise(seed, 400), first=first, has_time=True) for name, (seed, first) in wanted.items()})
-        shown = len(REGISTERS) + len(MEMORY)
-        for name, (seed, _) in wanted.items():
-            with self.subTest(name):
-                self.assertEqual(runs[name][-shown - 1:], runs[f"{seed} 1"][-shown - 1:])

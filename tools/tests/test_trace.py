@@ -12,6 +12,7 @@ import signal
 import subprocess
 import unittest
 from functools import partial
+from itertools import product
 from pathlib import Path
 from random import Random
 from typing import Iterable
@@ -308,13 +309,6 @@ class Converting(Folder):
             self.assertEqual(run("convert", "-", "-", "--text", given=data)[:2], (0, b"out 3C2 67\nframe\n"))
             self.assertEqual(run("kinds", self.trace(data)), (0, b"           1 write port 3C2 size 1\n", ""))
 
-    def test_damaged_gzip(self) -> None:
-        whole = gzip.compress(os.urandom(1000).hex().encode() + b"\n" + BEGIN)
-        path, script = self.trace(whole[:-20]), self.folder / "script"
-        status, _, said = run("convert", path, script)
-        self.assertEqual((status, script.exists()), (2, False))
-        self.assertIn("its compressed bytes are damaged", said)
-
     def test_the_first_cycles_alone(self) -> None:
         self.assertEqual(run("convert", "-", "-", "--text", "--to", "1", given=BEGIN + BEGIN)[1], b"out 3C2 67\nframe\n")
 
@@ -350,6 +344,45 @@ class Converting(Folder):
         self.assertEqual(ran.status, 0)
         self.assertIn(b"\n7 ok\n8 1F41\n9 picture 37\n", ran.report)
 
+    def test_version_2_where_there_are_blocks(self) -> None:
+        given = BEGIN + 6 * b"- r p 3C9 0 1\n"
+        text = b"version 2\nout 3C2 67\nrepeat 6\nin 3C9 ; = 00\nend\nframe\n"
+        said = f"7 cycles, 8 steps, {len(text)} bytes, 1 repeat: 6 in, 1 out, 1 frame\n"
+        self.assertEqual(run("convert", "-", "-", "--text", given=given), (0, text, said))
+        data = b"VGAS\x02" + bytes.fromhex("01C20367 0D0600 03C903 0E 0B")
+        self.assertEqual(run("convert", "-", "-", given=given)[1], data)
+
+    def test_version_1_where_there_are_none_or_they_are_not_wanted(self) -> None:
+        self.assertEqual(run("convert", "-", "-", given=BEGIN)[1][:5], b"VGAS\x01")
+        given = BEGIN + 6 * b"- r p 3C9 0 1\n"
+        data = b"VGAS\x01" + bytes.fromhex("01C20367" + 6 * "03C903" + "0B")
+        self.assertEqual(run("convert", "-", "-", "--no-repeat", given=given)[1], data)
+
+    def test_a_script_that_means_too_many_steps_is_told(self) -> None:
+        path, script = self.write(
+            "trace", BEGIN + 300 * b"- r p 3DA 0 1\n" + b"- w p 3C4 0 1\n"
+        ), self.folder / "script"
+        with mock.patch.multiple(converting, MOST_STEPS=200, FOR_THE_END=10):
+            status, _, said = call(main, "convert", path, script)
+        self.assertEqual(status, 2)
+        told = "200 steps; `--to 1` ends before that, and `--from 2` goes on after it"
+        self.assertIn(f"or means more than {told}", said)
+        self.assertFalse(script.exists())
+
+    def test_cycles_are_counted_as_they_are(self) -> None:
+        lines = qemu("write 3c4 2 1") + 2 * qemu("read 3c4 2 2") + qemu("write 1ce 4 2", "vbe")
+        for address in ("a0000", "affff", "b0000", "b8000", "c0000"):
+            lines += qemu(f"write {address} 1 1", "vga-lowmem")
+        self.assertEqual(count(cycles(lines)), {
+            "write port 3C4 size 1": 1, "read port 3C4 size 2": 2, "write vbe 1CE size 2": 1, "write memory A0000 size 1": 2,
+            "write memory B0000 size 1": 1, "write memory B8000 size 1": 1, "write memory elsewhere size 1": 1,
+        })
+
+    def test_the_cycles_between_two(self) -> None:
+        data = BEGIN + b"- w p 3C4 1 1\n- w p 3C5 1 1\n- w p 3CE 1 1\n"
+        counted = b"           1 write port 3C4 size 1\n           1 write port 3C5 size 1\n"
+        self.assertEqual(run("kinds", "-", "--from", "2", "--to", "3", given=data)[1], counted)
+
 
 class Endings(Folder):
     """Work that is ended from outside, traces without an end, and disks without room."""
@@ -382,13 +415,11 @@ class Endings(Folder):
         self.assertIn(b"standard input:2: the line is longer than any of a trace", command.stderr.read())
 
     def test_a_compressed_trace_that_is_cut_off(self) -> None:
-        path = self.folder / "trace"
-        for cut in (1, 5, 12, 20):
-            path.write_bytes(gzip.compress(BEGIN)[:-cut])
-            status, out, said = run("kinds", path)
-            self.assertEqual((status, out), (2, b""))
-            self.assertTrue(said.startswith(f"vga-trace: {path}"), said)
-            self.assertEqual(said.count("\n"), 1)
+        for data, cut in product((BEGIN, os.urandom(1000).hex().encode() + b"\n" + BEGIN), (1, 5, 12, 20)):
+            path = self.write("trace", gzip.compress(data)[:-cut])
+            status, out, said = run("convert", path, self.folder / "script")
+            self.assertEqual((status, out, self.names()), (2, b"", ["trace"]))
+            self.assertRegex(said, rf"^vga-trace: {path}:\d+: its compressed bytes are damaged .*\n$")
 
     def test_signals_lose_nothing(self) -> None:
         script = self.folder / "script"
@@ -415,22 +446,6 @@ class Endings(Folder):
         _, said = command.communicate(timeout=60)
         self.assertEqual((command.returncode, said.decode()), (2, f"vga-trace: {script}: File too large\n"))
         self.assertEqual((script.read_bytes(), len(list(self.folder.iterdir()))), (b"old", 2))
-
-
-class Kinds(unittest.TestCase):
-    def test_cycles_are_counted_as_they_are(self) -> None:
-        lines = qemu("write 3c4 2 1") + 2 * qemu("read 3c4 2 2") + qemu("write 1ce 4 2", "vbe")
-        for address in ("a0000", "affff", "b0000", "b8000", "c0000"):
-            lines += qemu(f"write {address} 1 1", "vga-lowmem")
-        self.assertEqual(count(cycles(lines)), {
-            "write port 3C4 size 1": 1, "read port 3C4 size 2": 2, "write vbe 1CE size 2": 1, "write memory A0000 size 1": 2,
-            "write memory B0000 size 1": 1, "write memory B8000 size 1": 1, "write memory elsewhere size 1": 1,
-        })
-
-    def test_the_cycles_between_two(self) -> None:
-        data = BEGIN + b"- w p 3C4 1 1\n- w p 3C5 1 1\n- w p 3CE 1 1\n"
-        counted = b"           1 write port 3C4 size 1\n           1 write port 3C5 size 1\n"
-        self.assertEqual(run("kinds", "-", "--from", "2", "--to", "3", given=data)[1], counted)
 
 
 class Checking(Folder):
@@ -613,30 +628,3 @@ class Folding(unittest.TestCase):
         steps = [POLL._replace(cycle=number) for number in range(1, 11)]
         self.assertEqual([row.cycle for row in folded(coded([WRITE, *steps, WRITE._replace(cycle=11)]))], [0, 10, 11])
         self.assertEqual(Row(b"", b"", 1, 1).is_block, False)
-
-
-class Scripts(Folder):
-    def test_version_2_where_there_are_blocks(self) -> None:
-        given = BEGIN + 6 * b"- r p 3C9 0 1\n"
-        text = b"version 2\nout 3C2 67\nrepeat 6\nin 3C9 ; = 00\nend\nframe\n"
-        said = f"7 cycles, 8 steps, {len(text)} bytes, 1 repeat: 6 in, 1 out, 1 frame\n"
-        self.assertEqual(run("convert", "-", "-", "--text", given=given), (0, text, said))
-        data = b"VGAS\x02" + bytes.fromhex("01C20367 0D0600 03C903 0E 0B")
-        self.assertEqual(run("convert", "-", "-", given=given)[1], data)
-
-    def test_version_1_where_there_are_none_or_they_are_not_wanted(self) -> None:
-        self.assertEqual(run("convert", "-", "-", given=BEGIN)[1][:5], b"VGAS\x01")
-        given = BEGIN + 6 * b"- r p 3C9 0 1\n"
-        data = b"VGAS\x01" + bytes.fromhex("01C20367" + 6 * "03C903" + "0B")
-        self.assertEqual(run("convert", "-", "-", "--no-repeat", given=given)[1], data)
-
-    def test_a_script_that_means_too_many_steps_is_told(self) -> None:
-        path, script = self.write(
-            "trace", BEGIN + 300 * b"- r p 3DA 0 1\n" + b"- w p 3C4 0 1\n"
-        ), self.folder / "script"
-        with mock.patch.multiple(converting, MOST_STEPS=200, FOR_THE_END=10):
-            status, _, said = call(main, "convert", path, script)
-        self.assertEqual(status, 2)
-        told = "200 steps; `--to 1` ends before that, and `--from 2` goes on after it"
-        self.assertIn(f"or means more than {told}", said)
-        self.assertFalse(script.exists())

@@ -85,6 +85,17 @@ class Texts(unittest.TestCase):
         with mock.patch.multiple(scripts, **fakes):
             self.assertEqual(scripts.check_browser(), "browser.mjs; tutorial.mjs")
 
+    def test_the_program_writes_the_script(self) -> None:
+        environment = {**os.environ, "PYTHONPATH": str(TOP / "bindings" / "python" / "src")}
+        status, output, said = ended(sys.executable, "-B", CIRCLE, env=environment)
+        self.assertEqual((status, said), (0, ""))
+        self.assertTrue(output == steps_of((SCRIPTS / "circle.vga").read_text("ascii")), "another script")
+
+    def test_what_the_page_counts(self) -> None:
+        steps = steps_of((SCRIPTS / "circle.vga").read_text("ascii")).splitlines()
+        puts = sum(step.startswith("put ") for step in steps)
+        self.assertIn(f"There are {len(steps):,}, of which {puts:,} are `put`.", TEXT)
+
 
 class Words(unittest.TestCase):
     """What stands beside a part in Python writes a step of the part's script."""
@@ -103,19 +114,6 @@ class Words(unittest.TestCase):
         written = [step for line in self.lines() for step in printed(line)]
         self.assertEqual(len(written), 4)
         self.assertEqual([line for line in written if line not in steps], [])
-
-
-class Circle(unittest.TestCase):
-    def test_the_program_writes_the_script(self) -> None:
-        environment = {**os.environ, "PYTHONPATH": str(TOP / "bindings" / "python" / "src")}
-        status, output, said = ended(sys.executable, "-B", CIRCLE, env=environment)
-        self.assertEqual((status, said), (0, ""))
-        self.assertTrue(output == steps_of((SCRIPTS / "circle.vga").read_text("ascii")), "another script")
-
-    def test_what_the_page_counts(self) -> None:
-        steps = steps_of((SCRIPTS / "circle.vga").read_text("ascii")).splitlines()
-        puts = sum(step.startswith("put ") for step in steps)
-        self.assertIn(f"There are {len(steps):,}, of which {puts:,} are `put`.", TEXT)
 
 
 class Pictures(Folder):
