@@ -137,7 +137,7 @@ def _all_known(words: argparse.Namespace, progress: Progress) -> bool:
             continue
         trace = base.with_name(name + ".trace.gz")
         if not trace.exists():
-            record(software.machine(words.folder, words.unpacked), trace, base, lambda text: _say(f"{name}: {text}"), progress)
+            record(software.make(words.folder, words.unpacked), trace, base, lambda text: _say(f"{name}: {text}"), progress)
         replayed = replay(base)
         is_known &= replayed.is_as_known(software)
         print(replayed.row(name), flush=True)

@@ -233,28 +233,19 @@ class Screen:
 
     def pixel_rows(self) -> list[list[int]]:
         """The rows of pixels, as entries of the DAC."""
-        shape, width = self.shape, 8 * self.shape.columns
-        rows = []
-        for y in range(shape.rows * shape.lines):
-            if self.mode == 0x13:
-                offsets = range(320 * y, 320 * y + 320)
-                rows.append([self.planes[at & 3][at & ~3] for at in offsets])
-                continue
-            row = []
-            for at in range(width * y // 8, width * (y + 1) // 8):
-                row += eight_pixels(*(plane[at] for plane in self.planes))
-            rows.append([shape.palette[pixel] for pixel in row])
-        return rows
+        columns, palette, lines = self.shape.columns, self.shape.palette, range(self.shape.rows * self.shape.lines)
+        if self.mode == 0x13:
+            return [[self.planes[at & 3][at & ~3] for at in range(320 * y, 320 * y + 320)] for y in lines]
+        rows = (zip(*(plane[columns * y:columns * (y + 1)] for plane in self.planes)) for y in lines)
+        return [[palette[pixel] for planes in row for pixel in eight_pixels(*planes)] for row in rows]
 
     def text_rows(self) -> list[list[int]]:
         """The rows of dots of the first page, as entries of the DAC, in frame 0."""
-        rows, height = [], self.lines_of_text
-        for y in range(400 // height * height):
-            row: list[int] = []
-            for column in range(80):
-                row += self.cell_line(y // height * 80 + column, y % height)
-            rows.append(row)
-        return rows
+        height = self.lines_of_text
+        return [
+            [dot for column in range(80) for dot in self.cell_line(y // height * 80 + column, y % height)]
+            for y in range(400 // height * height)
+        ]
 
     def cell_line(self, cell: int, line: int) -> list[int]:
         """The nine dots of a line of a cell."""

@@ -13,8 +13,6 @@ from typing import Callable, Mapping, Optional
 from vga_report.processes import captured
 from vga_report.trouble import Trouble
 
-from .image import LEAVE_EMULATOR, STAND_STILL
-
 QEMU, BOCHS, DOSBOX = "qemu", "bochs", "dosbox"
 # The names of an image and of a serial port's record in the folder of a run.
 IMAGE, RECORD = "script.img", "record"
@@ -111,11 +109,6 @@ def environment(folder: Path, display: Optional[str]) -> Mapping[str, str]:
     given = {name: value for name, value in os.environ.items() if name not in ("DISPLAY", "WAYLAND_DISPLAY", "XAUTHORITY")}
     screen = {"SDL_VIDEODRIVER": "dummy"} if display is None else {"SDL_VIDEODRIVER": "x11", "DISPLAY": display}
     return {**given, **screen, "SDL_AUDIODRIVER": "dummy", "HOME": str(folder), "TERM": "dumb"}
-
-
-def ending(is_picture_wanted: bool) -> int:
-    """How a run on an emulator ends."""
-    return STAND_STILL if is_picture_wanted else LEAVE_EMULATOR
 
 
 def _file_of(package: str, path: str) -> str:

@@ -8,7 +8,7 @@ import hashlib
 import shutil
 import tempfile
 from pathlib import Path, PurePosixPath
-from typing import Iterator, NamedTuple, Optional
+from typing import Iterable, Iterator, NamedTuple, Optional
 
 from vga_report import TOP
 from vga_report.crates import below
@@ -144,10 +144,6 @@ def make_library(archive: Path, memory: Path, place: Place, prefix: str, target:
     return list(laid)
 
 
-def _digest(data: bytes) -> str:
-    return hashlib.sha256(data).hexdigest()
-
-
 def _sources() -> Iterator[Path]:
     """The files that the library's crate is made of, and those of the crates below it."""
     yield TOP / "crates.txt"
@@ -158,11 +154,11 @@ def _sources() -> Iterator[Path]:
                 yield from sorted(path for path in (entry.rglob("*") if entry.is_dir() else [entry]) if path.is_file())
 
 
-def made_of(backend: str, target: Target) -> str:
-    """A line for the compiler and for each source, with its digest."""
-    lines = [f"{_digest(path.read_bytes())} {path.relative_to(TOP)}\n" for path in _sources()]
-    if target != X86_64:
-        lines.append(f"{_digest(HEAP.read_bytes())} {HEAP.name}\n")
+def made_of(backend: str, target: Target, parts: Iterable[Path]) -> str:
+    """A line for the compiler, and for each source and part, with its digest."""
+    named = {path: str(path.relative_to(TOP)) for path in _sources()}
+    named.update({path: path.name for path in (*(() if target == X86_64 else (HEAP,)), *parts)})
+    lines = (f"{hashlib.sha256(path.read_bytes()).hexdigest()} {name}\n" for path, name in named.items())
     return f"backend {backend}\n" + "".join(lines)
 
 
@@ -179,7 +175,7 @@ def keep(backend: str, target: Target, crates: Path, memory: Path) -> tuple[Path
     told.unlink(missing_ok=True)
     for source, place in zip((crates, memory), parts):
         shutil.copyfile(source, place)
-    told.write_text(made_of(backend, target) + "".join(f"{_digest(path.read_bytes())} {path.name}\n" for path in parts), "utf-8")
+    told.write_text(made_of(backend, target, parts), "utf-8")
     return parts
 
 
@@ -188,7 +184,6 @@ def kept(backend: str, target: Target) -> Optional[tuple[Path, Path]]:
     parts = _parts(target)
     try:
         told = parts[0].with_name(MADE_OF).read_text("utf-8")
-        own = "".join(f"{_digest(path.read_bytes())} {path.name}\n" for path in parts)
+        return parts if told == made_of(backend, target, parts) else None
     except FileNotFoundError:
         return None
-    return parts if told == made_of(backend, target) + own else None

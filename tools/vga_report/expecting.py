@@ -40,11 +40,7 @@ def is_as_expected(step: Answer, expected: str, name: str) -> bool:
         return wanted == refusal[1].lower()
     if step.picture is not None:
         return wanted == f"picture {step.picture.size}"
-    return _are_registers(answer, wanted)
-
-
-def _are_registers(answer: str, wanted: str) -> bool:
-    """Whether registers of a call are as it is wanted; those that are not named may be any."""
+    # Registers of a call that are not named may be any.
     parts = wanted.split()
     return bool(parts) and all("=" in part for part in parts) and set(parts) <= set(answer.split())
 

@@ -187,7 +187,7 @@ def _kinds(words: argparse.Namespace, _: Progress) -> int:
     _check_range(words)
     with _opened(words) as trace:
         listing = Listing(trace, Wanted(most=words.to))
-        found = count(islice(listing.cycles(), words.from_ - 1, None))
+        found = count(islice(listing.watch.cycles(), words.from_ - 1, None))
     _warn(listing.warnings(), name_of(words.trace))
     print("\n".join(f"{number:12,} {kind}" for kind, number in found.most_common()))
     return AGREED

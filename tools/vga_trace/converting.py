@@ -15,7 +15,7 @@ from .passing import Clocked, Flips, Pauses, with_frames_every
 from .rebuilding import rebuilt
 from .state import State
 from .step import FRAME, NAMES, Step, steps_of, without_polls
-from .trace import Cycle, Trace
+from .trace import Trace
 from .watch import Watch
 
 # When a script has a frame: at its end alone, before each page flip, where a screen was taken, once in each frame of the dot
@@ -51,34 +51,20 @@ class Form:
 
 
 class Listing:
-    """The steps of a trace, in the order of the script."""
+    """The steps of a trace, in the order of the script; `watch` has the cycles, as many as are wanted."""
 
     def __init__(self, trace: Trace, wanted: Wanted) -> None:
         self._trace = trace
         self._wanted = wanted
-        self._watch = Watch(trace, wanted.most)
+        self.watch = Watch(trace, wanted.most)
         self._pauses = Pauses()
         self._clocked = Clocked(wanted.longest)
         self.rebuilding = 0
 
-    @property
-    def count(self) -> int:
-        """How many cycles were taken."""
-        return self._watch.count
-
-    @property
-    def lacking(self) -> str:
-        """Why a picture may be another one here."""
-        return self._watch.lacking
-
-    def cycles(self) -> Iterator[Cycle]:
-        """The cycles, as many as are wanted."""
-        return self._watch.cycles()
-
     def steps(self) -> Iterator[Step]:
         """The steps, and the frame at the end. Where time passes there are two: the first began amid the cycles."""
         wanted = self._wanted
-        steps = steps_of(self.cycles(), self._trace.screens)
+        steps = steps_of(self.watch.cycles(), self._trace.screens)
         if not wanted.keeps_polls:
             steps = without_polls(steps)
         if wanted.frames == FLIP:
@@ -96,15 +82,15 @@ class Listing:
 
     def warnings(self) -> list[str]:
         """What the trace lacks, a line each; the steps must have passed."""
-        told = self._watch.warnings()
+        told = self.watch.warnings()
         if self._pauses.backwards:
             told.append(f"the time runs back {self._pauses.backwards:,} times, which is no pause")
         if self._clocked.shortened:
             silences = counted(self._clocked.shortened, "silence")
             told.append(f"{silences} cut to {self._wanted.longest:g} s, and {self._clocked.left_out:,.1f} s left out so")
         is_time_used = self._wanted.has_time or self._wanted.frames == CLOCK or isinstance(self._wanted.frames, float)
-        if is_time_used and self._watch.untimed:
-            told.append(f"{self._watch.untimed:,} cycles have no time, and come without a pause")
+        if is_time_used and self.watch.untimed:
+            told.append(f"{self.watch.untimed:,} cycles have no time, and come without a pause")
         return told
 
     def _from_the_middle(self, steps: Iterator[Step]) -> Iterator[Step]:
@@ -115,7 +101,7 @@ class Listing:
                 break
             state.take(step)
         else:
-            raise Trouble(f"it has {self.count:,} cycles, and none from {self._wanted.first:,} on becomes a step", self._trace.name)
+            raise Trouble(f"it has {self.watch.count:,} cycles, and none from {self._wanted.first:,} on becomes a step", self._trace.name)
         for rebuilding in rebuilt(state):
             self.rebuilding += 1
             yield rebuilding
@@ -178,7 +164,7 @@ class Written:
         """The figures."""
         length = self.text_bytes + len(self.header()) if self.form.is_text else self.script_bytes
         kinds = ", ".join(f"{count:,} {kind}" for kind, count in self.kinds.most_common())
-        parts = [f"{listing.count:,} cycles", f"{self.steps:,} steps", f"{length:,} bytes"]
+        parts = [f"{listing.watch.count:,} cycles", f"{self.steps:,} steps", f"{length:,} bytes"]
         if self.blocks:
             parts.append(f"{self.blocks:,} repeat{'s' * (self.blocks != 1)}")
         if listing.rebuilding:

@@ -155,7 +155,7 @@ class Judge:
         seen = (part, found.image) if found.image is not None else (None, None)
         verdict = Verdict(
             screen + 1, self.screens[screen], self.cycles[self._dumps], path, picture, part, found, dots, Names(),
-            self.listing.lacking,
+            self.listing.watch.lacking,
         )
         if not verdict.is_equal:
             verdict.names = known(Screen(self.state, dots, *seen, cut=picture.height - part.height))
