@@ -357,6 +357,10 @@ class Left(Folder):
 class Runs(Folder):
     """Runs on an emulator that is a program of these tests."""
 
+    def setUp(self) -> None:
+        super().setUp()
+        self.scratch = self.temporary()
+
     def path_with(self, *words: str | Path) -> str:
         """A path of programs in which dosbox is the machine of these tests, with such words."""
         program = self.program(
@@ -366,23 +370,18 @@ class Runs(Folder):
         return f"{Path(program).parent}:{os.environ['PATH']}"
 
     def run_on(self, *words: str, path: str, script: str = SCRIPT.decode()) -> tuple[int, bytes, str]:
-        scratch = self.folder / "scratch"
-        scratch.mkdir(exist_ok=True)
-        with mock.patch.dict(os.environ, PATH=path, TMPDIR=str(scratch)):
-            done = run("run", "--on", "dosbox", self.write("script.vga", script), *words)
-        self.assertEqual(list(scratch.iterdir()), [], "a folder of a run is left")
-        return done
+        with mock.patch.dict(os.environ, PATH=path, TMPDIR=self.scratch):
+            return run("run", "--on", "dosbox", self.write("script.vga", script), *words)
 
     def test_a_report_comes_back(self) -> None:
         self.assertEqual(self.run_on(path=self.path_with()), (0, REPORT, ""))
 
     def test_a_full_disk_beneath_the_run(self) -> None:
-        environment = {**os.environ, "PATH": self.path_with(), "TMPDIR": str(self.folder)}
+        environment = {**os.environ, "PATH": self.path_with(), "TMPDIR": self.scratch}
         words = ("sh", "-c", 'ulimit -f 100 && exec "$@"', "sh", sys.executable, TOOLS / "vga-floppy")
         status, output, said = ended(*words, "run", "--on", "dosbox", "-", input="frame\n", env=environment)
         self.assertEqual((status, output), (2, ""))
         self.assertRegex(said, r"^vga-floppy: .*/script.img: File too large\n$")
-        self.assertEqual(self.names(), ["bin"])
 
     def test_emulators_that_do_not_do_it(self) -> None:
         for what, words, told in (

@@ -90,22 +90,13 @@ class Recorded(Folder):
         self.write("screen", PICTURE)
         self.into = self.folder / "into"
 
-    def temporary(self) -> str:
-        (self.folder / "temporary").mkdir()
-        return str(self.folder / "temporary")
-
-    def fake(self, *answers: str | bytes) -> str:
-        """A program that writes a report of these answers."""
-        self.report("given", *answers)
-        return self.program("vga", f"#!/bin/sh\ncat {self.folder / 'given'}\n")
-
     def record(
         self, *options: str, screens: bool = True, words: tuple[str, ...] = ("-cdrom", "disc"),
         picture: bytes = PICTURE, steps: tuple[int, ...] = (1,),
     ) -> tuple[int, list[str], str]:
         """Exit status, lines and what is said of a recording whose script has so many steps before each of its screens."""
         answers = [answer for count in steps for answer in ["ok"] * count + [picture] * PHASES * bool(screens)]
-        program = self.fake(*answers, picture)
+        program = self.answering(*answers, picture)
         done = run("record", self.into, "--vga", program, "--quiet", "0.2", "--seconds", "20", *options, "--", *words)
         return done[0], done[1].decode().splitlines(), done[2]
 
@@ -125,7 +116,6 @@ class Recorded(Folder):
         kept = gzip.decompress((self.into / "trace.gz").read_bytes())
         self.assertEqual(kept, qemu("write 3c2 67 1") + PHASES * (SCREEN + b"\n"))
         self.assertEqual(self.asked(), ["qmp_capabilities", "screen", "quit"])
-        self.assertEqual(list((self.folder / "temporary").iterdir()), [])
 
     def test_a_screen_that_differs_is_told_with_its_place(self) -> None:
         other = ppm(3, 2, RED * 3 + WHITE + BLACK + BLACK)
@@ -171,8 +161,8 @@ class Recorded(Folder):
         status, lines, _ = self.record(picture=ppm(5, 1, RED * 5))
         self.assertEqual((status, "another size: they have 5x1 and 3x2 dots" in lines[-2]), (1, True))
         self.into = self.folder / "again"
-        frames = ["ragged"] * (PHASES + 1)
-        done = run("record", self.into, "--vga", self.fake("ok", *frames), "--quiet", "0.2", "--", "-cdrom", "disc")
+        program = self.answering("ok", *["ragged"] * (PHASES + 1))
+        done = run("record", self.into, "--vga", program, "--quiet", "0.2", "--", "-cdrom", "disc")
         self.assertEqual(done[0], 1)
         self.assertTrue(done[1].endswith(b"here no frame has the shape of a picture\n"))
 
@@ -233,7 +223,7 @@ class Recorded(Folder):
     def refused(self, name: str, value: float, word: str) -> str:
         """What is said of a machine that is given up, with a limit changed."""
         self.patch(mock.patch.object(recording, name, value))
-        options = ("--vga", self.fake("ok"), "--quiet", "0.2")
+        options = ("--vga", self.answering("ok"), "--quiet", "0.2")
         status, _, said = call(main, "record", self.into, *options, "--", word)
         self.assertEqual((status, self.into.exists()), (2, False))
         self.assert_ended(int((self.folder / "number").read_text()))
@@ -331,29 +321,19 @@ class Knowledge(unittest.TestCase):
         return known(Screen(self.state(*steps), dots, picture, image))
 
     def test_a_split_within_a_row(self) -> None:
-        found = Names(["split within a row"])
-        # The second line of a row is under way, with two lines to it and with four; and three of four lines have been.
-        self.assertEqual(self.split("aab aabbc", "aab abbcc"), found)
-        self.assertEqual(self.split("aab aabb", "aab abbx"), found)
-        for rows in (crtc(9, 3), crtc(9, 0x81)):
-            self.assertEqual(self.split("aaa aaaabb", "aaa abbbbc", *rows), found)
-        self.assertEqual(self.split("aa aaaabb", "aa aabbbb", *crtc(9, 3), *crtc(0x18, 1)), found)
-        # Bits 8 and 9 of line compare put it below the picture.
-        for high in (crtc(7, 0x1F), crtc(9, 0x41)):
-            self.assertEqual(self.split("aab aabbc", "aab abbcc", *high), Names([], ["preset row scan"]))
-
-    def test_what_is_no_split_within_a_row(self) -> None:
-        allowed = Names([], ["preset row scan"])
-        for here, there, steps in (
-            ("aabb aabbc", "aabb abbcc", crtc(0x18, 3)),
-            ("aab aabbc", "aab abbcx", []),
-            ("aab aabbc", "axb abbcc", []),
-            ("aab aabbc", "aab aabbx", []),
-            ("aab aabbc", "aab abbcc", crtc(0x18, 8)),
-            ("aab aabbc", "aab abbcc", crtc(9, 0)),
-        ):
-            with self.subTest(here=here, there=there, steps=steps):
-                self.assertEqual(self.split(here, there, *steps), allowed)
+        found, none = Names(["split within a row"]), Names([], ["preset row scan"])
+        hold(self, lambda here, there, steps: self.split(here, there, *steps), (
+            # The second line of a row is under way, of two lines and of four; and three of four have been.
+            ("aab aabbc", "aab abbcc", [], found), ("aab aabb", "aab abbx", [], found),
+            ("aaa aaaabb", "aaa abbbbc", crtc(9, 3), found), ("aaa aaaabb", "aaa abbbbc", crtc(9, 0x81), found),
+            ("aa aaaabb", "aa aabbbb", crtc(9, 3) + crtc(0x18, 1), found),
+            # Bits 8 and 9 of line compare put it below the picture.
+            ("aab aabbc", "aab abbcc", crtc(7, 0x1F), none), ("aab aabbc", "aab abbcc", crtc(9, 0x41), none),
+            # No split, or none within a row, or something else differs.
+            ("aabb aabbc", "aabb abbcc", crtc(0x18, 3), none), ("aab aabbc", "aab abbcx", [], none),
+            ("aab aabbc", "axb abbcc", [], none), ("aab aabbc", "aab aabbx", [], none),
+            ("aab aabbc", "aab abbcc", crtc(0x18, 8), none), ("aab aabbc", "aab abbcc", crtc(9, 0), none),
+        ))
         self.assertNotIn("split within a row", self.split("aab aabbc", "aab abbcc", *graphics(6, 0x0E)).seen)
 
     def test_a_last_row_that_is_not_whole(self) -> None:
@@ -434,8 +414,7 @@ class RealTime(Folder):
     def test_pictures_and_moving_pictures(self) -> None:
         trace = self.write("trace", BEGIN + b"20000 w m A0000 1 1\n40000 w m A0000 2 1\n5040000 w m A0000 3 1\n")
         small, large = ppm(2, 1, RED + WHITE), ppm(4, 3, BLACK * 12)
-        self.report("given", "ok", small, "ok", small, "ok", large, "ok", large)
-        program = self.program("vga", f"#!/bin/sh\ncat {self.folder / 'given'}\n")
+        program = self.answering("ok", small, "ok", small, "ok", large, "ok", large)
         moving, folder = self.folder / "moving.png", self.folder / "pictures"
         status, out, said = run("pictures", trace, folder, "--apng", moving, "--vga", program)
         told = "1 silence cut to 1 s, and 4.0 s left out so"

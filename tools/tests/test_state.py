@@ -131,7 +131,12 @@ class Registers(unittest.TestCase):
                 steps = [Step(OUTW, port, value << 8 | index), Step(OUT, port, index), Step(IN, port + 1)]
                 self.assertEqual(self.read(*steps), [kept])
 
-    def test_indexes_protection_and_places(self) -> None:
+    def test_what_reads_answer(self) -> None:
+        def out(*values: int) -> list[Step]:
+            return [Step(OUT, 0x3C0, value) for value in values]
+
+        status, data = Step(IN, 0x3BA), Step(IN, 0x3C9)
+        written = [Step(OUT, 0x3C8, 0xFF), *(Step(OUT, 0x3C9, value) for value in (1, 2, 0xC3, 4, 5, 6))]
         protected = [Step(OUTW, 0x3B4, value) for value in (0x8011, 0xFF00, 0xFF07)]
         hold(self, lambda steps: self.read(*steps), (
             # A refused word leaves its index.
@@ -142,27 +147,17 @@ class Registers(unittest.TestCase):
             # The CRT controller is at 3B4 or at 3D4.
             ([Step(IN, 0x3D4), Step(IN, 0x3B4)], [None, 0]),
             ([Step(OUT, 0x3C2, 1), Step(IN, 0x3D4), Step(IN, 0x3BA)], [0, None]),
+            # Attributes.
+            ([*out(1, 0x2A, 0x21), status, Step(INW, 0x3C0)], [0, 0x2A21]),
+            ([*out(0x21, 0x2A), Step(IN, 0x3C1)], [0]), ([*out(0x31, 0x2A), Step(IN, 0x3C1)], [0x2A]),
+            ([*out(0x15, 0x2A), status, Step(IN, 0x3C1), Step(IN, 0x3C0)], [0, None, 0x15]),
+            ([*out(0x15, 0x2A, 0x2B), status, *out(0x11), Step(IN, 0x3C1)], [0, 0]),
+            # The DAC: what waits for blue stays where components are read.
+            ([*written, Step(OUT, 0x3C7, 0xFF), *[data] * 6, Step(IN, 0x3C8)], [1, 2, 3, 4, 5, 6, 1]),
+            ([*written, Step(OUT, 0x3C7, 9), data, data, Step(OUT, 0x3C9, 7), Step(OUT, 0x3C7, 9), *[data] * 3],
+             [0, 0, 4, 5, 7]),
+            ([Step(OUT, 0x3C6, 0x1F), Step(INW, 0x3C5), Step(IN, 0x3C6)], [0x1F00, 0x1F]),
         ))
-
-    def test_attributes(self) -> None:
-        def out(*values: int) -> list[Step]:
-            return [Step(OUT, 0x3C0, value) for value in values]
-
-        status = Step(IN, 0x3BA)
-        self.assertEqual(self.read(*out(1, 0x2A, 0x21), status, Step(INW, 0x3C0)), [0, 0x2A21])
-        self.assertEqual(self.read(*out(0x21, 0x2A), Step(IN, 0x3C1)), [0])
-        self.assertEqual(self.read(*out(0x31, 0x2A), Step(IN, 0x3C1)), [0x2A])
-        self.assertEqual(self.read(*out(0x15, 0x2A), status, Step(IN, 0x3C1), Step(IN, 0x3C0)), [0, None, 0x15])
-        self.assertEqual(self.read(*out(0x15, 0x2A, 0x2B), status, *out(0x11), Step(IN, 0x3C1)), [0, 0])
-
-    def test_dac(self) -> None:
-        data = Step(IN, 0x3C9)
-        written = [Step(OUT, 0x3C8, 0xFF), *(Step(OUT, 0x3C9, value) for value in (1, 2, 0xC3, 4, 5, 6))]
-        self.assertEqual(self.read(*written, Step(OUT, 0x3C7, 0xFF), *[data] * 6, Step(IN, 0x3C8)), [1, 2, 3, 4, 5, 6, 1])
-        # What waits for blue stays where components are read.
-        mixed = [Step(OUT, 0x3C7, 9), data, data, Step(OUT, 0x3C9, 7), Step(OUT, 0x3C7, 9), data, data, data]
-        self.assertEqual(self.read(*written, *mixed), [0, 0, 4, 5, 7])
-        self.assertEqual(self.read(Step(OUT, 0x3C6, 0x1F), Step(INW, 0x3C5), Step(IN, 0x3C6)), [0x1F00, 0x1F])
 
 
 class Beams(unittest.TestCase):

@@ -123,8 +123,5 @@ class Failing(Folder):
         }
         for name, text in fakes.items():
             self.program(f"gate/tools/{name}", text)
-        temporary = self.folder / "tmp"
-        temporary.mkdir()
-        self.assertEqual(ended(gate / ".ci" / "run", env={**os.environ, "TMPDIR": str(temporary)})[0], 1)
+        self.assertEqual(ended(gate / ".ci" / "run", env={**os.environ, "TMPDIR": self.temporary()})[0], 1)
         self.assert_ended(int(number.read_text()))
-        self.assertEqual(list(temporary.iterdir()), [])

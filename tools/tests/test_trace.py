@@ -236,23 +236,18 @@ class Passing(unittest.TestCase):
 
 
 class Frames(unittest.TestCase):
-    def flips(self, *steps: Step) -> list[str]:
-        return [NAMES[step.opcode] for step in Flips().steps(steps)]
-
     def test_a_frame_before_each_change_of_the_start_address(self) -> None:
-        high, low = Step(OUTW, 0x3D4, 0x400C), Step(OUTW, 0x3D4, 0x200D)
-        draw = Step(PUT, 0xA0000, 1)
-        self.assertEqual(self.flips(draw, high, low, draw), ["put", "frame", "outw", "outw", "put"])
-        self.assertEqual(self.flips(draw, low, draw, high), ["put", "frame", "outw", "put", "frame", "outw"])
-
-    def test_bytes_and_the_other_place_of_the_controller(self) -> None:
-        for port in (0x3D4, 0x3B4):
-            steps = [Step(OUT, port, 0x0C), Step(OUT, port + 1, 0x40), Step(OUT, port, 0x0D), Step(OUT, port + 1, 0x20)]
-            self.assertEqual(self.flips(*steps), ["out", "frame", "out", "out", "out"])
-
-    def test_no_frame_where_the_address_stays(self) -> None:
+        high, low, draw = Step(OUTW, 0x3D4, 0x400C), Step(OUTW, 0x3D4, 0x200D), Step(PUT, 0xA0000, 1)
         zero, other = Step(OUTW, 0x3D4, 0x000C), Step(OUTW, 0x3D4, 0x400E)
-        self.assertEqual(self.flips(zero, other, zero), ["outw", "outw", "outw"])
+        hold(self, lambda steps: " ".join(NAMES[step.opcode] for step in Flips().steps(steps)), (
+            ([draw, high, low, draw], "put frame outw outw put"),
+            ([draw, low, draw, high], "put frame outw put frame outw"),
+            # Bytes, and the other place of the controller.
+            *(([Step(OUT, port, 0x0C), Step(OUT, port + 1, 0x40), Step(OUT, port, 0x0D), Step(OUT, port + 1, 0x20)],
+               "out frame out out out") for port in (0x3D4, 0x3B4)),
+            # No frame where the address stays.
+            ([zero, other, zero], "outw outw outw"),
+        ))
 
     def test_frames_by_time(self) -> None:
         steps = [Step(PUT, 0xA0000, 1, time) for time in (0, 400_000, 500_000, 600_000, 5_000_000)]

@@ -160,6 +160,17 @@ class Folder(unittest.TestCase):
         """A report as a file."""
         return self.write(name, report(*answers))
 
+    def answering(self, *answers: str | bytes) -> str:
+        """A program in the place of `vga` that writes a report of these answers."""
+        return self.program("vga", f"#!/bin/sh\ncat {self.report('given', *answers)}\n")
+
+    def temporary(self) -> str:
+        """A folder for temporary files, of which none may be left when the test ends."""
+        folder = self.folder / "temporary"
+        folder.mkdir()
+        self.addCleanup(lambda: self.assertEqual(list(folder.iterdir()), []))
+        return str(folder)
+
     def names(self) -> list[str]:
         """The names of all that is in the folder."""
         return sorted(path.name for path in self.folder.iterdir())
