@@ -93,14 +93,12 @@ def is_for_machine(step: Step) -> bool:
 
 def steps_for(script: format.Script) -> bytes:
     """A script's steps and blocks as the interpreter's."""
-    parts = []
-    for item in script.items:
+    def packed(item: Item) -> bytes:
         if isinstance(item, Block):
-            inner = b"".join(map(_step_for, item.steps))
-            parts.append(_packed(REPEAT, item.count) + inner + _packed(END))
-        else:
-            parts.append(_step_for(item))
-    return b"".join(parts)
+            return _packed(REPEAT, item.count) + b"".join(map(_step_for, item.steps)) + _packed(END)
+        return _step_for(item)
+
+    return b"".join(map(packed, script.items))
 
 
 def _packed(opcode: int, *fields: int) -> bytes:

@@ -53,11 +53,8 @@ def six_bits(image: Image) -> list[list[Colour]]:
     shift = 0 if image.most == MOST else 2
     table = bytes(value >> shift if value >> shift <= MOST else MOST for value in range(256))
     # Rows that are alike are one list.
-    known: dict[bytes, list[Colour]] = {}
-    for row in image.rows:
-        if row not in known:
-            dots = row.translate(table)
-            known[row] = list(zip(dots[::3], dots[1::3], dots[2::3]))
+    parts = {row: row.translate(table) for row in set(image.rows)}
+    known = {row: list(zip(dots[::3], dots[1::3], dots[2::3])) for row, dots in parts.items()}
     return [known[row] for row in image.rows]
 
 
@@ -188,7 +185,5 @@ def _by_frequency(width: int, colours: Sequence[Colour], rows: Sequence[bytes]) 
     """An image with its colours in the order of how many dots they have; colours without one are left out."""
     counts = Counter(b"".join(rows))
     order = sorted(counts, key=lambda number: (-counts[number], colours[number]))
-    table = bytearray(256)
-    for number, old in enumerate(order):
-        table[old] = number
-    return Indexed(width, len(rows), tuple(colours[old] for old in order), tuple(row.translate(bytes(table)) for row in rows))
+    table = bytes.maketrans(bytes(order), bytes(range(len(order))))
+    return Indexed(width, len(rows), tuple(colours[old] for old in order), tuple(row.translate(table) for row in rows))

@@ -44,11 +44,7 @@ def _stretched(image: Image, width: int, height: int) -> list[bytes]:
     """The rows of an image in another size: each dot is the one of the image that its middle falls on."""
     columns = [(2 * x + 1) * image.width // (2 * width) for x in range(width)]
     lines = [(2 * y + 1) * image.height // (2 * height) for y in range(height)]
-    known: dict[int, bytes] = {}
-    for line in lines:
-        if line not in known:
-            row = image.rows[line]
-            known[line] = b"".join([row[3 * x:3 * x + 3] for x in columns])
+    known = {line: b"".join([image.rows[line][3 * x:3 * x + 3] for x in columns]) for line in set(lines)}
     return [known[line] for line in lines]
 
 

@@ -107,10 +107,7 @@ def best_numbers(rows: Rows, count: int) -> list[int]:
     What a word takes hangs on the set of its colours alone. The numbers of two colours are exchanged as long as that
     makes the sum less.
     """
-    sets: Counter[bytes] = Counter()
-    for row in rows:
-        for at in range(0, len(row), WORD):
-            sets[bytes(sorted(set(row[at:at + WORD])))] += 1
+    sets = Counter(bytes(sorted(set(row[at:at + WORD]))) for row in rows for at in range(0, len(row), WORD))
     weighed = sorted(sets.items(), key=lambda entry: (-entry[1], entry[0]))[:MOST_SETS]
     # Numbers behind those of the colours are free, and may be exchanged for one that is taken.
     numbers = list(FIRST_NUMBERS)
@@ -226,10 +223,7 @@ def _least(have: Word, want: Word) -> tuple[Write, ...]:
 
 def _named(have: Bytes, want: Bytes) -> tuple[Bytes, Bytes, list[int]]:
     """Bytes as numbers that only tell which are alike, and the byte of each number."""
-    values: list[int] = []
-    for value in (*have, *want):
-        if value not in values:
-            values.append(value)
+    values = list(dict.fromkeys((*have, *want)))
     return tuple(map(values.index, have)), tuple(map(values.index, want)), values  # type: ignore[return-value]
 
 

@@ -207,9 +207,7 @@ def check(words: argparse.Namespace, progress: Progress) -> int:
     if difference is None:
         write(f"{name} is as expected: {comparison.text()}\n")
         return AGREED
-    places = [name, expected_name]
-    for at, step in enumerate(difference):
-        places[at] += f":{step.line}" if step else ""
+    places = [f"{one}:{step.line}" if step else one for one, step in zip((name, expected_name), difference)]
     write(f"{places[0]}: {difference.text()} ({places[1]})\n")
     return DIFFERED
 
@@ -247,10 +245,8 @@ def _best(picture: Picture, image: Image) -> tuple[Picture, Optional[DifferentDo
         readings.append((0, "six bits a component"))
     if image.most == 255:
         readings.append((2, "eight bits a component, of which six count"))
-    found = []
-    for shift, told in readings:
-        read = image.picture(shift)
-        found.append((read, different_dots(picture, read), told))
+    read = ((image.picture(shift), told) for shift, told in readings)
+    found = [(one, different_dots(picture, one), told) for one, told in read]
     return min(found, key=lambda entry: entry[1].count if entry[1] else 0)
 
 
