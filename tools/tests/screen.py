@@ -1,4 +1,4 @@
-"""A small adapter for tests: runs scripts that draw, from power-on, with none of the tools' own code.
+"""A small adapter for tests: runs scripts that draw, from power-on, with none of the tools' own code but the format's.
 
 It knows mode sets, map mask, bytes and words of memory, and of the video services those that draw: 06, 07, 01, 10 with AL
 03 and 12, 11 with AL 10 to 12, 13 with AL 02. A step of any other kind is an error. It goes by docs/SERVICES.md and docs/MODES.md.
@@ -6,6 +6,8 @@ It knows mode sets, map mask, bytes and words of memory, and of the video servic
 
 from functools import lru_cache
 from typing import Iterator, NamedTuple
+
+from zaklimot.format import parse_text
 
 from .making import ppm
 
@@ -32,27 +34,6 @@ SHAPES = {
     0x12: Shape(80, 30, 16, 1, 1, LARGE),
     0x13: Shape(40, 25, 8, 2, 2, []),
 }
-
-
-def lines_of(text: bytes) -> Iterator[list[str]]:
-    """The steps of a script's text as words, those of blocks as often as they are taken."""
-    block: list[list[str]] = []
-    count = 0
-    for line in text.decode().splitlines():
-        words = line.partition(";")[0].split()
-        if not words or words == ["version", "2"]:
-            continue
-        if words[0] == "repeat":
-            assert not count, "a block in a block"
-            block, count = [], int(words[1])
-        elif words == ["end"]:
-            yield from block * count
-            count = 0
-        elif count:
-            block.append(words)
-        else:
-            yield words
-    assert not count, "a block without an end"
 
 
 @lru_cache(maxsize=None)
@@ -85,22 +66,18 @@ class Screen:
 
     def run(self, text: bytes) -> list[bytes]:
         """Takes the steps of a script; the pictures of its frames."""
-        for words in lines_of(text):
-            self.steps[words[0]] = self.steps.get(words[0], 0) + 1
-            getattr(self, f"do_{words[0]}")(*words[1:])
+        for step in parse_text(text).steps():
+            self.steps[step.name] = self.steps.get(step.name, 0) + 1
+            getattr(self, f"do_{step.name}")(*step.numbers, *([step.block] if step.name == "int" else []))
         return self.frames
 
-    def do_outw(self, port: str, value: str) -> None:
-        assert port == "3C4" and value.endswith("02"), (port, value)
-        self.mask = int(value, 16) >> 8
-        assert self.mask < 16
+    def do_outw(self, port: int, value: int) -> None:
+        assert port == 0x3C4 and value & 0xFF == 2 and value < 0x1000, (port, value)
+        self.mask = value >> 8
 
-    def do_put(self, address: str, value: str) -> None:
-        self.put(int(address, 16), int(value, 16))
-
-    def do_putw(self, address: str, value: str) -> None:
-        self.put(int(address, 16), int(value, 16) & 0xFF)
-        self.put(int(address, 16) + 1, int(value, 16) >> 8)
+    def do_putw(self, address: int, value: int) -> None:
+        self.do_put(address, value & 0xFF)
+        self.do_put(address + 1, value >> 8)
 
     def do_frame(self) -> None:
         shape = self.shape
@@ -109,16 +86,13 @@ class Screen:
         width = len(rows[0]) * shape.across
         self.frames.append(ppm(width, len(rows) * shape.down, b"".join(lines)))
 
-    def do_int(self, *words: str) -> None:
-        values = dict(word.split("=") for word in words if "=" in word)
-        block = bytes.fromhex(words[words.index("block") + 1]) if "block" in words else b""
-        ax, bx, cx, dx = (int(values.get(name, "0"), 16) for name in ("ax", "bx", "cx", "dx"))
+    def do_int(self, ax: int, bx: int, cx: int, dx: int, block: bytes) -> None:
         if ax >> 8 == 0:
             self.set_mode(ax)
         elif ax in (0x1012, 0x1003, 0x1110, 0x1111, 0x1112, 0x1302) or ax >> 8 in (1, 6, 7):
             getattr(self, f"service_{ax >> 8:02X}")(ax & 0xFF, bx, cx, dx, block)
         else:
-            raise AssertionError(words)
+            raise AssertionError(hex(ax))
 
     def set_mode(self, mode: int) -> None:
         self.mode, self.mask, self.has_blink, self.has_cursor = mode, 0x03 if mode == 3 else 0x0F, True, True
@@ -130,7 +104,7 @@ class Screen:
             for plane in self.planes:
                 plane[:] = bytes(65536)
 
-    def put(self, address: int, value: int) -> None:
+    def do_put(self, address: int, value: int) -> None:
         """A byte of the host, in the mode that was set."""
         base, size = (0xB8000, 0x8000) if self.mode == 3 else (0xA0000, 0x10000)
         at = address - base
@@ -219,7 +193,7 @@ class Screen:
         for mask, value in passes:
             self.mask = mask
             for at in offsets:
-                self.put(0xA0000 + at, value)
+                self.do_put(0xA0000 + at, value)
         self.mask = 0x0F
         del self.written[before:]
 
