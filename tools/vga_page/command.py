@@ -46,18 +46,13 @@ def _parser() -> argparse.ArgumentParser:
     return parser
 
 
-def _given_module(path: str) -> bytes:
-    """A module that was made already, held to what the page relies on."""
-    with reading(path) as stream:
-        module = stream.read(MOST_MODULE + 1)
-    check_module(module)
-    return module
-
-
 def _made_module(words: argparse.Namespace, progress: Progress) -> bytes:
-    """The module, as it is given or made."""
+    """The module, as it is given or made, held to what the page relies on."""
     if words.module is not None:
-        return _given_module(words.module)
+        with reading(words.module) as stream:
+            module = stream.read(MOST_MODULE + 1)
+        check_module(module)
+        return module
     try:
         return made_modules(phases(progress), words.gated, words.proof, [words.memory])[0][0]
     finally:

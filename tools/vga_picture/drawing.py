@@ -36,11 +36,6 @@ class Drawn:
         return f"picture {self.picture.size} {self.picture.sum}"
 
 
-def _mode_set(mode: Mode) -> Service:
-    cycles = GLYPH_CYCLES + TEXT_CYCLES if mode.kind is Kind.CELLS else GRAPHICS_CYCLES
-    return Service(SET_CYCLES + cycles, mode.number)
-
-
 def _colours(colours: Sequence[Colour], mode: Mode) -> Iterator[Service]:
     """The entries of the DAC that the palette names for these colours, as many at a time as stand side by side."""
     first = 0
@@ -61,8 +56,9 @@ def _picture(rows: Sequence[bytes], colours: Sequence[Colour], mode: Mode) -> Pi
 def _begin(mode: Mode, colours: Sequence[Colour], count: int) -> list[Part]:
     """The mode and the colours."""
     note = f"A picture of {mode.width} by {mode.height} pixels and {count} colours, in mode {mode.name}, made by vga-picture."
+    cycles = SET_CYCLES + (GLYPH_CYCLES + TEXT_CYCLES if mode.kind is Kind.CELLS else GRAPHICS_CYCLES)
     return [
-        Part(f"{note} Numbers are hexadecimal, but the count of `repeat`.", [_mode_set(mode)]),
+        Part(f"{note} Numbers are hexadecimal, but the count of `repeat`.", [Service(cycles, mode.number)]),
         Part("Its colours, six bits a component", list(_colours(colours, mode))),
     ]
 

@@ -175,29 +175,17 @@ def _refused_value(data: _Data, value: int) -> Optional[str]:
     return None
 
 
-def _wrong_kind(_: dict[str, int], state: State) -> str:
-    wants = "text, and this wants graphics" if state.mode in (3, 7) else "graphics, and this wants text"
-    return f"Mode {state.mode or 0:02X} is {wants}."
-
-
-def _no_function(call: dict[str, int], _: State) -> str:
-    parts = f"or not with AL {call['ax'] & 255:02X} and BL {call['bx'] & 255:02X}"
-    return f"The video BIOS has no function {call['ax'] >> 8:02X}, {parts}."
-
-
-def _no_page(call: dict[str, int], state: State) -> str:
-    page = call["ax"] & 255 if call["ax"] >> 8 == 5 else call["bx"] >> 8
-    return f"Mode {state.mode or 0:02X} has no page {page:02X}."
-
-
 # What the refusals of calls mean, E3 to E11 and E13.
 OF_CALLS: dict[int, Callable[[dict[str, int], State], str]] = {
     3: lambda *_: "No mode is set yet. `int ax=3` sets text of 80 by 25 cells, `int ax=13` 256 colours.",
-    4: _no_function,
+    4: lambda call, _: f"The video BIOS has no function {call['ax'] >> 8:02X}, "
+    f"or not with AL {call['ax'] & 255:02X} and BL {call['bx'] & 255:02X}.",
     5: lambda call, _: f"There is no mode {call['ax'] & 127:02X}. The modes are "
     f"{', '.join(f'{mode:02X}' for mode in [*MODES][:-1])} and {[*MODES][-1]:02X}; bit 7 of AL keeps the memory.",
-    6: _wrong_kind,
-    7: _no_page,
+    6: lambda _, state: f"Mode {state.mode or 0:02X} is "
+    + ("text, and this wants graphics." if state.mode in (3, 7) else "graphics, and this wants text."),
+    7: lambda call, state: f"Mode {state.mode or 0:02X} has no page "
+    f"{call['ax'] & 255 if call['ax'] >> 8 == 5 else call['bx'] >> 8:02X}.",
     8: lambda *_: "A dot or a place of the cursor lies outside the screen.",
     9: lambda call, _: f"A count of {call['cx']:04X} goes past the last cell of the page, or past the last character.",
     10: lambda call, _: "There is no such palette register or entry of the DAC: "
