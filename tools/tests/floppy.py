@@ -15,7 +15,7 @@ import subprocess
 import sys
 import time
 from pathlib import Path
-from typing import Callable, Optional
+from typing import Optional
 
 SECTOR, TABLE, MARK, ANSWERS = 512, 5 * 512, 1023 * 512, 1024 * 512
 
@@ -89,10 +89,6 @@ class Machine:
             if len(self.answers) % 16 == 0:
                 self._send("A", len(self.answers) - 16, self.answers[-16:])
 
-    def _word(self, read: Callable[[int], int], place: int) -> int:
-        low = read(place)
-        return low | read(place + 1) << 8
-
     def step(self) -> bool:
         """Takes a step; whether another one follows."""
         opcode = self._number(1)
@@ -123,7 +119,7 @@ class Machine:
             for at in range(size):
                 write(place + at, value >> 8 * at & 0xFF)
         else:
-            self._keep(read(place) if size == 1 else self._word(read, place), size)
+            self._keep(sum(read(place + at) << 8 * at for at in range(size)), size)
 
     def _call(self) -> None:
         registers = [self._number(2) for _ in range(4)]

@@ -183,7 +183,7 @@ def _run_by(
                 shower.show(row)
         progress.clear()
         if words.bless:
-            return _bless(words, script, blessing)
+            return _bless(words, blessing)
     if told is not None:
         told.end(tally)
     shower.end(script, tally)
@@ -254,7 +254,7 @@ def _show(row: Row, width: int, words: argparse.Namespace, why: str) -> None:
         write("".join(line + "\n" for line in block_lines(picture, columns)))
 
 
-def _bless(words: argparse.Namespace, script: Script, blessing: Optional[Blessing]) -> int:
+def _bless(words: argparse.Namespace, blessing: Optional[Blessing]) -> int:
     """Writes the answers into the script that are not as expected, each behind its step, and lists them."""
     path = words.script
     assert blessing is not None
