@@ -2,7 +2,8 @@
 
 from __future__ import annotations
 
-from typing import Mapping, NamedTuple, Optional, Sequence
+from operator import and_, or_, xor
+from typing import Callable, Mapping, NamedTuple, Optional, Sequence
 
 from .step import ADVANCE, FRAME, GET, GETW, IN, INW, OUT, OUTW, PUT, PUTW, Step
 
@@ -20,7 +21,8 @@ PLANE_BYTES, PLANES = 1 << 16, 4
 EACH = 0x01010101
 SPREAD = tuple(sum(0xFF << 8 * plane for plane in range(PLANES) if planes >> plane & 1) for planes in range(16))
 EVEN, ODD = 0b0101, 0b1010
-AND, OR, XOR = 1, 2, 3
+# What is done with data and the latches, by the function of data rotate.
+FUNCTIONS: tuple[Callable[[int, int], int], ...] = (lambda data, _: data, and_, or_, xor)
 COMPONENTS, ENTRIES = 3, 256
 # The index of the attribute controller: the palette address source; and how many registers are the palette.
 SOURCE, PALETTE = 0x20, 0x10
@@ -228,14 +230,7 @@ class Memory:
             data = SPREAD[value & 0xF]
         else:
             data, mask = SPREAD[gfx[0]], mask & rotated
-        function = gfx[3] >> 3
-        if function == AND:
-            data &= latches
-        elif function == OR:
-            data |= latches
-        elif function == XOR:
-            data ^= latches
-        mask *= EACH
+        data, mask = FUNCTIONS[gfx[3] >> 3](data, latches), mask * EACH
         return data & mask | latches & ~mask
 
     def _compared(self, gfx: Sequence[int]) -> int:
