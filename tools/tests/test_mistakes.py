@@ -57,30 +57,32 @@ class Faults(Folder):
         files = Files(self.write("s", data), self.write("f", fonts))
         self.assertEqual(explained("vga: " + fault, files), f"{self.folder / name}: {fault}: {reason}")
 
-    def test_texts(self) -> None:
-        for text, reason in TEXTS:
+    def test_what_is_told(self) -> None:
+        length, most = "bytes, and 9,728 are right", "16,777,216 bytes are the most"
+        for fault, name, reason, *files in (
+            *(("F7 BadLine(1)", "s:1", reason, text) for text, reason in TEXTS),
+            ("F7 BadLine(1)", "s:1", "this is not a script, but a font file", (TOP / "fonts" / "zaklimot.fnt").read_bytes()),
+            # A mark stands below a line.
+            ("F7 BadLine(2)", "s:2", "numbers are hexadecimal digits alone: write 3C4\n  out 0x3C4 02\n      ^^^^^",
+             b"frame\nout 0x3C4 02\n"),
+            *((f"F7 BadLine({row['number']})", f"s:{row['number']}",
+               f"{row['reason']}\n  {row['text'].splitlines()[row['number'] - 1]}", row["text"].encode())
+              for row in TABLE["blocks"]),
+            *((row["fault"], "s", row["reason"], bytes.fromhex(row["hex"])) for row in TABLE["scripts"]),
+            # What is not known.
+            ("F7 BadLine(1)", "s:1", "refused, and I can't say why\n  frame", b"frame\n"),
+            ("F14 Strange(3)", "s", "refused, and I can't say why", b""),
+            # Fonts of another length.
+            ("F1 FontSize", "f", f"the font file has 3 {length}", b"", b"123"),
+            ("F1 FontSize", "f", f"the font file has 5 {length}; it is a script of bytes", b"", b"VGAS\x01"),
+            ("F1 FontSize", "f", f"the font file has 4,096 {length}; a font of 16 rows alone has so many, and a font "
+             "file has those of 8, 14 and 16 rows", b"", bytes(4096)),
+            # What is too long.
+            ("F6 TooLong", "s", f"the file has more bytes, and {most}", bytes(16_777_217)),
+            ("F6 TooLong", "s", f"the steps of the text have more bytes, and {most}", b"int\n"),
+        ):
             with self.subTest(reason):
-                self.assert_told("F7 BadLine(1)", "s:1", reason, text)
-
-    def test_a_font_file(self) -> None:
-        font = (TOP / "fonts" / "zaklimot.fnt").read_bytes()
-        self.assert_told("F7 BadLine(1)", "s:1", "this is not a script, but a font file", font)
-
-    def test_a_line_with_a_mark_below_it(self) -> None:
-        reason = "numbers are hexadecimal digits alone: write 3C4\n  out 0x3C4 02\n      ^^^^^"
-        self.assert_told("F7 BadLine(2)", "s:2", reason, b"frame\nout 0x3C4 02\n")
-
-    def test_blocks(self) -> None:
-        for row in TABLE["blocks"]:
-            text, number, reason = row["text"], row["number"], row["reason"]
-            with self.subTest(text):
-                line = text.split("\n")[number - 1]
-                self.assert_told(f"F7 BadLine({number})", f"s:{number}", f"{reason}\n  {line}", text.encode())
-
-    def test_what_is_not_known(self) -> None:
-        reason = "refused, and I can't say why\n  frame"
-        self.assert_told("F7 BadLine(1)", "s:1", reason, b"frame\n")
-        self.assert_told("F14 Strange(3)", "s", "refused, and I can't say why", b"")
+                self.assert_told(fault, name, reason, *files)
 
     def test_files_that_cannot_be_read(self) -> None:
         script, fonts = str(self.folder / "s"), str(self.folder / "f")
@@ -93,23 +95,3 @@ class Faults(Folder):
             make()
             with self.subTest(reason):
                 self.assertEqual(explained("vga: F8 ReadFault", Files(script, fonts)), f"{path}: F8 ReadFault: {reason}")
-
-    def test_fonts_of_another_length(self) -> None:
-        right = "bytes, and 9,728 are right"
-        self.assert_told("F1 FontSize", "f", f"the font file has 3 {right}", b"", b"123")
-        one = f"the font file has 4,096 {right}; a font of 16 rows alone has so many, and a font file has those of 8, 14 and 16 rows"
-        self.assert_told("F1 FontSize", "f", one, b"", bytes(4096))
-        self.assert_told("F1 FontSize", "f", f"the font file has 5 {right}; it is a script of bytes", b"", b"VGAS\x01")
-
-    def test_scripts_of_bytes(self) -> None:
-        for row in TABLE["scripts"]:
-            with self.subTest(row["fault"]):
-                self.assert_told(row["fault"], "s", row["reason"], bytes.fromhex(row["hex"]))
-
-    def test_what_is_too_long(self) -> None:
-        for fault, data, reason in (
-            ("F6 TooLong", bytes(16_777_217), "the file has more bytes, and 16,777,216 bytes are the most"),
-            ("F6 TooLong", b"int\n", "the steps of the text have more bytes, and 16,777,216 bytes are the most"),
-        ):
-            with self.subTest(fault):
-                self.assert_told(fault, "s", reason, data)
