@@ -473,11 +473,6 @@ class Cases(Folder):
         )
         self.assertEqual([case.group for case in cases], ["a", "a", "a", "b", "b"])
 
-    def test_a_line_that_is_no_case(self) -> None:
-        for line in ("a b", "a until", "a until x", "bytes a b"):
-            told = f"{self.folder}/list.txt:2: no case: '{line}'"
-            self.assertEqual(refused(self.cases, f"fonts zero.fnt\n{line}\n"), told)
-
     def script(self, line: str, **files: str) -> bytes:
         """The script of the only case of a list."""
         self.write("one.txt", "1 ok\n")
@@ -486,44 +481,37 @@ class Cases(Folder):
         return self.cases(line)[-1].stopped_script()
 
     def test_the_bytes_that_a_case_stands_for(self) -> None:
+        looks = b"show regs\nshow beam\nshow latches\nshow bda\n"
+        text = "; Comment\n\nout 3C2 01 ; more\n\t\r\n  frame\nframe"
         hold(self, lambda line, files: self.script(line, **files), [
             ("one\n", {"one_vga": "; é\nframe\n"}, "; é\nframe\n".encode()),
             ("front f\none\n", {"f": "out 3C2 01\n", "one_vga": "frame\n"}, b"out 3C2 01\nframe\n"),
             # A script with a mistake stays whole.
             ("one until 0\n", {"one_vga": "fram\n", "one_txt": "F7 BadLine(1)\n"}, b"fram\n"),
             ("bytes one\n", {"one_hex": "; x\n56 47\t4a*3\n00*2 ; 11\n"}, b"VGJJJ\0\0"),
+            # A run that is stopped shows the state, and a front counts among its steps.
+            *((f"one until {steps}\n", {"one_vga": text}, front + looks) for steps, front in (
+                (0, b"; Comment\n\n"), (1, b"; Comment\n\nout 3C2 01 ; more\n\t\r\n"), (2, text.encode()[:-5]),
+                (3, text.encode() + b"\n"), (9, text.encode() + b"\n"),
+            )),
+            ("front f\none until 2\n", {"f": "frame\n", "one_vga": "in 3CC\nin 3CD\n"}, b"frame\nin 3CC\n" + looks),
         ])
 
-    def test_a_run_that_is_stopped_shows_the_state(self) -> None:
-        looks = b"show regs\nshow beam\nshow latches\nshow bda\n"
-        text = "; Comment\n\nout 3C2 01 ; more\n\t\r\n  frame\nframe"
-        for steps, front in [
-            (0, b"; Comment\n\n"),
-            (1, b"; Comment\n\nout 3C2 01 ; more\n\t\r\n"),
-            (2, b"; Comment\n\nout 3C2 01 ; more\n\t\r\n  frame\n"),
-            (3, text.encode() + b"\n"),
-            (9, text.encode() + b"\n"),
-        ]:
-            with self.subTest(steps):
-                self.assertEqual(self.script(f"one until {steps}\n", one_vga=text), front + looks)
-
-    def test_a_front_counts_among_the_steps(self) -> None:
-        script = self.script("front f\none until 2\n", f="frame\n", one_vga="in 3CC\nin 3CD\n")
-        self.assertTrue(script.startswith(b"frame\nin 3CC\nshow regs\n"), script)
-
-    def test_digits_that_are_none(self) -> None:
-        for word in ("5", "567", "GG", "56*", "56*0", "56*x"):
-            told = refused(partial(self.script, "bytes one\n", one_hex=f"56\n{word}\n"))
-            self.assertEqual(told, f"{self.folder}/one.hex:2: '{word}' is no byte")
+    def test_lines_and_digits_that_are_none(self) -> None:
+        listed, digits = self.folder / "list.txt", self.folder / "one.hex"
+        hold(self, lambda line, files: refused(lambda: self.script(line, **files)), [
+            *((f"fonts zero.fnt\n{line}\n", {}, f"{listed}:2: no case: '{line}'")
+              for line in ("a b", "a until", "a until x", "bytes a b")),
+            *(("bytes one\n", {"one_hex": f"56\n{word}\n"}, f"{digits}:2: '{word}' is no byte")
+              for word in ("5", "567", "GG", "56*", "56*0", "56*x")),
+        ])
 
     def test_the_first_line_of_the_first_comment(self) -> None:
-        for text, rule in [
-            ("; The rule.\n; More.\nframe\n", "The rule."),
-            ("frame ; Behind.\n", "Behind."),
-            (";\n;  Zwölf. \n", "Zwölf."),
-            ("; \x1b[2Jbad\n", "?[2Jbad"),
-            ("frame\n", "one"),
-        ]:
-            with self.subTest(text):
-                self.write("one.vga", text)
-                self.assertEqual(self.cases("one\n")[0].rule(), rule)
+        def rule(text: str) -> str:
+            self.write("one.vga", text)
+            return self.cases("one\n")[0].rule()
+
+        hold(self, rule, [
+            ("; The rule.\n; More.\nframe\n", "The rule."), ("frame ; Behind.\n", "Behind."), ("frame\n", "one"),
+            (";\n;  Zwölf. \n", "Zwölf."), ("; \x1b[2Jbad\n", "?[2Jbad"),
+        ])
