@@ -76,35 +76,27 @@ def warned(data: bytes, **wanted: object) -> list[str]:
 
 
 class Lines(unittest.TestCase):
-    def test_regions_of_qemu(self) -> None:
-        for name, space in (
-            ("vga", PORT), ("cirrus-io", PORT), ("vbe", VBE),
-            ("vga-lowmem", MEMORY), ("cirrus-low-memory", MEMORY), ("vga-chain4", MEMORY),
-        ):
-            with self.subTest(name):
-                self.assertEqual(cycles(qemu("write 3c4 302 2", name)), [Cycle(True, space, 0x3C4, 0x302, 2, None)])
-                self.assertEqual(cycles(qemu("read 3c4 2 1", name)), [Cycle(False, space, 0x3C4, 2, 1, None)])
-
-    def test_time_stamps_of_qemu(self) -> None:
-        line = qemu("read 3da 5 1", front="4711@1700000000.000042:")
-        self.assertEqual(cycles(line), [Cycle(False, PORT, 0x3DA, 5, 1, 1_700_000_000_000_042)])
-
-    def test_other_lines_and_regions_of_qemu_are_passed_over(self) -> None:
-        lines = b"qemu: some message\n" + qemu("write 70 f 1", "rtc") + b"\n" + qemu("write 3c2 67 1")
-        self.assertEqual(cycles(lines), [Cycle(True, PORT, 0x3C2, 0x67, 1, None)])
+    def test_cycles_of_both_forms(self) -> None:
+        plain = b"; a comment\n\n12 w p 3c4 302 2 ; map mask\r\n- r m A0000 5 1\n \t13\tw  m b8000 0123456789ABCDEF 8"
+        hold(self, cycles, (
+            *((qemu("write 3c4 302 2", name) + qemu("read 3c4 2 1", name),
+               [Cycle(True, space, 0x3C4, 0x302, 2, None), Cycle(False, space, 0x3C4, 2, 1, None)])
+              for name, space in (
+                ("vga", PORT), ("cirrus-io", PORT), ("vbe", VBE),
+                ("vga-lowmem", MEMORY), ("cirrus-low-memory", MEMORY), ("vga-chain4", MEMORY))),
+            # A time stamp of qemu; its other lines and regions are passed over.
+            (qemu("read 3da 5 1", front="4711@1700000000.000042:"), [Cycle(False, PORT, 0x3DA, 5, 1, 1_700_000_000_000_042)]),
+            (b"qemu: some message\n" + qemu("write 70 f 1", "rtc") + b"\n" + qemu("write 3c2 67 1"),
+             [Cycle(True, PORT, 0x3C2, 0x67, 1, None)]),
+            (plain, [Cycle(True, PORT, 0x3C4, 0x302, 2, 12), Cycle(False, MEMORY, 0xA0000, 5, 1, None),
+                     Cycle(True, MEMORY, 0xB8000, 0x123456789ABCDEF, 8, 13)]),
+        ))
 
     def test_damaged_lines_of_qemu_are_counted(self) -> None:
         lines = qemu("write 3c2 67 1") + b"x\n" + 2 * b"memory_region_ops_wri\n" + qemu("write 3c4 2 1")[:-9]
         read = trace(lines)
         self.assertEqual(len(list(read.cycles())), 1)
         self.assertEqual((read.damaged, read.first_damaged), (3, 3))
-
-    def test_the_plain_form(self) -> None:
-        lines = b"; a comment\n\n12 w p 3c4 302 2 ; map mask\r\n- r m A0000 5 1\n \t13\tw  m b8000 0123456789ABCDEF 8"
-        self.assertEqual(cycles(lines), [
-            Cycle(True, PORT, 0x3C4, 0x302, 2, 12), Cycle(False, MEMORY, 0xA0000, 5, 1, None),
-            Cycle(True, MEMORY, 0xB8000, 0x123456789ABCDEF, 8, 13),
-        ])
 
     def test_faults(self) -> None:
         none = "it has no cycle, neither of qemu's log nor of the plain form"
