@@ -1,9 +1,8 @@
 //! The state of an open card as text.
-ghost use Rattle.std.specs.Prelude.{◌≡◌, IfOk};
+ghost use Rattle.std.specs.Prelude.{◌≡◌};
 ghost use Rattle.bios_modes.specs.Valid.{IsValid};
 ghost use Rattle.vga_script.specs.DumpRange.{IsShownInRange};
 ghost use Rattle.vga_script.specs.declared.dump_range.Shown.TheVariants as shown_as;
-ghost use Rattle.vga_run.specs.Step.{dump_text as dump_text_of};
 ghost use Rattle.vga_c.specs.Dumps.{Dumps, is_plane_part as is_plane_part_of, Shows, ShowsPart};
 ghost use Rattle.vga_c.specs.Dumps.{told};
 
@@ -11,21 +10,10 @@ use crate::buffer::copy_prefix;
 use crate::handle::{Handle, on_open_card};
 use crate::status::{BAD_ARGUMENT, BAD_CARD, NO_CARD, OUT_OF_MEMORY, refusal_status};
 use std::alloc::Global;
-use vga_bits::{Fault, Tracked};
+use vga_bits::Tracked;
 use vga_run::machine::Machine;
 use vga_run::write_dump;
 use vga_script::Shown;
-
-/// The text of a dump; it is empty where the dump is refused.
-fn dump_text(alloc: Global, machine: &Machine, shown: Shown) -> Result<Vec<u8>, Fault>
-    requires range { IsShownInRange shown }
-    requires valid { IsValid machine.now.bda }
-    ensures { IfOk result (λ text. text.items ≡ dump_text_of machine.now shown) }
-{
-    let mut out = Tracked::new(Vec::new(alloc));
-    write_dump(&mut out, machine, shown)?;
-    Ok(out.into_inner())
-}
 
 /// Gives the caller the text of a dump, or the number of its refusal.
 fn dump(alloc: Global, machine: &Machine, shown: Shown, text: &mut [u8], len: &mut usize) -> u32
@@ -35,11 +23,10 @@ fn dump(alloc: Global, machine: &Machine, shown: Shown, text: &mut [u8], len: &m
     if !machine.bda.valid() {
         return BAD_CARD;
     }
-    if let Some(why) = machine.dump_refusal(shown) {
-        return refusal_status(why);
-    }
-    match dump_text(alloc, machine, shown) {
-        Ok(bytes) => copy_prefix(text, len, bytes.as_slice()),
+    let mut out = Tracked::new(Vec::new(alloc));
+    match write_dump(&mut out, machine, shown) {
+        Ok(None) => copy_prefix(text, len, out.into_inner().as_slice()),
+        Ok(Some(why)) => refusal_status(why),
         Err(_) => OUT_OF_MEMORY,
     }
 }

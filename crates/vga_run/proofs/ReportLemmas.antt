@@ -1,5 +1,5 @@
 -- Writing a report, line by line.
-use Rattle.std.proofs.Common.{◌≡◌, inl, inr, ℕ, zero, suc, ◌+◌, ◌<◌, ◌≤◌, Bool, false, List, [], ◌∷◌, ◌++◌, length, get_or, take, drop, Option, Result, Ok, Err}
+use Rattle.std.proofs.Common.{◌≡◌, inl, inr, ℕ, zero, suc, ◌+◌, ◌<◌, ◌≤◌, Bool, false, List, [], ◌∷◌, ◌++◌, length, get_or, take, drop, Option, None, Some, Result, Ok, Err}
 use Rattle.std.proofs.Common.{arith, refl, sym, ap, ◌∙◌, subst, append_assoc, append-nil, add-one, drop-cons, take-append-drop, codes}
 use Rattle.std.proofs.Math.Seq.{take-suc}
 use Rattle.std.proofs.lemmas.List.{take_all, length-take-le}
@@ -31,8 +31,8 @@ use Rattle.bios_services.specs.Tables.{table_bytes}
 use Rattle.bios_services.specs.Service.{Answered, MayAnswer}
 use Rattle.bios_services.specs.Service.{service as asked_service}
 use Rattle.vga_run.specs.declared.answer.Answer.TheVariants.{Refused}
-use Rattle.vga_run.specs.Answer.{Plain, Served, Picture, of_service}
-use Rattle.vga_run.specs.Report.{picture_line, line, report_from}
+use Rattle.vga_run.specs.Answer.{Plain, Served, Picture, of_service, of_dump}
+use Rattle.vga_run.specs.Report.{picture_line, line, number_text, report_from}
 
 -- no refusal has a name of more than 15 bytes
 pub name_is_short : (refusal : Refusal) → length (refusal_name refusal) ≤ 15
@@ -49,6 +49,21 @@ name_is_short BadRegister = omega arith
 name_is_short BadBlock = omega arith
 name_is_short TooFar = omega arith
 name_is_short BadHeight = omega arith
+
+-- what stands behind the number in the line of a dump: its lines, or why it is refused
+abbrev pub after_number : Option Refusal → List ℕ → List ℕ
+after_number None text = text
+after_number (Some why) text = refusal_name why ++ codes "\n"
+
+pub dump_line : (n : ℕ) (why : Option Refusal) (text : List ℕ) → line n (of_dump why text) ≡ number_text n ++ after_number why text
+unfolding line number_text
+dump_line n None text = refl
+dump_line n (Some why) text = simp append_assoc
+
+pub prefix_of_dump : (old new : Option (List ℕ)) (n : ℕ) (why : Option Refusal) (text : List ℕ) → AppendsPrefix old new (number_text n)
+    → AppendsPrefix old new (line n (of_dump why text))
+prefix_of_dump old new n why text a =
+    subst (AppendsPrefix old new) (sym (dump_line n why text)) (prefix_of_more old new (number_text n) (after_number why text) a)
 
 -- what a call that writes the line of a step answers is what taking the step does
 pub step_is_written : (before after : Option (List ℕ)) (failed : Bool) (result : Result Unit Fault) (machine : Machine) (n : ℕ) (step : Step)

@@ -1,11 +1,13 @@
 //! The report of a run.
-ghost use Rattle.std.specs.Prelude.{◌≡◌, ◌+◌, ◌*◌, ◌<◌, ◌≤◌, ◌++◌, length, false, OnOk, ◌^◌, codes};
+ghost use Rattle.std.specs.Prelude.{◌≡◌, ◌+◌, ◌*◌, ◌<◌, ◌≤◌, ◌++◌, length, false, OnOk, ◌^◌};
+ghost use Rattle.std.specs.Prelude.{codes, Ok, Some, IfOk, IfSome};
 ghost use Rattle.std.specs.Prelude.{decimal};
+ghost use Rattle.vga_bits.specs.Refusal.{refusal_name};
 ghost use Rattle.vga_bits.specs.Tracked.{inner_of, has_failed, Writes};
 ghost use Rattle.vga_card.specs.Frames.{IsSmall};
 ghost use Rattle.vga_card.specs.Picture.{widest, highest};
-ghost use Rattle.vga_run.specs.Answer.{Dump, Picture, Ragged, of_drawn};
-ghost use Rattle.vga_run.specs.Step.{after_step, after_steps, dump_text};
+ghost use Rattle.vga_run.specs.Answer.{Picture, Ragged, of_drawn, of_dump};
+ghost use Rattle.vga_run.specs.Step.{after_step, after_steps, dump_refusal, dump_text};
 ghost use Rattle.vga_run.specs.Run.{IsTakenOrNot, WritesStep, WritesReport};
 ghost use Rattle.vga_script.specs.Step.{IsInRange, AreInRange};
 ghost use Rattle.vga_script.specs.declared.step.Step.TheVariants.{Int};
@@ -19,11 +21,11 @@ use super::answer::Answer;
 use super::machine::Machine;
 use super::numbered_line::NumberedLine;
 use super::served::write_reply;
-use super::step_line::{Line, numbered};
+use super::step_line::{Line, numbered, put_answer};
 use bios_services::{Regs, ServiceError, int10};
 use std::alloc::Global;
 use std::io::Write;
-use vga_bits::{Fault, Tracked, write_whole};
+use vga_bits::{Fault, Refusal, Tracked, write_whole};
 use vga_card::Drawn;
 use vga_script::{Shown, Step};
 use vga_show::{
@@ -105,41 +107,51 @@ fn write_drawn<W: Write>(out: &mut Tracked<W>, n: usize, drawn: Drawn<'_>) -> Re
     }
 }
 
-/// Writes the dump of what a step shows, and nothing where that is refused.
-#[tactic(auto, unfolding(crate::specs::Step::dump_text))]
+/// Writes the dump of what a step shows. A dump that is refused answers why, and writes nothing.
+#[tactic(auto, unfolding(crate::specs::Step::dump_text, crate::specs::Step::dump_refusal))]
 pub fn write_dump<W: Write>(
     out: &mut Tracked<W>,
     machine: &Machine,
     shown: Shown,
-) -> Result<(), Fault>
+) -> Result<Option<Refusal>, Fault>
     requires writer { has_failed out.old ≡ false }
     requires range { IsShownInRange shown }
     requires valid { IsValid machine.now.bda }
-    ensures { Writes (W.contents (inner_of out.old)) (W.contents (inner_of out.new))
+    ensures text { Writes (W.contents (inner_of out.old)) (W.contents (inner_of out.new))
         (has_failed out.new) result (dump_text machine.now shown) }
+    ensures answer { IfOk result (λ refusal. refusal ≡ dump_refusal machine.now shown) }
+    ensures refused { IfSome (dump_refusal machine.now shown) (λ why. (result ≡ Ok (Some why))
+        × (out.new ≡ out.old)) }
 {
     match shown {
-        Shown::Registers => dump_regs(out, &machine.card),
-        Shown::Dac { index } => dump_dac(out, &machine.card, index),
-        Shown::Beam => dump_beam(out, &machine.card),
-        Shown::Latches => dump_latches(out, &machine.card),
+        Shown::Registers => dump_regs(out, &machine.card)?,
+        Shown::Dac { index } => dump_dac(out, &machine.card, index)?,
+        Shown::Beam => dump_beam(out, &machine.card)?,
+        Shown::Latches => dump_latches(out, &machine.card)?,
         Shown::Plane {
             plane,
             offset,
             count,
-        } => dump_plane(out, &machine.card, plane, offset, count),
-        Shown::BiosData => dump_bda(out, &machine.bda),
-        Shown::Cells => {
-            // Whether there are cells to show is `dump_refusal`'s to answer, before the number of
-            // the line is written. Where there are none, this writes nothing.
-            let _ = dump_cells(out, &machine.card, &machine.bda)?;
-            Ok(())
-        }
+        } => dump_plane(out, &machine.card, plane, offset, count)?,
+        Shown::BiosData => dump_bda(out, &machine.bda)?,
+        Shown::Cells => return Ok(dump_cells(out, &machine.card, &machine.bda)?.err()),
     }
+    Ok(None)
 }
 
-/// Writes the number of step n, and the dump of what it shows.
-#[tactic(auto, unfolding(crate::specs::Report::line), using(vga_bits::proofs::WritingLemmas::writes_after, vga_bits::proofs::WritingLemmas::prefix_of_more))]
+/// Writes the rest of a line whose number stands there: why the step is refused.
+fn write_refusal<W: Write>(out: &mut Tracked<W>, why: Refusal) -> Result<(), Fault>
+    requires { has_failed out.old ≡ false }
+    ensures { Writes (W.contents (inner_of out.old)) (W.contents (inner_of out.new))
+        (has_failed out.new) result (refusal_name why ++ codes "\n") }
+{
+    let mut text = Line::new();
+    put_answer(&mut text, 0, Answer::Refused(why));
+    write_whole(out, text.as_slice())
+}
+
+/// Writes the number of step n, and the dump of what it shows or why that is refused.
+#[tactic(auto, using(crate::proofs::ReportLemmas::dump_line, vga_bits::proofs::WritingLemmas::writes_after, vga_bits::proofs::WritingLemmas::prefix_of_more))]
 #[inline(never)]
 fn write_shown<W: Write>(
     out: &mut Tracked<W>,
@@ -151,10 +163,14 @@ fn write_shown<W: Write>(
     requires range { IsShownInRange shown }
     requires valid { IsValid machine.now.bda }
     ensures { Writes (W.contents (inner_of out.old)) (W.contents (inner_of out.new))
-        (has_failed out.new) result (line_of n (Dump (dump_text machine.now shown))) }
+        (has_failed out.new) result
+        (line_of n (of_dump (dump_refusal machine.now shown) (dump_text machine.now shown))) }
 {
     write_whole(out, numbered(n).as_slice())?;
-    write_dump(out, machine, shown)
+    match write_dump(out, machine, shown)? {
+        None => Ok(()),
+        Some(why) => write_refusal(out, why),
+    }
 }
 
 /// Calls the video BIOS, and writes what it answers, in the line of its number.
@@ -243,12 +259,7 @@ pub(crate) fn write_step<W: Write>(
         }
         Step::Advance { dots } => Answer::of_write(machine.card.advance(*dots)),
         Step::Frame => return write_drawn(out, line.number(), machine.card.frame()),
-        Step::Show { shown } => {
-            match machine.dump_refusal(*shown) {
-                None => return write_shown(out, line.number(), machine, *shown),
-                Some(why) => Answer::Refused(why),
-            }
-        }
+        Step::Show { shown } => return write_shown(out, line.number(), machine, *shown),
     };
     line.write(out, answer)
 }

@@ -2,13 +2,13 @@ use Rattle.std.proofs.Common.{rules}
 use Rattle.vga_run.specs.Step.{after_step, answer_to}
 use Rattle.vga_run.proofs.report.write_step.Goals as goal
 
-pub returns-in-None-clause-text : goal.returns-in-None-clause-text
+pub returns-in-Show-clause-text : goal.returns-in-Show-clause-text
 unfolding answer_to after_step
-returns-in-None-clause-text c = search rules
+returns-in-Show-clause-text c = search rules
 
-pub returns-in-None-clause-after : goal.returns-in-None-clause-after
+pub returns-in-Show-clause-after : goal.returns-in-Show-clause-after
 unfolding answer_to after_step
-returns-in-None-clause-after c = search rules
+returns-in-Show-clause-after c = search rules
 
 pub returns-in-Int-clause-text : goal.returns-in-Int-clause-text
 unfolding answer_to after_step
@@ -50,17 +50,17 @@ pub returns-in-Frame-clause-valid : goal.returns-in-Frame-clause-valid
 unfolding answer_to after_step
 returns-in-Frame-clause-valid c = search rules
 
-pub returns-in-None-clause-number : goal.returns-in-None-clause-number
+pub returns-in-Show-clause-number : goal.returns-in-Show-clause-number
 unfolding answer_to after_step
-returns-in-None-clause-number c = search rules
+returns-in-Show-clause-number c = search rules
 
-pub returns-in-None-clause-either : goal.returns-in-None-clause-either
+pub returns-in-Show-clause-either : goal.returns-in-Show-clause-either
 unfolding answer_to after_step
-returns-in-None-clause-either c = search rules
+returns-in-Show-clause-either c = search rules
 
-pub returns-in-None-clause-valid : goal.returns-in-None-clause-valid
+pub returns-in-Show-clause-valid : goal.returns-in-Show-clause-valid
 unfolding answer_to after_step
-returns-in-None-clause-valid c = search rules
+returns-in-Show-clause-valid c = search rules
 
 pub returns-clause-text : goal.returns-clause-text
 unfolding answer_to after_step
