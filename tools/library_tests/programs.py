@@ -106,8 +106,8 @@ def check_threads(built: Built, folder: Path) -> str:
 
 
 def check_memory(built: Built, folder: Path) -> str:
-    """Each growth of memory is refused in turn."""
+    """Each allocation is refused in turn."""
     made = folder / "memory"
     build(built.compilers[0].c, built, [SOURCES / "memory.c"], made, "-g", WRAPPED)
     counts = [line.split() for line in run([*built.runner, made, FONTS]).splitlines()]
-    return "growths refused: " + ", ".join(f"{name} {count}" for name, count in counts)
+    return "allocations refused: " + ", ".join(f"{name} {count}" for name, count in counts)

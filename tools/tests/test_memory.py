@@ -21,7 +21,7 @@ def told(refused: Optional[str] = None, ending: str = REFUSED) -> Answer:
 
 
 def sweep() -> list[Answer]:
-    """The answers where all is well: the growth that is refused stands earlier each time."""
+    """The answers where all is well: the allocation that is refused stands earlier each time."""
     refused = [told(call) for call in reversed(CALLS)]
     return [told(), told("run", REFUSED_IN_STEP), *refused, told(CALLS[0]), EARLY, EARLY]
 
@@ -91,7 +91,7 @@ class Jobs(unittest.TestCase):
         for job in jobs().values():
             self.assertTrue(set(job.words) & set(FILES), "a job of files that are there")
 
-    def test_the_growth_that_is_refused_becomes_the_first(self) -> None:
+    def test_the_allocation_that_is_refused_becomes_the_first(self) -> None:
         job = jobs()["asm"]
         cases = cases_of(1, job)
         self.assertEqual([case for case in cases], sorted(cases))

@@ -1,1 +1,1 @@
-"""Refuses each growth of memory in turn, and judges what the calls and the program then answer."""
+"""Refuses each allocation in turn, and judges what the calls and the program then answer."""

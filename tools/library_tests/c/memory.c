@@ -1,10 +1,10 @@
-/* Refuses each growth of memory in turn to each call that takes some: the call answers
- * ZAK_OUT_OF_MEMORY, keeps no memory and leaves the card and what its pointers name; and where no
- * growth is refused it answers ZAK_OK. But zak_run_on may have taken some of the first steps: the
- * card is then as after one of them, and goes on. Other calls take none. It is linked with --wrap
- * for malloc, realloc and free.
+/* Refuses each allocation of each call that allocates, one after the other. The call then answers
+ * ZAK_OUT_OF_MEMORY, keeps no memory, and leaves the card and what its pointers name. If no
+ * allocation is refused, it answers ZAK_OK. Only zak_run_on may have taken some of the first steps:
+ * the card is then as after one of them, and goes on. Other calls make no allocation. The program is
+ * linked with --wrap for malloc, realloc and free.
  *
- * A line for each call tells how many growths were refused to it. */
+ * A line for each call tells how many of its allocations were refused. */
 #include <stdbool.h>
 #include <stdio.h>
 #include <stdlib.h>
@@ -12,7 +12,7 @@
 
 #include "zaklimot.h"
 
-#define MOST_GROWTHS 1000
+#define MOST_ALLOCATIONS 1000
 #define MOST_STATE (4 * ZAK_MOST_TEXT)
 #define UNTOUCHED 0xEE
 /* How many steps steps_text has. */
@@ -26,12 +26,12 @@ void *__wrap_realloc(void *block, size_t bytes);
 void __wrap_free(void *block);
 
 /* Growths of the call under way, that one of them which is refused or 0, and blocks that are held. */
-static unsigned growths, refused;
+static unsigned allocations, refused;
 static long held;
 
 static bool is_refused(void)
 {
-    return ++growths == refused;
+    return ++allocations == refused;
 }
 
 void *__wrap_malloc(size_t bytes)
@@ -148,7 +148,7 @@ static const struct job {
 
 static void wrong(const char *name, const char *what)
 {
-    printf("%s: growth %u: %s\n", name, refused, what);
+    printf("%s: allocation %u: %s\n", name, refused, what);
     exit(1);
 }
 
@@ -215,8 +215,8 @@ static uint32_t steps_taken(uint32_t least)
     return 0;
 }
 
-/* How many steps the card had taken when a growth was refused last. A later growth is refused after
- * the same step, or a later one. */
+/* How many steps the card had taken when an allocation was refused last. A later allocation is
+ * refused after the same step, or a later one. */
 static uint32_t refused_after;
 
 /* The card goes on after the steps that it took, and comes to where they all lead; then it goes
@@ -257,17 +257,17 @@ static bool has_no_answer(void)
            place == 999 && taken == 999 && !opened.is_open;
 }
 
-/* Makes a call with one growth refused; whether there was one. */
-static bool refuse_growth(const struct job *job, unsigned number)
+/* Makes a call with one allocation refused; whether there was one. */
+static bool refuse_allocation(const struct job *job, unsigned number)
 {
     static uint8_t before[MOST_STATE], after[MOST_STATE];
     size_t before_len = read_state(before);
     long held_before = held;
     clear_answers();
-    growths = 0;
+    allocations = 0;
     refused = number;
     zak_status status = job->call();
-    bool was_refused = growths >= number;
+    bool was_refused = allocations >= number;
     refused = 0;
     if (!was_refused) {
         if (status != ZAK_OK)
@@ -300,13 +300,13 @@ static void refuse_all(const struct job *job)
     zak_frame(&card, &size, rgb, sizeof rgb);
     if (job->takes_steps)
         save_steps();
-    while (number < MOST_GROWTHS && refuse_growth(job, number))
+    while (number < MOST_ALLOCATIONS && refuse_allocation(job, number))
         number++;
     if (number == 1)
         wrong(job->name, "it takes no memory");
     if (job->takes_steps) {
         if (steps_taken(STEPS) != STEPS || refused_after < STEPS - 2)
-            wrong(job->name, "growths of the last steps are not refused");
+            wrong(job->name, "allocations of the last steps are not refused");
         restore(&after_steps[0]);
     }
     printf("%s %u\n", job->name, number - 1);
@@ -371,9 +371,9 @@ int main(int argc, char **argv)
         refuse_all(&JOBS[i]);
     if (call_int10(0x12, 0) || zak_frame(&card, &(zak_size){0, 0}, rgb, sizeof rgb))
         wrong("zak_int10", "mode 12 can't be set");
-    growths = 0;
+    allocations = 0;
     zak_status status = other_calls();
-    if (status || growths)
+    if (status || allocations)
         wrong("the other calls", status ? "one fails" : "one takes memory");
     zak_close(&card);
     if (held)
