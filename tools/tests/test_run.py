@@ -114,6 +114,10 @@ class Listings(Fake):
         self.assertIn(f"  {folder}/0004.png\n\x1b[38;2;255;0;0;48;2;255;0;0m\u2580", output)
         self.assertTrue((folder / "0004.png").read_bytes().startswith(b"\x89PNG"))
 
+    def test_pictures_as_files_where_no_step_is_listed(self) -> None:
+        self.run_script("--pictures", str(self.folder / "quiet"), "--quiet")
+        self.assertTrue((self.folder / "quiet" / "0004.png").exists())
+
     def test_a_fault_with_its_reason(self) -> None:
         path = self.write("bad.vga", "frame\nmove 1\n")
         names = "out, outw, in, inw, put, putw, get, getw, advance, frame, int, show, version, repeat, end"

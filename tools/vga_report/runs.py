@@ -222,7 +222,8 @@ class _Shower:
             write(heading(script.width) + "\n")
 
     def show(self, row: Row) -> None:
-        """Shows a step; why it was refused is told once."""
+        """Shows a step, and writes its picture where that is wanted; why it was refused is told once."""
+        path = _saved_picture(row, self._words)
         if self._words.html:
             self._page.add_row(row)
         elif self._is_listed:
@@ -230,7 +231,7 @@ class _Shower:
             why = "" if row.why in self._whys else row.why
             if len(self._whys) < MOST_WHYS:
                 self._whys.add(row.why)
-            _show(row, self._width, self._words, why)
+            _show(row, self._width, self._words, why, path)
 
     def end(self, script: Script, tally: Tally) -> None:
         """Writes the page, where one is wanted."""
@@ -241,14 +242,20 @@ class _Shower:
             write_file(words.html, text.encode("utf-8", "replace"))
 
 
-def _show(row: Row, width: int, words: argparse.Namespace, why: str) -> None:
-    """Writes a step's lines, and its picture where that is wanted."""
-    picture, more = row.step.picture, ""
-    if isinstance(picture, Picture) and words.pictures is not None:
-        path = os.path.join(words.pictures, f"{row.step.number:04}.png")
-        save_png(path, picture, Shape(words.scale, words.aspect))
-        more = f"  {path}"
-    write("\n".join(listed(row, width, more, why)) + "\n")
+def _saved_picture(row: Row, words: argparse.Namespace) -> str:
+    """The path of the step's picture, which is written; empty where there is none, or none is wanted."""
+    picture = row.step.picture
+    if words.pictures is None or not isinstance(picture, Picture):
+        return ""
+    path = os.path.join(words.pictures, f"{row.step.number:04}.png")
+    save_png(path, picture, Shape(words.scale, words.aspect))
+    return path
+
+
+def _show(row: Row, width: int, words: argparse.Namespace, why: str, path: str) -> None:
+    """Writes a step's lines, the path of its picture, and the picture as text where that is wanted."""
+    picture = row.step.picture
+    write("\n".join(listed(row, width, path and f"  {path}", why)) + "\n")
     if isinstance(picture, Picture) and words.show:
         columns = shutil.get_terminal_size((80, 24)).columns
         write("".join(line + "\n" for line in block_lines(picture, columns)))

@@ -87,7 +87,7 @@ def _add_run(parser: argparse.ArgumentParser) -> None:
     add(parser, "--try", "runs the program without its proofs, by `rt try`", dest="try_")
     add(parser, "--until N", "stops after N steps, and shows the state", type=number_to(MOST_STEP, 0))
     add(parser, "--only WHICH", "shows only these steps, as 10-20,refused; also read, pictures, dumps, differs")
-    add(parser, "--pictures FOLDER", "writes the pictures of the steps shown, as NNNN.png")
+    add(parser, "--pictures FOLDER", "writes the pictures of the steps that --only names, or of all, as NNNN.png")
     add(parser, "--show", "shows pictures as blocks of colour")
     add(parser, "--html FILE", "writes the listing as a page, with its pictures")
     add(parser, "--debug FILE", "writes a page that runs the script in a browser, step by step; nothing is run here")
