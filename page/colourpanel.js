@@ -47,7 +47,7 @@ export class ColourPanel {
   made({ before, after }) {
     const { registers } = after, changed = new Set(differingColours(before, after));
     const mask = hex(registers.dacMask, 2);
-    setText(this.title, `DAC: 256 entries, mask ${mask}; a frame stands round the index`);
+    setText(this.title, `DAC: 256 entries, mask ${mask}; the index's entry has a border`);
     this.palette.forEach((swatch, four) => {
       const entry = dacEntry(registers, four), own = registers.attr[four];
       const isChanged = before.registers.attr[four] !== own || changed.has(entry);

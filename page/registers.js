@@ -62,9 +62,9 @@ export const GROUPS = [
     register("offset", 0xff, ["7-0", "half of a row"]),
     register("underline location", 0x7f, ["4-0", "scan line"], ["5", "count by four"], ["6", "double word"]),
     storedWhole("vertical blanking"), storedWhole("vertical blanking"),
-    register("mode control", 0xef, ["0", "is 1"], ["1", "is 1"], ["2", "is 0"], ["3", "is 0"],
-      ["5", "address wrap"],
-      ["6", "byte mode"], ["7", "stored", true]),
+    register("mode control", 0xef, ["0", "compatibility mode support"],
+      ["1", "select row scan counter"], ["2", "horizontal retrace select"], ["3", "count by two"],
+      ["5", "address wrap"], ["6", "byte mode"], ["7", "stored", true]),
     register("line compare", 0xff, ["7-0", "line"]),
   ] },
   { id: "attr", title: "Attribute controller", anchor: "attribute-controller", port: 0x3c0, registers: [
