@@ -1,4 +1,4 @@
-"""Programs that call the library: misuse, threads, and want of memory."""
+"""Programs that call the library: misuse, threads, and an allocation failure."""
 
 from __future__ import annotations
 

@@ -3,7 +3,7 @@
 import unittest
 from typing import Optional
 
-from vga_memory.command import CRATES, ENDING, FILES, GROWTH, cases_of, jobs
+from vga_memory.command import CRATES, ENDING, FILES, ALLOCATION, cases_of, jobs
 from vga_memory.judging import (
     CALLS, FAULT, IN_WORDS, REFUSED, REFUSED_IN_STEP, RIGHT, Wrong, judge_calls, judge_program
 )
@@ -65,7 +65,7 @@ class Calls(unittest.TestCase):
         two = Answer(0, told("decode").written.replace(b"run: as in its example", b"run: out of memory"), "")
         wrongs = {
             "a call that answers something else": [*sweep()[:1], told("encode", "otherwise"), *sweep()[1:]],
-            "a call that always answers want of memory": [told("encode"), *sweep()[1:]],
+            "a call that always answers an allocation failure": [told("encode"), *sweep()[1:]],
             "two calls that answer it": [*sweep()[:1], two, *sweep()[1:]],
             "a call that does not answer": [*sweep()[:1], cut, *sweep()[1:]],
             "a program that ends": [*sweep()[:1], Answer(3, b"", ""), *sweep()[1:]],
@@ -84,10 +84,10 @@ class Calls(unittest.TestCase):
 class Jobs(unittest.TestCase):
     def test_what_each_job_answers(self) -> None:
         go, asm, refused = jobs().values()
-        self.assertEqual(go.fronts, (b"", b"".join(go.whole.written.splitlines(keepends=True)[:6])))
-        self.assertTrue(go.fronts[1].endswith(b"\n6 ax=1015 bx=0000 cx=0203 dx=0100\n"))
+        self.assertEqual(go.prefixes, (b"", b"".join(go.whole.written.splitlines(keepends=True)[:6])))
+        self.assertTrue(go.prefixes[1].endswith(b"\n6 ax=1015 bx=0000 cx=0203 dx=0100\n"))
         self.assertEqual((asm.whole.written[:4], len(asm.whole.written)), (b"VGAS", 44 + len(ENDING)))
-        self.assertEqual((refused.whole.status, refused.fronts), (2, (b"",)))
+        self.assertEqual((refused.whole.status, refused.prefixes), (2, (b"",)))
         for job in jobs().values():
             self.assertTrue(set(job.words) & set(FILES), "a job of files that are there")
 
@@ -95,7 +95,7 @@ class Jobs(unittest.TestCase):
         job = jobs()["asm"]
         cases = cases_of(1, job)
         self.assertEqual([case for case in cases], sorted(cases))
-        self.assertEqual({len(case.given) for case in cases.values()}, set(range(job.first, GROWTH)))
+        self.assertEqual({len(case.given) for case in cases.values()}, set(range(job.first, ALLOCATION)))
 
 
 class Program(unittest.TestCase):

@@ -1,4 +1,4 @@
-"""Refuses growths to the calls of `vga_tests` and to the program `vga`, and tells how many were refused."""
+"""Refuses allocations to the calls of `vga_tests` and to the program `vga`, and tells how many were refused."""
 
 import argparse
 from typing import NamedTuple, Sequence
@@ -18,8 +18,8 @@ FILES = {
     "path.vga": PATH_TEXT,
     "z.fnt": TOP / "fonts" / "zaklimot.fnt",
 }
-# The number of the growth that is refused, above those that a run has by itself.
-GROWTH = 110
+# The number of the allocation that is refused, above those that a run has by itself.
+ALLOCATION = 110
 # The steps of the table's text before the one that takes memory.
 STEPS_BEFORE = 6
 REFUSED_WORD = (
@@ -31,52 +31,54 @@ ENDING = b"\n"
 
 
 class Job(NamedTuple):
-    """Words of the program, how many growths its first run makes before, so that it meets no refusal, what it answers
-    then, and the fronts of its report behind which it may meet one."""
+    """A job of the program: its words, how many allocations its first run makes before it, what it answers, and prefixes.
+
+    The first run makes so many that no allocation of the job is refused. A run that meets a refusal may have written one
+    of the prefixes of its report."""
 
     words: Sequence[str]
     first: int
     whole: Answer
-    fronts: Sequence[bytes] = (b"",)
+    prefixes: Sequence[bytes] = (b"",)
 
 
 def jobs() -> dict[str, Job]:
     """The jobs by their names: two that are done, and one that is none."""
     report = TABLE.with_suffix(".txt").read_bytes()
-    front = b"".join(report.splitlines(keepends=True)[:STEPS_BEFORE])
+    prefix = b"".join(report.splitlines(keepends=True)[:STEPS_BEFORE])
     go = ["go", "table.vga", "--fonts", "z.fnt"]
     return {
-        "go": Job(go, 17, Answer(0, report, ""), (b"", front)),
+        "go": Job(go, 17, Answer(0, report, ""), (b"", prefix)),
         "asm": Job(["asm", "path.vga", "/dev/stdout"], 33, Answer(0, PATH_SCRIPT.read_bytes() + ENDING, "")),
         "words that are refused": Job([*go, "x"], 34, Answer(2, b"", REFUSED_WORD)),
     }
 
 
 def refuse_calls() -> str:
-    """Refuses each growth of the calls that take memory: those that are made first move the one that is refused."""
-    cases = {f"{first:03}": Case("", ["memory", str(first)]) for first in range(GROWTH)}
-    answers = try_cases(CRATES / "vga_tests", GROWTH, cases, {})
+    """Refuses each allocation of the calls that take memory: those that are made first move the one that is refused."""
+    cases = {f"{first:03}": Case("", ["memory", str(first)]) for first in range(ALLOCATION)}
+    answers = try_cases(CRATES / "vga_tests", ALLOCATION, cases, {})
     counts = judge_calls([answers[case] for case in sorted(cases)])
-    return "growths refused: " + ", ".join(f"{call} {count}" for call, count in counts.items())
+    return "allocations refused: " + ", ".join(f"{call} {count}" for call, count in counts.items())
 
 
 def cases_of(place: int, job: Job) -> dict[str, Case]:
-    """The runs of the job at this place, each with one more growth before it, until its first one is refused."""
-    return {f"{place}-{first:03}": Case(first * "x", job.words) for first in range(job.first, GROWTH)}
+    """The runs of the job at this place, each with one more allocation before it, until its first one is refused."""
+    return {f"{place}-{first:03}": Case(first * "x", job.words) for first in range(job.first, ALLOCATION)}
 
 
 def refuse_program() -> str:
-    """Refuses each growth of the program in each job, from the reading of its first word on."""
+    """Refuses each allocation of the program in each job, from the reading of its first word on."""
     all_jobs = jobs()
     runs = {name: cases_of(place, job) for place, (name, job) in enumerate(all_jobs.items())}
     cases = {case: run for some in runs.values() for case, run in some.items()}
     with growing_program(TOP) as crate:
-        answers = try_cases(crate, GROWTH, cases, FILES)
+        answers = try_cases(crate, ALLOCATION, cases, FILES)
     counts = {
-        name: judge_program([answers[case] for case in runs[name]], job.whole, job.fronts)
+        name: judge_program([answers[case] for case in runs[name]], job.whole, job.prefixes)
         for name, job in all_jobs.items()
     }
-    return "growths of vga refused: " + ", ".join(f"{name} {count}" for name, count in counts.items())
+    return "allocations of vga refused: " + ", ".join(f"{name} {count}" for name, count in counts.items())
 
 
 def _refuse(_: argparse.Namespace, __: Progress) -> None:
@@ -87,7 +89,7 @@ def _refuse(_: argparse.Namespace, __: Progress) -> None:
 
 def _parser() -> argparse.ArgumentParser:
     parser = cli.tool_parser(
-        "vga-memory", "Refuses each growth of memory in turn, and judges what the calls and the program then answer.\n"
+        "vga-memory", "Refuses each allocation in turn, and judges what the calls and the program then answer.\n"
         "It takes minutes, and needs `rt`.", "tools/vga-memory", "tools/README.md", cli.JUDGES,
     )
     parser.set_defaults(job=_refuse)

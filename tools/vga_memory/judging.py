@@ -1,4 +1,4 @@
-"""What is wrong with the answers to growths that were refused, one after the other."""
+"""What is wrong with the answers to allocations that were refused, one after the other."""
 
 from typing import Optional, Sequence
 
@@ -12,12 +12,12 @@ CALLS = (
 )
 RIGHT, REFUSED, REFUSED_IN_STEP = "as in its example", "out of memory", "out of memory in a step"
 FAULT = "vga: F10 OutOfMemory\n"
-# The growths that reading the words takes, at most. They are a run's first ones, so that the last runs meet them.
+# The allocations that reading the words takes, at most. They are a run's first ones, so that the last runs meet them.
 IN_WORDS = 12
 
 
 def refused_call(answer: Answer) -> Optional[tuple[str, str]]:
-    """The call that answered want of memory, and how; None where each answered as in its example."""
+    """The call that answered an allocation failure, and how; None where each answered as in its example."""
     lines = [line.split(": ") for line in answer.written.decode().splitlines()]
     if answer.status != 0 or [line[0] for line in lines] != list(CALLS):
         raise Wrong(f"not each call answered: status {answer.status}, {answer.written!r}, {answer.said!r}")
@@ -28,7 +28,7 @@ def refused_call(answer: Answer) -> Optional[tuple[str, str]]:
 
 
 def judge_calls(answers: Sequence[Answer]) -> dict[str, int]:
-    """How many growths each call was refused. With each answer the growth that was refused stands earlier."""
+    """How many allocations each call was refused. With each answer the allocation that was refused stands earlier."""
     refused = [refused_call(answer) for answer in answers if not _is_before_calls(answer)]
     _expect_in_turn([found is not None for found in refused])
     met = [found for found in refused if found is not None]
@@ -42,36 +42,37 @@ def judge_calls(answers: Sequence[Answer]) -> dict[str, int]:
 
 
 def _is_before_calls(answer: Answer) -> bool:
-    """Whether the growth was refused before the first call, among the words or among those that are made first."""
+    """Whether the allocation was refused before the first call, among the words or among those that are made first."""
     return answer.status == 1 and not answer.written and answer.said == "Error: memory allocation failed\n"
 
 
 def _expect_in_turn(were_refused: Sequence[bool]) -> None:
-    """First no growth was refused, since there are not so many, and then each was."""
+    """First no allocation was refused, since there are not so many, and then each was."""
     if not were_refused or were_refused[0]:
-        raise Wrong("no answer met no refusal: the number of the growth that is refused is too low")
+        raise Wrong("no answer met no refusal: the number of the allocation that is refused is too low")
     if list(were_refused) != sorted(were_refused):
-        raise Wrong("a growth was refused, and nothing said so")
+        raise Wrong("an allocation was refused, and nothing said so")
 
 
-def _is_refused(place: int, answer: Answer, whole: Answer, fronts: Sequence[bytes]) -> bool:
-    """Whether a run of the program ended with want of memory, behind one of these fronts of its report."""
-    if answer.status == 1 and answer.said == FAULT and answer.written in fronts:
+def _is_refused(place: int, answer: Answer, whole: Answer, prefixes: Sequence[bytes]) -> bool:
+    """Whether a run of the program ended by an allocation failure, after one of these prefixes of its report."""
+    if answer.status == 1 and answer.said == FAULT and answer.written in prefixes:
         return True
     if answer != whole:
         raise Wrong(f"run {place}: status {answer.status}, {answer.written!r}, {answer.said!r}")
     return False
 
 
-def judge_program(answers: Sequence[Answer], whole: Answer, fronts: Sequence[bytes]) -> int:
-    """How many runs met a refusal. With each run the growth that was refused stands earlier, up to the first of all. One
-    may be done without: words are collected with room for all of them at once, or else with less."""
-    were_refused = [_is_refused(place, answer, whole, fronts) for place, answer in enumerate(answers)]
+def judge_program(answers: Sequence[Answer], whole: Answer, prefixes: Sequence[bytes]) -> int:
+    """How many runs met a refusal. With each run the allocation that was refused stands earlier, up to the first of all.
+
+    One may be done without: words are collected with room for all of them at once, or else with less."""
+    were_refused = [_is_refused(place, answer, whole, prefixes) for place, answer in enumerate(answers)]
     behind_words = max(len(answers) - IN_WORDS, 1)
     _expect_in_turn(were_refused[:behind_words])
     if were_refused[behind_words:].count(False) > 1:
-        raise Wrong("a growth was refused while words were read, and nothing said so")
+        raise Wrong("an allocation was refused while words were read, and nothing said so")
     written = {answer.written for answer, was_refused in zip(answers, were_refused) if was_refused}
-    if written != set(fronts):
-        raise Wrong(f"runs ended after {sorted(written)}, and not after each of {sorted(fronts)}")
+    if written != set(prefixes):
+        raise Wrong(f"runs ended after {sorted(written)}, and not after each of {sorted(prefixes)}")
     return sum(were_refused)

@@ -1,4 +1,4 @@
-"""Runs a program with one growth refused, by `rt try`; and a `vga` that makes growths first."""
+"""Runs a program with one allocation refused, by `rt try`; and a `vga` that makes allocations first."""
 
 import re
 import shutil
@@ -19,7 +19,7 @@ OWN_LINES = ("allocations: ", "checked: ", "interpreter: ")
 MAIN = "    ExitCode::from(status_of_job(&rt))\n"
 FIRST = "    let _ = grow(&rt);\n"
 GROW = """
-/// Makes a growth for each byte of standard input.
+/// Makes an allocation for each byte of standard input.
 fn grow(rt: &HostRuntime) -> io::Result<()> {
     let mut room = [0; 256];
     for _ in 0..std::io::Read::read(&mut rt.stdin(), &mut room)? {
@@ -47,8 +47,8 @@ class Answer(NamedTuple):
     said: str
 
 
-def try_cases(crate: Path, growth: int, cases: Mapping[str, Case], data: Mapping[str, Path]) -> dict[str, Answer]:
-    """What each case of a crate's program answers, with the growth of this number refused, where these files lie."""
+def try_cases(crate: Path, allocation: int, cases: Mapping[str, Case], data: Mapping[str, Path]) -> dict[str, Answer]:
+    """What each case of a crate's program answers, with the allocation of this number refused, where these files lie."""
     check_program("rt")
     with tempfile.TemporaryDirectory(prefix="vga-memory-") as name:
         folder = Path(name)
@@ -56,7 +56,7 @@ def try_cases(crate: Path, growth: int, cases: Mapping[str, Case], data: Mapping
             (folder / case).write_text(given)
             (folder / f"{case}.args").write_text("".join(f"{word}\n" for word in words))
         files = [word for file, path in data.items() for word in ("--data", f"{file}={path}")]
-        command = ["rt", "try", "--fail-alloc", str(growth), *files, "--cases", str(folder), "--"]
+        command = ["rt", "try", "--fail-alloc", str(allocation), *files, "--cases", str(folder), "--"]
         done = captured(command, crate)
     answers = answers_of(done.output, done.errors.decode("utf-8", "replace"))
     if answers.keys() != cases.keys():
@@ -81,7 +81,7 @@ def answers_of(output: bytes, errors: str) -> dict[str, Answer]:
 
 
 def growing(source: str) -> str:
-    """The root file of the program, with the growths before what its `main` does."""
+    """The root file of the program, with the allocations before what its `main` does."""
     if source.count(MAIN) != 1:
         raise Wrong(f"main.rt has {source.count(MAIN)} lines {MAIN.strip()!r}, and not one")
     return source.replace(MAIN, FIRST + MAIN) + GROW

@@ -25,7 +25,7 @@ void *__wrap_malloc(size_t bytes);
 void *__wrap_realloc(void *block, size_t bytes);
 void __wrap_free(void *block);
 
-/* Growths of the call under way, that one of them which is refused or 0, and blocks that are held. */
+/* Allocations of the call under way, the one that is refused or 0, and blocks that are held. */
 static unsigned allocations, refused;
 static long held;
 
