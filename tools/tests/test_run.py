@@ -262,6 +262,16 @@ class Listings(Fake):
             message = f"vga-report: {script}: a script of bytes has no comments for answers\n"
             self.assertEqual(self.run_script(word, path=str(script)), (2, "", message))
 
+    def test_bytes_in_the_file_of_a_text(self) -> None:
+        said = {}
+        for name in ("lost.vga", "s.bin"):
+            (self.folder / name).write_bytes(b"VGAS\x01\x0b")
+            said[name] = self.run_script(path=str(self.folder / name))[2]
+        message = f"vga-report: {self.folder}/lost.vga: the file contains bytes, but has the name of a text. "
+        self.assertEqual(said, {
+            "lost.vga": message + "If you named it twice, `vga asm` has written over the text\n", "s.bin": "",
+        })
+
     def test_as_json(self) -> None:
         path = self.write("t.vga", "get 0 ; = 55\nframe\nin 60\nshow regs\n")
         status, output, said = self.run_script("--json", "-", path=path)

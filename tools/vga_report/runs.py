@@ -27,6 +27,12 @@ from .trouble import Trouble
 
 # So many reasons of refusals are told once each, and then again.
 MOST_WHYS = 1000
+# What the file of a text is called, and what is told where bytes are in it.
+TEXT_NAME = ".vga"
+LOST_TEXT = (
+    "vga-report: {}: the file contains bytes, but has the name of a text. "
+    "If you named it twice, `vga asm` has written over the text\n"
+)
 
 
 @contextmanager
@@ -167,6 +173,8 @@ def _run_by(
         if words.debug is not None and os.path.isfile(path):
             _write_debug_page(words, data)
         script = Script(path, data, program, name_of(words.script), cast(BinaryIO, printed))
+        if script.is_bytes and script.shown.endswith(TEXT_NAME):
+            sys.stderr.write(LOST_TEXT.format(script.shown))
         if script.is_bytes and (words.bless or words.diff):
             raise Trouble("a script of bytes has no comments for answers", words.script)
         blessing = Blessing(data) if words.bless or words.diff else None
