@@ -1,4 +1,4 @@
-"""What the pages say of the sources themselves: how many wrong bodies are tried, and what a model shares."""
+"""What the pages say of the sources themselves: how many wrong bodies and lines there are, and what a model shares."""
 
 import re
 import unittest
@@ -8,8 +8,11 @@ from typing import NamedTuple
 from vga_report.cases import read_cases
 from vga_report.words import SUITE
 
+from .tools import TOOLS
+
 ROOT = Path(__file__).resolve().parents[2]
 PROOFS = ROOT / "docs" / "PROOFS.md"
+DECISIONS = ROOT / "docs" / "DECISIONS.md"
 # A number of wrong bodies in a page's words.
 COUNTED = re.compile(r"([\d,]+) wrong bodies|[Ww]rong bodies, ([\d,]+) of them")
 # The definitions of the plain screen, of its dots and of its report.
@@ -91,6 +94,34 @@ class Cases(unittest.TestCase):
             with self.subTest(name):
                 told = re.findall(r"\b(\d{3,})\s+cases\b", (ROOT / name).read_text("utf-8"))
                 self.assertEqual(told, [str(count)] * times)
+
+
+class Lines(unittest.TestCase):
+    """A page tells how many lines of Python the tools have, and how many of them are for what."""
+
+    # The figures of the page: all lines, those of tests, and those without the files of its table; and a row of the table.
+    TOLD = re.compile(r"(?s)They have some ([\d,]+), of\s+which ([\d,]+) are tests\..* some ([\d,]+) lines:\n")
+    ROW = re.compile(r"(?m)^\|[^|]*\|([^|]*`[^|]*)\| ([\d,]+) \|$")
+    APART = ("library_tests/", "page_tests/", "bindings_tests/")
+
+    def count(self, lines: dict[str, int], *fronts: str) -> int:
+        """The lines of files whose names begin so; there are some of each."""
+        for front in fronts:
+            self.assertTrue(any(name.startswith(front) for name in lines), front)
+        return sum(count for name, count in lines.items() if name.startswith(fronts))
+
+    def test_a_page_counts_them(self) -> None:
+        lines = {path.relative_to(TOOLS).as_posix(): path.read_text("utf-8").count("\n") for path in TOOLS.rglob("*.py")}
+        lines = {name: count for name, count in lines.items() if not name.startswith(self.APART)}
+        section = DECISIONS.read_text("utf-8").partition("\n### The tools are as large")[2].partition("\n### ")[0]
+        rows = [(re.findall(r"`([\w/.]+)`", files), told) for files, told in self.ROW.findall(section)]
+        later = [self.count(lines, *files) for files, _ in rows]
+        everything = sum(lines.values())
+        counted = [everything, self.count(lines, "tests/"), everything - sum(later), *later]
+        told = [*self.TOLD.findall(section)[0], *(told for _, told in rows)]
+        self.assertEqual(len(told), 9)
+        for words, count in zip(told, counted):
+            self.assertAlmostEqual(int(words.replace(",", "")), count, delta=50)
 
 
 class Model(unittest.TestCase):
