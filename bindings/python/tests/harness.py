@@ -94,14 +94,14 @@ def report_by_calls(text: bytes, fonts: bytes, until: Optional[int] = None) -> b
 
 
 def report_by_runs(code: bytes, fonts: bytes, until: Optional[int] = None) -> bytes:
-    """The report of a script's bytes: by one run, or by a slice and the looks behind it."""
+    """The report of a script's bytes: by one run, or by a slice and the dumps after it."""
     try:
         if until is None:
             return zaklimot.run(code, fonts).raw
         with Card(fonts) as card:
             part = card.run_on(code, 0, until)
-            looks = (line.split(b" ", 1)[1] for line in answers(card, iter(STATE)))
-            return part.raw + b"".join(b"%d %s" % (part.taken + at, look) for at, look in enumerate(looks, 1))
+            dumps = (line.split(b" ", 1)[1] for line in answers(card, iter(STATE)))
+            return part.raw + b"".join(b"%d %s" % (part.taken + at, dump) for at, dump in enumerate(dumps, 1))
     except zaklimot.Error as error:
         return fault_of(error)
 

@@ -68,7 +68,7 @@ Examples:
   vga go bars.vga --fonts zaklimot.fnt
 
 A script is a list of steps: cycles on the adapter's ports and memory, advances
-of its clock, frames, and looks at its state. As text it has a step on each
+of its clock, frames, and dumps of its state. As text it has a step on each
 line, as in:
   out 3C2 63      ; write 63 to port 3C2
   put A0000 FF    ; write FF to address A0000
