@@ -95,6 +95,11 @@ class Cases(unittest.TestCase):
                 told = re.findall(r"\b(\d{3,})\s+cases\b", (ROOT / name).read_text("utf-8"))
                 self.assertEqual(told, [str(count)] * times)
 
+    def test_a_page_tells_of_each_folder(self) -> None:
+        page = (ROOT / "docs" / "SUITE.md").read_text("utf-8").partition("## What the folders hold")[2]
+        folders = {case.name.partition("/")[0] for case in read_cases(str(SUITE))}
+        self.assertEqual(sorted(folder for folder in folders if f"`{folder}/`" not in page.partition("\n## ")[0]), [])
+
 
 class Lines(unittest.TestCase):
     """A page tells how many lines of Python the tools have, and how many of them are for what."""
