@@ -51,9 +51,9 @@ class Field:
 
     def value(self, word: str) -> int:
         """The value that a word of a text spells; a ValueError where it spells none, or one out of range."""
-        # `int` itself would take signs, underscores, and digits of other scripts too.
+        # `int` itself would take signs, underscores, the prefix 0x, and digits of other scripts too.
         digits = word if self.digits else word.lstrip("0") or "0"
-        if len(digits) > (self.digits or 10) or not (word.isascii() and word.isalnum()):
+        if len(digits) > (self.digits or 10) or not (word.isascii() and word.isalnum()) or word[1:2] in ("x", "X"):
             raise ValueError(word)
         value = int(digits, 16 if self.digits else 10)
         if not self.least <= value <= self.most:
