@@ -363,8 +363,7 @@ class Suite(Folder):
         self.case("a/one", "frame\n", "1 ragged\n")
         for command, message in [
             ("true", "the command 'true' has neither {script} nor {name}"),
-            ("", "the command is empty"),
-            (" ", "the command is empty"),
+            ("", "the command is empty"), (" ", "the command is empty"),
             ("'{script}", "the command ''{script}': No closing quotation"),
             ("/none/there {script}", "/none/there: No such file or directory"),
         ]:
@@ -464,10 +463,8 @@ class Cases(Folder):
         self.assertEqual(
             [(case.name, case.fonts, case.front, case.until, case.is_bytes) for case in cases],
             [
-                ("a/one", zero, None, None, False),
-                ("a/two", zero, None, 5, False),
-                ("a/four", zero, front, None, False),
-                ("b/five", other, None, None, True),
+                ("a/one", zero, None, None, False), ("a/two", zero, None, 5, False),
+                ("a/four", zero, front, None, False), ("b/five", other, None, None, True),
                 ("b/six", other, None, 0, True),
             ],
         )

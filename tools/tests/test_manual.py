@@ -225,10 +225,7 @@ class Pages(Fakes):
 
     @unittest.skipUnless(shutil.which("groff"), "groff isn't installed")
     def test_groff_has_nothing_to_warn_of_and_breaks_no_word(self) -> None:
-        kept = [
-            "vga run first-path.bin --fonts zaklimot.fnt --until 12",
-            "out 3C2 63      ; write 63 to port 3C2",
-        ]
+        kept = ["vga run first-path.bin --fonts zaklimot.fnt --until 12", "out 3C2 63      ; write 63 to port 3C2"]
         added = [".profile is not read, and 'x' is not either", ".hidden   'left' as it is"]
         for helps, columns, wanted in (
             (kept_helps(), 100, kept), (more_helps(), 100, kept + added), (kept_helps(), 40, []),

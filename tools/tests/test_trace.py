@@ -315,12 +315,9 @@ class Converting(Folder):
         steps = b"".join(b"- w p 3C4 %X 1\n" % at for at in range(50))
         path, script = self.trace(BEGIN + steps), str(self.folder / "script")
         with mock.patch.multiple(converting, MOST_BYTES=200, FOR_THE_END=64):
-            most = "more than 200 bytes, or means more than 16,777,216 steps"
-            told = f"{most}; `--to 32` ends before that, and `--from 33` goes on after it"
-            self.assertEqual(
-                call(main, "convert", path, script),
-                (2, "", f"vga-trace: {path}: the script has {told}\n"),
-            )
+            most = "the script has more than 200 bytes, or means more than 16,777,216 steps"
+            told = f"vga-trace: {path}: {most}; `--to 32` ends before that, and `--from 33` goes on after it\n"
+            self.assertEqual(call(main, "convert", path, script), (2, "", told))
             self.assertFalse(os.path.exists(script))
             self.assertEqual(call(main, "convert", path, script, "--to", "32")[0], 0)
 
@@ -346,9 +343,8 @@ class Converting(Folder):
         self.assertEqual(run("convert", "-", "-", "--no-repeat", given=given)[1], data)
 
     def test_a_script_that_means_too_many_steps_is_told(self) -> None:
-        path, script = self.write(
-            "trace", BEGIN + 300 * b"- r p 3DA 0 1\n" + b"- w p 3C4 0 1\n"
-        ), self.folder / "script"
+        path = self.write("trace", BEGIN + 300 * b"- r p 3DA 0 1\n" + b"- w p 3C4 0 1\n")
+        script = self.folder / "script"
         with mock.patch.multiple(converting, MOST_STEPS=200, FOR_THE_END=10):
             status, _, said = call(main, "convert", path, script)
         self.assertEqual(status, 2)
@@ -437,16 +433,12 @@ class Endings(Folder):
 
 class Checking(Folder):
     # Seven steps: two writes, reads of a register, of status, of a byte and a word of memory, and the frame.
-    TRACE = (
-        BEGIN + b"- w p 3C4 2 1\n- r p 3C5 F 1\n- r p 3DA 4 1\n- r m A0000 E1 1\n- r m A0002 1234 2\n"
-    )
+    TRACE = BEGIN + b"- w p 3C4 2 1\n- r p 3C5 F 1\n- r p 3DA 4 1\n- r m A0000 E1 1\n- r m A0002 1234 2\n"
     GOOD = ("ok", "ok", "0F", "04", "E1", "1234", PICTURE)
 
     def check(self, *answers: str | bytes, given: bytes = TRACE, options: tuple[str, ...] = ()) -> tuple[int, list[str], str]:
         """Exit status, the lines, and what is said of a report with these answers."""
-        status, out, said = run(
-            "check", self.write("trace", given), "-", *options, given=report(*answers)
-        )
+        status, out, said = run("check", self.write("trace", given), "-", *options, given=report(*answers))
         return status, out.decode().split("\n")[:-1], said
 
     def changed(self, **answers: str) -> tuple[str | bytes, ...]:
@@ -478,9 +470,7 @@ class Checking(Folder):
 
     def test_refusals_by_kind(self) -> None:
         given = BEGIN + 2 * b"- w p 3B4 1 1\n- w p 3B5 2 1\n" + b"- r p 3C7 0 1\n"
-        status, lines, _ = self.check(
-            "ok", *4 * ["E1 NotDecoded"], "E2 NotInProfile", PICTURE, given=given
-        )
+        status, lines, _ = self.check("ok", *4 * ["E1 NotDecoded"], "E2 NotInProfile", PICTURE, given=given)
         self.assertEqual((status, lines), (1, [
             "7 steps, 5 refused, 0 reads answered, 0 differ",
             "  refused         2 E1 NotDecoded: out port 3B4 (first at step 2)",

@@ -20,10 +20,7 @@ PLACES: dict[str, Callable[[Helps], str]] = {
     "share/zsh/site-functions/_vga": zsh_completion,
     "share/fish/vendor_completions.d/vga.fish": fish_completion,
 }
-NO_PROGRAM = (
-    "there is no program vga: (cd crates/vga && rt run -- --help) builds it, "
-    "and --vga names another"
-)
+NO_PROGRAM = "there is no program vga: (cd crates/vga && rt run -- --help) builds it, and --vga names another"
 
 
 def manual_files(program: str) -> dict[str, bytes]:

@@ -13,11 +13,7 @@ CRATES = TOP / "crates"
 TABLE = CRATES / "vga_suite" / "data" / "examples" / "palette-and-dac-services"
 PATH_TEXT, PATH_SCRIPT = (TOP / "examples" / name for name in ("first-path.vga", "first-path.bin"))
 # The files that the program finds, by the names that its words have for them.
-FILES = {
-    "table.vga": TABLE.with_suffix(".vga"),
-    "path.vga": PATH_TEXT,
-    "z.fnt": TOP / "fonts" / "zaklimot.fnt",
-}
+FILES = {"table.vga": TABLE.with_suffix(".vga"), "path.vga": PATH_TEXT, "z.fnt": TOP / "fonts" / "zaklimot.fnt"}
 # The number of the allocation that is refused, above those that a run has by itself.
 ALLOCATION = 110
 # The steps of the table's text before the one that takes memory.

@@ -30,9 +30,7 @@ QUIET = '"no-builtin-bcmp" "no-builtin-memcmp" "no-builtin-strlen"'
 ATTRIBUTES = f'nounwind {QUIET} "target-cpu"="{CPU}"'
 # All that the module may call: these mean the same on both targets. What else it calls is to be looked at
 # first.
-INTRINSICS = frozenset((
-    "llvm.memset.p0.i64", "llvm.memmove.p0.p0.i64", "llvm.memcpy.p0.p0.i64", "llvm.trap",
-))
+INTRINSICS = frozenset(("llvm.memset.p0.i64", "llvm.memmove.p0.p0.i64", "llvm.memcpy.p0.p0.i64", "llvm.trap"))
 HEAP = frozenset(("rattle_alloc", "rattle_realloc", "rattle_dealloc"))
 DECLARED = re.compile(r'^declare [^\n]*?@"?([^"(\n]+)"?\(', re.M)
 # What a module for x86-64 alone may have, each with the words that tell it.

@@ -38,9 +38,7 @@ Value = TypeVar("Value")
 def planes_of(rows: Rows) -> Planes:
     """The four planes of rows of pixels, each a number of four bits; eight pixels to a byte, the leftmost in bit 7."""
     length = len(rows[0]) // 8
-    return tuple(
-        b"".join(int(row.translate(digits), 2).to_bytes(length, "big") for row in rows) for digits in DIGITS
-    )
+    return tuple(b"".join(int(row.translate(digits), 2).to_bytes(length, "big") for row in rows) for digits in DIGITS)
 
 
 def map_mask(mask: int) -> Step:

@@ -30,17 +30,9 @@ def _parser() -> argparse.ArgumentParser:
         "vga-release", "Packs a release of what is checked out.", "tools/vga-release release", "docs/LIBRARY.md"
     )
     parser.add_argument("folder", type=Path, metavar="FOLDER", help="where the archive goes")
-    parser.add_argument(
-        "--program", type=to_read, metavar="FILE",
-        help="takes this program (default: `rt run` proves and builds one)",
-    )
-    parser.add_argument(
-        "--archive", type=to_read, metavar="FILE",
-        help="takes this archive of the library (default: `rt lib` builds one)",
-    )
-    parser.add_argument(
-        f"--archive-{AARCH64.name}", type=to_read, metavar="FILE", help=f"the same of the library for {AARCH64.name}"
-    )
+    cli.add(parser, "--program FILE", "takes this program (default: `rt run` proves and builds one)", type=to_read)
+    cli.add(parser, "--archive FILE", "takes this archive of the library (default: `rt lib` builds one)", type=to_read)
+    cli.add(parser, f"--archive-{AARCH64.name} FILE", f"the same of the library for {AARCH64.name}", type=to_read)
     parser.set_defaults(job=_release)
     return parser
 

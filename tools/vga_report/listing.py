@@ -151,9 +151,7 @@ class Script:
             return ((line.words, line) for line in lines)
         return ((one.words, line) for one, line in zip(printed, lines))
 
-    def rows(
-        self, program: Union[Built, Tried], fonts: str, until: Optional[int], progress: Progress
-    ) -> Iterator[Row]:
+    def rows(self, program: Union[Built, Tried], fonts: str, until: Optional[int], progress: Progress) -> Iterator[Row]:
         """The steps with their answers, as they come. A fault is told with its reason."""
         lines, taken, looks = islice(self._lines(), until), 0, () if until is None else STATE
         state = State()

@@ -100,9 +100,7 @@ def _marked_row(picture: Picture, other: Picture, width: int, y: int) -> bytes:
     return dark + MARK * (width - shared // 3)
 
 
-def write_png(
-    stream: BinaryIO, picture: Picture, shape: Shape = Shape(), other: Optional[Picture] = None
-) -> None:
+def write_png(stream: BinaryIO, picture: Picture, shape: Shape = Shape(), other: Optional[Picture] = None) -> None:
     """Writes a picture; beside another one it is darkened, and the dots are marked in which that differs."""
     width, height, rows = picture.width, picture.height, _rows(picture)
     if other is not None:

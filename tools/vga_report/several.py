@@ -122,10 +122,7 @@ def junit_text(name: str, ran: list[Ran]) -> str:
     time_of_all = f"{sum(one.seconds for one in ran):.3f}"
     suite = Element("testsuite", name=_printable(name), tests=str(len(ran)), **counts, time=time_of_all)
     for one in ran:
-        names = {
-            "classname": _printable(name), "name": _printable(str(one.script)),
-            "time": f"{one.seconds:.3f}",
-        }
+        names = {"classname": _printable(name), "name": _printable(str(one.script)), "time": f"{one.seconds:.3f}"}
         case = SubElement(suite, "testcase", names)
         if one.status in kinds:
             text = _printable(one.output if one.status == DIFFERED else one.said)

@@ -188,9 +188,7 @@ class Replayed:
     warnings: Sequence[str]
 
 
-def replay(
-    trace: Path, base: Path, screens: Sequence[float], program: str, fonts: str, progress: Progress
-) -> Replayed:
+def replay(trace: Path, base: Path, screens: Sequence[float], program: str, fonts: str, progress: Progress) -> Replayed:
     """Makes script.bin and report.txt beside a trace whose screens were taken, and holds all against one another."""
     script, report = trace.with_name("script.bin"), trace.with_name("report.txt")
     wanted = Wanted(frames=SCREENS)
