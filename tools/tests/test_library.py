@@ -19,7 +19,7 @@ from vga_report.version import HEADER, Version, calls_of, version_of, without_co
 from vga_library.making import MOVING, Place, cmake_text, cmake_version_text, package_text
 from vga_report.trouble import Trouble, Wrong
 
-from .tools import Folder
+from .tools import Folder, refused
 
 TEXT = HEADER.read_text("ascii")
 PAGE = TOP / "docs" / "LIBRARY.md"
@@ -207,3 +207,9 @@ class Laying(Folder):
             laid = making.make_library(Path("a"), Path("b"), Place(str(self.folder)), making.MOVING)
         self.assertIn(self.folder / "include" / "zaklimot.h", laid)
         self.assertTrue((self.folder / "share" / "zaklimot" / "zaklimot.fnt").is_file())
+
+    def test_no_source_is_laid_over_itself(self) -> None:
+        header = Path(self.write("include/zaklimot.h", TEXT))
+        with mock.patch.multiple(making, HEADER=header, run=lambda *_: ""):
+            told = refused(making.make_library, Path("a"), Path("b"), Place(str(self.folder)), making.MOVING)
+        self.assertEqual((told, header.exists()), (f"{header}: it is read as {header}, so it isn't written", True))

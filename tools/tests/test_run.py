@@ -376,6 +376,15 @@ class Several(Fake):
             f"{b}: 2 steps, 1 refused, 0 pictures, 0 of 1 answers as expected\n2 scripts, 1 differs\n"
         ))
 
+    def test_no_script_is_written_over(self) -> None:
+        script = str(self.tests / "a.vga")
+        for words in ((self.tests, "--json", script), (self.tests, "--junit", script), (self.tests,), (script,)):
+            onto = partial(os.dup2, os.open(script, os.O_WRONLY | os.O_APPEND), 1)
+            name, prepare = ("standard output", onto) if len(words) == 1 else (script, bool)
+            done = run("run", *words, "--vga", self.vga, prepare=prepare)
+            self.assertEqual(done, (2, b"", f"vga-report: {name}: it is read as {script}, so it isn't written\n"))
+        self.assertEqual(Path(script).read_text(), "get 0 ; = E6\n")
+
     def test_a_name_that_looks_like_an_option(self) -> None:
         (self.tests / "-c.vga").write_text("frame\n")
         status, output, _ = run_tool("vga-report", "run", ".", "--vga", self.vga, prepare=lambda: os.chdir(self.tests))

@@ -13,7 +13,7 @@ from typing import Iterable, Iterator, NamedTuple, Optional
 from vga_report import TOP
 from vga_report.crates import below
 from vga_report.processes import run
-from vga_report.streams import filled, refuse_input
+from vga_report.streams import filled, refuse_input, to_read
 from vga_report.version import HEADER, Version, version
 
 from .building import HEAP
@@ -135,7 +135,8 @@ def make_library(archive: Path, memory: Path, place: Place, prefix: str, target:
             **{path: _written(Path(name) / path.name, text) for path, text in texts.items()},
             share / FONTS.name: FONTS,
         }
-        for path in laid:
+        for path, source in laid.items():
+            to_read(str(source))
             refuse_input(str(path))
         # All is made now, so that nothing is laid where something can't be made.
         for path, source in laid.items():

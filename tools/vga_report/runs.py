@@ -109,8 +109,7 @@ def _refuse_words(words: argparse.Namespace) -> None:
     if words.pictures is not None:
         check_folder(words.pictures)
     for file in (words.html, words.debug, words.json, words.junit):
-        if file is not None:
-            check_file(file)
+        check_file(STANDARD if file is None else file)
     if words.debug and words.html and os.path.realpath(words.html) == os.path.realpath(words.debug):
         raise Trouble("--html and --debug are two pages, and want two files", words.debug)
 

@@ -15,7 +15,7 @@ from . import TOP
 from .output import AGREED, DIFFERED, counted, name_of, write
 from .processes import captured, in_parallel
 from .progress import Progress
-from .streams import STANDARD, write_file, writing
+from .streams import STANDARD, refuse_input, to_read, write_file, writing
 from .trouble import TROUBLE, Trouble
 
 TOOL = TOP / "tools" / "vga-report"
@@ -83,6 +83,10 @@ def run_several(words: argparse.Namespace, progress: Progress) -> int:
     if words.script == STANDARD:
         raise Trouble("--junit wants a file or a folder, and not standard input")
     paths = scripts_in(words.script) if os.path.isdir(words.script) else [Path(words.script)]
+    for path in paths:
+        to_read(str(path))
+    for file in (words.json, words.junit):
+        refuse_input(file or STANDARD)
     tell = sys.stderr.write if STANDARD in (words.json, words.junit) else write
     ran = []
     with tempfile.TemporaryDirectory(prefix="vga-report-") as name:
