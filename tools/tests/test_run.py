@@ -227,6 +227,8 @@ class Listings(Fake):
         self.write("t.vga", blessed.replace(";| b", ";| c"))
         status, output, _ = self.run_script("--quiet", path=path)
         self.assertEqual((status, output.split("6c: ")[1].splitlines()[0]), (1, "'b', not 'c'"))
+        counts = [self.run_script(word, path=path)[1].count("\n-;| c\n+;| b\n") for word in ("--diff", "--bless")]
+        self.assertEqual((counts, (self.folder / "t.vga").read_text()), ([1, 0], blessed))
 
     def test_refusals_are_told_counted_and_expected(self) -> None:
         path = self.write("t.vga", "in 60\nin 60\nin 61 ; = E1\n")

@@ -43,8 +43,7 @@ class Blessing:
         """The lines that change: number, expectation before, and after; those alone that are wrong, if not all are wanted."""
         for number, answered in self._answers.items():
             before = expected_in(self._lines[number - 1].partition(";")[2].encode("utf-8", "surrogateescape"))
-            is_wanted = number in self._wrong or is_all and number in self._new
-            if is_wanted and before != answered.answer:
+            if number in self._wrong or is_all and number in self._new:
                 yield number, "" if before is None else before, answered.answer
 
     def text(self, is_all: bool = True) -> str:
