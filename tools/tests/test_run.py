@@ -405,17 +405,24 @@ class Several(Fake):
         scripts = json.loads(told.read_text())
         self.assertEqual([(one["steps"], one["wrong"], bool(one["trouble"])) for one in scripts], [(1, 0, False), (0, 0, True), (2, 1, False)])
 
-    def test_the_program_is_built_where_it_is_lacking(self) -> None:
-        # A toolchain that tells what it is asked for, and builds nothing.
-        rt = self.program("bin/rt", "#!/bin/sh\necho \"$@\" > asked; echo crate vga: proved >&2; exit 3\n")
-        crate = Path(self.write("crate/src/main.rt", "")).parents[1]
+    def test_the_program_is_built_or_tried_where_it_is_lacking(self) -> None:
+        # A toolchain that notes what it is asked for, builds the program once that is there, and tries none to its end.
+        build = f"mkdir -p out; cp {self.folder}/ready out/vga || exit 3"
+        rt = self.program("bin/rt", f"#!/bin/sh\nwords=$*; echo \"${{words%% --data*}}\" >> asked; {build}\n")
+        crate, told = Path(self.write("crate/src/main.rt", "")).parents[1], self.run_script()[1].encode()
         path = {"PATH": f"{Path(rt).parent}{os.pathsep}{os.environ['PATH']}"}
-        with mock.patch.dict(os.environ, path), mock.patch.multiple(program, CRATE=crate, PROGRAM=crate / "out"):
-            self.assertRegex(refused(program.build_program, Progress()), "^rt: it ended with status 3")
-        self.assertEqual((crate / "asked").read_text(), "run -- --help\n")
+        limits = "60 seconds and 1 MiB of output, which two pictures of text fill; --until 2 ends before the second"
+        two = self.write("two.vga", "frame\nin 3DA\nframe\n")
+        with mock.patch.dict(os.environ, path), mock.patch.multiple(program, CRATE=crate, PROGRAM=crate / "out/vga"):
+            self.assertIn("vga-report: rt: it ended with status 3\n", run("run", self.path, "--build")[2])
+            self.assertIn(f" not run it to its end, within {limits}: cp: ", run("run", two, "--try")[2])
+            self.vga.rename(self.folder / "ready")
+            for _ in "12":
+                self.assertEqual(run("run", self.path, "--build"), (0, told, ""))
+        self.assertEqual((crate / "asked").read_text(), "run -- --help\ntry\nrun -- --help\n")
 
     def test_it_runs_again_when_the_script_changes(self) -> None:
-        words = ["run", self.path, "--vga", self.vga, "--quiet", "--watch"]
+        words = ["run", self.path, "--vga", self.vga, "--quiet", "--watch", "--html", page := self.folder / "page"]
         process = begin("vga-report", *words, text=True)
         assert process.stdout is not None and process.stderr is not None
         with process.stdout, process.stderr:

@@ -9,13 +9,14 @@ from contextlib import contextmanager
 from pathlib import Path
 from typing import Any, BinaryIO, Iterator, Optional, Sequence, cast
 
-from zaklimot.format import FAULT
+from zaklimot.format import FAULT, MOST_BYTES
 
 from . import TOP
 from .crates import phases
 from .processes import ENDING, check_program, run, started
 from .progress import Progress
-from .streams import to_read
+from .script import script_of
+from .streams import bytes_of, to_read
 from .trouble import Trouble
 
 CRATE = TOP / "crates" / "vga"
@@ -134,6 +135,14 @@ class Built:
         return outcome.status == 0
 
 
+def _limits(script: Path) -> str:
+    """What a run without proofs may take, and which steps have one picture alone where the script has more."""
+    steps = script_of(bytes_of(script, MOST_BYTES), str(script)).steps()
+    frames = [number for number, step in enumerate(steps, 1) if step.name == "frame"]
+    before = f"; --until {frames[1] - 1} ends before the second" if frames[1:] else ""
+    return f"60 seconds and 1 MiB of output, which two pictures of text fill{before}"
+
+
 class Tried:
     """The program without its proofs, as `rt try` builds and runs it: in about a minute."""
 
@@ -151,7 +160,7 @@ class Tried:
                 yield outcome
         ended = outcome.said.rpartition(self.ENDED)[2].split()
         if self.ENDED not in outcome.said:
-            raise Trouble(f"rt try has not run it to its end, within its limits of time and output: {outcome.fault}")
+            raise Trouble(f"rt try has not run it to its end, within {_limits(script)}: {outcome.fault}")
         outcome.status = int(ended[0])
 
     def print_steps(self, script: Path, is_bytes: bool, printed: BinaryIO) -> None:
