@@ -110,6 +110,7 @@ REFUSED = {
     "report pictures {none} -": "vga-report: {none}: no step has a picture\n",
     "report compare-picture {ok} 1 {i}": "vga-report: {ok}: step 1 has no picture; there are 2 steps\n",
     "report scripts -": "vga-report: the files want a folder\n",
+    "report scripts {s}": "vga-report: {s}: it is not a folder\n",
     "trace": "usage: vga-trace",
     "trace convert {t}": "usage: vga-trace",
     "trace convert {t} {o} --frames 0": "'0' is no number of seconds",

@@ -6,7 +6,7 @@ from pathlib import Path
 from threading import Event
 from typing import Iterator, NamedTuple, Optional
 
-from zaklimot.format import Picture
+from zaklimot.format import MOST_BYTES, Picture
 
 from .cases import Case, chosen_cases, read_cases
 from .output import AGREED, DIFFERED, counted, name_of, write, write_name
@@ -14,7 +14,7 @@ from .png import save_png
 from .processes import MEBIBYTE, Limits, in_parallel
 from .progress import Progress
 from .running import AGREES, DIFFERS, FAILED, SKIPPED, Command, Kind, Result, expected_pictures, run_case
-from .streams import STANDARD, write_file
+from .streams import STANDARD, bytes_of, check_folder, write_file
 from .trouble import Trouble
 
 # The word in the place of a command that asks for the expected pictures.
@@ -91,6 +91,7 @@ def empty_folder(path: str) -> Path:
     """A folder for files that are to be written: a new one, or one that has none."""
     if path == STANDARD:
         raise Trouble("the files want a folder")
+    check_folder(path)
     folder = Path(path)
     folder.mkdir(parents=True, exist_ok=True)
     if any(folder.iterdir()):
@@ -126,7 +127,7 @@ def _copied_font(font: Optional[Path], folder: Path, fonts: dict[Path, str]) -> 
         name = f"fonts/{font.name}"
         fonts[font] = name if name not in fonts.values() else f"fonts/{len(fonts)}-{font.name}"
         (folder / "fonts").mkdir(exist_ok=True)
-        write_file(str(folder / fonts[font]), font.read_bytes())
+        write_file(str(folder / fonts[font]), bytes_of(font, MOST_BYTES))
     return fonts[font]
 
 
