@@ -62,7 +62,7 @@ class Row(NamedTuple):
     @property
     def is_refused(self) -> bool:
         """Whether the step was refused."""
-        return self.step.kind == REFUSAL
+        return self.step.answer[:1] == "E" and self.step.kind == REFUSAL
 
     def mismatch(self) -> str:
         """What an answer is in the place of the one that was expected."""
@@ -189,7 +189,7 @@ class Script:
 
 def _why(words: str, answer: Answer, state: State) -> str:
     """Why a step was refused, if it was; else the state takes it."""
-    if answer.refusal:
+    if answer.answer[:1] == "E" and answer.refusal:
         return why_refused(words, answer.refusal, state)
     step = step_of(words) if words[:2].lower() in KNOWN else None
     if step is not None:

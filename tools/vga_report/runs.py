@@ -178,7 +178,7 @@ def _run_by(
             raise Trouble("a script of bytes has no comments for answers", words.script)
         blessing = Blessing(data) if words.bless or words.diff else None
         for row in script.rows(program, fonts, words.until, progress):
-            row = row._replace(is_strict=words.strict)
+            row = row._replace(is_strict=True) if words.strict else row
             if not tally.steps:
                 shower.begin(script)
             tally.count(row)

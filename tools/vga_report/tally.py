@@ -26,11 +26,11 @@ class Tally:
         self.steps += 1
         self.pictures += row.step.picture is not None
         self.refused += row.is_refused
-        self.wrong += row.is_wrong
         if row.expected is not None:
             self.expected += 1
             self.met += not row.is_wrong
         if row.is_wrong:
+            self.wrong += 1
             place = f"{self.shown}:{row.line}: step {row.step.number}"
             self._told.write(f"{place}: {row.words} {row.mismatch()}\n".encode("utf-8", "surrogateescape"))
 
