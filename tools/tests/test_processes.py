@@ -8,6 +8,7 @@ import unittest
 from pathlib import Path
 from threading import Event
 
+from vga_library.targets import AARCH64
 from vga_report.processes import MEBIBYTE, Limits, Outcome, run_command
 from vga_report.trouble import Trouble
 
@@ -48,7 +49,7 @@ class Sleeping(unittest.TestCase):
 # The words of tools that start programs.
 STARTING = (
     "vga-report suite {harness} --list {list}", "vga-report run {script} --try", "vga-memory",
-    "vga-library make {made}", "vga-page module {made}", "vga-fuzz {vga}",
+    "vga-library make {made}", "vga-release {made}", "vga-page module {made}", "vga-fuzz {vga}",
     "vga-floppy run --on dosbox {script} {made}", "tests-of-tools --folder {new}",
     "vga-trace record {made} --vga {vga} --quiet 50 -- -cdrom disc",
 )
@@ -101,7 +102,9 @@ class Signals(Folder):
         harness = self.write("harness.py", PARENT + "time.sleep(600)")
         self.write("new/__init__.py", "")
         self.program("bin/rt", RT)
-        self.program("bin/qemu-system-x86_64", SLEEPING)
+        self.program("bin/git", "#!/bin/sh\n[ $3 = status ] || echo 0123 0\n")
+        for name in ("qemu-system-x86_64", *AARCH64.programs()):
+            self.program(f"bin/{name}", SLEEPING)
         self.program("bin/dosbox", f"#!/bin/sh\nexec {sys.executable} {TOOLS / 'tests' / 'floppy.py'} wait $CHILD\n")
         places = {
             "harness": f"{sys.executable} {harness} {self.folder}/child {{script}}",

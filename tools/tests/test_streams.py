@@ -6,6 +6,7 @@ import stat
 from unittest import mock
 
 from vga_report.crates import Phases
+from vga_report.listing import _wait_for
 from vga_report.progress import DELAY, Progress
 from vga_report.streams import reading, write_file, writing
 
@@ -117,6 +118,13 @@ class Lines(Folder):
             "3:03 proving: low, crate 1 of 2", "4:04 proving: high, crate 2 of 2, is done",
             "5:05 proving: high, crate 2 of 2, is done",
         ])
+
+    def test_how_long_the_first_answer_takes_is_told(self) -> None:
+        reader, writer = os.pipe()
+        progress = mock.Mock(is_wanted=True, tell=mock.Mock(side_effect=lambda _: os.close(writer)))
+        with open(reader, "rb") as report:
+            _wait_for(report, "s.vga", progress)
+        progress.tell.assert_called_once_with("s.vga: no answer yet after 0 seconds")
 
     def test_no_terminal(self) -> None:
         with mock.patch("sys.stderr", io.StringIO()):

@@ -16,6 +16,7 @@ from vga_library.targets import AARCH64, TARGETS, X86_64
 from vga_release import gathering
 from vga_report import processes
 from vga_report.processes import PACKAGES, Done
+from vga_report.progress import Progress
 from vga_report.trouble import TROUBLE
 from vga_report.version import version
 
@@ -54,7 +55,10 @@ class Fakes(Folder):
 class Making(Fakes):
     def test_what_is_run_and_what_is_laid(self) -> None:
         place = self.folder / "kit-for-arm"
-        status, told, said = call(command.main, "make", str(place), "--target", "aarch64")
+        progress = mock.create_autospec(Progress, instance=True)
+        with mock.patch("vga_report.cli.Progress", return_value=progress):
+            status, told, said = call(command.main, "make", str(place), "--target", "aarch64")
+        self.assertIn(" proving and building the library: vga_bits, crate 1 of ", progress.tell.call_args[0][0])
         self.assertEqual((status, said), (0, ""))
         self.assertIn(f"{place / 'lib' / f'libzaklimot.so.{version()}'}\n", told)
         calls = [words for words in self.noted() if words != ["rt", "doc"]]
@@ -95,7 +99,14 @@ class Making(Fakes):
                     TROUBLE, "", f"vga-library: {program}: it is not in the path: install the package {PACKAGES[program]}\n",
                 ))
             (self.folder / "away").rename(path)
+        done = call(command.main, "make", self.write("file", ""), "--target", "aarch64")
+        self.assertEqual(done, (TROUBLE, "", f"vga-library: {self.folder}/file: it is not a folder\n"))
         self.assertFalse(self.notes.exists())
+
+    def test_what_fails_leaves_no_folder(self) -> None:
+        self.program(f"bin/{AARCH64.tool('ar')}", "#!/bin/sh\nexit 1\n")
+        status, _, said = call(command.main, "make", self.folder / "none", "--target", "aarch64")
+        self.assertEqual((status, (self.folder / "none").exists()), (TROUBLE, False), said)
 
     def test_the_machine_s_own(self) -> None:
         with mock.patch.dict(os.environ, {"CC": "some-cc"}):

@@ -8,7 +8,6 @@ import hashlib
 import io
 import os
 import resource
-import signal
 import subprocess
 import unittest
 from functools import partial
@@ -33,7 +32,7 @@ from zaklimot.format import Step as ScriptStep
 
 from .making import ppm, report
 from .program import run_texts
-from .tools import EXAMPLES, Folder, begin, call, hold, refused, run_tool
+from .tools import EXAMPLES, SIGNALS, Folder, begin, call, hold, refused, run_tool
 
 run = partial(run_tool, "vga-trace")
 # What a trace from power-on begins with.
@@ -407,7 +406,7 @@ class Endings(Folder):
     def test_signals_lose_nothing(self) -> None:
         script = self.folder / "script"
         script.write_bytes(b"old")
-        for number, status in ((signal.SIGTERM, 143), (signal.SIGINT, 130)):
+        for number, status in SIGNALS:
             with self.subTest(number):
                 command = self.begun("convert", "-", script)
                 assert command.stdin is not None
