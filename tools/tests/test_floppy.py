@@ -253,7 +253,7 @@ class Images(Folder):
             path = self.folder / "image"
             path.write_bytes(Machine(image, Adapter()).run())
             status, _, said = run("read", path, self.folder / "reports")
-            self.assertEqual((status, said), (2, f"vga-floppy: {path}: a script has the name of a file outside of a folder: '{name}'\n"))
+            self.assertEqual((status, said), (2, f"vga-floppy: {path}: a script has the name of a file outside of a folder: '{name[:40]}'\n"))
             self.assertEqual(list((self.folder / "reports").iterdir()), [])
 
     def test_an_image_is_made_and_read(self) -> None:

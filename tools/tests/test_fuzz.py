@@ -13,7 +13,7 @@ from vga_fuzz.feeding import Fed, Program
 from vga_fuzz.judging import Limits, Outcome, meant_by, trouble_of
 from vga_fuzz.making import Input, block, make, spelled, step
 from zaklimot.format import (
-    FORMS, HEADERS, MAGIC, MOST_COUNT, Block, Script, Step, decode, encoded, parse_text, print_text,
+    FORMS, HEADERS, MAGIC, MOST_COUNT, Block, Script, Step, decode, encode, encoded, parse_text, print_text,
 )
 
 from .tools import Folder, begin, call, hold
@@ -75,6 +75,9 @@ class Judging(Fuzzed):
     def test_nothing_is_wrong_with_a_good_program(self) -> None:
         for given in (SCRIPT, TEXT):
             self.assertEqual(self.fed(given, self.program_that()), Fed("done"))
+        many = encode(Script((Block(MOST_COUNT, (Step("frame"),) * 257),), 2))
+        path = self.program("refusing", "import sys\nsys.exit('vga: F11 TooMany(5)')\n")
+        self.assertEqual(self.fed(Input(False, many, "script"), path), Fed("F11 TooMany(5)"))
 
     def test_each_wrong_is_found(self) -> None:
         for wrong, said in WRONGS.items():

@@ -25,6 +25,12 @@ PICTURE, OTHER = ppm(9, 1, BLACK * 9), ppm(9, 1, b"\x3f\0\0" * 9)
 IMAGE = Machine(image_for({"": parse_text("frame\n")}, "s"), Adapter()).run()
 # What stands in the place of a program: it answers each script with the picture of the report `r`.
 PROGRAM = "#!/bin/sh\n[ \"$1\" = go ] && exec cat \"${0%/*}/r\"\nexit 0\n"
+# A program that writes so many pictures of three megabytes, and the memory that their run may take.
+PICTURES, ROOM = 100, 1 << 27
+MANY = f"""import sys
+for number in range(1, {PICTURES + 1} if sys.argv[1] == "go" else 1):
+    sys.stdout.buffer.write(b"%d picture 3000016\\nP6\\n1000 1000\\n63\\n" % number + bytes(3_000_000) + b"\\n")
+"""
 FILES: dict[str, str | bytes] = {
     "r": report(PICTURE), "r2": report(OTHER), "i": PICTURE, "s.vga": "frame\n", "m": IMAGE,
     "t": "- w p 3C4 02 1\n", "empty/notes": "", "made/share": "", f"full/{FISH}/file": "",
@@ -258,3 +264,12 @@ class Refused(Folder):
                     self.assertEqual((path.read_bytes(), self.files()), before)
                     self.assertEqual(other.read_bytes(), before[0])
                     other.unlink()
+
+    def test_memory_holds_one_picture(self) -> None:
+        def limit() -> None:
+            room = resource.getpagesize() * int(Path("/proc/self/statm").read_text().split()[0]) + ROOM
+            resource.setrlimit(resource.RLIMIT_AS, (room, room))
+
+        path, program = self.write("many.vga", "frame\n" * PICTURES), self.program("many", MANY)
+        done = run_tool("vga-report", "run", path, "--vga", program, "--quiet", prepare=limit)
+        self.assertEqual(done, (0, f"{path}: {PICTURES} steps, {PICTURES} pictures\n".encode(), ""))

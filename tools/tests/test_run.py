@@ -3,6 +3,7 @@
 import io
 import json
 import os
+import resource
 import signal
 import sys
 import unittest
@@ -53,6 +54,11 @@ elif words[0] in ("go", "run"):
         out.write(b"".join(b"%d look\\n" % (stop + at) for at in (1, 2, 3, 4)))
 """
 TEXT = "; A script.\n\nout 3c2 1\nget a0000 ; = E6\nin 3da\nframe ; = picture 9x1\nint ax=3 ; = ax=0003\nshow regs ; = 2 lines...\n"
+# What the program does first where two runs of it are to be under way at a time.
+TOGETHER = """import glob, os, time
+open(f"{sys.argv[0]}.{os.getppid()}", "w").close()
+while len(glob.glob(sys.argv[0] + ".*")) < 2: time.sleep(0.01)
+"""
 
 
 class Fake(Folder):
@@ -178,7 +184,8 @@ class Listings(Fake):
 
     def test_long_scripts_take_no_longer_a_step(self) -> None:
         path = self.write("long.vga", "out 3c4 02\n" * 50_000)
-        output = self.run_script("--only", "50000", path=path)[1]
+        little = partial(resource.setrlimit, resource.RLIMIT_CPU, (30, 30))
+        output = run("run", path, "--vga", self.vga, "--only", "50000", prepare=little)[1].decode()
         self.assertEqual(output.splitlines()[1:], [" 50000  50000  OUT 3C4 02          ok", "50000 steps, 0 pictures"])
 
     def test_a_script_whose_name_is_no_text(self) -> None:
@@ -370,6 +377,7 @@ class Several(Fake):
             self.write(f"tests/{name}", text)
 
     def test_each_script_of_a_folder(self) -> None:
+        self.change_program("words = sys.argv[1:]", TOGETHER + "words = sys.argv[1:]")
         status, output, said = self.run_script("--jobs", "2", path=str(self.tests))
         a, b = self.tests / "a.vga", self.tests / "more" / "b.vga"
         self.assertEqual((status, said), (1, ""))
@@ -430,6 +438,10 @@ class Several(Fake):
             self.addCleanup(process.wait)
             self.addCleanup(process.kill)
             self.assertIn("6 steps", process.stdout.readline())
+            self.write("s.vga", "frame\n")
+            told = process.stdout.readline(), process.stdout.readline()
+            self.assertEqual(told, (f"{self.path} has changed\n", f"{self.path}: 1 step, 1 picture\n"))
+            self.assertIn("1 step, 1 picture", page.read_text("utf-8"))
             self.write("s.vga", "move\n")
             self.assertEqual(process.stdout.readline(), f"{self.path} has changed\n")
             self.assertIn("F7 BadLine(1)", process.stderr.readline())

@@ -6,13 +6,17 @@ import re
 import shutil
 import sys
 import unittest
+from pathlib import Path
+from unittest import mock
 
+from vga_report import cli
 from vga_report.processes import started
 from vga_report.trouble import TROUBLE, Trouble
 from vga_report.version import version
 
 from .tools import PYTHON, TOOLS, TOP, Folder, call, ended, main_of
 
+NOTING = Path(__file__).with_name("noting.sh").read_text("ascii")
 # Starts programs, of which the first sends a signal amid its start; its status tells that the signal came.
 STARTING = """
 import os, signal, sys
@@ -40,7 +44,7 @@ class Words(unittest.TestCase):
             with self.subTest(name):
                 status, output, _ = call(main_of(name), "--help")
                 self.assertEqual(status, 0)
-                self.assertRegex(output, rf"Example:\n  tools/{name}\b")
+                self.assertRegex(output, rf"Example:\n  tools/{name}\b(?s:.*)\nExit status: 0 ")
                 page = re.search(r"^(\S+\.md) tells more\.$", output, re.M)
                 assert page is not None
                 self.assertTrue((TOP / page[1]).exists(), page[1])
@@ -70,6 +74,10 @@ class Endings(unittest.TestCase):
             for rest, told in ((">/dev/full", "No space left on device"), (">&-", "it is closed")):
                 with self.subTest(name, rest=rest):
                     self.assertEqual(self.told(name, rest), (TROUBLE, f"{name}: standard output: {told}\n"))
+
+    def test_want_of_memory(self) -> None:
+        done = call(lambda _: cli.run("tool", mock.Mock(side_effect=MemoryError)))
+        self.assertEqual(done, (TROUBLE, "", f"tool: {cli.NO_MEMORY}\n"))
 
     def test_a_reader_that_has_gone(self) -> None:
         for name in Words.NAMES:
@@ -110,18 +118,25 @@ class Sources(unittest.TestCase):
 
 
 @unittest.skipIf(sys.platform == "win32", "a script is a program on POSIX")
-class Failing(Folder):
-    def test_nothing_runs_on_where_a_test_fails(self) -> None:
-        gate = self.folder / "gate"
+class Gate(Folder):
+    def run_gate(self, tests: str, memory: str = "") -> tuple[int, str]:
+        """Exit status of the gate over these two programs and others that note their words; and the notes."""
+        gate, notes = self.folder / "gate", Path(self.write("notes", ""))
         shutil.copytree(TOP / ".ci", gate / ".ci")
-        number = self.folder / "number"
-        fakes = {
-            "vga-page-tests": "#!/bin/sh\n",
-            "vga-bindings-tests": "#!/bin/sh\n",
-            "vga-memory": f"import os, time\nopen({str(number)!r}, 'w').write(str(os.getpid()))\ntime.sleep(600)\n",
-            "tests-of-tools": f"#!/bin/sh\nwhile ! [ -s {number} ]; do sleep 0.05; done\nexit 1\n",
-        }
-        for name, text in fakes.items():
+        fakes = dict.fromkeys(("vga-page-tests", "vga-bindings-tests", "vga-library-tests", "rt"), NOTING)
+        for name, text in {**fakes, "vga-memory": memory, "tests-of-tools": tests}.items():
             self.program(f"gate/tools/{name}", text)
-        self.assertEqual(ended(gate / ".ci" / "run", env={**os.environ, "TMPDIR": self.temporary()})[0], 1)
+        given = {"NOTES": str(notes), "PATH": f"{gate / 'tools'}:{os.environ['PATH']}", "TMPDIR": self.temporary()}
+        return ended(gate / ".ci" / "run", env={**os.environ, **given})[0], notes.read_text("utf-8")
+
+    def test_nothing_runs_on_where_a_test_fails(self) -> None:
+        number = self.folder / "number"
+        memory = f"import os, time\nopen({str(number)!r}, 'w').write(str(os.getpid()))\ntime.sleep(600)\n"
+        failing = f"#!/bin/sh\nwhile ! [ -s {number} ]; do sleep 0.05; done\nexit 1\n"
+        self.assertEqual(self.run_gate(failing, memory)[0], 1)
         self.assert_ended(int(number.read_text()))
+
+    def test_tests_that_were_skipped_run_once_the_program_is_built(self) -> None:
+        status, notes = self.run_gate(NOTING)
+        self.assertEqual(status, 0)
+        self.assertRegex(notes, r"\ntests-of-tools --keep (\S+)\nrt ci\ntests-of-tools --again \1\n")
