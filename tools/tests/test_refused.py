@@ -14,7 +14,7 @@ from zaklimot.format import parse_text
 from .floppy import Adapter, Machine
 from .making import BLACK, ppm, report
 from .test_images import png
-from .tools import Folder, run_tool
+from .tools import TOP, Folder, run_tool
 
 # Each tool may take so much memory, in bytes.
 MEMORY = 1 << 30
@@ -66,6 +66,7 @@ REFUSED = {
     "release {s}": "s.vga: it is not a folder",
     "release {o} --program /dev/zero": "/dev/zero: there is no such file",
     "page make {s}/page": "there is no such folder",
+    f"page make {TOP}/page/index.html --module {{s}}": f"vga-page: {TOP}/page/index.html: it is read as {TOP}",
     "report run {s} --pictures {r} --try": "r: it is not a folder",
     "report run {s} --pictures {s}": "it is not a folder",
     "report run {s} --html {s}/page --try": "there is no such folder",

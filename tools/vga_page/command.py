@@ -67,9 +67,9 @@ def _write(path: str, data: bytes, told: str) -> None:
 
 
 def _make(words: argparse.Namespace, progress: Progress) -> None:
-    _check_words(words)
-    # What is wrong with the sources is told before the long work.
+    # What is wrong with the sources is told before the long work; none of them is written.
     sources = read_sources()
+    _check_words(words)
     module = _made_module(words, progress)
     page = make_page(module, sources)
     _write(words.file, page, f"{len(page):,} bytes; its module has {check_module(module)}")

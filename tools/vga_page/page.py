@@ -14,6 +14,7 @@ from vga_report import TOP
 from vga_report.version import version
 from vga_library.making import FONTS
 from vga_report.debugging import PAGE, data_element
+from vga_report.streams import to_read
 from vga_report.trouble import Trouble
 
 from .bundling import joined
@@ -39,10 +40,9 @@ class Sources(NamedTuple):
 
 def read_sources(folder: Path = SOURCES) -> Sources:
     """The sources of a folder."""
-    names = sorted(path.name for path in folder.glob("*.js"))
-    modules = {name: (folder / name).read_text("utf-8") for name in names}
-    frame, style = ((folder / name).read_text("utf-8") for name in ("index.html", "style.css"))
-    return Sources(frame, style, modules)
+    names = [*sorted(path.name for path in folder.glob("*.js")), "index.html", "style.css"]
+    texts = {name: Path(to_read(str(folder / name))).read_text("utf-8") for name in names}
+    return Sources(texts.pop("index.html"), texts.pop("style.css"), texts)
 
 
 def about(text: str) -> str:
@@ -55,7 +55,7 @@ def about(text: str) -> str:
 
 def examples(folder: Path = EXAMPLES) -> list[dict[str, str]]:
     """The scripts of a folder, by their names."""
-    texts = {path.stem: path.read_text("utf-8") for path in sorted(folder.glob("*.vga"))}
+    texts = {path.stem: Path(to_read(str(path))).read_text("utf-8") for path in sorted(folder.glob("*.vga"))}
     return [{"name": name, "about": about(text), "text": text} for name, text in texts.items()]
 
 

@@ -107,8 +107,7 @@ class Choice:
 
     def has(self, row: Row) -> bool:
         """Whether a step is shown."""
-        number = row.step.number
-        return self._has_all or bool(self._kinds & row.kinds) or any(a <= number <= b for a, b in self._ranges)
+        return self._has_all or bool(self._kinds & row.kinds) or any(a <= row.step.number <= b for a, b in self._ranges)
 
 
 class Script:
