@@ -24,8 +24,7 @@ def run(script: str, fonts: str, until: Optional[int]) -> int:
     """Writes the report, and answers the exit status."""
     with open(script, encoding="ascii") as stream:
         lines = [line.partition(";")[0].split() for line in stream]
-    steps = [line for line in lines if line]
-    for number, words in enumerate(steps[:until], 1):
+    for number, words in enumerate([line for line in lines if line][:until], 1):
         if words[0] == "fault":
             print("adapter: F7 BadLine(2)", file=sys.stderr)
             return 1

@@ -36,8 +36,7 @@ class Text(Folder):
         self.assertEqual(run("text", "-", given=b"1 ok\n3 ok\n"), (2, b"1 ok\n", message))
 
     def test_a_closed_pipe_ends_it_silently(self) -> None:
-        path = self.report("r", *("ok" for _ in range(50000)))
-        process = begin(PROGRAM.name, "text", path)
+        process = begin(PROGRAM.name, "text", self.report("r", *("ok" for _ in range(50000))))
         assert process.stdout is not None and process.stderr is not None
         with process, process.stdout, process.stderr:
             self.assertEqual(process.stdout.readline(), b"1 ok\n")
@@ -122,8 +121,7 @@ class Compare(Folder):
         self.assertEqual(run("text", "-", given=shown), (0, shown, ""))
         status, text, _ = run("compare", "-", other, given=shown)
         self.assertEqual(status, 1)
-        line = f"  standard input:2: picture 37 9x1 {hashlib.md5(PICTURE).hexdigest()}\n"
-        self.assertIn(line.encode(), text)
+        self.assertIn(f"  standard input:2: picture 37 9x1 {hashlib.md5(PICTURE).hexdigest()}\n".encode(), text)
         message = "vga-report: standard input:2: the picture is shown by its digest, and its dots are not in the file\n"
         self.assertEqual(run("pictures", "-", self.folder / "p", given=shown), (2, b"", message))
 
@@ -387,8 +385,7 @@ class Suite(Folder):
     def test_all_that_a_harness_says_is_shown(self) -> None:
         self.case("a/one", "frame\n", "1 ok\n")
         program = f"{shlex.quote(sys.executable)} -c 'import sys; [print(at, file=sys.stderr) for at in range(50)]; sys.exit(3)' {{script}}"
-        output = self.run_suite(command=program)[1]
-        shown = [line.strip() for line in output.splitlines()[3:-1]]
+        shown = [line.strip() for line in self.run_suite(command=program)[1].splitlines()[3:-1]]
         self.assertEqual(shown, [*map(str, range(10)), ".. 30 lines ..", *map(str, range(40, 50))])
 
     def test_reports_and_pictures_are_kept(self) -> None:
@@ -399,8 +396,7 @@ class Suite(Folder):
         kept = self.folder / "kept"
         command = f"{shlex.quote(sys.executable)} {harness} {{script}}"
         self.assertEqual(self.run_suite("--keep", kept, command=command)[0], 1)
-        names = sorted(str(file.relative_to(kept)) for file in kept.rglob("*.*"))
-        self.assertEqual(names, [
+        self.assertEqual(sorted(str(file.relative_to(kept)) for file in kept.rglob("*.*")), [
             "a/one-0001-differing.png", "a/one-0001-expected.png", "a/one-0001.png", "a/one.report", "a/one.said",
             "a/one.vga", "a/three-0001.png", "a/three.report", "a/three.said", "a/three.vga",
         ])

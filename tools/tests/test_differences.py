@@ -61,8 +61,7 @@ class Reports(unittest.TestCase):
         comparison = Comparison()
         steps = Report(stream(report("00", "skipped", "02", PICTURE, "04")), "a").steps()
         others = Report(stream(report("01", "01", "02", "skipped", "05")), "b").steps()
-        differences = comparison.differences(steps, others)
-        self.assertEqual([difference.number for difference in differences], [1, 5])
+        self.assertEqual([difference.number for difference in comparison.differences(steps, others)], [1, 5])
         self.assertEqual(comparison.text(), "5 steps, 1 picture, 2 skipped")
 
     def test_what_follows_the_shorter_report_is_one_difference(self) -> None:

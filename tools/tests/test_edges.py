@@ -84,8 +84,7 @@ class Order(Program):
                 fonts, script = self.folder / f"{command}-fonts", self.folder / f"{command}-{name}"
                 os.mkfifo(fonts)
                 os.mkfifo(script)
-                words: list[str | Path] = [PROGRAM, command, script, "--fonts", fonts]
-                with subprocess.Popen(words, stdout=subprocess.PIPE) as running:
+                with subprocess.Popen([PROGRAM, command, script, "--fonts", fonts], stdout=subprocess.PIPE) as running:
                     self.addCleanup(running.kill)
                     give(fonts, FONTS.read_bytes(), lambda: self.assertIsNone(writer(script)))
                     give(script, content)
@@ -172,8 +171,7 @@ def limit_files(room: int) -> None:
 def most_memory(process: int) -> int:
     """The most memory that a process has had in use so far, in bytes."""
     lines = Path(f"/proc/{process}/status").read_text().splitlines()
-    peak = next(line.split() for line in lines if line.startswith("VmHWM:"))
-    return int(peak[1]) * 1024
+    return int(next(line.split() for line in lines if line.startswith("VmHWM:"))[1]) * 1024
 
 
 def answers() -> Iterator[bytes]:
@@ -202,8 +200,7 @@ class Longest(Folder):
         self.assertTrue(run_program("run", self.script, "--fonts", FONTS) == (0, b"".join(answers()), ""))
 
     def test_its_text_is_run_in_little_memory(self) -> None:
-        words: list[str | Path] = [PROGRAM, "go", self.text, "--fonts", FONTS]
-        with subprocess.Popen(words, stdout=subprocess.PIPE) as running:
+        with subprocess.Popen([PROGRAM, "go", self.text, "--fonts", FONTS], stdout=subprocess.PIPE) as running:
             assert running.stdout is not None
             # All memory was asked for before the first answer, and the pipe does not hold them all.
             first = running.stdout.read(1)

@@ -108,8 +108,7 @@ class Monitors(Folder):
                     lines.flush()
                     for line in lines:
                         asked.append(line)
-                        bad = "no_such" in line
-                        answer = '{"error": {"desc": "there is none"}}' if bad else '{"return": {}}'
+                        answer = '{"error": {"desc": "there is none"}}' if "no_such" in line else '{"return": {}}'
                         lines.write('{"event": "STOP"}\n' + answer + "\n")
                         lines.flush()
 

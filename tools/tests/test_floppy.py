@@ -100,8 +100,7 @@ def cycles(script: bytes) -> list[tuple[object, ...]]:
 class Interpreting(unittest.TestCase):
     def test_a_script_step_by_step(self) -> None:
         booted, _ = machine(SCRIPT)
-        left = booted.run()
-        self.assertEqual(b"".join(report_lines(read_image(left, "image"), "image")), REPORT)
+        self.assertEqual(b"".join(report_lines(read_image(booted.run(), "image"), "image")), REPORT)
         record = b"noise\r\n" + b"".join(booted.record)
         self.assertEqual(b"".join(report_lines(read_record(record, "record"), "record")), REPORT)
 
@@ -134,8 +133,7 @@ class Interpreting(unittest.TestCase):
             booted, adapter = machine(script)
             booted.run()
             before = adapter.cycles[:adapter.cycles.index(("begin",))]
-            written = {address for kind, address, *_ in before if kind == "put"}
-            self.assertEqual(written, set(range(0xA0000, 0xB0000)))
+            self.assertEqual({address for kind, address, *_ in before if kind == "put"}, set(range(0xA0000, 0xB0000)))
             self.assertEqual(before[0], ("int", 3, 0, 0, 0, "", b""))
             self.assertEqual(before[-1], ("out", 0x3C2, last))
             self.assertEqual(len(booted.answers), 8 * (script.count(b"int") + script.count(b"repeat")))
@@ -347,8 +345,7 @@ class Left(Folder):
         self.assertEqual(output, b"".join(b"%d CC\n" % number for number in range(1, 17)))
 
     def test_registers_in_which_nothing_is_answered(self) -> None:
-        run_left = read_image(self.image, "it")
-        with_all = b"".join(report_lines(run_left, "it", True)).splitlines()
+        with_all = b"".join(report_lines(read_image(self.image, "it"), "it", True)).splitlines()
         self.assertEqual(with_all[11], b"12 ax=DEAD bx=1234 cx=1234 dx=1234")
         self.assertEqual(with_all[12], b"13 ax=DEAD bx=1234 cx=1234 dx=1234 block 000102030405")
 
@@ -454,8 +451,7 @@ class Pages(Folder):
         page = (TOP / "docs" / "REAL-MACHINES.md").read_text("utf-8")
         named = set(re.findall(r"`((?:host|words|ports|crtc|attribute|dac|services|heights|graphics)/[a-z0-9-]+)`", page))
         self.assertGreater(len(named), 30)
-        answered = {case.name for case in read_cases(str(SUITE)) if case.has_answers_of_machine()}
-        self.assertEqual(named - answered, set())
+        self.assertEqual(named - {case.name for case in read_cases(str(SUITE)) if case.has_answers_of_machine()}, set())
 
     def test_all_that_a_machine_is_asked_fits_an_image(self) -> None:
         cases = [case for case in read_cases(str(SUITE)) if case.has_answers_of_machine()]

@@ -158,8 +158,7 @@ class Command(Fuzzed):
 
     def setUp(self) -> None:
         super().setUp()
-        texts = Path(self.write("texts/one.vga", TEXT.data)).parent
-        self.patch(mock.patch.object(command, "TEXTS", (texts,)))
+        self.patch(mock.patch.object(command, "TEXTS", (Path(self.write("texts/one.vga", TEXT.data)).parent,)))
 
     def test_figures_where_nothing_is_wrong(self) -> None:
         with mock.patch.object(Program, "feed", return_value=Fed("done")):
@@ -187,8 +186,7 @@ class Command(Fuzzed):
         self.assertEqual({file: file.read_bytes() for file in keep.iterdir()}, before)
 
     def test_a_user_who_ends_it_gets_the_figures(self) -> None:
-        keep = self.folder / "kept"
-        process = begin("vga-fuzz", self.program_that("sys.exit(3)"), "--keep", keep, text=True)
+        process = begin("vga-fuzz", self.program_that("sys.exit(3)"), "--keep", self.folder / "kept", text=True)
         assert process.stdout is not None
         self.assertTrue(process.stdout.readline().startswith("input 1 "))
         output = said = ""

@@ -88,8 +88,7 @@ class ComparePicture(Folder):
     def test_other_sizes(self) -> None:
         text = "differ: they have 9x1 and 10x1 dots, and neither is the other with dots repeated\n"
         self.assertEqual(self.compared(ppm(10, 1, BLACK * 10)), (1, text))
-        blurred = b"\0" + b"\xff\0\0" * 7 + b"\x80\0\0" + bytes(30)
-        self.assertEqual(self.compared(png(18, 1, blurred))[0], 1)
+        self.assertEqual(self.compared(png(18, 1, b"\0" + b"\xff\0\0" * 7 + b"\x80\0\0" + bytes(30)))[0], 1)
 
 
 class Animations(Folder):
@@ -97,8 +96,7 @@ class Animations(Folder):
         path, moving = self.report("r", "ok", PICTURE, "ok", ppm(9, 1, BLACK * 9)), self.folder / "m.png"
         calls = [b"\x09" + bytes([mode]) + bytes(9) for mode in (3, 0x12)]
         # A script of bytes has the times of its text.
-        data = b"VGAS\x01" + calls[0] + b"\x0b" + calls[1] + b"\x0b"
-        for script in (b"int ax=3\nframe\nint ax=12\nframe\n", data):
+        for script in (b"int ax=3\nframe\nint ax=12\nframe\n", b"VGAS\x01" + calls[0] + b"\x0b" + calls[1] + b"\x0b"):
             done = run("pictures", path, "--apng", moving, "--script", self.write("s", script))
             self.assertEqual(done, (0, f"{moving}: 2 frames, 0.031 seconds\n".encode(), ""))
         chunks = png_chunks(moving.read_bytes())
@@ -202,8 +200,7 @@ class Written(unittest.TestCase):
         picture = Picture.of_dots(3, 2, WHITE + BLACK + GREY + RED + RED + RED)
         other = Picture.of_dots(3, 2, WHITE + RED + GREY + RED + RED + BLACK)
         white, grey, red = b"\x55\x55\x55", b"\x1c\x1c\x1c", b"\x55\x00\x00"
-        marked = shown(picture, other=other)
-        self.assertEqual(marked, (3, 2, [white + MARK + grey, red + red + MARK]))
+        self.assertEqual(shown(picture, other=other), (3, 2, [white + MARK + grey, red + red + MARK]))
 
     def test_what_one_picture_lacks_is_marked(self) -> None:
         picture, other = Picture.of_dots(2, 1, BLACK * 2), Picture.of_dots(1, 2, BLACK * 2)

@@ -30,8 +30,7 @@ REFUSAL = re.compile(r"^\| `E(\d+) \w+` \|", re.M)
 
 class Header(unittest.TestCase):
     def test_its_version(self) -> None:
-        text = "#define ZAK_API_MAJOR 3 /* x */\n#define ZAK_API_MINOR 14\n"
-        self.assertEqual(version_of(text), Version(3, 14))
+        self.assertEqual(version_of("#define ZAK_API_MAJOR 3 /* x */\n#define ZAK_API_MINOR 14\n"), Version(3, 14))
         self.assertEqual(str(version_of(TEXT)), f"{version_of(TEXT).major}.{version_of(TEXT).minor}")
         with self.assertRaises(Trouble):
             version_of("#define ZAK_API_MAJOR 3\n")

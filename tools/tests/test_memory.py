@@ -16,8 +16,7 @@ WHOLE = Answer(0, b"1 ok\n2 ok\n", "")
 
 def told(refused: Optional[str] = None, ending: str = REFUSED) -> Answer:
     """What the calls tell where one met a refusal."""
-    lines = [f"{call}: {ending if call == refused else RIGHT}\n" for call in CALLS]
-    return Answer(0, "".join(lines).encode(), "")
+    return Answer(0, "".join(f"{call}: {ending if call == refused else RIGHT}\n" for call in CALLS).encode(), "")
 
 
 def sweep() -> list[Answer]:
@@ -57,8 +56,7 @@ class Trying(unittest.TestCase):
 
 class Calls(unittest.TestCase):
     def test_each_call_is_refused_in_its_turn(self) -> None:
-        counts = {**{call: 1 for call in CALLS}, "run": 2, CALLS[0]: 2}
-        self.assertEqual(judge_calls(sweep()), counts)
+        self.assertEqual(judge_calls(sweep()), {**{call: 1 for call in CALLS}, "run": 2, CALLS[0]: 2})
 
     def test_what_is_wrong_is_found(self) -> None:
         cut = Answer(0, b"".join(told().written.splitlines(keepends=True)[:-1]), "")

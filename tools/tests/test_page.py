@@ -85,9 +85,8 @@ class Runs(Alone, Fake):
         status, output, said = self.run_script("--html", str(page))
         self.assertEqual((status, output, said), (0, "6 steps, 1 refused, 1 picture, 4 of 4 answers as expected\n", ""))
         text = page.read_text(encoding="utf-8")
-        reader = self.assert_stands_alone(text)
         self.assertEqual(self.frames(text), [{"step": 4, "title": "step 4, 9x1", "images": ["p1"]}])
-        images = [attributes for tag, attributes in reader.elements if tag == "img"]
+        images = [attributes for tag, attributes in self.assert_stands_alone(text).elements if tag == "img"]
         self.assertEqual([image["id"] for image in images], ["p1"])
         data = base64.b64decode((images[0]["src"] or "").partition(",")[2])
         self.assertEqual(png_rows(data), (9, 1, [b"\xff\0\0" * 4 + bytes(15)]))

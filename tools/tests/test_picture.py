@@ -117,8 +117,7 @@ def text_dots(seed: int = 3, height: int = 16, own: int = 0) -> Dots:
             # Behind the last cell a string would scroll.
             character, front, back = 0x41, 1, 2
         for y in range(height):
-            byte = font[height * character + y]
-            bits = [byte >> 7 - x & 1 for x in range(8)]
+            bits = [font[height * character + y] >> 7 - x & 1 for x in range(8)]
             bits.append(bits[7] if 0xC0 <= character < 0xE0 else 0)
             dots[height * row + y] += [colours[front if bit else back] for bit in bits]
     return dots
@@ -175,8 +174,7 @@ class Drawing(Folder):
 
     def test_six_of_eight_bits_count(self) -> None:
         row = b"\0" + bytes(range(256)) + bytes(64 * 3 + 704)
-        lines = row[:1 + 3 * 320] + (b"\0" + bytes(960)) * 199
-        picture, _ = drawn(script(png(320, 200, lines), "--mode", "13"))
+        picture, _ = drawn(script(png(320, 200, row[:1 + 3 * 320] + (b"\0" + bytes(960)) * 199), "--mode", "13"))
         start = picture.index(b"\n63\n") + 4
         self.assertEqual(picture[start:start + 6 * 85:6], bytes(value >> 2 for value in range(0, 255, 3)))
 
@@ -299,14 +297,12 @@ class Cycles(unittest.TestCase):
 
     def test_no_more_cycles_than_plane_after_plane(self) -> None:
         """Sixteen colours of the test card: 20,000 words of planes are not 0, and half as many cycles do."""
-        card = card_of(640, 480)
-        screen = drawn(script(ppm_of(card.rows), "--mode", "12"))[1]
+        screen = drawn(script(ppm_of(card_of(640, 480).rows), "--mode", "12"))[1]
         words = sum(plane[at:at + 2] != b"\0\0" for plane in screen.planes for at in range(0, 38400, 2))
         self.assertLess(2 * (screen.steps["putw"] + screen.steps["put"]), words)
 
     def test_each_map_mask_once(self) -> None:
-        text = all_scripts()["12 []"][0]
-        masks = [line for line in text.splitlines() if line.startswith(b"outw 3C4")]
+        masks = [line for line in all_scripts()["12 []"][0].splitlines() if line.startswith(b"outw 3C4")]
         self.assertEqual(len(masks), len(set(masks)))
         self.assertNotIn(b"outw 3C4 0F02", masks)
 
@@ -494,8 +490,7 @@ class Text(unittest.TestCase):
     def test_a_glyph_shows_a_cell_of_many_colours_as_near_as_two_can(self) -> None:
         # Half of each line is red, half nearly so, and the rest blue: two colours, of which the background is the ninth dot's.
         line = [(60, 0, 0), (60, 0, 0), (60, 0, 0), (56, 0, 0), (0, 0, 60), (0, 0, 60), (60, 0, 0), (60, 0, 0), (0, 0, 60)]
-        dots = [line * 80 for _ in range(400)]
-        told, text = made_of(ppm_of(dots), "--mode", "3", "--own-glyphs")
+        told, text = made_of(ppm_of([line * 80 for _ in range(400)]), "--mode", "3", "--own-glyphs")
         self.assertIn("3 colours, 0 of 2,000 cells fit, 1 glyphs of its own", told)
         self.assertIn(b"int ax=1110 bx=1000 cx=1 block " + b"F3" * 16 + b"\n", text)
         line[3] = (60, 0, 0)
@@ -565,8 +560,7 @@ class Examples(unittest.TestCase):
 
     def test_a_card_that_can_not_be_written(self) -> None:
         words = (sys.executable, EXAMPLES / "test_card.py", "320x200", "/no-such-folder/card.png")
-        told = "test_card.py: /no-such-folder/card.png: No such file or directory\n"
-        self.assertEqual(ended(*words), (2, "", told))
+        self.assertEqual(ended(*words), (2, "", "test_card.py: /no-such-folder/card.png: No such file or directory\n"))
 
     def test_what_the_page_shows(self) -> None:
         page = (EXAMPLES.parent / "docs" / "PICTURES.md").read_text()
@@ -574,6 +568,5 @@ class Examples(unittest.TestCase):
             ("640x480", "--mode 12 --short"), ("640x480", "--mode 3 --scale --short"), ("320x200", "--mode 12 --fit --nearest"),
         ):
             with self.subTest(words):
-                card = card_of(*map(int, size.split("x")))
-                told = made_of(ppm_of(card.rows), *words.split())[0]
+                told = made_of(ppm_of(card_of(*map(int, size.split("x"))).rows), *words.split())[0]
                 self.assertIn(f"card.png card.vga {words}\n    {told}", page)

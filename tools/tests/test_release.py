@@ -253,8 +253,7 @@ class Packed(Folder):
 
 class Commits(unittest.TestCase):
     def test_what_is_changed_is_no_release(self) -> None:
-        done = Done(0, b" M README.md\n", b"")
-        with mock.patch("vga_report.processes.captured", return_value=done):
+        with mock.patch("vga_report.processes.captured", return_value=Done(0, b" M README.md\n", b"")):
             status, _, said = call(command.main, "release")
         self.assertEqual(status, TROUBLE)
         self.assertTrue(said.startswith("vga-release: a release is made from a commit"))

@@ -325,8 +325,7 @@ class Expectations(unittest.TestCase):
             return [(line.number, line.words) for line in steps_in(io.BytesIO(text.encode()))]
 
         text = "; x\nVersion  2\nint\nrepeat 2 ; twice\nframe ; = *\nin 3DA\nEND\nrepeat 3\nend\nframe\n"
-        twice = [(5, "frame"), (6, "in 3DA")] * 2
-        self.assertEqual(steps(text), [(3, "int"), *twice, (10, "frame")])
+        self.assertEqual(steps(text), [(3, "int"), *[(5, "frame"), (6, "in 3DA")] * 2, (10, "frame")])
         self.assertEqual(steps("version 2\nrepeat 65535\nframe\n"), [(3, "frame")])
         with mock.patch("zaklimot.format.lines.MOST_STEPS", 1000):
             self.assertEqual(len(steps("version 2\nrepeat 65535\n" + "frame\n" * 300 + "end")), 900)

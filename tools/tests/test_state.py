@@ -258,8 +258,7 @@ class Cuts(unittest.TestCase):
                         self.assertEqual(seen(state_of(cut)), seen(state_of(whole)))
 
     def test_what_is_told_to_be_read_is_read(self) -> None:
-        state = state_of(listed(noise(1, 400)))
-        steps = list(rebuilt(state))
+        steps = list(rebuilt(state_of(listed(noise(1, 400)))))
         told = [step.value for step in steps if step.opcode in READS]
         self.assertEqual(told, [answer for step, answer in zip(steps, answers(steps)) if step.opcode in READS])
         self.assertGreater(len(told), 1)
@@ -276,8 +275,6 @@ class Cuts(unittest.TestCase):
         self.assertEqual(told, "trace: it has 5 cycles, and none from 6 on becomes a step")
 
     def test_empty_memory_takes_no_steps(self) -> None:
-        count = sum(step.opcode == PUTW for step in rebuilt(state_of(PLANAR)))
-        self.assertEqual(count, 0)
+        self.assertEqual(sum(step.opcode == PUTW for step in rebuilt(state_of(PLANAR))), 0)
         filled = [step for at in range(0, 1024, 2) for step in (Step(PUTW, 0xA0000 + at, 0x5555),)]
-        steps = [step for step in rebuilt(state_of([*PLANAR, *filled])) if step.opcode == PUTW]
-        self.assertEqual(steps, filled)
+        self.assertEqual([step for step in rebuilt(state_of([*PLANAR, *filled])) if step.opcode == PUTW], filled)

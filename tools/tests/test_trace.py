@@ -92,8 +92,7 @@ class Lines(unittest.TestCase):
         ))
 
     def test_damaged_lines_of_qemu_are_counted(self) -> None:
-        lines = qemu("write 3c2 67 1") + b"x\n" + 2 * b"memory_region_ops_wri\n" + qemu("write 3c4 2 1")[:-9]
-        read = trace(lines)
+        read = trace(qemu("write 3c2 67 1") + b"x\n" + 2 * b"memory_region_ops_wri\n" + qemu("write 3c4 2 1")[:-9])
         self.assertEqual(len(list(read.cycles())), 1)
         self.assertEqual((read.damaged, read.first_damaged), (3, 3))
 
@@ -101,7 +100,7 @@ class Lines(unittest.TestCase):
         none = "it has no cycle, neither of qemu's log nor of the plain form"
         bad = "0 w p 3C4 302/0 x p 3C4 2 1/0 w q 3C4 2 1/0.5 w p 3C4 2 1/0 w p 0x3C4 2 1/0 w p 3C4 2 1 2".split("/")
         no_cycle = "2: it is no cycle: `TIME r|w p|m ADDRESS VALUE SIZE` is one"
-        for data, told in (
+        hold(self, partial(refused, cycles), ((data, f"trace:{told}") for data, told in (
             *((BEGIN + f"{line}\n".encode(), no_cycle) for line in bad),
             (BEGIN + b"0 w p 3C4 2 3\n", "2: a cycle has 1, 2, 4 or 8 bytes, and not 3"),
             (BEGIN + b"0 w p 3C4 302 1\n", "2: the value 302 has more than 1 bytes"),
@@ -113,9 +112,7 @@ class Lines(unittest.TestCase):
             (b"0 w p 3C2 67\n", f"1: {none}; this line is the first that is no comment"),
             (b"0 x p 3C2 67 1", f"1: {none}; this line is the first that is no comment"),
             (b"; good\n\nhello\noh\n", f"3: {none}; this line is the first that is no comment"),
-        ):
-            with self.subTest(data):
-                self.assertEqual(refused(cycles, data), f"trace:{told}")
+        )))
 
 
 class Steps(unittest.TestCase):
@@ -169,8 +166,7 @@ class Steps(unittest.TestCase):
     def test_rows_of_polls(self) -> None:
         poll, mono, other = Step(IN, 0x3DA, 5), Step(IN, 0x3BA, 5), Step(IN, 0x3C9, 5)
         steps = [poll, poll._replace(value=4), poll, mono, mono, poll, other, other, poll, Step(OUT, 0x3C0, 1), poll, poll]
-        kept = [poll, mono, poll, other, other, poll, Step(OUT, 0x3C0, 1), poll]
-        self.assertEqual(list(without_polls(steps)), kept)
+        self.assertEqual(list(without_polls(steps)), [poll, mono, poll, other, other, poll, Step(OUT, 0x3C0, 1), poll])
         self.assertEqual(listed(BEGIN + 3 * b"- r p 3DA 0 1\n"), ["out 3C2 67", *3 * ["in 3DA"], "frame"])
         self.assertEqual(listed(BEGIN + 3 * b"- r p 3DA 0 1\n", keeps_polls=False), ["out 3C2 67", "in 3DA", "frame"])
 
@@ -386,8 +382,7 @@ class Endings(Folder):
 
     def test_a_trace_without_an_end(self) -> None:
         script = self.folder / "script"
-        command = self.begun("convert", "-", script, "--to", "3")
-        self.assertEqual(self.feed(command, BEGIN), 0)
+        self.assertEqual(self.feed(self.begun("convert", "-", script, "--to", "3"), BEGIN), 0)
         self.assertEqual(script.read_bytes(), b"VGAS\x01" + 3 * b"\x01\xc2\x03\x67" + b"\x0b")
 
     def test_a_line_without_an_end(self) -> None:
@@ -512,9 +507,8 @@ class Checking(Folder):
         self.assertEqual(self.check("ok", "00", PICTURE, given=given)[0], 2)
 
     def test_a_damaged_report(self) -> None:
-        path = self.write("trace", self.TRACE)
         said = "vga-trace: standard input:2: step 2 is to come, and not '3 ok'\n"
-        self.assertEqual(run("check", path, "-", given=b"1 ok\n3 ok\n"), (2, b"", said))
+        self.assertEqual(run("check", self.write("trace", self.TRACE), "-", given=b"1 ok\n3 ok\n"), (2, b"", said))
 
 
 class Example(Folder):
@@ -564,8 +558,7 @@ class Folding(unittest.TestCase):
         self.assertEqual(lines([POLL, WRITE] * 30 + [POLL]), ["repeat 30", "in 3DA", "out 3C0 20", "end", "in 3DA"])
         group = [Step(PUT, 0xA0000 + at, at) for at in range(8)]
         self.assertEqual(lines(group * 3), ["repeat 3", *(f"put A000{at} 0{at}" for at in range(8)), "end"])
-        longer = [Step(PUT, 0xA0000 + at, at) for at in range(9)]
-        self.assertEqual(len(lines(longer * 3)), 27)
+        self.assertEqual(len(lines([Step(PUT, 0xA0000 + at, at) for at in range(9)] * 3)), 27)
 
     def test_short_rows_stay(self) -> None:
         # Five polls of three bytes are 15 bytes, and a block of them seven: less than half.

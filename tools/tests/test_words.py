@@ -69,12 +69,11 @@ class Jobs(Program):
             ("0", b""), ("1", b"1 ok\n"), ("12", REPORT), ("0012", REPORT), ("4294967295", REPORT),
             ("00000000000000000004294967295", REPORT),
         ]:
-            state = b"%d misc " % (answers.count(b"\n") + 1)
             for words in (("run", "script"), ("go", "text")):
                 with self.subTest((*words, number)):
                     ran = self.ran(*words, "--fonts", "fonts", "--until", number)
                     self.assertEqual((ran.status, ran.said), (0, ""))
-                    self.assertTrue(ran.report.startswith(answers + state))
+                    self.assertTrue(ran.report.startswith(answers + b"%d misc " % (answers.count(b"\n") + 1)))
                     self.assertTrue(ran.report.endswith(b" height 0000\n"))
                     self.assertEqual(self.ran(*words, "--until", number, "--fonts", "fonts"), ran)
 

@@ -85,8 +85,7 @@ def _lay(words: argparse.Namespace, place: Place, prefix: str, progress: Progres
     for name in ("include", place.library_folder, "share"):
         check_folder(place.folder(name))
     with tempfile.TemporaryDirectory(prefix="vga-library-") as folder:
-        parts = _parts(words, target, takes_made, progress, Path(folder))
-        for path in make_library(*parts, place, prefix, target):
+        for path in make_library(*_parts(words, target, takes_made, progress, Path(folder)), place, prefix, target):
             print(path)
 
 

@@ -96,17 +96,6 @@ def make_shared(whole: Path, folder: Path, told: Version, target: Target) -> Non
         (folder / link).symlink_to(file)
 
 
-def _lay(source: Path, place: Path) -> None:
-    """Lays a file or a link, in the place of what has its name."""
-    place.unlink(missing_ok=True)
-    shutil.copyfile(source, place, follow_symlinks=False)
-
-
-def _written(path: Path, text: str) -> Path:
-    path.write_text(text, "ascii")
-    return path
-
-
 def make_library(archive: Path, memory: Path, place: Place, prefix: str, target: Target = X86_64) -> list[Path]:
     """Lays headers, libraries, fonts, and what `pkg-config` and CMake read. Answers what was laid.
 
@@ -129,10 +118,12 @@ def make_library(archive: Path, memory: Path, place: Place, prefix: str, target:
         # The static library has no times and no owners, so that it is the same each time.
         run([target.tool("ar"), "rcsD", made / f"lib{NAME}.a", whole])
         make_shared(whole, made, told, target)
+        for path, text in texts.items():
+            (Path(name) / path.name).write_text(text, "ascii")
         laid = {
             include / HEADER.name: HEADER, include / CPP_HEADER.name: CPP_HEADER,
             **{libraries / path.name: path for path in sorted(made.iterdir())},
-            **{path: _written(Path(name) / path.name, text) for path, text in texts.items()},
+            **{path: Path(name) / path.name for path in texts},
             share / FONTS.name: FONTS,
         }
         for path, source in laid.items():
@@ -141,7 +132,8 @@ def make_library(archive: Path, memory: Path, place: Place, prefix: str, target:
         # All is made now, so that nothing is laid where something can't be made.
         for path, source in laid.items():
             path.parent.mkdir(parents=True, exist_ok=True)
-            _lay(source, path)
+            path.unlink(missing_ok=True)
+            shutil.copyfile(source, path, follow_symlinks=False)
     return list(laid)
 
 
@@ -149,8 +141,7 @@ def _sources() -> Iterator[Path]:
     """The files that the library's crate is made of, and those of the crates below it."""
     yield TOP / "crates.txt"
     for name in [*below(CRATE.name), CRATE.name]:
-        folder = TOP / "crates" / name
-        for entry in sorted(folder.iterdir()):
+        for entry in sorted((TOP / "crates" / name).iterdir()):
             if entry.name != "out":
                 yield from sorted(path for path in (entry.rglob("*") if entry.is_dir() else [entry]) if path.is_file())
 
@@ -184,7 +175,6 @@ def kept(backend: str, target: Target) -> Optional[tuple[Path, Path]]:
     """Both parts, where they were made by this compiler of these sources; else None."""
     parts = _parts(target)
     try:
-        told = parts[0].with_name(MADE_OF).read_text("utf-8")
-        return parts if told == made_of(backend, target, parts) else None
+        return parts if parts[0].with_name(MADE_OF).read_text("utf-8") == made_of(backend, target, parts) else None
     except FileNotFoundError:
         return None

@@ -54,9 +54,8 @@ def rlib(name: str) -> Path:
 def _libraries(kit: Path) -> list[str | Path]:
     """The words that name the libraries of the kit and of the repository."""
     own = below(CRATE.name)
-    given = [name for name in uses()[CRATE.name] if name not in uses()]
     words: list[str | Path] = []
-    for name in [ALWAYS, *given]:
+    for name in [ALWAYS, *(name for name in uses()[CRATE.name] if name not in uses())]:
         words += ["--extern", f"{name}={kit / 'rlibs' / name}.rlib"]
     words += ["-L", f"dependency={kit / 'rlibs'}"]
     for name in own:

@@ -56,8 +56,7 @@ def try_cases(crate: Path, allocation: int, cases: Mapping[str, Case], data: Map
             (folder / case).write_text(given)
             (folder / f"{case}.args").write_text("".join(f"{word}\n" for word in words))
         files = [word for file, path in data.items() for word in ("--data", f"{file}={path}")]
-        command = ["rt", "try", "--fail-alloc", str(allocation), *files, "--cases", str(folder), "--"]
-        done = captured(command, crate)
+        done = captured(["rt", "try", "--fail-alloc", str(allocation), *files, "--cases", str(folder), "--"], crate)
     answers = answers_of(done.output, done.errors.decode("utf-8", "replace"))
     if answers.keys() != cases.keys():
         raise Wrong(done.errors.decode("utf-8", "replace")[-2000:])

@@ -58,8 +58,7 @@ def _parser() -> argparse.ArgumentParser:
     told = "if there are too many colours: takes the nearest of the chosen ones"
     add(colours, "--nearest", told, dest="fewer", action="store_const", const=Fewer.NEAREST)
     told = "does the same, but mixes them: by Floyd and Steinberg, or by a pattern of four by four dots"
-    ways = [Fewer.FLOYD, Fewer.ORDERED]
-    add(colours, "--dither floyd|ordered", told, dest="fewer", choices=ways, type=Fewer)
+    add(colours, "--dither floyd|ordered", told, dest="fewer", choices=[Fewer.FLOYD, Fewer.ORDERED], type=Fewer)
     told = "uses this font file for text (default: the project's)"
     add(made, "--fonts FILE", told, type=to_read, default=str(FONTS))
     add(made, "--rows", "rows of text (default: 25)", type=int, choices=list(LINES))

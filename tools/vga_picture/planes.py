@@ -71,9 +71,8 @@ def _word(planes: Sequence[bytes]) -> Word:
 def drawing(have: Planes, want: Planes) -> list[Step]:
     """The steps that make planes others, with each map mask once at most, from a map mask of all planes on."""
     passes: dict[int, dict[int, int]] = {mask: {} for mask in MASKS}
-    length = len(want[0])
     known: dict[tuple[bytes, ...], list[Write]] = {}
-    for at in range(0, length, 2):
+    for at in range(0, len(want[0]), 2):
         old, new = [plane[at:at + 2] for plane in have], [plane[at:at + 2] for plane in want]
         if old == new:
             continue

@@ -50,8 +50,7 @@ class Repeat:
 
     def text(self) -> bytes:
         """The block as lines."""
-        lines = b"".join(step.text() for step in self.steps)
-        return f"{REPEAT} {self.count}\n".encode() + lines + f"{END}\n".encode()
+        return f"{REPEAT} {self.count}\n".encode() + b"".join(step.text() for step in self.steps) + f"{END}\n".encode()
 
 
 Item = Union[Step, Service, Repeat]
@@ -92,10 +91,9 @@ class Figures:
 
     def line(self) -> str:
         """The figures as they are told."""
-        steps = sum(self.kinds.values())
         kinds = ", ".join(f"{count:,} {kind}" for kind, count in self.kinds.most_common())
         blocks = f", {self.blocks:,} repeat" if self.blocks else ""
-        return f"{steps:,} steps, {self.cycles:,} cycles, {self.length:,} bytes: {kinds}{blocks}"
+        return f"{sum(self.kinds.values()):,} steps, {self.cycles:,} cycles, {self.length:,} bytes: {kinds}{blocks}"
 
 
 def _lines(parts: Sequence[Part], answer: str, is_version_2: bool) -> bytes:

@@ -37,16 +37,12 @@ def clean_commit() -> Commit:
 
 def files_of(commit: Commit, paths: Sequence[str]) -> dict[str, File]:
     """The files of a commit below these paths."""
+    files: dict[str, File] = {}
     with tarfile.open(fileobj=io.BytesIO(_git("archive", "--format=tar", commit.number, "--", *paths))) as archive:
-        return dict(_members(archive))
-
-
-def _members(archive: tarfile.TarFile) -> list[tuple[str, File]]:
-    files = []
-    for member in archive.getmembers():
-        stream = archive.extractfile(member) if member.isfile() else None
-        if stream is not None:
-            files.append((member.name, File(stream.read(), bool(member.mode & EXECUTABLE))))
+        for member in archive.getmembers():
+            stream = archive.extractfile(member) if member.isfile() else None
+            if stream is not None:
+                files[member.name] = File(stream.read(), bool(member.mode & EXECUTABLE))
     return files
 
 

@@ -35,8 +35,6 @@ LINKS: Mapping[str, Entry] = {
     "kit/include": "../include", "kit/lib": "../lib", "kit/share": "../share",
 }
 MADE_OF = "MADE-OF"
-# What this file tells of the commit, of the toolchain, and of what was built.
-HEAD = "commit {number}\ntoolchain {toolchain}\n"
 SCRIPTS = "scripts"
 PACKAGE = "bindings/python"
 # What the package is made of, where it lies in the repository.
@@ -105,12 +103,11 @@ def settled(entries: Mapping[str, Entry]) -> dict[str, Entry]:
 
 def made_of(commit: Commit, toolchain: str, built: Mapping[str, Entry]) -> File:
     """The commit, the toolchain, and a checksum of each file that was built."""
-    head = HEAD.format(number=commit.number, toolchain=toolchain)
     sums = (
         f"sha256 {hashlib.sha256(entry.content).hexdigest()} {path}\n"
         for path, entry in sorted(built.items()) if isinstance(entry, File)
     )
-    return File((head + "".join(sums)).encode("ascii"))
+    return File((f"commit {commit.number}\ntoolchain {toolchain}\n" + "".join(sums)).encode("ascii"))
 
 
 def release_entries(commit: Commit, program: Path, archives: Mapping[Target, Path]) -> dict[str, Entry]:
@@ -132,11 +129,10 @@ def wheel_of(files: Mapping[str, File], library: Path, folder: Path, target: Tar
             laid.write_bytes(file.content)
     made = folder / "made"
     made.mkdir()
-    # With -B Python leaves nothing beside the sources, which would go into the wheel.
-    words = [sys.executable, "-B", "-c", MAKING, made]
     # As where Python itself is built for another processor.
     environment = {"ZAKLIMOT_DIR": str(library), "_PYTHON_HOST_PLATFORM": f"linux-{target.name}"}
-    run(words, folder / "sources" / PACKAGE, environment=environment)
+    # With -B Python leaves nothing beside the sources, which would go into the wheel.
+    run([sys.executable, "-B", "-c", MAKING, made], folder / "sources" / PACKAGE, environment=environment)
     return next(made.iterdir())
 
 

@@ -14,12 +14,6 @@ LEVEL = 9
 Entry = Union[File, str]
 
 
-def _folders(entries: Mapping[str, Entry]) -> set[str]:
-    """The folders above the entries."""
-    above = {str(folder) for path in entries for folder in PurePosixPath(path).parents}
-    return above - {"."}
-
-
 def _member(name: str, time: int) -> tarfile.TarInfo:
     """What an archive tells of a member, but for its kind: no owner, and the time of the commit."""
     made = tarfile.TarInfo(name)
@@ -39,7 +33,7 @@ def _add(archive: tarfile.TarFile, name: str, entry: Entry, time: int) -> None:
 
 def pack(stream: BinaryIO, entries: Mapping[str, Entry], time: int) -> None:
     """Writes the archive: names in order, each folder before what lies in it."""
-    folders = _folders(entries)
+    folders = {str(folder) for path in entries for folder in PurePosixPath(path).parents} - {"."}
     with gzip.GzipFile(filename="", mode="wb", compresslevel=LEVEL, fileobj=stream, mtime=time) as packed:
         with tarfile.open(fileobj=packed, mode="w", format=tarfile.PAX_FORMAT) as archive:
             for name in sorted({*entries, *folders}):

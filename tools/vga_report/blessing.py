@@ -51,8 +51,7 @@ class Blessing:
         changed = {number for number, _, _ in self.changes(is_all)}
         lines, is_dropped = [], False
         for number, line in enumerate(self._lines, 1):
-            is_part = line.strip().startswith(DUMPED)
-            if not (is_part and is_dropped):
+            if not (is_dropped and line.strip().startswith(DUMPED)):
                 is_dropped = False
                 lines.append(line)
             if number in changed:

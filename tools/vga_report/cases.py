@@ -73,13 +73,12 @@ class Case(NamedTuple):
         """A step with the file and the line where it stands; empty where it stands in no text."""
         if self.is_bytes or number < 1:
             return ""
-        behind = number
         for file in (self.front, self.source):
             steps = list(steps_in(BytesIO(bytes_of(file, MOST_BYTES)))) if file else []
-            if behind <= len(steps):
-                step = steps[behind - 1]
+            if number <= len(steps):
+                step = steps[number - 1]
                 return printable(f"`{step.words[:MOST_WORDS]}`, {file.relative_to(self.folder)}:{step.number}")
-            behind -= len(steps)
+            number -= len(steps)
         return ""
 
     def expects_fault(self) -> bool:

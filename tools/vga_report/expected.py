@@ -74,8 +74,7 @@ class Expected:
 
     def _picture(self, length: int, width: int, height: int) -> Picture:
         """The picture whose rows stand next, one a line."""
-        dots = b"".join(self._row(width) for _ in range(height))
-        picture = Picture.of_dots(width, height, dots)
+        picture = Picture.of_dots(width, height, b"".join(self._row(width) for _ in range(height)))
         if picture.length != length:
             raise self._trouble(f"a picture of {picture.size} dots has {picture.length} bytes, and not {length}")
         return picture

@@ -31,9 +31,7 @@ def is_as_expected(step: Answer, expected: str, name: str) -> bool:
     """Whether a step of this name answers what is expected of it."""
     answer = answer_of(step).lower()
     wanted = expected.lower()
-    if wanted == ANY or wanted == answer:
-        return True
-    if wanted.endswith(FRONT) and answer.startswith(wanted[:-len(FRONT)]):
+    if wanted in (ANY, answer) or wanted.endswith(FRONT) and answer.startswith(wanted[:-len(FRONT)]):
         return True
     refusal = REFUSAL.fullmatch(step.answer)
     if refusal is not None and name not in READING:

@@ -171,11 +171,7 @@ def _is_utf_16(data: bytes) -> bool:
     begin = 2 if data.startswith((b"\xff\xfe", b"\xfe\xff")) else 0
     pairs = data[begin:begin + LOOKED_AT // 2 * 2]
     halves = pairs[0::2], pairs[1::2]
-    return any(high and not any(high) and _is_text(low) for low, high in (halves, halves[::-1]))
-
-
-def _is_text(data: bytes) -> bool:
-    return bool(data) and not CONTROLS & set(data[:LOOKED_AT])
+    return any(high and not any(high) and low and not CONTROLS & set(low) for low, high in (halves, halves[::-1]))
 
 
 def _bad_step(data: bytes, place: int) -> str:
@@ -201,6 +197,5 @@ def _bad_step(data: bytes, place: int) -> str:
 def _truncated(data: bytes, place: int) -> str:
     if place >= len(data):
         return "nothing stands after the magic: the version is lacking"
-    left = len(data) - place
     step = f"the step {OPCODES.get(data[place], '')} at offset {place}"
-    return f"{step} is cut off: the file ends after {left} of its bytes"
+    return f"{step} is cut off: the file ends after {len(data) - place} of its bytes"

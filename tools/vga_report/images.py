@@ -35,9 +35,7 @@ class Image(NamedTuple):
 
     def is_repeated(self, across: int, down: int) -> bool:
         """Whether dots that stand together so often across and down are alike."""
-        if any(self.rows[y] != self.rows[y - y % down] for y in range(self.height)):
-            return False
-        return all(
+        return all(self.rows[y] == self.rows[y - y % down] for y in range(self.height)) and all(
             row[3 * at + part::3 * across] == row[part::3 * across]
             for row in self.rows[::down] for at in range(1, across) for part in range(3)
         )

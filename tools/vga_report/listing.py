@@ -173,8 +173,7 @@ class Script:
                 else:
                     yield Row(step, "")
         if outcome.status:
-            fault = explained(outcome.fault, Files(str(self.path), fonts))
-            raise Trouble(fault.replace(str(self.path), self.shown))
+            raise Trouble(explained(outcome.fault, Files(str(self.path), fonts)).replace(str(self.path), self.shown))
         self._check_end(report.count, until, len(looks))
 
     def _check_end(self, answered: int, until: Optional[int], looks: int) -> None:
@@ -208,17 +207,15 @@ def listed(row: Row, width: int, more: str = "", why: str = "") -> Iterator[str]
     """The lines of a step in the listing, and below them why it was refused."""
     words = row.words if len(row.words) <= width else row.words[:width - 2] + ".."
     place = "" if row.line is None else row.line
-    if row.expected is None and row.step.picture is None and not row.step.others:
-        yield f"{place:>6} {row.step.number:>6}  {words:{width}}  {row.step.answer}"
-        if why:
-            yield f"{'':15}{why}"
-        return
-    answers = [answer_of(row.step) + more] if row.step.picture is not None else list(row.step.lines)
-    if row.is_wrong:
-        answers[-1] += f"   not {row.expected or 'refused'}"
     front = f"{place:>6} {row.step.number:>6}  {words:{width}}  "
-    for begin, answer in zip_longest([front], answers, fillvalue=" " * len(front)):
-        yield (begin + answer).rstrip()
+    if row.expected is None and row.step.picture is None and not row.step.others:
+        yield front + row.step.answer
+    else:
+        answers = [answer_of(row.step) + more] if row.step.picture is not None else list(row.step.lines)
+        if row.is_wrong:
+            answers[-1] += f"   not {row.expected or 'refused'}"
+        for begin, answer in zip_longest([front], answers, fillvalue=" " * len(front)):
+            yield (begin + answer).rstrip()
     if why:
         yield f"{'':15}{why}"
 

@@ -38,11 +38,6 @@ def _data_of(picture: Picture, other: Optional[Picture] = None) -> str:
     return "data:image/png;base64," + base64.b64encode(stream.getvalue()).decode("ascii")
 
 
-def _told(said: str, link: Optional[str]) -> str:
-    """What is told above a listing, with a link to the page that runs the script, where there is one."""
-    return escape(said) + ("" if link is None else f' <a href="{escape(link)}">Run it step by step</a>')
-
-
 class Page:
     """A page that is filled row by row."""
 
@@ -59,8 +54,7 @@ class Page:
         if self._images > MOST_PICTURES:
             raise Trouble(f"the page would have more than {MOST_PICTURES} pictures: --only takes some steps")
         name, frame = f"p{self._images}", len(self._frames)
-        source = _data_of(picture, other)
-        return name, f'<img id="{name}" data-frame="{frame}" alt="{picture.size}" src="{source}">'
+        return name, f'<img id="{name}" data-frame="{frame}" alt="{picture.size}" src="{_data_of(picture, other)}">'
 
     def _add(self, cells: Sequence[str], kind: str) -> None:
         if len(self._rows) == MOST_ROWS:
@@ -104,8 +98,9 @@ class Page:
         captions = (f"<figcaption>{escape(caption)}</figcaption>" for caption in self._captions)
         figures = "".join(f"<figure><canvas></canvas>{caption}</figure>" for caption in captions)
         heads = "".join(f"<th>{escape(column)}</th>" for column in self._columns)
+        told = escape(said) + ("" if link is None else f' <a href="{escape(link)}">Run it step by step</a>')
         style, script = ((HERE / name).read_text("utf-8") for name in ("page.css", "page.js"))
         return filled(
-            HERE / "page.html", POLICY=escape(POLICY), TITLE=escape(title), STYLE=style, TOLD=_told(said, link),
+            HERE / "page.html", POLICY=escape(POLICY), TITLE=escape(title), STYLE=style, TOLD=told,
             SIZES=SIZES, FIGURES=figures, HEADS=heads, ROWS="\n".join(self._rows), FRAMES=frames, SCRIPT=script,
         )

@@ -111,8 +111,7 @@ class Built:
     def running(self, script: Path, fonts: str, until: Optional[int], is_bytes: bool) -> Iterator[Outcome]:
         """A run of a script, as text or as bytes."""
         stop = [] if until is None else ["--until", str(until)]
-        words = [self._path, "run" if is_bytes else "go", str(script), "--fonts", fonts, *stop]
-        with _running(words) as outcome:
+        with _running([self._path, "run" if is_bytes else "go", str(script), "--fonts", fonts, *stop]) as outcome:
             yield outcome
 
     def print_steps(self, script: Path, is_bytes: bool, printed: BinaryIO) -> None:
@@ -158,10 +157,9 @@ class Tried:
         with tempfile.TemporaryDirectory(prefix="vga-report-") as temporary:
             with _running(words, ENDING, cwd=_crate(), env={**os.environ, "TMPDIR": temporary}) as outcome:
                 yield outcome
-        ended = outcome.said.rpartition(self.ENDED)[2].split()
         if self.ENDED not in outcome.said:
             raise Trouble(f"rt try has not run it to its end, within {_limits(script)}: {outcome.fault}")
-        outcome.status = int(ended[0])
+        outcome.status = int(outcome.said.rpartition(self.ENDED)[2].split()[0])
 
     def print_steps(self, script: Path, is_bytes: bool, printed: BinaryIO) -> None:
         """Nothing: each answer would take a build of its own."""

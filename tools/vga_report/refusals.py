@@ -42,15 +42,12 @@ class State:
         for port, value in bytes_written(step):
             self.out(port, value)
         if step.name == "int":
-            self._set_mode(step.numbers[0])
+            mode = step.numbers[0] & 0x7F
+            if step.numbers[0] >> 8 == 0 and mode in MODES:
+                self.mode, self.misc, self.map, self._is_data = mode, MODES[mode][0], MAPS.get(mode, 1), False
         elif step.name in ("in", "inw"):
             last = step.numbers[0] + (step.name == "inw")
             self._is_data = self._is_data and self.base + 6 not in (step.numbers[0], last)
-
-    def _set_mode(self, ax: int) -> None:
-        mode = ax & 0x7F
-        if ax >> 8 == 0 and mode in MODES:
-            self.mode, self.misc, self.map, self._is_data = mode, MODES[mode][0], MAPS.get(mode, 1), False
 
     def out(self, port: int, value: int) -> None:
         """Takes a byte that was written to a port."""

@@ -68,8 +68,7 @@ def pictures(words: argparse.Namespace, progress: Progress) -> int:
     count = 0
     with reading(words.report) as stream:
         name = name_of(words.report)
-        steps = Report(stream, name, progress).steps()
-        for number, picture in wanted_pictures(steps, words.step, name):
+        for number, picture in wanted_pictures(Report(stream, name, progress).steps(), words.step, name):
             count += 1
             _write_picture(words, f"{number:04}", picture, shape)
     if not count:
@@ -121,9 +120,8 @@ def delays_of(script: Optional[str]) -> Callable[[int], float]:
 
 def _write_picture(words: argparse.Namespace, stem: str, picture: Picture, shape: Shape) -> None:
     """Writes one picture, and names its file on standard output unless the picture itself goes there."""
-    path = STANDARD
-    if words.folder != STANDARD:
-        path = os.path.join(words.folder, stem + (".ppm" if words.ppm else ".png"))
+    ending = ".ppm" if words.ppm else ".png"
+    path = STANDARD if words.folder == STANDARD else os.path.join(words.folder, stem + ending)
     if words.ppm:
         write_file(path, picture.ppm)
     else:
@@ -135,15 +133,13 @@ def _write_picture(words: argparse.Namespace, stem: str, picture: Picture, shape
 def compare(words: argparse.Namespace, progress: Progress) -> int:
     """Tells the first step in which two reports differ."""
     refuse_twice(words.report, words.other)
-    name, other_name = name_of(words.report), name_of(words.other)
+    names = name, other_name = name_of(words.report), name_of(words.other)
     comparison = Comparison()
-    names = name, other_name
     page = Page([*names, "where they differ"], ["step", *names, "dots that differ"]) if words.html else None
     with reading(words.report) as stream, reading(words.other) as other_stream:
         steps = Report(stream, name, progress).steps()
         others = Report(other_stream, other_name).steps()
-        differences = comparison.differences(steps, others)
-        count = _tell_differences(differences, names, words, progress, page)
+        count = _tell_differences(comparison.differences(steps, others), names, words, progress, page)
         if page is not None:
             said = f"{count} step{'s differ' if count != 1 else ' differs'}; {comparison.text()}"
             write_file(words.html, page.text(f"{name} and {other_name}", said).encode("utf-8", "replace"))
@@ -281,8 +277,7 @@ def compare_picture(words: argparse.Namespace, progress: Progress) -> int:
         steps = Report(stream, name_of(words.report), progress).steps()
         _, picture = next(wanted_pictures(steps, [words.step], name_of(words.report)))
     name = name_of(words.image)
-    image = image_of(image_bytes(words.image), name)
-    found = held(picture, image)
+    found = held(picture, image_of(image_bytes(words.image), name))
     write(f"step {words.step} and {name} {'differ' if found.count != 0 else 'agree'}: {found.how}\n")
     if found.count == 0:
         return AGREED

@@ -99,12 +99,10 @@ def run_case(case: Case, command: Optional[Command], keep: Optional[Path] = None
         script, report, messages = folder / f"script{case.suffix}", folder / "report", folder / "messages"
         script.write_bytes(case.handed(command.kind.is_machine, command.can_stop))
         outcome = command.run(case, script, report, messages)
-        comparison = Comparison(*command.kind)
         if outcome.status is None:
-            reason = outcome.reason + said_text(messages)
-            result = Result(case, rule, FAILED, Comparison(), reason=reason)
+            result = Result(case, rule, FAILED, Comparison(), reason=outcome.reason + said_text(messages))
         else:
-            result = _judged(case, rule, comparison, outcome.status, report, messages)
+            result = _judged(case, rule, Comparison(*command.kind), outcome.status, report, messages)
         if keep is not None and result.answer in (DIFFERS, FAILED):
             keep_case(keep, case, script, report, messages)
     return result
@@ -131,10 +129,9 @@ def _compared(case: Case, rule: str, comparison: Comparison, report: io.Buffered
     with open(case.expected, "rb") as expected:
         steps = Report(report, REPORT_NAME).steps()
         others = Expected(expected, str(case.expected)).steps()
-        differences = comparison.differences(steps, others)
         told = None
         try:
-            for difference in differences:
+            for difference in comparison.differences(steps, others):
                 # The first is told, and the others are counted.
                 told = told or difference.told()
         except Trouble as trouble:
@@ -160,8 +157,7 @@ def said_text(messages: Path) -> str:
     """What a command said, as the end of a message: its first and its last lines."""
     lines = said_lines(messages)
     if len(lines) > 2 * SHOWN_LINES:
-        left = len(lines) - 2 * SHOWN_LINES
-        lines = [*lines[:SHOWN_LINES], f".. {left} lines ..", *lines[-SHOWN_LINES:]]
+        lines = [*lines[:SHOWN_LINES], f".. {len(lines) - 2 * SHOWN_LINES} lines ..", *lines[-SHOWN_LINES:]]
     if len(lines) < 2:
         return "".join(f": {line}" for line in lines)
     return ", and said\n" + "\n".join("  " + line for line in lines)
@@ -204,5 +200,4 @@ def _pictures_of(report: Path) -> Iterator[Answer]:
 def expected_pictures(case: Case) -> Iterator[Answer]:
     """The steps of a case whose expected picture stands in the suite with all its dots."""
     with open(case.expected, "rb") as stream:
-        steps = Expected(stream, str(case.expected)).steps()
-        yield from (step for step in steps if isinstance(step.picture, Picture))
+        yield from (step for step in Expected(stream, str(case.expected)).steps() if isinstance(step.picture, Picture))

@@ -132,8 +132,7 @@ def run(words: argparse.Namespace, progress: Progress) -> int:
     _refuse_words(words)
     if words.build:
         build_program(progress)
-    is_several = words.junit is not None or os.path.isdir(words.script)
-    work = run_several if is_several else _run_script
+    work = run_several if words.junit is not None or os.path.isdir(words.script) else _run_script
     return watched(words, work, progress) if words.watch else work(words, progress)
 
 
@@ -245,8 +244,7 @@ class _Shower:
         words = self._words
         if words.html:
             link = None if words.debug is None else link_to(words.debug, words.html) + _fragment(words)
-            text = self._page.text(script.shown, tally.text(), link)
-            write_file(words.html, text.encode("utf-8", "replace"))
+            write_file(words.html, self._page.text(script.shown, tally.text(), link).encode("utf-8", "replace"))
 
 
 def _saved_picture(row: Row, words: argparse.Namespace) -> str:
@@ -264,8 +262,7 @@ def _show(row: Row, width: int, words: argparse.Namespace, why: str, path: str) 
     picture = row.step.picture
     write("\n".join(listed(row, width, path and f"  {path}", why)) + "\n")
     if isinstance(picture, Picture) and words.show:
-        columns = shutil.get_terminal_size((80, 24)).columns
-        write("".join(line + "\n" for line in block_lines(picture, columns)))
+        write("".join(line + "\n" for line in block_lines(picture, shutil.get_terminal_size((80, 24)).columns)))
 
 
 def _bless(words: argparse.Namespace, blessing: Optional[Blessing]) -> int:
@@ -277,6 +274,5 @@ def _bless(words: argparse.Namespace, blessing: Optional[Blessing]) -> int:
         write(f"{path}:{number}: {before or 'nothing'} -> {after}\n")
     if not words.dry_run and changes:
         write_over(path, blessing.text().encode("utf-8", "surrogateescape"))
-    done = "would be written" if words.dry_run else "written"
-    write(f"{path}: {counted(len(changes), 'answer')} {done}\n")
+    write(f"{path}: {counted(len(changes), 'answer')} {'would be written' if words.dry_run else 'written'}\n")
     return AGREED

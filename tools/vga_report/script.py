@@ -32,6 +32,5 @@ def script_of(data: bytes, name: str) -> Script:
     try:
         return read(data)
     except ScriptFault as fault:
-        reason = reason_of(fault.fault.name, fault.place, data)
         line = fault.place if fault.fault.place == "line" else None
-        raise Trouble(f"{fault.answer}: {reason}", name, line) from fault
+        raise Trouble(f"{fault.answer}: {reason_of(fault.fault.name, fault.place, data)}", name, line) from fault

@@ -66,8 +66,7 @@ def _runs(words: argparse.Namespace, paths: list[Path], folder: Path, progress: 
 
     def run_one(number: int) -> Ran:
         begun, told = time.monotonic(), folder / str(number)
-        command = [sys.executable, TOOL, "run", "--json", told, *options, "--", paths[number]]
-        done = captured(command, heard=heed)
+        done = captured([sys.executable, TOOL, "run", "--json", told, *options, "--", paths[number]], heard=heed)
         texts = (part.decode("utf-8", "replace") for part in (done.output, done.errors))
         return Ran(paths[number], done.status, *texts, time.monotonic() - begun, told)  # type: ignore[call-arg]
 

@@ -36,8 +36,7 @@ def suite(words: argparse.Namespace, progress: Progress) -> int:
         empty_folder(words.keep)
     results = _results(words, _chosen(words), progress)
     progress.clear()
-    lines = table_lines(results)
-    write(json_text(words.command, results) if words.json else "".join(line + "\n" for line in lines))
+    write(json_text(words.command, results) if words.json else "".join(line + "\n" for line in table_lines(results)))
     counts = counts_of(results)
     return DIFFERED if counts[DIFFERS] or counts[FAILED] or not counts[AGREES] else AGREED
 
@@ -71,10 +70,9 @@ def _results(words: argparse.Namespace, cases: list[Case], progress: Progress) -
         None if given is None else Command(given, limits, Kind(words.refusals, words.machine), is_ended)
         for given in (words.command, words.bytes)
     ]
-    keep = None if words.keep is None else Path(words.keep)
 
     def run_one(case: Case) -> Result:
-        return run_case(case, commands[case.is_bytes], keep)
+        return run_case(case, commands[case.is_bytes], None if words.keep is None else Path(words.keep))
 
     results: list[Result] = []
     with in_parallel(run_one, cases, words.jobs, is_ended) as found:
@@ -170,8 +168,7 @@ def table_lines(results: list[Result]) -> Iterator[str]:
     for rule in rules_of(results):
         if rule.group != group:
             group = rule.group
-            alike = [result for result in results if result.case.group == group]
-            yield f"{group or '.'} ({_counts_text(alike)})"
+            yield f"{group or '.'} ({_counts_text([result for result in results if result.case.group == group])})"
         yield f"  {rule.answer:8} {rule.text}"
         for result in rule.results:
             if result.answer != AGREES:

@@ -49,8 +49,7 @@ class Tally:
 
     def figures(self) -> dict[str, int]:
         """The counts, for machines."""
-        names = ("steps", "refused", "pictures", "expected", "met", "wrong")
-        return {name: getattr(self, name) for name in names}
+        return {name: getattr(self, name) for name in ("steps", "refused", "pictures", "expected", "met", "wrong")}
 
 
 class Told:
@@ -80,5 +79,4 @@ class Told:
 
     def end(self, tally: Tally, trouble: Optional[str] = None) -> None:
         """Ends the object: with the counts, and with what ended the run if it isn't whole."""
-        data = json.dumps({**tally.figures(), "trouble": trouble})
-        self._stream.write(b"\n], " + data[1:].encode("ascii") + b"\n")
+        self._stream.write(b"\n], " + json.dumps({**tally.figures(), "trouble": trouble})[1:].encode("ascii") + b"\n")

@@ -56,9 +56,9 @@ class Checked:
         """Counts a read. Where the beam is no trace can tell: these bits of input status 1 aren't compared."""
         self.reads[kind] += 1
         if (int(answer, 16) ^ step.value) & ~(BEAM_BITS if step.is_status else 0):
-            traced = f"{step.value:0{len(answer)}X}"
             self.differing[kind] += 1
-            self.examples.setdefault(kind, f"first at step {number:,}: traced {traced}, answered {answer}")
+            told = f"first at step {number:,}: traced {step.value:0{len(answer)}X}, answered {answer}"
+            self.examples.setdefault(kind, told)
 
 
 def _fits(step: Step, answer: Answer) -> bool:

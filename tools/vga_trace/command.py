@@ -222,8 +222,7 @@ def _pictures(words: argparse.Namespace, _: Progress) -> int:
         if outcome.status:
             raise Trouble(f"it ended with status {outcome.status}: {outcome.fault}", program)
     if words.apng is not None:
-        told = moving.write(words.apng)
-        _say(f"{words.apng}: {told}", sys.stderr if words.apng == STANDARD else sys.stdout)
+        _say(f"{words.apng}: {moving.write(words.apng)}", sys.stderr if words.apng == STANDARD else sys.stdout)
     return AGREED
 
 

@@ -63,7 +63,8 @@ class State:
         if opcode in (PUT, PUTW):
             self._put(address, (value,) if opcode == PUT else (value & 0xFF, value >> 8))
         elif opcode == OUT:
-            self._out(address, value)
+            if self._takes(address, value):
+                self._write(address, value)
         elif opcode == OUTW:
             self._out_word(address, value & 0xFF, value >> 8)
         elif opcode == ADVANCE:
@@ -73,7 +74,9 @@ class State:
         elif opcode in (GET, GETW):
             return self._get(address, 1 if opcode == GET else 2)
         elif opcode in (IN, INW):
-            return self._in(address, 1 if opcode == IN else 2)
+            ports = range(address, address + (1 if opcode == IN else 2))
+            if all(map(self._answers, ports)):
+                return int.from_bytes(bytes(map(self._read, ports)), "little")
         return None
 
     def _places(self, address: int, count: int) -> Sequence[int]:
@@ -99,10 +102,6 @@ class State:
         if port == self.controller:
             return self.crtc
         return self.seq if port == SEQUENCER else self.gfx if port == GRAPHICS else None
-
-    def _out(self, port: int, value: int) -> None:
-        if self._takes(port, value):
-            self._write(port, value)
 
     def _out_word(self, port: int, low: int, high: int) -> None:
         """Writes a word: whole, or not at all. The first byte decides on the second where it is its index."""
@@ -144,11 +143,6 @@ class State:
             self.dac.write(value)
         else:
             self.dac.choose(value)
-
-    def _in(self, port: int, count: int) -> Optional[int]:
-        if not all(self._answers(port + at) for at in range(count)):
-            return None
-        return int.from_bytes(bytes(self._read(port + at) for at in range(count)), "little")
 
     def _answers(self, port: int) -> bool:
         """Whether a read of a port is answered."""
@@ -199,10 +193,7 @@ class Memory:
         self.latches = self.words[self._offset(place, seq, gfx)]
         if gfx[5] & 8:
             return self._compared(gfx)
-        if seq[4] & 8:
-            plane = place & 3
-        else:
-            plane = gfx[4] & 2 | place & 1 if gfx[5] & 0x10 else gfx[4]
+        plane = place & 3 if seq[4] & 8 else gfx[4] & 2 | place & 1 if gfx[5] & 0x10 else gfx[4]
         return self.latches >> 8 * plane & 0xFF
 
     def _offset(self, place: int, seq: Sequence[int], gfx: Sequence[int]) -> int:

@@ -52,8 +52,7 @@ class Step(NamedTuple):
     @property
     def step(self) -> format.Step:
         """The step of a script."""
-        numbers = (self.address, self.value)
-        return format.Step(NAMES[self.opcode], numbers[:len(FORMS[NAMES[self.opcode]].fields)])
+        return format.Step(NAMES[self.opcode], (self.address, self.value)[:len(FORMS[NAMES[self.opcode]].fields)])
 
     def data(self) -> bytes:
         """The step as bytes of a script."""
