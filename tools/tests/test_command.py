@@ -13,6 +13,7 @@ from functools import partial
 from pathlib import Path
 
 from vga_report.cases import Case, read_cases
+from zaklimot.format import MOST_BYTES
 
 from .making import BLACK, RED, WHITE, png_rows, ppm, report
 from .tools import TOOLS, Folder, begin, ended, hold, refused, run_tool
@@ -436,6 +437,15 @@ class Suite(Folder):
         self.assertIn("the folder has files, and none of them is to be lost", message)
         self.assertEqual((folder / "one.vga").read_text(), "mine")
 
+    def test_a_font_has_a_limit(self) -> None:
+        self.write("one.vga", "frame\n")
+        font = Path(self.write("big.fnt", ""))
+        os.truncate(font, MOST_BYTES + 1)
+        path = self.write("list.txt", "fonts big.fnt\none\n")
+        message = f"vga-report: {font}: it has more than {MOST_BYTES:,} bytes\n"
+        written = f"{self.folder / 'new' / 'one.vga'}\n".encode()
+        self.assertEqual(run("scripts", self.folder / "new", "--list", path), (2, written, message))
+
     def test_a_case_outside_the_folder(self) -> None:
         for name in ("../one", "/one", "a/../../one"):
             with self.subTest(name):
@@ -489,6 +499,13 @@ class Cases(Folder):
             )),
             ("front f\none until 2\n", {"f": "frame\n", "one_vga": "in 3CC\nin 3CD\n"}, b"frame\nin 3CC\n" + looks),
         ])
+
+    def test_a_fault_is_looked_for_in_the_first_line(self) -> None:
+        self.write("one.vga", "frame\n")
+        report = Path(self.write("one.txt", "F7 BadLine(1)\n"))
+        case = self.cases("one\n")[0]
+        os.truncate(report, 1 << 40)
+        self.assertTrue(case.expects_fault())
 
     def test_lines_and_digits_that_are_none(self) -> None:
         listed, digits = self.folder / "list.txt", self.folder / "one.hex"

@@ -17,6 +17,8 @@ CASE = re.compile(r"(?P<bytes>bytes )?(?P<name>[^ ]+)( until (?P<steps>[0-9]+))?
 HEX = re.compile(r"([0-9A-Fa-f]{2})(\*([1-9][0-9]{0,7}))?")
 # So much of a step is shown.
 MOST_WORDS = 60
+# The line of a fault has at most so many bytes.
+MOST_FAULT = 100
 # How the registers of a call begin in its answer.
 CALLED = "ax="
 # What a run that stops after so many steps shows, as if these steps stood next.
@@ -83,7 +85,8 @@ class Case(NamedTuple):
 
     def expects_fault(self) -> bool:
         """Whether the script has a mistake, or another fault ends the run before its first step."""
-        return FAULT.match(self.expected.read_text("ascii", "replace")) is not None
+        with open(self.expected, "rb") as stream:
+            return FAULT.match(stream.read(MOST_FAULT).decode("ascii", "replace")) is not None
 
     def stopped_script(self) -> bytes:
         """The script that does the same where none can stop it: its first steps, and a look at the state.
