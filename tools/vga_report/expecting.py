@@ -1,6 +1,7 @@
 """Answers that a script expects, held against those that came."""
 
 import hashlib
+import io
 import re
 
 from zaklimot.format import BLOCK_LINES, READING, REGISTERS, Answer
@@ -12,7 +13,7 @@ from .trouble import Trouble
 
 ANY = "*"
 # What a line begins with that has a line of a dump, below the step that is to answer it.
-DUMPED = ";|"
+DUMPED, COMMENT = ";|", ord(";")
 FRONT = "..."
 REFUSAL = re.compile(r"(E[1-9][0-9]?) [A-Za-z]+")
 
@@ -57,18 +58,26 @@ def is_worth_telling(step: Answer, words: str) -> bool:
 def dumps_in(data: bytes, name: str) -> dict[int, tuple[str, ...]]:
     """The dumps that stand whole in a text, by the lines of their steps; a Trouble where no step is to give an answer."""
     dumps: dict[int, list[str]] = {}
-    step = 0
-    for number, line in enumerate(data.split(b"\n"), 1):
+    # The line before, and its number, of which a dump's line may be the next: whether it has a step is looked for then.
+    step, before = 0, b""
+    for number, line in enumerate(io.BytesIO(data), 1):
+        if COMMENT not in line:
+            step, before = number, line
+            continue
         front, _, comment = line.partition(b";")
-        words = front.split()
-        if not words and comment[:1] == b"|" and step:
+        if comment[:1] == b"|" and not front.strip() and _has_step(before):
             dumps.setdefault(step, []).append(text_of(comment[1:]).strip())
             continue
-        has_step = bool(words) and words[0].lower().decode("latin-1") not in BLOCK_LINES
-        step = number if has_step else 0
-        if not has_step and expected_in(comment) and comment.strip(b" =\t\r"):
+        step, before = number, front
+        if expected_in(comment) and comment.strip(b" =\t\r\n") and not _has_step(front):
             raise Trouble(f"no step stands on this line, so nothing answers {expected_in(comment)}", name, number)
     return {number: tuple(lines) for number, lines in dumps.items()}
+
+
+def _has_step(line: bytes) -> bool:
+    """Whether the words of a line are a step's."""
+    words = line.split(None, 1)
+    return bool(words) and words[0].lower().decode("latin-1") not in BLOCK_LINES
 
 
 def what_differs(step: Answer, expected: str, name: str, dump: tuple[str, ...]) -> list[str]:

@@ -4,12 +4,13 @@ import io
 import re
 import select
 import time
+from functools import partial
 from itertools import islice, zip_longest
 from pathlib import Path
 from typing import BinaryIO, Iterator, NamedTuple, Optional, Union
 
-from zaklimot.format import STATE, Answer, Line, count_in, is_bytes, steps_in
-from zaklimot.format.report import REFUSAL, VALUE
+from zaklimot.format import STATE, Answer, Line, count_in, is_bytes, printed_lines, steps_in
+from zaklimot.format.report import VALUE
 
 from .expecting import ANY, answer_of, dumps_in, is_as_expected, what_differs
 from .faults import Files, explained
@@ -29,8 +30,10 @@ EMPTY = 5
 # The widest column of steps; what is longer has its end cut off.
 MOST_WORDS = 47
 RANGE = re.compile(r"([0-9]{1,10})(?:-([0-9]{1,10}))?")
-# How the steps begin that refusals hang on: of ports, and calls.
-KNOWN = ("ou", "in")
+# How the steps begin that refusals hang on: `out`, `in` and `int`.
+KNOWN = "oOiI"
+# What stands for a step and its line behind the last.
+NO_STEP = (None, None)
 KINDS = ("refused", "read", "pictures", "dumps", "differs")
 
 
@@ -62,7 +65,7 @@ class Row(NamedTuple):
     @property
     def is_refused(self) -> bool:
         """Whether the step was refused."""
-        return self.step.answer[:1] == "E" and self.step.kind == REFUSAL
+        return self.step.is_refused
 
     def mismatch(self) -> str:
         """What an answer is in the place of the one that was expected."""
@@ -83,6 +86,10 @@ class Row(NamedTuple):
             "differs": self.is_wrong,
         }
         return {kind for kind, is_so in has.items() if is_so}
+
+
+# A row of all its parts, made in half the time that the class itself takes.
+made_row = partial(tuple.__new__, Row)
 
 
 class Choice:
@@ -141,37 +148,41 @@ class Script:
 
     def _lines(self) -> Iterator[tuple[str, Line]]:
         """The steps: the words of each, and its line."""
-        printed = None if self._printed is None else steps_in(self._printed)
+        printed = None if self._printed is None else (line.words for line in steps_in(self._printed, printed_lines))
         if self._text is None:
             assert printed is not None
-            return ((line.words, Line(at, line.words)) for at, line in enumerate(printed, 1))
+            return ((words, Line(at, words)) for at, words in enumerate(printed, 1))
         lines = steps_in(self._text)
-        if printed is None:
-            return ((line.words, line) for line in lines)
-        return ((one.words, line) for one, line in zip(printed, lines))
+        return ((line.words, line) for line in lines) if printed is None else zip(printed, lines)
 
-    def rows(self, program: Union[Built, Tried], fonts: str, until: Optional[int], progress: Progress) -> Iterator[Row]:
-        """The steps with their answers, as they come. A fault is told with its reason."""
+    def rows(
+        self, program: Union[Built, Tried], fonts: str, until: Optional[int], progress: Progress,
+        is_strict: bool = False, tells_why: bool = True,
+    ) -> Iterator[Row]:
+        """The steps with their answers, as they come, and why each was refused, if that is told. A fault is told with its reason."""
         lines, taken, looks = islice(self._lines(), until), 0, () if until is None else STATE
-        state = State()
+        state = State() if tells_why else None
         with program.running(self.path, fonts, until, self.is_bytes) as outcome:
             _wait_for(outcome.report, self.shown, progress)
             report = Report(outcome.report, "the report", progress)  # type: ignore[arg-type]
+            is_told = progress.is_wanted
             for step in report.steps():
-                if progress.is_due():
+                if is_told and progress.is_due():
                     progress.tell(f"{self.shown}: step {step.number} of {self.count}")
-                words, line = next(lines, (None, None))
+                words, line = next(lines, NO_STEP)
                 if words is not None and line is not None:
                     taken += 1
-                    why = _why(words, step, state)
-                    yield Row(step, words, line.number, expected_in(line.comment), self._dumps.get(line.number, ()), why)
+                    number, _, comment = line
+                    expected = expected_in(comment) if comment else None
+                    why = "" if state is None else _why(words, step, state)
+                    yield made_row((step, words, number, expected, self._dumps.get(number, ()), why, is_strict))
                 elif step.number <= taken + len(looks):
                     # Behind the last there are the looks of a stopped run.
-                    yield Row(step, looks[step.number - taken - 1])
+                    yield Row(step, looks[step.number - taken - 1], is_strict=is_strict)
                 elif self.count is not None:
                     raise Trouble(f"the report goes on after the last step, {taken + len(looks)}", self.shown)
                 else:
-                    yield Row(step, "")
+                    yield Row(step, "", is_strict=is_strict)
         if outcome.status:
             raise Trouble(explained(outcome.fault, Files(str(self.path), fonts)).replace(str(self.path), self.shown))
         self._check_end(report.count, until, len(looks))
@@ -187,11 +198,13 @@ class Script:
 
 def _why(words: str, answer: Answer, state: State) -> str:
     """Why a step was refused, if it was; else the state takes it."""
-    if answer.answer[:1] == "E" and answer.refusal:
-        return why_refused(words, answer.refusal, state)
-    step = step_of(words) if words[:2].lower() in KNOWN else None
-    if step is not None:
-        state.take(step)
+    refusal = answer.refusal
+    if refusal:
+        return why_refused(words, refusal, state)
+    if words[0] in KNOWN:
+        step = step_of(words)
+        if step is not None:
+            state.take(step)
     return ""
 
 
@@ -203,21 +216,21 @@ def _wait_for(report: BinaryIO, shown: str, progress: Progress) -> None:
             progress.tell(f"{shown}: no answer yet after {time.monotonic() - begun:.0f} seconds")
 
 
-def listed(row: Row, width: int, more: str = "", why: str = "") -> Iterator[str]:
-    """The lines of a step in the listing, and below them why it was refused."""
-    words = row.words if len(row.words) <= width else row.words[:width - 2] + ".."
-    place = "" if row.line is None else row.line
-    front = f"{place:>6} {row.step.number:>6}  {words:{width}}  "
-    if row.expected is None and row.step.picture is None and not row.step.others:
-        yield front + row.step.answer
+def listed(row: Row, width: int, more: str = "", why: str = "") -> str:
+    """A step in the listing, and below it why it was refused: lines that end with a newline each."""
+    step, words, place = row.step, row.words, row.line
+    if len(words) > width:
+        words = words[:width - 2] + ".."
+    text = "%6s %6d  %-*s  " % ("" if place is None else place, step.number, width, words)
+    if row.expected is None and step.picture is None and not step.others:
+        text = f"{text}{step.answer}\n"
     else:
-        answers = [answer_of(row.step) + more] if row.step.picture is not None else list(row.step.lines)
+        answers = [answer_of(step) + more] if step.picture is not None else list(step.lines)
         if row.is_wrong:
             answers[-1] += f"   not {row.expected or 'refused'}"
-        for begin, answer in zip_longest([front], answers, fillvalue=" " * len(front)):
-            yield (begin + answer).rstrip()
-    if why:
-        yield f"{'':15}{why}"
+        fronts = zip_longest([text], answers, fillvalue=" " * len(text))
+        text = "".join((front + answer).rstrip() + "\n" for front, answer in fronts)
+    return f"{text}{'':15}{why}\n" if why else text
 
 
 def heading(width: int) -> str:

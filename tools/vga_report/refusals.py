@@ -12,8 +12,8 @@ from zaklimot.format import MOST_ADVANCE, REGISTERS, Step, parse_line
 from .timing import MODES, bytes_written
 
 WINDOWS = ((0xA0000, 0xBFFFF), (0xA0000, 0xAFFFF), (0xB0000, 0xB7FFF), (0xB8000, 0xBFFFF))
-READ_ALONE, CRT_PORTS = (0x3C1, 0x3CA, 0x3CC), (0x3B4, 0x3B5, 0x3BA, 0x3D4, 0x3D5, 0x3DA)
-READ_AND_WRITTEN = (0x3C0, 0x3C2, 0x3C3, 0x3C4, 0x3C5, 0x3C6, 0x3C7, 0x3C8, 0x3C9, 0x3CE, 0x3CF)
+READ_ALONE, CRT_PORTS = {0x3C1, 0x3CA, 0x3CC}, {0x3B4, 0x3B5, 0x3BA, 0x3D4, 0x3D5, 0x3DA}
+READ_AND_WRITTEN = {0x3C0, 0x3C2, 0x3C3, 0x3C4, 0x3C5, 0x3C6, 0x3C7, 0x3C8, 0x3C9, 0x3CE, 0x3CF}
 LEFT_OUT = {0x3C2: "input status 0", 0x3C3: "subsystem enable", 0x3C7: "the DAC state", 0x3CA: "feature control"}
 SEQUENCER, GRAPHICS, CRT, ATTRIBUTES = "sequencer", "graphics controller", "CRT controller", "attribute controller"
 # How many registers a group has, and the bits of its index.
@@ -39,26 +39,30 @@ class State:
 
     def take(self, step: Step) -> None:
         """Takes a step that was done."""
-        for port, value in bytes_written(step):
-            self.out(port, value)
-        if step.name == "int":
-            mode = step.numbers[0] & 0x7F
-            if step.numbers[0] >> 8 == 0 and mode in MODES:
+        name, numbers, _ = step
+        if name == "out":
+            self.out(*numbers)
+        elif name == "outw":
+            for port, value in bytes_written(step):
+                self.out(port, value)
+        elif name == "int":
+            mode = numbers[0] & 0x7F
+            if numbers[0] >> 8 == 0 and mode in MODES:
                 self.mode, self.misc, self.map, self._is_data = mode, MODES[mode][0], MAPS.get(mode, 1), False
-        elif step.name in ("in", "inw"):
-            last = step.numbers[0] + (step.name == "inw")
-            self._is_data = self._is_data and self.base + 6 not in (step.numbers[0], last)
+        elif self._is_data and name in ("in", "inw"):
+            self._is_data = self.base + 6 not in (numbers[0], numbers[0] + (name == "inw"))
 
     def out(self, port: int, value: int) -> None:
         """Takes a byte that was written to a port."""
-        if port == 0x3C2:
+        group = INDEX_PORTS.get(port)
+        if group is not None:
+            self.indexes[group] = value & COUNTS[group][1]
+        elif port == 0x3C2:
             self.misc = value
         elif port == 0x3C0:
             if not self._is_data:
                 self.indexes[ATTRIBUTES] = value & COUNTS[ATTRIBUTES][1]
             self._is_data = not self._is_data
-        elif port in INDEX_PORTS:
-            self.indexes[INDEX_PORTS[port]] = value & COUNTS[INDEX_PORTS[port]][1]
         elif port == 0x3CF and self.indexes[GRAPHICS] == 6:
             self.map = value >> 2 & 3
 
@@ -98,12 +102,13 @@ def step_of(words: str) -> Optional[Step]:
 
 
 def _not_decoded(step: Step, state: State) -> Optional[str]:
-    places = [step.numbers[0], step.numbers[0] + 1][:1 + step.name.endswith("w")]
-    if step.name.startswith(("put", "get")):
-        reasons = (_address_not_decoded(place, state) for place in places)
-    else:
-        reasons = (_port_not_decoded(place, step.name.startswith("out"), state) for place in places)
-    return next(filter(None, reasons), None)
+    name, place = step.name, step.numbers[0]
+    is_memory, is_write = name.startswith(("put", "get")), name.startswith("out")
+    for each in (place, place + 1) if name.endswith("w") else (place,):
+        reason = _address_not_decoded(each, state) if is_memory else _port_not_decoded(each, is_write, state)
+        if reason:
+            return reason
+    return None
 
 
 def _port_not_decoded(port: int, is_write: bool, state: State) -> Optional[str]:

@@ -176,8 +176,8 @@ def _run_by(
         if script.is_bytes and (words.bless or words.diff):
             raise Trouble("a script of bytes has no comments for answers", words.script)
         blessing = Blessing(data) if words.bless or words.diff else None
-        for row in script.rows(program, fonts, words.until, progress):
-            row = row._replace(is_strict=True) if words.strict else row
+        tells_why = shower.tells_why or told is not None
+        for row in script.rows(program, fonts, words.until, progress, words.strict, tells_why):
             if not tally.steps:
                 shower.begin(script)
             tally.count(row)
@@ -215,6 +215,8 @@ class _Shower:
         self._words = words
         self._progress = progress
         self._is_listed = not (words.bless or words.html or words.quiet or words.diff or words.json == STANDARD)
+        # Whether the reasons of refusals are shown.
+        self.tells_why = self._is_listed or words.html is not None
         self._page = Page([""], ["line", "step", "step as understood", "answer"])
         self._whys: set[str] = set()
         self._width = 0
@@ -228,16 +230,22 @@ class _Shower:
             write(heading(script.width) + "\n")
 
     def show(self, row: Row) -> None:
-        """Shows a step, and writes its picture where that is wanted; why it was refused is told once."""
-        path = _saved_picture(row, self._words)
-        if self._words.html:
+        """Shows a step, and writes its picture where that is wanted, with its path; why it was refused is told once."""
+        picture, words = row.step.picture, self._words
+        path = "" if picture is None else _saved_picture(row, words)
+        if words.html:
             self._page.add_row(row)
         elif self._is_listed:
             self._progress.clear()
-            why = "" if row.why in self._whys else row.why
-            if len(self._whys) < MOST_WHYS:
-                self._whys.add(row.why)
-            _show(row, self._width, self._words, why, path)
+            why = row.why
+            if why in self._whys:
+                why = ""
+            elif len(self._whys) < MOST_WHYS:
+                self._whys.add(why)
+            write(listed(row, self._width, path and f"  {path}", why))
+            if words.show and isinstance(picture, Picture):
+                columns = shutil.get_terminal_size((80, 24)).columns
+                write("".join(line + "\n" for line in block_lines(picture, columns)))
 
     def end(self, script: Script, tally: Tally) -> None:
         """Writes the page, where one is wanted."""
@@ -255,14 +263,6 @@ def _saved_picture(row: Row, words: argparse.Namespace) -> str:
     path = os.path.join(words.pictures, f"{row.step.number:04}.png")
     save_png(path, picture, Shape(words.scale, words.aspect))
     return path
-
-
-def _show(row: Row, width: int, words: argparse.Namespace, why: str, path: str) -> None:
-    """Writes a step's lines, the path of its picture, and the picture as text where that is wanted."""
-    picture = row.step.picture
-    write("\n".join(listed(row, width, path and f"  {path}", why)) + "\n")
-    if isinstance(picture, Picture) and words.show:
-        write("".join(line + "\n" for line in block_lines(picture, shutil.get_terminal_size((80, 24)).columns)))
 
 
 def _bless(words: argparse.Namespace, blessing: Optional[Blessing]) -> int:

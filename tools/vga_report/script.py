@@ -10,7 +10,7 @@ from .streams import read_at_most
 from .trouble import Trouble
 
 # What a comment begins with that tells the answer which is expected.
-MARK, MARK_BYTE = "=", b"="
+MARK, MARK_BYTE = "=", ord("=")
 TOO_LONG = f"F6 TooLong: a script has at most {MOST_BYTES:,} bytes"
 
 

@@ -23,15 +23,17 @@ class Tally:
 
     def count(self, row: Row) -> None:
         """Counts a step."""
+        step = row.step
         self.steps += 1
-        self.pictures += row.step.picture is not None
-        self.refused += row.is_refused
+        self.pictures += step.picture is not None
+        self.refused += step.is_refused
+        is_wrong = row.is_wrong
         if row.expected is not None:
             self.expected += 1
-            self.met += not row.is_wrong
-        if row.is_wrong:
+            self.met += not is_wrong
+        if is_wrong:
             self.wrong += 1
-            place = f"{self.shown}:{row.line}: step {row.step.number}"
+            place = f"{self.shown}:{row.line}: step {step.number}"
             self._told.write(f"{place}: {row.words} {row.mismatch()}\n".encode("utf-8", "surrogateescape"))
 
     def differing(self) -> Iterator[str]:

@@ -3,12 +3,17 @@
 from __future__ import annotations
 
 import re
+from functools import partial
 from itertools import islice
-from typing import BinaryIO, Iterator, NamedTuple, Optional
+from typing import BinaryIO, Callable, Iterator, NamedTuple, Optional
 
 from .table import END, FIRST_LINE, MOST_STEPS, REPEAT
 
 _WORDS = re.compile(rb"[^ \t\r\n]+")
+# Bytes by their numbers: Python finds a number in bytes some times as fast as it finds other bytes there.
+_COMMENT, _VERTICAL_TAB, _FORM_FEED = b";\v\f"
+# What the lines of blocks begin with, and hardly another.
+_BLOCK_LETTERS, _BLOCK_BYTES = "rReE", b"rReE"
 # Of a longer block the lines are read again in each of its rounds.
 _MOST_KEPT = 4096
 
@@ -31,51 +36,64 @@ class Line(NamedTuple):
         return self.words.lower() == FIRST_LINE
 
 
+# A line of all its parts, made in half the time that the class itself takes.
+_made_line = partial(tuple.__new__, Line)
+
+
 def lines_in(stream: BinaryIO, before: int = 0) -> Iterator[Line]:
     """The lines of a stream that have a word, behind so many lines."""
     for number, line in enumerate(stream, before + 1):
         comment = b""
-        if b";" in line:
+        if _COMMENT in line:
             line, _, comment = line.partition(b";")
         # Blanks are parted fastest by the call that takes other letters for blanks too.
-        words = _WORDS.findall(line) if b"\v" in line or b"\f" in line else line.split()
+        words = _WORDS.findall(line) if _VERTICAL_TAB in line or _FORM_FEED in line else line.split()
         if words:
-            yield Line(number, b" ".join(words).decode("utf-8", "surrogateescape"), comment)
+            yield _made_line((number, b" ".join(words).decode("utf-8", "surrogateescape"), comment))
 
 
-def steps_in(stream: BinaryIO) -> Iterator[Line]:
+def printed_lines(stream: BinaryIO, before: int = 0) -> Iterator[Line]:
+    """The same of a stream that `vga dis` has printed: each line is words with one blank between them, and no more."""
+    for number, line in enumerate(stream, before + 1):
+        yield _made_line((number, line[:-1].decode("ascii"), b""))
+
+
+def steps_in(stream: BinaryIO, read: Callable[[BinaryIO, int], Iterator[Line]] = lines_in) -> Iterator[Line]:
     """The steps that a text means, in their order: those of a block in each of its rounds.
 
-    The stream is read from its beginning, and again from any place.
+    The stream is read from its beginning, and again from any place, by `lines_in` or `printed_lines`.
     """
     stream.seek(0)
-    lines = lines_in(stream)
+    lines = read(stream, 0)
     first = next(lines, None)
     if first is not None and first.has_blocks:
-        yield from _unrolled(stream, lines)
+        yield from _unrolled(stream, lines, read)
     elif first is not None:
         yield first
         yield from lines
 
 
-def _unrolled(stream: BinaryIO, lines: Iterator[Line]) -> Iterator[Line]:
+def _unrolled(
+    stream: BinaryIO, lines: Iterator[Line], read: Callable[[BinaryIO, int], Iterator[Line]]
+) -> Iterator[Line]:
     """The steps that lines of version 2 mean, as far as they are good ones."""
     left, count, place, number = MOST_STEPS, 0, 0, 0
     block: list[Line] = []
     length = 0
     for line in lines:
-        if line.name == REPEAT:
+        name = line.name if line.words[0] in _BLOCK_LETTERS else ""
+        if name == REPEAT:
             given = line.words.partition(" ")[2]
             count = int(given) if given.isdigit() else 1
             place, number, block, length = stream.tell(), line.number, [], 0
-        elif line.name == END and count:
+        elif name == END and count:
             rounds = min(count - 1, left // max(1, length))
             left -= rounds * length
             behind = stream.tell()
             for _ in range(rounds if length else 0):
                 if length > _MOST_KEPT:
                     stream.seek(place)
-                yield from block if length <= _MOST_KEPT else islice(lines_in(stream, number), length)
+                yield from block if length <= _MOST_KEPT else islice(read(stream, number), length)
             stream.seek(behind)
             count = 0
         else:
@@ -90,21 +108,22 @@ def _unrolled(stream: BinaryIO, lines: Iterator[Line]) -> Iterator[Line]:
 def count_in(stream: BinaryIO) -> int:
     """How many steps a text means, if it is a good one."""
     stream.seek(0)
-    total = length = count = 0
+    total = opened = count = 0
     version: Optional[bool] = None
     for line in stream:
-        words = line.partition(b";")[0].split()
-        if not words:
+        line = line.lstrip()
+        if not line or line[0] == _COMMENT:
             continue
         if version is None:
-            version = [word.lower() for word in words] == FIRST_LINE.encode().split()
+            version = line.partition(b";")[0].lower().split() == FIRST_LINE.encode().split()
             total += not version
-        elif version and words[0].lower() == REPEAT.encode() and words[1:]:
-            count, length = int(words[1]) if words[1].isdigit() else 1, 0
-        elif version and words[0].lower() == END.encode():
-            total += max(0, count - 1) * length
+            continue
+        words = line.partition(b";")[0].lower().split() if version and line[0] in _BLOCK_BYTES else None
+        if words and words[0] == REPEAT.encode() and words[1:]:
+            count, opened = int(words[1]) if words[1].isdigit() else 1, total
+        elif words and words[0] == END.encode():
+            total += max(0, count - 1) * (total - opened)
             count = 0
         else:
             total += 1
-            length += 1
     return total
