@@ -146,20 +146,23 @@ class Script:
         self._printed.seek(0)
         return max(map(len, self._printed), default=1) - 1
 
-    def _lines(self) -> Iterator[tuple[str, Line]]:
-        """The steps: the words of each, and its line."""
-        printed = None if self._printed is None else (line.words for line in steps_in(self._printed, printed_lines))
+    def _lines(self) -> Iterator[tuple[Line, Line]]:
+        """The steps: each as it was understood, and as it stands in the script."""
+        printed = None if self._printed is None else steps_in(self._printed, printed_lines)
         if self._text is None:
             assert printed is not None
-            return ((words, Line(at, words)) for at, words in enumerate(printed, 1))
+            return ((line, Line(at, line.words)) for at, line in enumerate(printed, 1))
         lines = steps_in(self._text)
-        return ((line.words, line) for line in lines) if printed is None else zip(printed, lines)
+        return ((line, line) for line in lines) if printed is None else zip(printed, lines)
 
     def rows(
         self, program: Union[Built, Tried], fonts: str, until: Optional[int], progress: Progress,
         is_strict: bool = False, tells_why: bool = True,
     ) -> Iterator[Row]:
-        """The steps with their answers, as they come, and why each was refused, if that is told. A fault is told with its reason."""
+        """The steps with their answers, as they come, and why each was refused, if that is wanted.
+
+        A fault is told with its reason.
+        """
         lines, taken, looks = islice(self._lines(), until), 0, () if until is None else STATE
         state = State() if tells_why else None
         with program.running(self.path, fonts, until, self.is_bytes) as outcome:
@@ -169,10 +172,10 @@ class Script:
             for step in report.steps():
                 if is_told and progress.is_due():
                     progress.tell(f"{self.shown}: step {step.number} of {self.count}")
-                words, line = next(lines, NO_STEP)
-                if words is not None and line is not None:
+                understood, line = next(lines, NO_STEP)
+                if understood is not None and line is not None:
                     taken += 1
-                    number, _, comment = line
+                    words, number, comment = understood.words, line.number, line.comment
                     expected = expected_in(comment) if comment else None
                     why = "" if state is None else _why(words, step, state)
                     yield made_row((step, words, number, expected, self._dumps.get(number, ()), why, is_strict))
@@ -201,10 +204,9 @@ def _why(words: str, answer: Answer, state: State) -> str:
     refusal = answer.refusal
     if refusal:
         return why_refused(words, refusal, state)
-    if words[0] in KNOWN:
-        step = step_of(words)
-        if step is not None:
-            state.take(step)
+    step = step_of(words) if words[0] in KNOWN else None
+    if step is not None:
+        state.take(step)
     return ""
 
 
