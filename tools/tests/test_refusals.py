@@ -42,6 +42,11 @@ class Refusals(unittest.TestCase):
         self.assertEqual(why_refused("move 1", 1, state), "")
         self.assertIn("The index of the attribute controller is 1F", why_refused("in 3C1", 2, state))
 
+    def test_steps_that_the_adapter_does_not_refuse_so(self) -> None:
+        for words in ("frame", "show regs", "advance 5", "int ax=3"):
+            for number in (1, 2):
+                self.assertEqual(why_refused(words, number, State()), "", words)
+
     def test_the_program_refuses_each(self) -> None:
         ran = run_texts({case["text"]: case["text"].encode() + b"\n" for case in CASES})
         for case in CASES:

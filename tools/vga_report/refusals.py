@@ -15,6 +15,7 @@ WINDOWS = ((0xA0000, 0xBFFFF), (0xA0000, 0xAFFFF), (0xB0000, 0xB7FFF), (0xB8000,
 READ_ALONE, CRT_PORTS = {0x3C1, 0x3CA, 0x3CC}, {0x3B4, 0x3B5, 0x3BA, 0x3D4, 0x3D5, 0x3DA}
 READ_AND_WRITTEN = {0x3C0, 0x3C2, 0x3C3, 0x3C4, 0x3C5, 0x3C6, 0x3C7, 0x3C8, 0x3C9, 0x3CE, 0x3CF}
 LEFT_OUT = {0x3C2: "input status 0", 0x3C3: "subsystem enable", 0x3C7: "the DAC state", 0x3CA: "feature control"}
+CYCLES = {name + width for name in ("out", "in", "put", "get") for width in ("", "w")}
 SEQUENCER, GRAPHICS, CRT, ATTRIBUTES = "sequencer", "graphics controller", "CRT controller", "attribute controller"
 # How many registers a group has, and the bits of its index.
 COUNTS = {SEQUENCER: (5, 7), GRAPHICS: (9, 15), CRT: (25, 31), ATTRIBUTES: (21, 31)}
@@ -81,10 +82,10 @@ def why_refused(words: str, number: int, state: State) -> str:
         return ""
     if number == 12:
         return f"An advance has at most {MOST_ADVANCE:,} dots."
-    if number == 1:
-        return _not_decoded(step, state) or ""
-    if number == 2:
-        return _not_in_profile(step, state) or ""
+    if number in (1, 2):
+        reason = _not_decoded if number == 1 else _not_in_profile
+        # Another program than the adapter's may refuse any step so.
+        return (reason(step, state) or "") if step.name in CYCLES else ""
     if step.name == "show cells" and number == 6:
         return "Cells are shown in text, and the mode is graphics."
     told = OF_CALLS.get(number)
