@@ -7,7 +7,7 @@ import re
 import sys
 import unittest
 import warnings
-from typing import Optional, Union
+from typing import Iterable, Optional, Union
 
 from vga_report.expecting import dumps_in
 from vga_report.listing import Row, made_row
@@ -17,7 +17,8 @@ from vga_report.script import expected_in
 from vga_report.trouble import Trouble
 from vga_report.words import parser
 from zaklimot.format import (
-    BLOCK_LINES, FORMS, Answer, Block, Line, Script, Step, count_in, lines_in, print_text, printed_lines, steps_in,
+    BLOCK_LINES, FORMS, Answer, Block, Line, Script, Step, count_in, lines_in, placed_lines, print_text, printed_lines,
+    steps_in,
 )
 from zaklimot.format.report import _made_answer
 from zaklimot.format.text import _made_step
@@ -25,8 +26,8 @@ from zaklimot.format.text import _made_step
 from .test_run import Fake
 
 PIECES = [
-    b"out 3C4 02", b"  in\t3da", b"FRAME", b"repeat 2", b"END", b"version 2", b"ret", b"\xff\xfe", b"\v", b"\f", b"\x85", b" ", b"\t",
-    b"\r", b"; ", b";", b";|", b";| 1 2", b"; = 55", b"; =", b";= ok ; more", b" ; = * ", b"=",
+    b"out 3C4 02", b"  in\t3da", b"FRAME", b"repeat 2", b" Repeat\t3 ", b"END", b"version 2", b"ret", b"\xff\xfe", b"\v",
+    b"\f", b"\x85", b" ", b"\t", b"\r", b"; ", b";", b";|", b";| 1 2", b"; = 55", b"; =", b";= ok ; more", b" ; = * ", b"=",
 ]
 # The Python functions that a plain step, and one that is refused, call at most, and what they call of Python's own.
 MOST_CALLS = 44
@@ -48,6 +49,11 @@ def slow_lines(data: bytes) -> list[Line]:
             ended = mark and data[-1:] != b"\n" and number == data.count(b"\n") + 1
             lines.append(Line(number, text_of(b" ".join(words)), comment + b"\n" * (bool(mark) and not ended)))
     return lines
+
+
+def places(lines: Iterable[Line]) -> list[tuple[int, bytes]]:
+    """The numbers of lines, and their comments."""
+    return [(line.number, line.comment) for line in lines]
 
 
 def slow_dumps(data: bytes) -> Union[str, dict[int, tuple[str, ...]]]:
@@ -94,6 +100,9 @@ class Ways(unittest.TestCase):
             data = text_of_chance(chance)
             with self.subTest(data):
                 self.assertEqual(list(lines_in(io.BytesIO(data))), slow_lines(data))
+                for text in (data, b"version 2\n" + data):
+                    stream = io.BytesIO(text)
+                    self.assertEqual(places(steps_in(stream, placed_lines)), places(steps_in(stream)))
                 found.append(slow_dumps(data))
                 self.assertEqual(self.dumps(data), found[-1])
         for kind in (str, dict):

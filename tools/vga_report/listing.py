@@ -9,7 +9,7 @@ from itertools import islice, zip_longest
 from pathlib import Path
 from typing import BinaryIO, Iterator, NamedTuple, Optional, Union
 
-from zaklimot.format import STATE, Answer, Line, count_in, is_bytes, printed_lines, steps_in
+from zaklimot.format import STATE, Answer, Line, count_in, is_bytes, placed_lines, printed_lines, steps_in
 from zaklimot.format.report import VALUE
 
 from .expecting import ANY, answer_of, dumps_in, is_as_expected, what_differs
@@ -98,7 +98,7 @@ class Choice:
     def __init__(self, text: Optional[str]) -> None:
         self._ranges: list[tuple[int, int]] = []
         self._kinds: set[str] = set()
-        self._has_all = text is None
+        self.has_all = text is None
         for word in () if text is None else text.split(","):
             found = RANGE.fullmatch(word)
             if found is not None:
@@ -114,7 +114,7 @@ class Choice:
 
     def has(self, row: Row) -> bool:
         """Whether a step is shown."""
-        return self._has_all or bool(self._kinds & row.kinds) or any(a <= row.step.number <= b for a, b in self._ranges)
+        return self.has_all or bool(self._kinds & row.kinds) or any(a <= row.step.number <= b for a, b in self._ranges)
 
 
 class Script:
@@ -152,8 +152,9 @@ class Script:
         if self._text is None:
             assert printed is not None
             return ((line, Line(at, line.words)) for at, line in enumerate(printed, 1))
-        lines = steps_in(self._text)
-        return ((line, line) for line in lines) if printed is None else zip(printed, lines)
+        if printed is None:
+            return ((line, line) for line in steps_in(self._text))
+        return zip(printed, steps_in(self._text, placed_lines))
 
     def rows(
         self, program: Union[Built, Tried], fonts: str, until: Optional[int], progress: Progress,

@@ -185,7 +185,7 @@ def _run_by(
                 blessing.take(row)
             if told is not None:
                 told.add(row, row.why)
-            if choice.has(row):
+            if choice.has_all or choice.has(row):
                 shower.show(row)
         progress.clear()
         if words.bless:

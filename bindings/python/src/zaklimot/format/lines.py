@@ -4,6 +4,7 @@ from __future__ import annotations
 
 import re
 from functools import partial
+from io import BytesIO
 from itertools import islice
 from typing import BinaryIO, Callable, Iterator, NamedTuple, Optional
 
@@ -12,8 +13,9 @@ from .table import END, FIRST_LINE, MOST_STEPS, REPEAT
 _WORDS = re.compile(rb"[^ \t\r\n]+")
 # Bytes by their numbers: Python finds a number in bytes some times as fast as it finds other bytes there.
 _COMMENT, _VERTICAL_TAB, _FORM_FEED = b";\v\f"
-# What the lines of blocks begin with, and hardly another.
-_BLOCK_LETTERS, _BLOCK_BYTES = "rReE", b"rReE"
+# What the lines of blocks begin with, and with the first line of a text that has some; hardly another does.
+_BLOCK_LETTERS, _BLOCK_BYTES, _WHOLE_BYTES = "rReE", b"rReE", b"rReEvV"
+_BLANKS = b" \t\r\n"
 # Of a longer block the lines are read again in each of its rounds.
 _MOST_KEPT = 4096
 
@@ -58,10 +60,23 @@ def printed_lines(stream: BinaryIO, before: int = 0) -> Iterator[Line]:
         yield _made_line((number, line[:-1].decode("ascii"), b""))
 
 
+def placed_lines(stream: BinaryIO, before: int = 0) -> Iterator[Line]:
+    """The same as `lines_in` for whoever wants numbers and comments: the words of a step are its first letter alone."""
+    for number, line in enumerate(stream, before + 1):
+        comment = b""
+        if _COMMENT in line:
+            line, _, comment = line.partition(b";")
+        line = line.lstrip(_BLANKS)
+        if line:
+            letter = line[0]
+            words = next(lines_in(BytesIO(line))).words if letter in _WHOLE_BYTES else chr(letter)
+            yield _made_line((number, words, comment))
+
+
 def steps_in(stream: BinaryIO, read: Callable[[BinaryIO, int], Iterator[Line]] = lines_in) -> Iterator[Line]:
     """The steps that a text means, in their order: those of a block in each of its rounds.
 
-    The stream is read from its beginning, and again from any place, by `lines_in` or `printed_lines`.
+    The stream is read from its beginning, and again from any place, by `lines_in`, `printed_lines` or `placed_lines`.
     """
     stream.seek(0)
     lines = read(stream, 0)
