@@ -321,8 +321,8 @@ class Suite(Folder):
         path, folder = self.write("list.txt", "\n".join(self.lines) + "\n"), self.folder / "scripts"
         names = f"{folder / 'a/one.vga'}\n{folder / 'b/two.bin'}\n{folder / 'list.txt'}\n".encode()
         self.assertEqual(run("scripts", folder, "--list", path), (0, names, ""))
-        looks = b"show regs\nshow beam\nshow latches\nshow bda\n"
-        self.assertEqual((folder / "a/one.vga").read_bytes(), b"out 3C2 01\nframe\n" + looks)
+        dumps = b"show regs\nshow beam\nshow latches\nshow bda\n"
+        self.assertEqual((folder / "a/one.vga").read_bytes(), b"out 3C2 01\nframe\n" + dumps)
         self.assertEqual((folder / "b/two.bin").read_bytes(), b"VV")
         self.assertEqual((folder / "list.txt").read_text(), "a/one.vga fonts/two.fnt\nb/two.bin fonts/two.fnt\n")
         self.assertEqual((folder / "fonts/two.fnt").read_bytes(), b"12")
@@ -337,12 +337,12 @@ class Suite(Folder):
         self.assertEqual((status, output.splitlines()[-1]), (0, "1 case: 1 agree"))
 
     def test_runs_that_are_stopped(self) -> None:
-        looks = "3 regs\n4 beam\n5 latches\n6 bda\n"
+        dumps = "3 regs\n4 beam\n5 latches\n6 bda\n"
         self.case("a/one", "get 0\nget 0\nget 0\n", "1-2 ok\n", "a/one until 2")
         self.write("a/two.hex", "66 72 61 6D 65 0A 66 0A ; frame, f")
         self.write("a/two.txt", "1 ragged\n")
         self.lines.append("bytes a/two until 1")
-        self.write("a/one.txt", "1 FF\n2 FF\n" + looks)
+        self.write("a/one.txt", "1 FF\n2 FF\n" + dumps)
         output = self.run_suite("--bytes", ADAPTER)[1]
         self.assertIn("  agrees   a/one\n", output)
         self.assertIn("a/two: the command of --bytes has no {until}\n", output)
@@ -484,7 +484,7 @@ class Cases(Folder):
         return self.cases(line)[-1].stopped_script()
 
     def test_the_bytes_that_a_case_stands_for(self) -> None:
-        looks = b"show regs\nshow beam\nshow latches\nshow bda\n"
+        dumps = b"show regs\nshow beam\nshow latches\nshow bda\n"
         text = "; Comment\n\nout 3C2 01 ; more\n\t\r\n  frame\nframe"
         hold(self, lambda line, files: self.script(line, **files), [
             ("one\n", {"one_vga": "; é\nframe\n"}, "; é\nframe\n".encode()),
@@ -493,11 +493,11 @@ class Cases(Folder):
             ("one until 0\n", {"one_vga": "fram\n", "one_txt": "F7 BadLine(1)\n"}, b"fram\n"),
             ("bytes one\n", {"one_hex": "; x\n56 47\t4a*3\n00*2 ; 11\n"}, b"VGJJJ\0\0"),
             # A run that is stopped shows the state, and a front counts among its steps.
-            *((f"one until {steps}\n", {"one_vga": text}, front + looks) for steps, front in (
+            *((f"one until {steps}\n", {"one_vga": text}, front + dumps) for steps, front in (
                 (0, b"; Comment\n\n"), (1, b"; Comment\n\nout 3C2 01 ; more\n\t\r\n"), (2, text.encode()[:-5]),
                 (3, text.encode() + b"\n"), (9, text.encode() + b"\n"),
             )),
-            ("front f\none until 2\n", {"f": "frame\n", "one_vga": "in 3CC\nin 3CD\n"}, b"frame\nin 3CC\n" + looks),
+            ("front f\none until 2\n", {"f": "frame\n", "one_vga": "in 3CC\nin 3CD\n"}, b"frame\nin 3CC\n" + dumps),
         ])
 
     def test_a_fault_is_looked_for_in_the_first_line(self) -> None:

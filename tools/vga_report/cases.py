@@ -22,7 +22,7 @@ MOST_FAULT = 100
 # How the registers of a call begin in its answer.
 CALLED = "ax="
 # What a run that stops after so many steps shows, as if these steps stood next.
-LOOKS = "".join(f"{step}\n" for step in STATE).encode()
+STATE_DUMPS = "".join(f"{step}\n" for step in STATE).encode()
 
 
 class Case(NamedTuple):
@@ -89,13 +89,13 @@ class Case(NamedTuple):
             return FAULT.match(stream.read(MOST_FAULT).decode("ascii", "replace")) is not None
 
     def stopped_script(self) -> bytes:
-        """The script that does the same where none can stop it: its first steps, and a look at the state.
+        """The script that does the same where none can stop it: its first steps, and dumps of the state.
 
         One with a mistake stays whole, since all of it is judged before the first step.
         """
         if self.until is None or self.expects_fault():
             return self.script()
-        return _front_of(self.script(), self.until) + LOOKS
+        return _front_of(self.script(), self.until) + STATE_DUMPS
 
     def has_answers_of_machine(self) -> bool:
         """Whether a step before the first that is to be refused has an answer that a machine can give."""

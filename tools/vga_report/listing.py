@@ -164,7 +164,7 @@ class Script:
 
         A fault is told with its reason.
         """
-        lines, taken, looks = islice(self._lines(), until), 0, () if until is None else STATE
+        lines, taken, dumps = islice(self._lines(), until), 0, () if until is None else STATE
         state = State() if tells_why else None
         with program.running(self.path, fonts, until, self.is_bytes) as outcome:
             _wait_for(outcome.report, self.shown, progress)
@@ -180,22 +180,22 @@ class Script:
                     expected = expected_in(comment) if comment else None
                     why = "" if state is None else _why(words, step, state)
                     yield made_row((step, words, number, expected, self._dumps.get(number, ()), why, is_strict))
-                elif step.number <= taken + len(looks):
-                    # Behind the last there are the looks of a stopped run.
-                    yield Row(step, looks[step.number - taken - 1], is_strict=is_strict)
+                elif step.number <= taken + len(dumps):
+                    # Behind the last there are the dumps of a stopped run.
+                    yield Row(step, dumps[step.number - taken - 1], is_strict=is_strict)
                 elif self.count is not None:
-                    raise Trouble(f"the report goes on after the last step, {taken + len(looks)}", self.shown)
+                    raise Trouble(f"the report goes on after the last step, {taken + len(dumps)}", self.shown)
                 else:
                     yield Row(step, "", is_strict=is_strict)
         if outcome.status:
             raise Trouble(explained(outcome.fault, Files(str(self.path), fonts)).replace(str(self.path), self.shown))
-        self._check_end(report.count, until, len(looks))
+        self._check_end(report.count, until, len(dumps))
 
-    def _check_end(self, answered: int, until: Optional[int], looks: int) -> None:
+    def _check_end(self, answered: int, until: Optional[int], dumps: int) -> None:
         """Ends the work where a report ends before its script."""
         if self.count is None:
             raise Trouble("the program prints none of its steps, so there is no telling which were answered", self.shown)
-        wanted = (self.count if until is None else min(until, self.count)) + looks
+        wanted = (self.count if until is None else min(until, self.count)) + dumps
         if answered < wanted:
             raise Trouble(f"the report ends after {answered:,} of {wanted:,} steps", self.shown)
 

@@ -205,7 +205,7 @@ def _in_decimal(number: Field, word: Word) -> Optional[Mistake]:
 
 
 def _in_show(words: Sequence[Word], end: int) -> Optional[Mistake]:
-    """The mistake of a look at the state."""
+    """The mistake of a dump that is asked for."""
     names = ", ".join(SHOWN)
     if len(words) == 1:
         return Mistake(end, 1, f"what is to be shown is lacking: {names}")
