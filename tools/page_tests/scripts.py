@@ -21,8 +21,9 @@ HEAP, OWN = (Path(__file__).resolve().parent / name for name in ("heap.mjs", "ow
 # How a file tells that it has tests.
 IS_TEST = 'from "node:test"'
 SCRIPT = re.compile(r'<script type="module">\n(.*?)</script>', re.S)
-# What node tells of its tests.
-COUNT = re.compile(r"^# (pass|fail|skipped|todo|cancelled) ([0-9]+)$", re.M)
+# What node tells of its tests, in the form whose end names those that fail.
+REPORTER = "spec"
+COUNT = re.compile(r"^(?:\x1b\[[0-9]+m)*ℹ (pass|fail|skipped|todo|cancelled) ([0-9]+)", re.M)
 # Seconds that the check in a browser may take.
 BROWSER_SECONDS = 400
 CHROMIUM = ("chromium", "chromium-browser", "google-chrome")
@@ -73,7 +74,7 @@ def check_scripts(modules: Modules) -> str:
     environment = {MODULE: str(modules.module), BUILT: str(PAGE)}
     if modules.small is not None:
         environment[SMALL] = str(modules.small)
-    return counted(run_node(["--test", "--test-reporter", "tap", *files], environment))
+    return counted(run_node(["--test", "--test-reporter", REPORTER, *files], environment))
 
 
 def check_own(modules: Modules) -> str:

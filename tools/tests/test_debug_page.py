@@ -5,6 +5,7 @@ from __future__ import annotations
 import base64
 import gzip
 import json
+import shutil
 import unittest
 from functools import partial
 from pathlib import Path
@@ -342,11 +343,23 @@ class Tests(Folder):
                 suite.judged(answer, 2)
 
     def test_what_node_tells(self) -> None:
-        told = scripts.counted("# pass 3\n# fail 0\n# skipped 0\n")
-        self.assertEqual(told, "3 tests of the page's scripts pass")
-        for said in ("# pass 3\n# fail 1\n", "# pass 3\n# skipped 1\n", "# pass 0\n", ""):
+        for mark in ("ℹ", "\x1b[34mℹ"):
+            told = scripts.counted(f"{mark} pass 3\n{mark} fail 0\n{mark} skipped 0\n")
+            self.assertEqual(told, "3 tests of the page's scripts pass")
+        for said in ("ℹ pass 3\nℹ fail 1\n", "ℹ pass 3\nℹ skipped 1\n", "ℹ pass 0\n", ""):
             with self.subTest(said), self.assertRaises(Wrong):
                 scripts.counted(said)
+
+    @unittest.skipIf(shutil.which(node.NAME) is None, "node is lacking")
+    def test_those_of_nodes_tests_that_fail_are_named(self) -> None:
+        front = 'import test from "node:test";\n'
+        others = "".join(f'test("other {number}", () => {{}});\n' for number in range(100))
+        words = ["--test", "--test-reporter", scripts.REPORTER]
+        with self.assertRaises(Wrong) as raised:
+            node.run_node([*words, self.write("one.mjs", f'{front}test("bad", () => {{ throw Error("why"); }});\n{others}')])
+        self.assertRegex(str(raised.exception), r"(?s)failing tests:.*bad.*why")
+        told = scripts.counted(node.run_node([*words, self.write("one.mjs", front + others)]))
+        self.assertEqual(told, "100 tests of the page's scripts pass")
 
     def test_what_the_page_tells_of_its_examples(self) -> None:
         told = {"agree": 2, "differ": 0, "expected": 3, "lines": ["a: right", "b: right"]}
