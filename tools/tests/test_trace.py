@@ -24,7 +24,7 @@ from vga_trace.checking import count
 from vga_trace.command import main
 from vga_trace.converting import Listing, Wanted
 from vga_trace.folding import Coded, Row, alone, folded
-from vga_trace.passing import Flips, Pauses, with_frames_every
+from vga_trace.passing import Pauses, with_flips, with_frames_every
 from vga_trace.step import ADVANCE, FRAME, IN, NAMES, OUT, OUTW, PUT, Step, steps_of, without_polls
 from vga_trace.trace import MEMORY, PORT, VBE, Cycle, Trace
 from zaklimot.format import HEADERS, Block, decode, encoded
@@ -226,7 +226,7 @@ class Frames(unittest.TestCase):
     def test_a_frame_before_each_change_of_the_start_address(self) -> None:
         high, low, draw = Step(OUTW, 0x3D4, 0x400C), Step(OUTW, 0x3D4, 0x200D), Step(PUT, 0xA0000, 1)
         zero, other = Step(OUTW, 0x3D4, 0x000C), Step(OUTW, 0x3D4, 0x400E)
-        hold(self, lambda steps: " ".join(NAMES[step.opcode] for step in Flips().steps(steps)), (
+        hold(self, lambda steps: " ".join(NAMES[step.opcode] for step in with_flips(steps)), (
             ([draw, high, low, draw], "put frame outw outw put"),
             ([draw, low, draw, high], "put frame outw put frame outw"),
             # Bytes, and the other place of the controller.

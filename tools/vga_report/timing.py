@@ -8,10 +8,10 @@ from zaklimot.format import Step
 CLOCKS = {0: 25_175_000, 1: 28_322_000}
 # Where a script doesn't tell.
 USUAL = 1 / 70
-# What mode sets leave: miscellaneous output, dots of a frame, whether the clock is halved.
+# What mode sets leave: miscellaneous output, and the dots of a frame with whether the clock is halved.
 MODES = {
-    0x03: (0x67, 404_100, False), 0x07: (0x66, 404_100, False), 0x0D: (0x63, 179_600, True),
-    0x10: (0xA3, 359_200, False), 0x12: (0xE3, 420_000, False), 0x13: (0x63, 359_200, False),
+    0x03: (0x67, (404_100, False)), 0x07: (0x66, (404_100, False)), 0x0D: (0x63, (179_600, True)),
+    0x10: (0xA3, (359_200, False)), 0x12: (0xE3, (420_000, False)), 0x13: (0x63, (359_200, False)),
 }
 PORTS = {0x3C4: "seq", 0x3D4: "crtc", 0x3B4: "crtc"}
 
@@ -36,20 +36,15 @@ class Timing:
     def take(self, step: Step) -> None:
         """Takes a step."""
         for port, value in bytes_written(step):
-            self.out(port, value)
+            if port == 0x3C2:
+                self._misc = value
+            elif port in PORTS:
+                self._indexes[PORTS[port]] = value
+            elif port - 1 in PORTS:
+                part = PORTS[port - 1]
+                self._write(part, self._indexes[part], value)
         if step.name == "int" and step.numbers[0] >> 8 == 0 and step.numbers[0] & 0x7F in MODES:
-            self._misc, *dots = MODES[step.numbers[0] & 0x7F]
-            self._set_dots = (dots[0], bool(dots[1]))
-
-    def out(self, port: int, value: int) -> None:
-        """Takes a byte that is written to a port."""
-        if port == 0x3C2:
-            self._misc = value
-        elif port in PORTS:
-            self._indexes[PORTS[port]] = value
-        elif port - 1 in PORTS:
-            part = PORTS[port - 1]
-            self._write(part, self._indexes[part], value)
+            self._misc, self._set_dots = MODES[step.numbers[0] & 0x7F]
 
     def _write(self, part: str, index: int, value: int) -> None:
         """Writes a register, unless it is protected; one that shapes the frame takes the place of a mode's."""

@@ -4,22 +4,20 @@ from __future__ import annotations
 
 from collections import Counter
 from dataclasses import dataclass, field
-from typing import Iterable, Iterator, Optional
+from typing import Iterable, Iterator, Mapping, Optional
 
+from vga_report.timing import bytes_written
 from vga_report.trouble import Trouble
 from zaklimot.format import Answer
 from zaklimot.format.report import READ, REFUSAL, SKIPPED, VALUE
 
-from .step import BEAM_BITS, FRAME, NAMES, READS, WORDS, Step
+from .step import BEAM_BITS, FRAME, NAMES, PORTS, READS, WORDS, Step
 from .trace import MEMORY, PORT, Cycle
 
 DONE = "ok"
 FRAME_ANSWERS = ("picture", "ragged")
-# The ports of data, behind those of their indexes.
-DATA_PORTS = (0x3C5, 0x3CF, 0x3D5, 0x3B5)
-ATTRIBUTE_READ = 0x3C1
-ATTRIBUTE = 0x3C0
-INDEX_PORTS = (0x3C4, 0x3CE, 0x3D4, 0x3B4, ATTRIBUTE)
+# The ports of data, each with that of its index.
+INDEX_OF = {0x3C1: 0x3C0, 0x3C5: 0x3C4, 0x3CF: 0x3CE, 0x3D5: 0x3D4, 0x3B5: 0x3B4}
 
 
 @dataclass
@@ -84,10 +82,11 @@ def _judged(step: Step, number: int, answer: Optional[Answer], name: str) -> Ans
 
 def check(steps: Iterable[Step], answers: Iterator[Answer], name: str) -> Checked:
     """Holds the answers of a report, which messages call by a name, against the steps of a trace."""
-    checked, indexes = Checked(), Indexes()
+    # The indexes that were last written, by their ports: they name the register that a step is about.
+    checked, indexes = Checked(), dict.fromkeys(INDEX_OF.values(), 0)
     for number, step in enumerate(steps, 1):
         answer = _judged(step, number, next(answers, None), name)
-        kind = f"{NAMES[step.opcode]} {indexes.place(step)}"
+        kind = f"{NAMES[step.opcode]} {_place(step, indexes)}"
         checked.steps += 1
         if answer.answer == SKIPPED:
             checked.skipped += 1
@@ -95,7 +94,7 @@ def check(steps: Iterable[Step], answers: Iterator[Answer], name: str) -> Checke
             checked.refuse(f"{answer.answer}: {kind}", number)
         elif answer.kind == VALUE:
             checked.compare(kind, step, number, answer.answer)
-        indexes.take(step)
+        indexes.update((port, value) for port, value in bytes_written(step.step) if port in indexes)
     if next(answers, None) is not None:
         raise Trouble(f"it has more than the {checked.steps:,} steps of the trace: it is of another script", name)
     return checked
@@ -120,23 +119,9 @@ def count(cycles: Iterable[Cycle]) -> Counter[str]:
     return found
 
 
-class Indexes:
-    """The indexes that were last written, to name the register that a step is about."""
-
-    def __init__(self) -> None:
-        self._indexes = dict.fromkeys(INDEX_PORTS, 0)
-
-    def take(self, step: Step) -> None:
-        """Follows a step that writes an index."""
-        for port, value in step.written():
-            if port in self._indexes:
-                self._indexes[port] = value
-
-    def place(self, step: Step) -> str:
-        """A name of what a step is about: a port, with its register if it has some, or a window of memory."""
-        if not step.is_port:
-            return place_of(step.address)
-        index = ATTRIBUTE if step.address == ATTRIBUTE_READ else step.address - 1
-        if step.address in (*DATA_PORTS, ATTRIBUTE_READ):
-            return f"{PORT} {step.address:03X} index {self._indexes[index]:02X}"
-        return f"{PORT} {step.address:03X}"
+def _place(step: Step, indexes: Mapping[int, int]) -> str:
+    """A name of what a step is about: a port, with its register if it has some, or a window of memory."""
+    if step.opcode not in PORTS:
+        return place_of(step.address)
+    index = INDEX_OF.get(step.address)
+    return f"{PORT} {step.address:03X}" + ("" if index is None else f" index {indexes[index]:02X}")

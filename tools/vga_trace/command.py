@@ -44,8 +44,7 @@ def _add_trace(parser: argparse.ArgumentParser) -> None:
     told = "qemu's log or lines of the plain form, also compressed by gzip; - is standard input"
     add(parser, "TRACE", told, type=to_read)
     add(parser, "--to N", "takes only the first N cycles (default: all)", type=number_to(MOST_CYCLES))
-    told = "begins with the Nth cycle (default: 1)"
-    add(parser, "--from N", told, dest="from_", type=number_to(MOST_CYCLES), default=1)
+    add(parser, "--from N", "begins with the Nth cycle (default: 1)", dest="from_", type=number_to(MOST_CYCLES), default=1)
 
 
 def _add_listing(parser: argparse.ArgumentParser) -> None:

@@ -11,7 +11,7 @@ from vga_report.trouble import Trouble
 from zaklimot.format import FIRST_LINE, HEADERS, MOST_BYTES, MOST_STEPS
 
 from .folding import Coded, Row, alone, folded
-from .passing import Clocked, Flips, Pauses, with_frames_every
+from .passing import Clocked, Pauses, with_flips, with_frames_every
 from .rebuilding import rebuilt
 from .state import State
 from .step import FRAME, NAMES, Step, steps_of, without_polls
@@ -68,7 +68,7 @@ class Listing:
         if not wanted.keeps_polls:
             steps = without_polls(steps)
         if wanted.frames == FLIP:
-            steps = Flips().steps(steps)
+            steps = with_flips(steps)
         elif wanted.frames == SCREENS:
             steps = self._with_screens(steps)
         elif wanted.frames == CLOCK:

@@ -4,7 +4,7 @@ from __future__ import annotations
 
 from typing import Iterable, Iterator, Optional
 
-from vga_report.timing import Timing
+from vga_report.timing import Timing, bytes_written
 from zaklimot.format import MOST_ADVANCE
 
 from .step import ADVANCE, FRAME, OUT, OUTW, PUT, PUTW, Step
@@ -33,8 +33,7 @@ class Pauses:
             dots = self._dots()
             if dots:
                 yield Step(ADVANCE, dots)
-            for port, value in step.written():
-                self._timing.out(port, value)
+            self._timing.take(step.step)
             yield step
 
     def _wait(self, step: Step) -> None:
@@ -76,8 +75,7 @@ class Clocked:
             if step.time is not None:
                 yield from self._frames(step.time / 1_000_000)
             self._is_changed |= step.opcode in WRITES
-            for port, value in step.written():
-                self._timing.out(port, value)
+            self._timing.take(step.step)
             yield step
         yield from self._passed()
 
@@ -106,39 +104,26 @@ class Clocked:
             yield Step(ADVANCE, min(left, MOST_ADVANCE))
 
 
-class Flips:
-    """A frame before each write that changes the start address: what was drawn until then."""
+def with_flips(steps: Iterable[Step]) -> Iterator[Step]:
+    """The steps, with a frame before each write that changes the start address: what was drawn until then.
 
-    def __init__(self) -> None:
-        self._index = 0
-        self._registers = dict.fromkeys(START_ADDRESS, 0)
-        self._is_flipping = False
-
-    def steps(self, steps: Iterable[Step]) -> Iterator[Step]:
-        """The steps, with the frames; one for the two halves of an address."""
-        for step in steps:
-            if self._begins_flip(step):
-                yield Step(FRAME, time=step.time)
-            yield step
-
-    def _begins_flip(self, step: Step) -> bool:
-        """Whether a step changes the start address, as no step just before it does."""
+    There is one frame for the two halves of an address.
+    """
+    index, registers, is_flipping = 0, dict.fromkeys(START_ADDRESS, 0), False
+    for step in steps:
         is_of_controller, is_changed = False, False
-        for port, value in step.written():
+        for port, value in bytes_written(step.step):
             is_of_controller |= port in CONTROLLERS or port - 1 in CONTROLLERS
-            is_changed |= self._write(port, value)
-        was_flipping = self._is_flipping
-        self._is_flipping = is_changed or (was_flipping and is_of_controller and self._index in START_ADDRESS)
-        return is_changed and not was_flipping
-
-    def _write(self, port: int, value: int) -> bool:
-        """Takes a byte that is written to a port; whether it changes the start address."""
-        if port in CONTROLLERS:
-            self._index = value
-        elif port - 1 in CONTROLLERS and self._index in START_ADDRESS:
-            was, self._registers[self._index] = self._registers[self._index], value
-            return was != value
-        return False
+            if port in CONTROLLERS:
+                index = value
+            elif port - 1 in CONTROLLERS and index in START_ADDRESS:
+                is_changed |= registers[index] != value
+                registers[index] = value
+        # A step that goes on with a flip that another has begun has no frame of its own.
+        if is_changed and not is_flipping:
+            yield Step(FRAME, time=step.time)
+        is_flipping = is_changed or (is_flipping and is_of_controller and index in START_ADDRESS)
+        yield step
 
 
 def with_frames_every(seconds: float, steps: Iterable[Step]) -> Iterator[Step]:

@@ -32,22 +32,9 @@ class Step(NamedTuple):
     cycle: int = 0
 
     @property
-    def is_port(self) -> bool:
-        """Whether the step is a cycle of a port."""
-        return self.opcode in PORTS
-
-    @property
     def is_status(self) -> bool:
         """Whether the step reads input status 1 alone."""
         return self.opcode == IN and self.address in STATUS
-
-    def written(self) -> tuple[tuple[int, int], ...]:
-        """The ports that the step writes, each with its byte."""
-        if self.opcode == OUT:
-            return ((self.address, self.value),)
-        if self.opcode == OUTW:
-            return ((self.address, self.value & 0xFF), (self.address + 1, self.value >> 8))
-        return ()
 
     @property
     def step(self) -> format.Step:
