@@ -8,7 +8,7 @@ from __future__ import annotations
 from typing import Iterator, Sequence
 
 from .screen import Rows, Screen, scroll
-from .steps import Item, Part, Repeat, data_of
+from .steps import Item, Part, Repeat
 
 Cell = tuple[bytes, ...]
 CELL_WIDTH = 8
@@ -123,4 +123,4 @@ class Areas:
             want[y] = have[y][:left] + self._want[y][left:right] + have[y][right:]
         steps = self._screen.drawn(have, want)
         block = Repeat(rows, (scroll(self._screen, window, 1), *self._screen.restored(steps)))  # type: ignore[arg-type]
-        return block, rows * len(data_of(steps)) - len(block.data())
+        return block, rows * sum(step.step.size for step in steps) - block.step.size

@@ -4,6 +4,7 @@ from __future__ import annotations
 
 import struct
 from dataclasses import dataclass
+from functools import lru_cache
 from typing import Callable, Iterator, Sequence
 
 from vga_report.trouble import Trouble
@@ -47,6 +48,7 @@ def font_of(data: bytes, height: int, name: str) -> bytes:
     return data[FONTS_AT[height]:FONTS_AT[height] + GLYPHS * height]
 
 
+@lru_cache(maxsize=None)
 def glyph_dots(font: bytes, character: int, width: int) -> Dots:
     """The dots of a character that have the colour of the character."""
     dots, height = 0, len(font) // GLYPHS
@@ -71,13 +73,8 @@ class Chooser:
         self._glyphs: dict[Dots, int] = {}
         for character in (BLANK, *range(GLYPHS)):
             self._glyphs.setdefault(glyph_dots(font, character, mode.cell_width), character)
-        self._known: dict[bytes, Chosen] = {}
-
-    def chosen(self, cell: bytes) -> Chosen:
-        """The choice for a cell, whose dots are numbers of colours, line by line."""
-        if cell not in self._known:
-            self._known[cell] = self._best(cell)
-        return self._known[cell]
+        # The choice for a cell, whose dots are numbers of colours, line by line; each cell is looked at once.
+        self.chosen = lru_cache(maxsize=None)(self._best)
 
     def _best(self, cell: bytes) -> Chosen:
         """A character that shows the cell as it is, or else the nearest; of those with the same error the first."""
@@ -138,12 +135,9 @@ def dots_of_cells(image: Indexed, mode: Mode) -> Iterator[bytes]:
 def rows_of(cells: Sequence[Chosen], mode: Mode, font: bytes) -> list[bytes]:
     """The rows of dots that cells show, as numbers of colours."""
     rows = [bytearray(mode.width) for _ in range(mode.height)]
-    known: dict[int, Dots] = {}
     for at, cell in enumerate(cells):
         top, left = at // mode.columns * mode.cell_height, at % mode.columns * mode.cell_width
-        if cell.character not in known:
-            known[cell.character] = glyph_dots(font, cell.character, mode.cell_width)
-        dots, front, back = known[cell.character], cell.attribute & 0x0F, cell.attribute >> 4
+        dots, front, back = glyph_dots(font, cell.character, mode.cell_width), cell.attribute & 0x0F, cell.attribute >> 4
         for y in range(mode.cell_height):
             line = dots >> mode.cell_width * y
             rows[top + y][left:left + mode.cell_width] = bytes(
@@ -174,7 +168,7 @@ def typed_cells(cells: Sequence[Chosen], columns: int) -> list[Item]:
         # Character and attribute are a cycle each, and no cursor is shown.
         typed = Service(len(block), 0x1302, 0, end - start, start // columns << 8 | start % columns, block)
         steps = [_put(start + at, cell) for at, cell in enumerate(cells[start:end])]
-        items += [typed] if len(typed.data()) < sum(len(step.data()) for step in steps) else steps
+        items += [typed] if typed.step.size < sum(step.step.size for step in steps) else steps
     alone = [at for at, cell in enumerate(cells) if not _can_be_typed(at, cells) and not _is_blank(cell)]
     return items + [_put(at, cells[at]) for at in alone]
 

@@ -59,8 +59,7 @@ def _parser() -> argparse.ArgumentParser:
     add(colours, "--nearest", told, dest="fewer", action="store_const", const=Fewer.NEAREST)
     told = "does the same, but mixes them: by Floyd and Steinberg, or by a pattern of four by four dots"
     add(colours, "--dither floyd|ordered", told, dest="fewer", choices=[Fewer.FLOYD, Fewer.ORDERED], type=Fewer)
-    told = "uses this font file for text (default: the project's)"
-    add(made, "--fonts FILE", told, type=to_read, default=str(FONTS))
+    add(made, "--fonts FILE", "uses this font file for text (default: the project's)", type=to_read, default=str(FONTS))
     add(made, "--rows", "rows of text (default: 25)", type=int, choices=list(LINES))
     add(made, "--own-glyphs", "loads glyphs of the image's own where the font's don't fit")
     add(made, "--picture FILE", "writes the picture that the script should draw as PNG")

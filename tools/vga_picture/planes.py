@@ -71,15 +71,11 @@ def _word(planes: Sequence[bytes]) -> Word:
 def drawing(have: Planes, want: Planes) -> list[Step]:
     """The steps that make planes others, with each map mask once at most, from a map mask of all planes on."""
     passes: dict[int, dict[int, int]] = {mask: {} for mask in MASKS}
-    known: dict[tuple[bytes, ...], list[Write]] = {}
     for at in range(0, len(want[0]), 2):
         old, new = [plane[at:at + 2] for plane in have], [plane[at:at + 2] for plane in want]
         if old == new:
             continue
-        key = (*old, *new)
-        if key not in known:
-            known[key] = least_writes(_word(old), _word(new))
-        for mask, low, high in known[key]:
+        for mask, low, high in least_writes(_word(old), _word(new)):
             if low is not None:
                 passes[mask][at] = low
             if high is not None:
@@ -224,6 +220,7 @@ def _named(have: Bytes, want: Bytes) -> tuple[Bytes, Bytes, list[int]]:
     return tuple(map(values.index, have)), tuple(map(values.index, want)), values  # type: ignore[return-value]
 
 
+@lru_cache(maxsize=None)
 def least_writes(have: Word, want: Word) -> list[Write]:
     """The writes that make one word another, to be done in the order of masks."""
     have_low, want_low, lows = _named(have.low, want.low)

@@ -4,12 +4,13 @@ from __future__ import annotations
 
 from collections import Counter
 from dataclasses import dataclass, field
-from typing import BinaryIO, Iterable, Sequence, Union
+from typing import BinaryIO, Sequence, Union
 
 from vga_report.trouble import Trouble
 from vga_trace.step import Step
 from zaklimot import format
-from zaklimot.format import END, FIRST_LINE, HEADERS, MOST_BYTES, MOST_STEPS, REPEAT
+from zaklimot.format import FIRST_LINE, HEADERS, MOST_BYTES, MOST_STEPS
+from zaklimot.format.text import printed_item
 
 
 @dataclass(frozen=True)
@@ -28,14 +29,6 @@ class Service:
         """The step of a script."""
         return format.Step("int", (self.ax, self.bx, self.cx, self.dx), self.block)
 
-    def data(self) -> bytes:
-        """The step as bytes of a script."""
-        return format.encoded(self.step)
-
-    def text(self) -> bytes:
-        """The step as a line; registers that are 0 are left out."""
-        return format.printed(self.step, is_short=True).encode() + b"\n"
-
 
 @dataclass(frozen=True)
 class Repeat:
@@ -44,21 +37,13 @@ class Repeat:
     count: int
     steps: tuple[Union[Step, Service], ...]
 
-    def data(self) -> bytes:
-        """The block as bytes of a script."""
-        return format.encoded(format.Block(self.count, tuple(step.step for step in self.steps)))
-
-    def text(self) -> bytes:
-        """The block as lines."""
-        return f"{REPEAT} {self.count}\n".encode() + b"".join(step.text() for step in self.steps) + f"{END}\n".encode()
+    @property
+    def step(self) -> format.Block:
+        """The block of a script."""
+        return format.Block(self.count, tuple(step.step for step in self.steps))
 
 
 Item = Union[Step, Service, Repeat]
-
-
-def data_of(items: Iterable[Item]) -> bytes:
-    """Items as bytes of a script."""
-    return b"".join(item.data() for item in items)
 
 
 @dataclass(frozen=True)
@@ -101,7 +86,8 @@ def _lines(parts: Sequence[Part], answer: str, is_version_2: bool) -> bytes:
     lines = [b"; %s\n" % parts[0].note.encode(), f"{FIRST_LINE}\n".encode() if is_version_2 else b""]
     for number, part in enumerate(parts):
         lines.append(b"\n; %s\n" % part.note.encode() if number else b"")
-        lines.extend(item.text() for item in part.items)
+        # Registers that are 0 are left out.
+        lines.extend(b"%b\n" % line.encode() for item in part.items for line in printed_item(item.step, is_short=True))
     last = lines.pop()
     return b"".join(lines) + last.rstrip(b"\n") + f" ; = {answer}\n".encode()
 
@@ -113,7 +99,7 @@ def write_script(stream: BinaryIO, parts: Sequence[Part], answer: str, is_text: 
         for item in part.items:
             figures.add(item)
     is_version_2 = figures.blocks > 0
-    data = HEADERS[2 if is_version_2 else 1] + b"".join(data_of(part.items) for part in parts)
+    data = HEADERS[2 if is_version_2 else 1] + b"".join(format.encoded(item.step) for part in parts for item in part.items)
     lines = _lines(parts, answer, is_version_2) if is_text else b""
     if max(len(data), len(lines)) > MOST_BYTES or sum(figures.kinds.values()) > MOST_STEPS:
         raise Trouble(f"the script would be longer than {MOST_BYTES:,} bytes or steps")
