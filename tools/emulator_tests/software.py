@@ -67,10 +67,6 @@ class Software:
     refused: int = 0
     dots: int = 0
 
-    def machine(self, folder: Path, unpacked: Optional[Path]) -> Machine:
-        """The machine."""
-        return self.make(folder, unpacked)
-
 
 def _card(rom: str) -> list[str]:
     return ["-device", f"VGA,romfile={rom}"]

@@ -118,17 +118,12 @@ def _parser() -> argparse.ArgumentParser:
 
 
 def _replay_all(words: argparse.Namespace, progress: Progress) -> int:
-    """Looks at the words, and replays what they name."""
+    """Records and replays what the words name; the status tells whether all was as known."""
     unknown = set(words.names) - set(SOFTWARE)
     if unknown:
         raise Trouble(f"there is no software {', '.join(sorted(unknown))}")
     words.folder.mkdir(parents=True, exist_ok=True)
-    return 0 if _all_known(words, progress) else 1
-
-
-def _all_known(words: argparse.Namespace, progress: Progress) -> bool:
-    """Records and replays what is wanted, and tells whether all was as known."""
-    is_known = True
+    status = 0
     print(HEADER, flush=True)
     for name in words.names or SOFTWARE:
         software, base = SOFTWARE[name], words.folder / name
@@ -137,11 +132,11 @@ def _all_known(words: argparse.Namespace, progress: Progress) -> bool:
             continue
         trace = base.with_name(name + ".trace.gz")
         if not trace.exists():
-            record(software.machine(words.folder, words.unpacked), trace, base, lambda text: _say(f"{name}: {text}"), progress)
+            record(software.make(words.folder, words.unpacked), trace, base, lambda text: _say(f"{name}: {text}"), progress)
         replayed = replay(base)
-        is_known &= replayed.is_as_known(software)
+        status |= not replayed.is_as_known(software)
         print(replayed.row(name), flush=True)
-    return is_known
+    return status
 
 
 if __name__ == "__main__":

@@ -24,7 +24,7 @@ REGISTERS = "misc 00\nseq 00: 00\ncrtc 00: 00\ngfx 00: 00\nattr 00 i: 00\ndac 00
 def first(data: bytes, others: Iterator[Answer]) -> Optional[str]:
     """How a report differs from other answers first."""
     difference = next(Comparison().differences(Report(stream(data), "a").steps(), others), None)
-    return difference and difference.text()
+    return difference and difference.told().text
 
 
 def against(data: bytes, expected: str) -> Optional[str]:

@@ -7,7 +7,6 @@ import os
 
 from vga_report import cli
 from vga_report.cli import add
-from vga_report.images import Image
 from vga_report.output import AGREED, name_of, refuse_twice
 from vga_report.progress import Progress
 from vga_report.png import save_png
@@ -46,8 +45,7 @@ def _parser() -> argparse.ArgumentParser:
         "tools/vga-floppy run --on dosbox examples/asked-of-machines.vga", "docs/REAL-MACHINES.md",
     )
     commands = parser.add_subparsers(required=True, metavar="COMMAND")
-    told = "makes the image of a floppy or a stick that runs a script, or many"
-    made = cli.command(commands, "make", _make, told)
+    made = cli.command(commands, "make", _make, "makes the image of a floppy or a stick that runs a script, or many")
     _add_script(made)
     add(made, "--disk", "writes a partition table, for a stick or a hard disk (default: a floppy)")
     add(made, "IMAGE", "the image, of 1,474,560 bytes; - is standard output")
@@ -120,8 +118,7 @@ def _read(words: argparse.Namespace, _: Progress) -> int:
         data = stream.read(MOST_READ if words.serial else IMAGE_SIZE)
     run = read_record(data, name) if words.serial else read_image(data, name)
     if not run.is_whole and not words.part:
-        length = run.table.answer_length()
-        came = f"{len(run.answers):,} of {length:,} bytes of answers came"
+        came = f"{len(run.answers):,} of {run.table.answer_length():,} bytes of answers came"
         raise Trouble(f"the record ends before the run did: {came}; --part gives the report so far", name)
     _write_report(words, run, name)
     return AGREED
@@ -132,14 +129,10 @@ def _run(words: argparse.Namespace, _: Progress) -> int:
     wanted = Wanted(words.bios, words.seconds, words.picture is not None)
     ran = run_on(MACHINES[words.on], scripts_of(words.script), name_of(words.script), wanted)
     if ran.picture is not None:
-        _write_picture(words.picture, ran.picture)
+        # In the six bits of a component that the DAC has.
+        save_png(words.picture, ran.picture.picture(2 if ran.picture.most == 255 else 0))
     _write_report(words, ran.run, words.on)
     return AGREED
-
-
-def _write_picture(path: str, image: Image) -> None:
-    """Writes what an emulator shows, in the six bits of a component that the DAC has."""
-    save_png(path, image.picture(2 if image.most == 255 else 0))
 
 
 def _table(words: argparse.Namespace, _: Progress) -> int:

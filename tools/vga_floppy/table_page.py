@@ -71,8 +71,7 @@ def write_tables(page: str, paths: Sequence[str]) -> None:
     _, last, after = rest.partition(LAST_MARK)
     if not first or not last:
         raise Trouble(f"it lacks the marks: {FIRST_MARK} and {LAST_MARK}", page)
-    results = [_read(path) for path in paths]
-    made = "\n".join(_lines(results))
+    made = "\n".join(_lines([_read(path) for path in paths]))
     write_over(page, f"{before}{first}\n\n{made}\n\n{last}{after}".encode("utf-8", "surrogateescape"))
 
 

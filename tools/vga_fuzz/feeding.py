@@ -35,10 +35,9 @@ class Program:
         """Runs an input, and does what there is to do with it besides: `asm` with a text, `dis` with a script."""
         file = self._folder / "input"
         file.write_bytes(given.data)
+        feed = self._feed_text if given.is_text else self._feed_script
         try:
-            if given.is_text:
-                return Fed(self._feed_text(str(file), given.data))
-            return Fed(self._feed_script(str(file), given.data))
+            return Fed(feed(str(file), given.data))
         except Wrong as wrong:
             return Fed("wrong", str(wrong))
 

@@ -23,8 +23,7 @@ USUAL_PREFIX = "/usr/local"
 
 
 def _add_archive(parser: argparse.ArgumentParser) -> None:
-    told = "the processor, with Linux (default: x86_64)"
-    add(parser, "--target", told, choices=[*TARGETS], default=X86_64.name)
+    add(parser, "--target", "the processor, with Linux (default: x86_64)", choices=[*TARGETS], default=X86_64.name)
     told = "the compiler: llvm, or rattle, which is written in Rattle (default: llvm)"
     add(parser, "--backend", told, choices=BACKENDS, default=BACKENDS[0])
     told = f"takes this archive of the crate, as {ARCHIVE.name} (default: `rt lib` proves and builds it)"

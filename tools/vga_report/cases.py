@@ -100,7 +100,7 @@ class Case(NamedTuple):
     def has_answers_of_machine(self) -> bool:
         """Whether a step before the first that is to be refused has an answer that a machine can give."""
         return not self.expects_fault() and any(
-            step.kind == VALUE or step.answer.startswith(CALLED) for step in takewhile(_is_taken, self._expected_steps())
+            step.kind == VALUE or step.answer.startswith(CALLED) for step in takewhile(_is_taken, self.expected_steps())
         )
 
     def machine_script(self) -> bytes:
@@ -110,11 +110,10 @@ class Case(NamedTuple):
         """
         if self.is_bytes:
             return self.script()
-        taken, script = 0, self.stopped_script()
-        for step in self._expected_steps():
+        script = self.stopped_script()
+        for taken, step in enumerate(self.expected_steps()):
             if not _is_taken(step):
                 return _front_of(script, taken)
-            taken += 1
         return script
 
     def handed(self, is_for_machine: bool, can_stop: bool) -> bytes:
@@ -123,7 +122,7 @@ class Case(NamedTuple):
             return self.machine_script()
         return self.script() if can_stop else self.stopped_script()
 
-    def _expected_steps(self) -> Iterator[Answer]:
+    def expected_steps(self) -> Iterator[Answer]:
         """The steps of the report that is expected."""
         with open(self.expected, "rb") as stream:
             yield from Expected(stream, str(self.expected)).steps()

@@ -75,10 +75,8 @@ def add_proof(
     parser: argparse.ArgumentParser, gate: Optional[argparse._ActionsContainer] = None, usually: str = ""
 ) -> None:
     """The options of a tool that proves the library's crate; `gate` gets that of the gate."""
-    told = f"works over the libraries of `rt ci`, which must have run just before{usually}"
-    add(gate or parser, "--gated", told)
-    told = "with --gated: keeps the crate's proof there, or takes it from there"
-    add(parser, "--proof FOLDER", told, type=Path)
+    add(gate or parser, "--gated", f"works over the libraries of `rt ci`, which must have run just before{usually}")
+    add(parser, "--proof FOLDER", "with --gated: keeps the crate's proof there, or takes it from there", type=Path)
 
 
 def add_checks(

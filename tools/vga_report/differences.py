@@ -66,12 +66,8 @@ class Difference(NamedTuple):
         pictures = self.pictures()
         return told_dots(*pictures) if pictures and pictures[0].size == pictures[1].size else ""
 
-    def text(self) -> str:
-        """What the first report has in the place of what the other has, as one line."""
-        return self.told().text
-
     def told(self) -> Told:
-        """What messages tell of it."""
+        """What messages tell of it: as a line, what the first report has in the place of what the other has."""
         answer, other = self.answers()
         text = self.dots() or f"{answer}, not {other}"
         lines = ["" if step is None else step.answer for step in self]

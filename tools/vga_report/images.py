@@ -57,11 +57,6 @@ def image_bytes(path: str) -> bytes:
     return read_at_most(path, MOST_BYTES)
 
 
-def image_of_picture(picture: Picture) -> Image:
-    """A report's picture as an image."""
-    return Image(picture.width, picture.height, tuple(picture.row(y) for y in range(picture.height)), 63)
-
-
 def image_of(data: bytes, name: str) -> Image:
     """The image that a file holds."""
     if data.startswith(SIGNATURE):

@@ -61,8 +61,7 @@ def mistake_in(line: str) -> Optional[Mistake]:
     words = [Word(found.start(), found[0]) for found in WORD.finditer(step)]
     if not words:
         return None
-    odd = next((found for found in map(_odd_byte, words) if found), None)
-    return odd or _in_step(words, len(step.rstrip(" \t\r")))
+    return next(filter(None, map(_odd_byte, words)), None) or _in_step(words, len(step.rstrip(" \t\r")))
 
 
 def mistake_among_lines(data: bytes, number: int) -> Optional[str]:
@@ -107,11 +106,8 @@ def _in_step(words: Sequence[Word], end: int) -> Optional[Mistake]:
         return _in_show(words, end)
     if name == "version" and [word.text for word in words[1:]] != ["2"]:
         return _wrong(words[-1], f"there is no such version: write {FIRST_LINE}, or nothing for version 1")
-    if name in BLOCK_LINES:
-        return _in_numbers(name, BLOCK_LINES[name], words[1:], end)
-    if name not in SHAPES:
-        return _unknown_step(words[0])
-    return _in_numbers(name, SHAPES[name], words[1:], end)
+    numbers = BLOCK_LINES.get(name, SHAPES.get(name))
+    return _unknown_step(words[0]) if numbers is None else _in_numbers(name, numbers, words[1:], end)
 
 
 def _unknown_step(word: Word) -> Mistake:

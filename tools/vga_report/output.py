@@ -8,8 +8,8 @@ import sys
 from .streams import STANDARD, shown_name
 from .trouble import Trouble
 
-# The exit status: nothing differs, something does, the work can't be done.
-AGREED, DIFFERED, TROUBLE = 0, 1, 2
+# The exit status: nothing differs, something does.
+AGREED, DIFFERED = 0, 1
 
 
 def name_of(path: str) -> str:

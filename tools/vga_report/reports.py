@@ -10,7 +10,7 @@ from zaklimot.format.picture import DifferentDots, different_dots
 
 from .differences import Comparison, Difference, told_dots
 from .expected import Expected
-from .images import Image, image_bytes, image_of, image_of_picture
+from .images import Image, image_bytes, image_of
 from .output import AGREED, DIFFERED, name_of, refuse_twice, say, write, write_name
 from .page import Page
 from .png import Animation, Shape, save_png
@@ -204,7 +204,7 @@ def check(words: argparse.Namespace, progress: Progress) -> int:
         write(f"{name} is as expected: {comparison.text()}\n")
         return AGREED
     places = [f"{one}:{step.line}" if step else one for one, step in zip((name, expected_name), difference)]
-    write(f"{places[0]}: {difference.text()} ({places[1]})\n")
+    write(f"{places[0]}: {difference.told().text} ({places[1]})\n")
     return DIFFERED
 
 
@@ -213,16 +213,15 @@ def _factor(size: int, other: int) -> Optional[int]:
     return other // size if other % size == 0 and other // size in TIMES else None
 
 
-def _fitted(picture: Image, image: Image) -> Optional[tuple[Image, Image, str]]:
-    """Both brought to one size, and how; None where neither is the other with dots or lines repeated."""
+def _fitted(picture: Picture, image: Image) -> Optional[tuple[Image, str]]:
+    """An image brought to the size of a picture, and how; None where neither is the other with dots or lines repeated."""
     told = []
     for what, size, other in (("dot", picture.width, image.width), ("line", picture.height, image.height)):
-        across = what == "dot"
         in_image, in_picture = _factor(size, other), _factor(other, size)
         if in_image is None and in_picture is None:
             return None
         times = in_image or in_picture or 1
-        factors = (times, 1) if across else (1, times)
+        factors = (times, 1) if what == "dot" else (1, times)
         if times > 1 and in_image:
             if not image.is_repeated(*factors):
                 return None
@@ -231,7 +230,7 @@ def _fitted(picture: Image, image: Image) -> Optional[tuple[Image, Image, str]]:
         elif times > 1:
             image = image.repeated(*factors)
             told.append(f"the picture has each {what} of the image {TIMES[times]}")
-    return picture, image, ", ".join(told)
+    return image, ", ".join(told)
 
 
 def _best(picture: Picture, image: Image) -> tuple[Picture, Optional[DifferentDots], str]:
@@ -260,11 +259,11 @@ class Held(NamedTuple):
 
 def held(picture: Picture, image: Image) -> Held:
     """Holds a picture against an image."""
-    fitted = _fitted(image_of_picture(picture), image)
+    fitted = _fitted(picture, image)
     if fitted is None:
         sizes = f"{picture.size} and {image.width}x{image.height}"
         return Held(None, f"they have {sizes} dots, and neither is the other with dots repeated")
-    _, image, told = fitted
+    image, told = fitted
     read, difference, bits = _best(picture, image)
     how = ", ".join(part for part in (picture.size, told, bits) if part)
     return Held(0 if difference is None else difference.count, how, told_dots(picture, read), read)

@@ -12,7 +12,6 @@ from zaklimot.format import FAULT, Answer, Picture
 
 from .cases import Case, printable
 from .differences import Comparison, Told
-from .expected import Expected
 from .png import save_png
 from .processes import Limits, Outcome, run_command
 from .report import Report
@@ -126,19 +125,16 @@ def _judged(case: Case, rule: str, comparison: Comparison, status: int, report: 
 
 def _compared(case: Case, rule: str, comparison: Comparison, report: io.BufferedReader) -> Result:
     """Compares a report with the one that is expected."""
-    with open(case.expected, "rb") as expected:
-        steps = Report(report, REPORT_NAME).steps()
-        others = Expected(expected, str(case.expected)).steps()
-        told = None
-        try:
-            for difference in comparison.differences(steps, others):
-                # The first is told, and the others are counted.
-                told = told or difference.told()
-        except Trouble as trouble:
-            if trouble.name != REPORT_NAME:
-                raise
-            if told is None:
-                return Result(case, rule, FAILED, comparison, reason=str(trouble))
+    told = None
+    try:
+        for difference in comparison.differences(Report(report, REPORT_NAME).steps(), case.expected_steps()):
+            # The first is told, and the others are counted.
+            told = told or difference.told()
+    except Trouble as trouble:
+        if trouble.name != REPORT_NAME:
+            raise
+        if told is None:
+            return Result(case, rule, FAILED, comparison, reason=str(trouble))
     if told is not None:
         return Result(case, rule, DIFFERS, comparison, difference=told)
     if comparison.skipped:
@@ -199,5 +195,4 @@ def _pictures_of(report: Path) -> Iterator[Answer]:
 
 def expected_pictures(case: Case) -> Iterator[Answer]:
     """The steps of a case whose expected picture stands in the suite with all its dots."""
-    with open(case.expected, "rb") as stream:
-        yield from (step for step in Expected(stream, str(case.expected)).steps() if isinstance(step.picture, Picture))
+    return (step for step in case.expected_steps() if isinstance(step.picture, Picture))

@@ -75,11 +75,10 @@ def check_folder(path: Union[str, Path]) -> None:
     """Ends the work, before it begins, where files can't be laid into a folder, be it there or to be made."""
     if not str(path):
         raise Trouble(NO_NAME)
-    place = Path(path).absolute()
-    while not os.path.lexists(place):
-        place = place.parent
+    whole = Path(path).absolute()
+    place = next(one for one in (whole, *whole.parents) if os.path.lexists(one))
     if not place.is_dir():
-        raise Trouble("it is not a folder", str(path) if place == Path(path).absolute() else str(place))
+        raise Trouble("it is not a folder", str(path if place == whole else place))
     if not os.access(place, os.W_OK | os.X_OK):
         raise Trouble("there is no permission to write there", str(place))
 

@@ -60,9 +60,6 @@ def _add_cases(parser: argparse.ArgumentParser) -> None:
     add(parser, "--only PREFIX", "takes only cases whose names begin with PREFIX; may be repeated", **many)
     told = "leaves out cases whose names begin with PREFIX; may be repeated"
     add(parser, "--except PREFIX", told, dest="except_", **many)
-
-
-def _add_machine(parser: argparse.ArgumentParser) -> None:
     told = "cases that it can answer, each up to the first refused step"
     add(parser, "--machine", f"for a machine, which refuses nothing: {told}")
 
@@ -72,9 +69,7 @@ def _add_suite(parser: argparse.ArgumentParser) -> None:
     add(parser, "--keep FOLDER", "keeps the reports and pictures of cases that don't agree")
     add(parser, "--bytes COMMAND", "the command for scripts as bytes; without it they are skipped")
     _add_cases(parser)
-    _add_machine(parser)
-    told = "counts steps that are to be refused as skipped"
-    add(parser, "--no-refusals", told, dest="refusals", action="store_false")
+    add(parser, "--no-refusals", "counts steps that are to be refused as skipped", dest="refusals", action="store_false")
     add(parser, "--timeout SECONDS", "the time of each case (default: 60)", type=seconds, default=60)
     told = "the most that a case's report may have (default: 256)"
     add(parser, "--output MIB", told, type=number_to(MOST_OUTPUT), default=256)
@@ -107,8 +102,7 @@ def _add_run(parser: argparse.ArgumentParser) -> None:
 def _add_pictures(parser: argparse.ArgumentParser) -> None:
     add(parser, "FOLDER", "where the files go", nargs="?")
     add(parser, "--apng FILE", "writes one picture that moves, each frame as long as it lasts")
-    told = "takes the frames' times from this script (default: 70 frames a second)"
-    add(parser, "--script SCRIPT", told, type=to_read)
+    add(parser, "--script SCRIPT", "takes the frames' times from this script (default: 70 frames a second)", type=to_read)
     add(parser, "--ppm", "writes the bytes as they are, as NNNN.ppm, instead of PNG")
     steps = {"type": number_to(MOST_STEP), "action": "append", "default": []}
     add(parser, "--step N", "writes only the picture of this step; may be repeated", **steps)
@@ -149,7 +143,6 @@ def parser() -> argparse.ArgumentParser:
     _add_suite(adding)
     adding = adds(scripts, "folder")
     _add_cases(adding)
-    _add_machine(adding)
     return made
 
 
