@@ -16,7 +16,7 @@ from vga_report.cases import Case, read_cases
 from zaklimot.format import MOST_BYTES
 
 from .making import BLACK, RED, WHITE, png_rows, ppm, report
-from .tools import TOOLS, Folder, begin, ended, hold, refused, run_tool
+from .tools import TOOLS, Folder, begin, ended, hold, hold_undone, refused, run_tool
 
 PROGRAM = TOOLS / "vga-report"
 ADAPTER = shlex.join([sys.executable, str(TOOLS / "tests" / "adapter.py")]) + " {script}"
@@ -54,9 +54,7 @@ class Pictures(Folder):
         self.assertEqual(png_rows((folder / "0003.png").read_bytes()), (1, 1, [b"\xff\xff\xff"]))
         self.assertEqual(run("pictures", path, folder, "--scale", "2", "--aspect")[0], 0)
         self.assertEqual(png_rows((folder / "0003.png").read_bytes())[:2], (3, 2))
-
-    def test_the_bytes_as_they_are(self) -> None:
-        path, folder = self.report("r", PICTURE), self.folder / "a"
+        # The bytes as they are.
         self.assertEqual(run("pictures", path, folder, "--ppm")[0], 0)
         self.assertEqual((folder / "0001.ppm").read_bytes(), PICTURE)
 
@@ -111,8 +109,7 @@ class Compare(Folder):
     def test_no_picture_differs(self) -> None:
         path, other, marked = self.report("a", "00"), self.report("b", "01"), self.folder / "marked.png"
         status, _, message = run("compare", path, other, "--picture", marked)
-        self.assertEqual(status, 1)
-        self.assertEqual(message, f"vga-report: no pictures differ, so {marked} isn't written\n")
+        self.assertEqual((status, message), (1, f"vga-report: no pictures differ, so {marked} isn't written\n"))
         self.assertFalse(marked.exists())
 
     def test_a_report_as_text_shows_it(self) -> None:
@@ -128,15 +125,12 @@ class Compare(Folder):
 
     def test_as_expected_and_not(self) -> None:
         path, expected = self.report("r", "ok", "ok", "55"), self.folder / "e"
-        for text, status, said in [
-            ("1-2 ok\n3 55\n", 0, f"{path} is as expected: 3 steps, 0 pictures\n"),
-            ("1-2 ok\n3 54\n", 1, f"{path}:3: step 3: 55, not 54 ({expected}:2)\n"),
-            ("1-2 ok\n", 1, f"{path}:3: step 3: 55, not the end ({expected})\n"),
-            ("1-4 ok\n", 1, f"{path}:3: step 3: 55 (read), not ok ({expected}:1)\n"),
-        ]:
-            with self.subTest(text):
-                expected.write_text(text)
-                self.assertEqual(run("check", path, expected), (status, said.encode(), ""))
+        hold(self, lambda text: run("check", path, self.write("e", text)), [
+            ("1-2 ok\n3 55\n", (0, f"{path} is as expected: 3 steps, 0 pictures\n".encode(), "")),
+            ("1-2 ok\n3 54\n", (1, f"{path}:3: step 3: 55, not 54 ({expected}:2)\n".encode(), "")),
+            ("1-2 ok\n", (1, f"{path}:3: step 3: 55, not the end ({expected})\n".encode(), "")),
+            ("1-4 ok\n", (1, f"{path}:3: step 3: 55 (read), not ok ({expected}:1)\n".encode(), "")),
+        ])
 
 
 class Streams(Folder):
@@ -161,24 +155,19 @@ class Streams(Folder):
         status, output, said = run("compare", folder + b"/r", folder + b"/r")
         self.assertEqual((status, said), (0, b""))
         self.assertIn(folder + b"/r agree", output.replace(b"\n", b" "))
-        status, output, said = run("text", folder + b"/none")
-        self.assertEqual((status, output), (2, b""))
-        self.assertIn(b"\\udcff\\udcfe /none: No such file or directory\n", said)
+        hold_undone(self, run("text", folder + b"/none"), rb"\\udcff\\udcfe /none: No such file or directory\n")
 
     def test_each_is_told_or_not_wanted(self) -> None:
         path, long = self.report("r", "ok"), self.report("long", *("ok" for _ in range(50000)))
         told = "vga-report: standard {}put: {}\n".format
-        for streams, word, status, output, said in (
-            (">&-", path, 2, "", told("out", "it is closed")),
-            ("<&-", "-", 2, "", told("in", "it is closed")), ("<&-", path, 0, "1 ok\n", ""),
+        hold(self, lambda word, streams: ended("sh", "-c", f'"$@" {streams}', "sh", sys.executable, PROGRAM, "text", word), (
+            (path, ">&-", (2, "", told("out", "it is closed"))),
+            ("-", "<&-", (2, "", told("in", "it is closed"))), (path, "<&-", (0, "1 ok\n", "")),
             # Nothing is said on standard output in the place of a closed error.
-            ("2>&-", str(self.folder / "none"), 2, "", ""),
-            (">/dev/full", long, 2, "", told("out", "No space left on device")),
-            (f">>{path}", path, 2, "", told("out", f"it is read as {path}, so it isn't written")),
-        ):
-            with self.subTest(streams, word=word):
-                line = shlex.join([sys.executable, str(PROGRAM), "text", word])
-                self.assertEqual(ended("sh", "-c", f"{line} {streams}"), (status, output, said))
+            (self.folder / "none", "2>&-", (2, "", "")),
+            (long, ">/dev/full", (2, "", told("out", "No space left on device"))),
+            (path, f">>{path}", (2, "", told("out", f"it is read as {path}, so it isn't written"))),
+        ))
         self.assertEqual(Path(path).read_bytes(), b"1 ok\n")
 
 
@@ -360,19 +349,17 @@ class Suite(Folder):
 
     def test_commands_that_can_not_be_meant(self) -> None:
         self.case("a/one", "frame\n", "1 ragged\n")
-        for command, message in [
-            ("true", "the command 'true' has neither {script} nor {name}"),
-            ("", "the command is empty"), (" ", "the command is empty"),
-            ("'{script}", "the command ''{script}': No closing quotation"),
-            ("/none/there {script}", "/none/there: No such file or directory"),
-        ]:
-            with self.subTest(command):
-                self.assertEqual(self.run_suite(command=command), (2, "", f"vga-report: {message}\n"))
+        empty = (2, "", "vga-report: the command is empty\n")
+        hold(self, lambda command: self.run_suite(command=command), [
+            ("true", (2, "", "vga-report: the command 'true' has neither {script} nor {name}\n")), ("", empty), (" ", empty),
+            ("'{script}", (2, "", "vga-report: the command ''{script}': No closing quotation\n")),
+            ("/none/there {script}", (2, "", "vga-report: /none/there: No such file or directory\n")),
+        ])
         self.lines = ["a/one"]
         message = "vga-report: no line `fonts FILE` stands before a/one in the list\n"
         self.assertEqual(self.run_suite(), (2, "", message))
         self.assertEqual(self.run_suite("--only", "x")[0], 2)
-        self.assertEqual(self.run_suite("--bytes", ""), (2, "", "vga-report: the command is empty\n"))
+        self.assertEqual(self.run_suite("--bytes", ""), empty)
 
     def test_a_step_of_a_front_is_named_where_it_stands(self) -> None:
         self.write("front", "; A front.\nget 0\n")
@@ -429,13 +416,10 @@ class Suite(Folder):
 
     def test_scripts_go_into_no_folder_that_has_files(self) -> None:
         self.case("a/one", "frame\n", "1 ok\n")
-        path, folder = self.write("list.txt", "\n".join(self.lines) + "\n"), self.folder / "mine" / "a"
-        folder.mkdir(parents=True)
-        (folder / "one.vga").write_text("mine")
-        status, output, message = run("scripts", folder.parent, "--list", path)
-        self.assertEqual((status, output), (2, b""))
-        self.assertIn("the folder has files, and none of them is to be lost", message)
-        self.assertEqual((folder / "one.vga").read_text(), "mine")
+        path, mine = self.write("list.txt", "\n".join(self.lines) + "\n"), Path(self.write("mine/a/one.vga", "mine"))
+        done = run("scripts", self.folder / "mine", "--list", path)
+        hold_undone(self, done, "the folder has files, and none of them is to be lost")
+        self.assertEqual(mine.read_text(), "mine")
 
     def test_a_font_has_a_limit(self) -> None:
         self.write("one.vga", "frame\n")
@@ -445,13 +429,6 @@ class Suite(Folder):
         message = f"vga-report: {font}: it has more than {MOST_BYTES:,} bytes\n"
         written = f"{self.folder / 'new' / 'one.vga'}\n".encode()
         self.assertEqual(run("scripts", self.folder / "new", "--list", path), (2, written, message))
-
-    def test_a_case_outside_the_folder(self) -> None:
-        for name in ("../one", "/one", "a/../../one"):
-            with self.subTest(name):
-                path = self.write("list.txt", f"fonts two.fnt\n{name}\n")
-                message = f"vga-report: {path}:2: a case outside the list's folder: '{name}'\n"
-                self.assertEqual(run("scripts", self.folder / "new", "--list", path), (2, b"", message))
 
 
 class Cases(Folder):
@@ -512,6 +489,8 @@ class Cases(Folder):
         hold(self, lambda line, files: refused(lambda: self.script(line, **files)), [
             *((f"fonts zero.fnt\n{line}\n", {}, f"{listed}:2: no case: '{line}'")
               for line in ("a b", "a until", "a until x", "bytes a b")),
+            *((f"fonts zero.fnt\n{name}\n", {}, f"{listed}:2: a case outside the list's folder: '{name}'")
+              for name in ("../one", "/one", "a/../../one")),
             *(("bytes one\n", {"one_hex": f"56\n{word}\n"}, f"{digits}:2: '{word}' is no byte")
               for word in ("5", "567", "GG", "56*", "56*0", "56*x")),
         ])

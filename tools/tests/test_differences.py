@@ -72,7 +72,7 @@ class Reports(unittest.TestCase):
 class ExpectedReports(unittest.TestCase):
     def test_alike(self) -> None:
         digest = hashlib.md5(PICTURE).hexdigest()
-        for answers, expected in [
+        hold(self, lambda answers, expected: against(report(*answers), expected), ((*row, None) for row in [
             ((), ""),
             (("ok",) * 12, "1-12 ok\n"),
             (("ok", "ok", "55", "ok"), "1-2 ok\n3 55\n4 ok\n"),
@@ -81,9 +81,7 @@ class ExpectedReports(unittest.TestCase):
             ((PICTURE, "ok"), "1 picture 28 3x2\n3F0000*2 000000\n000000*3\n2 ok\n"),
             ((PICTURE,), "1 picture 28 3x2\n3F0000 3F0000 000000\n000000 000000*2\n"),
             (("ragged", DUMP), "1 ragged\n2 misc 00\nseq 00: 00\n"),
-        ]:
-            with self.subTest(expected):
-                self.assertIsNone(against(report(*answers), expected))
+        ]))
         self.assertIsNone(against(b"F7 BadLine(3)\n", "F7 BadLine(3)\n"))
 
     def test_differing(self) -> None:
@@ -156,10 +154,7 @@ def steps_of(data: bytes) -> list[Answer]:
 class Answers(unittest.TestCase):
     def test_each_answer_is_a_step(self) -> None:
         answers = ["ok", "9F", "1E41", "ragged", "E1 NotDecoded", "latches 00 55 00 00", "ax=0003 bx=0000", "skipped"]
-        steps = steps_of(report(*answers))
-        self.assertEqual([step.answer for step in steps], answers)
-        self.assertEqual([step.number for step in steps], list(range(1, 9)))
-        self.assertEqual([step.line for step in steps], list(range(1, 9)))
+        self.assertEqual(steps_of(report(*answers)), [Answer(at, at, answer) for at, answer in enumerate(answers, 1)])
         self.assertEqual(steps_of(b""), [])
 
     def test_a_dump_has_all_its_lines(self) -> None:
@@ -192,18 +187,18 @@ class Answers(unittest.TestCase):
 
 
 class Damage(unittest.TestCase):
-    def assert_trouble(self, data: bytes, message: str, good: int) -> None:
-        """That a report is damaged with this message, behind so many good steps."""
+    def damage(self, data: bytes) -> tuple[str, int]:
+        """What is told of a damaged report, and how many good steps there are before."""
         seen = 0
         with self.assertRaises(Trouble) as caught:
             for _ in Report(stream(data), "r").steps():
                 seen += 1
-        self.assertEqual((str(caught.exception), seen), ("r:" + message, good))
+        return str(caught.exception), seen
 
     def test_lines_and_lengths_of_pictures(self) -> None:
         lengths = ("99999999999999", "0", "037", "-1", "3x", "", "37 9x1", "37 9x1 0123")
         pictures = [f"picture {length}".rstrip() for length in lengths]
-        for data, message, good in [
+        hold(self, self.damage, ((data, (f"r:{message}", good)) for data, message, good in [
             (b"1 ok\n2 o", "2: the report ends within a line", 1),
             (b"1 ok\n3 ok\n", "2: step 2 is to come, and not '3 ok'", 1),
             (b"01 ok\n", "1: step 1 is to come, and not '01 ok'", 0),
@@ -217,22 +212,18 @@ class Damage(unittest.TestCase):
             (b"F2 BadMagic\n1 ok\n", "2: something stands after a fault", 0),
             *((f"1 ok\n2 {picture}\n3 ok\n".encode(), f"2: step 2 has a picture of no length: '{picture}'", 1)
               for picture in pictures),
-        ]:
-            with self.subTest(data[:20]):
-                self.assert_trouble(data, message, good)
+        ]))
 
     def test_pictures(self) -> None:
         good = ppm(2, 1, 6 * b"\x01")
-        for length, data, message in [
-            (16, good[:12], "the picture of step 2 is cut off: of 16 bytes there are 12"),
-            (16, b"", "the picture of step 2 is cut off: of 16 bytes there are 0"),
-            (16, good, "no newline stands after the 16 bytes of the picture of step 2"),
-            (15, good + b"\n", "no newline stands after the 15 bytes of the picture of step 2"),
-            (15, good[:-1] + b"\n", "step 2: a picture of 2x1 dots has 16 bytes, and not 15"),
+        hold(self, lambda length, data: self.damage(b"1 ok\n2 picture %d\n" % length + data), [
+            (16, good[:12], ("r:2: the picture of step 2 is cut off: of 16 bytes there are 12", 1)),
+            (16, b"", ("r:2: the picture of step 2 is cut off: of 16 bytes there are 0", 1)),
+            (16, good, ("r:2: no newline stands after the 16 bytes of the picture of step 2", 1)),
+            (15, good + b"\n", ("r:2: no newline stands after the 15 bytes of the picture of step 2", 1)),
+            (15, good[:-1] + b"\n", ("r:2: step 2: a picture of 2x1 dots has 16 bytes, and not 15", 1)),
             (16, good.replace(b"63", b"31") + b"\n",
-             "step 2: the picture doesn't begin as a PPM of the kind P6, width, height and 63"),
-            (16, good[:-1] + b"\x40\n", "step 2: a dot of the picture has a component above 63"),
-            (999999999999, b"", "step 2 has a picture of 999999999999 bytes, and 67108864 are the most"),
-        ]:
-            with self.subTest(message):
-                self.assert_trouble(b"1 ok\n2 picture %d\n" % length + data, "2: " + message, 1)
+             ("r:2: step 2: the picture doesn't begin as a PPM of the kind P6, width, height and 63", 1)),
+            (16, good[:-1] + b"\x40\n", ("r:2: step 2: a dot of the picture has a component above 63", 1)),
+            (999999999999, b"", ("r:2: step 2 has a picture of 999999999999 bytes, and 67108864 are the most", 1)),
+        ])

@@ -136,8 +136,7 @@ class Streams(Program):
             (("go", "text", "--fonts", "fonts"), REPORT, 7),
         ]:
             with self.subTest(words), open(self.folder / "full", "wb") as full:
-                limit = {"preexec_fn": lambda room=room: limit_files(room)}
-                done = ended(PROGRAM, *words, cwd=self.folder, stdout=full, **limit)
+                done = ended(PROGRAM, *words, cwd=self.folder, stdout=full, preexec_fn=lambda: limit_files(room))
                 self.assertEqual((done[0], done[2]), (1, "vga: F9 WriteFault\n"))
                 self.assertEqual((self.folder / "full").read_bytes(), output[:room])
 

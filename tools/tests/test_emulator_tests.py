@@ -13,14 +13,11 @@ from emulator_tests.media import UNFIT, wrong
 from emulator_tests.software import MOST_SECTORS, NO_CALL, SECTOR, SOFTWARE, Call, archive_file, caller, screen
 from emulator_tests.traces import Replayed
 
-from vga_floppy.image import image_for
 from vga_floppy.running import monitor_at
-from vga_report.script import script_of
 from vga_report.trouble import Trouble
 
-from .floppy import Adapter
-from .floppy import Machine as BootedMachine
-from .tools import Folder, ended
+from .test_floppy import machine
+from .tools import Folder, ended, hold, hold_undone
 
 PROGRAM = Path(__file__).resolve().parents[1] / "emulator_tests" / "traces.py"
 MODES = (3, 7, 0x0D, 0x10, 0x12, 0x13)
@@ -31,29 +28,26 @@ class Media(Folder):
 
     TEXT = (b"\0\0\0", b"\xaa\xaa\xaa")
 
-    def leave(self, **changed: bytes) -> None:
-        """Leaves in the folder what a run has left, but for what is changed."""
-        booted = BootedMachine(image_for({"": script_of(UNFIT + b"in 3CC\n", "unfit")}, "unfit"), Adapter())
+    def told(self, changed: dict[str, bytes], text: tuple[bytes, ...], expected: tuple[bytes, ...] = TEXT) -> list[str]:
+        """What is told of what a run has left in the folder, but for what is changed, and of its screen's text."""
+        booted, _ = machine(UNFIT + b"in 3CC\n")
         left = {"img": booted.run(), "record": b"".join(booted.record), "wav": bytes(44) + b"\1", **changed}
         for ending, data in left.items():
-            (self.folder / f"stick.{ending}").write_bytes(data)
+            self.write(f"stick.{ending}", data)
+        return wrong(self.folder, "stick", text, expected)
 
     def test_what_is_wrong(self) -> None:
-        other = BootedMachine(image_for({"": script_of(UNFIT + b"in 3CE\n", "unfit")}, "unfit"), Adapter())
+        other, _ = machine(UNFIT + b"in 3CE\n")
         other.run()
         lacking, differing, silent = (
             "the text after the key is missing", "the disk and the serial port have other answers", "the speaker was silent"
         )
-        for changed, text, told in (
+        hold(self, self.told, (
             ({}, self.TEXT, []), ({}, self.TEXT[::-1], [lacking]), ({"record": b"".join(other.record)}, self.TEXT, [differing]),
             ({"wav": b"RIFF".ljust(50, b"\0")}, self.TEXT, [silent]), ({"wav": b""}, self.TEXT, [silent]),
-        ):
-            with self.subTest(told):
-                self.leave(**changed)
-                self.assertEqual(wrong(self.folder, "stick", text, self.TEXT), told)
-        self.leave()
-        # A screen that is black both times has no text either.
-        self.assertEqual(wrong(self.folder, "stick", (bytes(9),), (bytes(9),)), [lacking])
+            # A screen that is black both times has no text either.
+            ({}, (bytes(9),), (bytes(9),), [lacking]),
+        ))
 
 
 class Discs(Folder):
@@ -140,5 +134,4 @@ class Traces(unittest.TestCase):
     def test_the_command_tells_its_software(self) -> None:
         status, told, _ = ended(sys.executable, PROGRAM, "--help")
         self.assertEqual((status, "grub-planar" in told), (0, True))
-        status, _, said = ended(sys.executable, PROGRAM, "folder", "none")
-        self.assertEqual((status, "there is no software none" in said), (2, True))
+        hold_undone(self, ended(sys.executable, PROGRAM, "folder", "none"), "there is no software none")

@@ -36,11 +36,10 @@ from vga_trace.step import IN, OUT, Step
 from zaklimot.format import Script
 
 from .floppy import ANSWERS, MARK, Adapter, Machine
-from .tools import TOOLS, TOP, Folder, begin, call, ended, hold, refused, run_tool
+from .tools import TOOLS, TOP, Folder, begin, call, ended, hold, hold_undone, refused, run_tool
 
 run = partial(run_tool, "vga-floppy")
 FLOPPY = Path(__file__).with_name("floppy.py")
-FAULT = re.compile(r"F[0-9]+ [A-Za-z]+(\([0-9]+\))?")
 SCRIPT = b"""version 2
 outw 3C4 0F02
 in 3CC
@@ -178,10 +177,10 @@ class Interpreting(unittest.TestCase):
         for name, value in (
             ("MARK_SECTOR", images.MARK_AT // 512), ("ANSWER_SECTOR", images.ANSWERS_AT // 512), ("WAIT_FOR_KEY", 0),
             ("LEAVE_EMULATOR", 1), ("STAND_STILL", 2), ("INTERPRETER_SIZE", 2048), ("HEADER_SIZE", 16),
+            ("PARTITIONS", images.PARTITIONS_AT),
         ):
             self.assertRegex(source, rf"(?m)^{name} +equ {value}\b")
         self.assertEqual(len(CODE.read_bytes()), images.CODE_SIZE)
-        self.assertRegex(source, rf"(?m)^PARTITIONS +equ {images.PARTITIONS_AT}\b")
 
     def test_a_disk_has_a_table_of_partitions(self) -> None:
         floppy, disk = (image_for({"": script_of(SCRIPT, "script")}, "script", is_disk=is_disk) for is_disk in (False, True))
@@ -224,8 +223,7 @@ class Images(Folder):
         self.assertEqual(run("read", image), (2, b"", message))
         message = f"vga-floppy: {reports}: the folder has files, and none of them is to be lost: give one that is new or empty\n"
         self.assertEqual(run("read", image, reports), (2, b"", message))
-        record = self.folder / "record"
-        record.write_bytes(b"".join(booted.record[:-2]))
+        record = self.write("record", b"".join(booted.record[:-2]))
         self.assertEqual(run("read", "--serial", "--part", record, self.folder / "part"), (0, b"", ""))
         self.assertEqual((self.folder / "part" / "one.report").read_bytes(), b"")
 
@@ -241,17 +239,14 @@ class Images(Folder):
 
     def test_a_bad_one_is_named(self) -> None:
         folder = self.folder_of_scripts(one="frame\n", two="move\n")
-        status, _, said = run("make", folder, self.folder / "image")
-        self.assertEqual(status, 2)
-        self.assertTrue(said.startswith(f"vga-floppy: {folder}/two.vga:1: F7 BadLine(1): "))
+        hold_undone(self, run("make", folder, self.folder / "image"), rf"^vga-floppy: {folder}/two.vga:1: F7 BadLine\(1\): ")
 
     def test_a_name_of_a_file_elsewhere(self) -> None:
         for name in ("../one", str(self.folder / "one")):
             image = image_for({name: Script(), "two": Script()}, "it")
-            path = self.folder / "image"
-            path.write_bytes(Machine(image, Adapter()).run())
-            status, _, said = run("read", path, self.folder / "reports")
-            self.assertEqual((status, said), (2, f"vga-floppy: {path}: a script has the name of a file outside of a folder: '{name[:40]}'\n"))
+            path = self.write("image", Machine(image, Adapter()).run())
+            said = f"vga-floppy: {path}: a script has the name of a file outside of a folder: '{name[:40]}'\n"
+            self.assertEqual(run("read", path, self.folder / "reports"), (2, b"", said))
             self.assertEqual(list((self.folder / "reports").iterdir()), [])
 
     def test_an_image_is_made_and_read(self) -> None:
@@ -335,14 +330,11 @@ class Left(Folder):
     def test_a_record_that_ends_too_early(self) -> None:
         stopped, _ = machine(b"in 3CC\n" * 40)
         stopped.run(cycles=20)
-        path = self.folder / "record"
-        path.write_bytes(b"".join(stopped.record))
-        status, output, said = run("read", "--serial", path)
+        path = self.write("record", b"".join(stopped.record))
         message = f"vga-floppy: {path}: the record ends before the run did: 16 of 40 bytes of answers came; --part gives the report so far\n"
-        self.assertEqual((status, output, said), (2, b"", message))
-        status, output, said = run("read", "--serial", "--part", path)
-        self.assertEqual((status, said), (0, ""))
-        self.assertEqual(output, b"".join(b"%d CC\n" % number for number in range(1, 17)))
+        self.assertEqual(run("read", "--serial", path), (2, b"", message))
+        report = b"".join(b"%d CC\n" % number for number in range(1, 17))
+        self.assertEqual(run("read", "--serial", "--part", path), (0, report, ""))
 
     def test_registers_in_which_nothing_is_answered(self) -> None:
         with_all = b"".join(report_lines(read_image(self.image, "it"), "it", True)).splitlines()
@@ -360,10 +352,8 @@ class Runs(Folder):
 
     def path_with(self, *words: str | Path) -> str:
         """A path of programs in which dosbox is the machine of these tests, with such words."""
-        program = self.program(
-            "bin/dosbox",
-            f"#!/bin/sh\nexec {shlex.join(map(str, (sys.executable, FLOPPY, *words)))}\n",
-        )
+        line = shlex.join(map(str, (sys.executable, FLOPPY, *words)))
+        program = self.program("bin/dosbox", f"#!/bin/sh\nexec {line}\n")
         return f"{Path(program).parent}:{os.environ['PATH']}"
 
     def run_on(self, *words: str, path: str, script: str = SCRIPT.decode()) -> tuple[int, bytes, str]:
@@ -376,26 +366,21 @@ class Runs(Folder):
     def test_a_full_disk_beneath_the_run(self) -> None:
         environment = {**os.environ, "PATH": self.path_with(), "TMPDIR": self.scratch}
         words = ("sh", "-c", 'ulimit -f 100 && exec "$@"', "sh", sys.executable, TOOLS / "vga-floppy")
-        status, output, said = ended(*words, "run", "--on", "dosbox", "-", input="frame\n", env=environment)
-        self.assertEqual((status, output), (2, ""))
-        self.assertRegex(said, r"^vga-floppy: .*/script.img: File too large\n$")
+        done = ended(*words, "run", "--on", "dosbox", "-", input="frame\n", env=environment)
+        hold_undone(self, done, r"^vga-floppy: .*/script.img: File too large\n$")
 
     def test_emulators_that_do_not_do_it(self) -> None:
-        for what, words, told in (
-            ("crash", [], "dosbox: it ended before the script did: no such part"),
-            (None, [], "there is no dosbox: Debian's package dosbox has it"),
-            ("", ["--bios", "lgpl"], "dosbox has a video BIOS of its own"),
-        ):
-            path = str(self.folder) if what is None else self.path_with(what)
-            with self.subTest(told):
-                self.assertEqual(self.run_on(*words, path=path), (2, b"", f"vga-floppy: {told}\n"))
+        hold(self, lambda what, *words: self.run_on(*words, path=str(self.folder) if what is None else self.path_with(what)), (
+            ("crash", (2, b"", "vga-floppy: dosbox: it ended before the script did: no such part\n")),
+            (None, (2, b"", "vga-floppy: there is no dosbox: Debian's package dosbox has it\n")),
+            ("", "--bios", "lgpl", (2, b"", "vga-floppy: dosbox has a video BIOS of its own\n")),
+        ))
 
     def test_the_limit_ends_all_that_was_started(self) -> None:
         told = self.folder / "child"
         path = self.path_with("wait", told)
-        status, output, said = self.within(lambda seconds: self.run_on("--seconds", str(seconds), path=path), told)
-        self.assertEqual((status, output), (2, b""))
-        self.assertRegex(said, r"^vga-floppy: dosbox: the script has not ended within \d+ seconds\n$")
+        done = self.within(lambda seconds: self.run_on("--seconds", str(seconds), path=path), told)
+        hold_undone(self, done, r"^vga-floppy: dosbox: the script has not ended within \d+ seconds\n$")
         self.assert_ended(int(told.read_text()))
 
     def test_the_limit_leaves_out_what_an_emulator_waits(self) -> None:
@@ -447,16 +432,14 @@ class Runs(Folder):
 class Pages(Folder):
     """Tables of the suite's results, and the cases that a page names."""
 
-    def test_cases_that_a_machine_is_asked_have_answers_of_one(self) -> None:
+    def test_cases_that_a_machine_is_asked_have_answers_of_one_and_fit_an_image(self) -> None:
         page = (TOP / "docs" / "REAL-MACHINES.md").read_text("utf-8")
         named = set(re.findall(r"`((?:host|words|ports|crtc|attribute|dac|services|heights|graphics)/[a-z0-9-]+)`", page))
         self.assertGreater(len(named), 30)
-        self.assertEqual(named - {case.name for case in read_cases(str(SUITE)) if case.has_answers_of_machine()}, set())
-
-    def test_all_that_a_machine_is_asked_fits_an_image(self) -> None:
         cases = [case for case in read_cases(str(SUITE)) if case.has_answers_of_machine()]
         scripts = {case.name: script_of(case.machine_script(), case.name) for case in cases}
-        self.assertIn(f" {len(cases)} of them", (TOP / "docs" / "REAL-MACHINES.md").read_text("utf-8"))
+        self.assertEqual(named - scripts.keys(), set())
+        self.assertIn(f" {len(cases)} of them", page)
         self.assertEqual(len(image_for(scripts, "all")), images.IMAGE_SIZE)
 
     def results(self, name: str, **cases: tuple[str, int, int, str, str]) -> str:
@@ -502,6 +485,4 @@ class Pages(Folder):
         path = self.write("other", '{"command": "my-harness {script}", "rules": []}')
         self.assertEqual(self.write_page(path)[2], f"vga-floppy: {path}: its command is no `vga-floppy run --on` of an emulator\n")
         page = self.write("unmarked.md", "Text.\n")
-        status, output, said = run("table", page, path)
-        self.assertEqual((status, output), (2, b""))
-        self.assertTrue(said.startswith(f"vga-floppy: {page}: it lacks the marks: "))
+        hold_undone(self, run("table", page, path), f"^vga-floppy: {page}: it lacks the marks: ")

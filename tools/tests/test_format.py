@@ -1,7 +1,6 @@
 """The format of scripts and reports: its one table, against the pages and the copies in other languages, and what goes by it."""
 
 import doctest
-import io
 import re
 import sys
 import unittest
@@ -19,6 +18,7 @@ from zaklimot.format import (
 )
 from zaklimot.format.table import CODES
 
+from .making import stream
 from .tools import ended, hold, refused
 
 DOCS, CRATES = TOP / "docs", TOP / "crates"
@@ -239,29 +239,26 @@ class Scripts(unittest.TestCase):
 
 
 class Answers(unittest.TestCase):
+    def is_answer(self, line: str, answer: str) -> bool:
+        """Whether the step of a line may have an answer."""
+        (step,) = parse_text(line).items
+        assert isinstance(step, Step)
+        first, *others = answer.split("\n")
+        return is_answer_to(step, Answer(1, 1, first, tuple(others)))
+
     def test_answers_of_steps(self) -> None:
-        for line, answers in ANSWERS.items():
-            (step,) = parse_text(line).items
-            assert isinstance(step, Step)
-            for is_right, some in zip((True, False), answers):
-                for answer in some:
-                    with self.subTest(line, answer=answer):
-                        first, *others = answer.split("\n")
-                        self.assertEqual(is_answer_to(step, Answer(1, 1, first, tuple(others))), is_right)
+        for line, (right, wrong) in ANSWERS.items():
+            hold(self, self.is_answer, ((line, answer, True) for answer in right))
+            hold(self, self.is_answer, ((line, answer, False) for answer in wrong))
 
     def test_the_dumps_of_the_page(self) -> None:
         rows = dict(re.findall(r"^\| `(show \w+[^`]*)` \| `([^`]*)`", page("REPORT.md"), re.M))
-        for line, answer in rows.items():
-            if line != "show cells":
-                (step,) = parse_text(line).items
-                assert isinstance(step, Step)
-                self.assertTrue(is_answer_to(step, Answer(1, 1, answer)), line)
+        hold(self, self.is_answer, ((line, answer, True) for line, answer in rows.items() if line != "show cells"))
         self.assertGreaterEqual(len(rows), 5)
 
     def test_one_of_a_slice_begins_behind_the_first_step(self) -> None:
         def numbers(first: int) -> list[int]:
-            stream = io.BufferedReader(io.BytesIO(b"7 ok\n8 E1 NotDecoded\n9 00\n"))  # type: ignore[arg-type]
-            report = Report(stream, first=first)
+            report = Report(stream(b"7 ok\n8 E1 NotDecoded\n9 00\n"), first=first)
             found = [answer.number for answer in report.answers()]
             self.assertEqual(report.count, len(found))
             return found

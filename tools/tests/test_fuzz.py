@@ -16,7 +16,7 @@ from zaklimot.format import (
     FORMS, HEADERS, MAGIC, MOST_COUNT, Block, Script, Step, decode, encode, encoded, parse_text, print_text,
 )
 
-from .tools import Folder, begin, call, hold
+from .tools import Folder, begin, call, hold, hold_undone
 
 # A program that takes each text as the same script, prints bytes as they are, and answers each script alike.
 GOOD = """import os, signal, sys, time
@@ -180,9 +180,8 @@ class Command(Fuzzed):
         self.assertRegex(lines[0], r"^input 1 \([a-z, ]+\): vga (run|go): status 3: ''$")
         self.assertEqual(sorted(file.stem for file in keep.iterdir()), ["1", "2", "3", "4"])
         before = {file: file.read_bytes() for file in keep.iterdir()}
-        status, _, said = self.run_command(self.program_that("sys.exit(3)"), "--seed", "2", "--keep", str(keep))
-        self.assertEqual(status, 2)
-        self.assertIn("the folder has files, and none of them is to be lost", said)
+        done = call(command.main, self.program_that("sys.exit(3)"), "--seed", "2", "--keep", keep)
+        hold_undone(self, done, "the folder has files, and none of them is to be lost")
         self.assertEqual({file: file.read_bytes() for file in keep.iterdir()}, before)
 
     def test_a_user_who_ends_it_gets_the_figures(self) -> None:

@@ -55,9 +55,8 @@ class Images(unittest.TestCase):
 class ComparePicture(Folder):
     def compared(self, image: bytes, *words: str, picture: bytes = PICTURE) -> tuple[int, str]:
         """The status, and what is said of an image beside a picture, without the names."""
-        path, shot = self.report("r", "ok", picture), self.folder / "shot"
-        shot.write_bytes(image)
-        status, output, message = run("compare-picture", path, "2", str(shot), *words)
+        path, shot = self.report("r", "ok", picture), self.write("shot", image)
+        status, output, message = run("compare-picture", path, "2", shot, *words)
         self.assertEqual(message, "")
         return status, output.decode().replace(f"step 2 and {shot} ", "")
 
@@ -116,9 +115,8 @@ class Animations(Folder):
 
     def test_what_is_no_script_of_the_report(self) -> None:
         path, moving = self.report("r", "ok", PICTURE), self.folder / "m.png"
-        (self.folder / "i.png").write_bytes(png(1, 1, bytes(4)))
         for script, told in (
-            (str(self.folder / "i.png"), "F7 BadLine(1): "), ("/dev/zero", "F6 TooLong: "),
+            (self.write("i.png", png(1, 1, bytes(4))), "F7 BadLine(1): "), ("/dev/zero", "F6 TooLong: "),
             ("/dev/null", "it is not the report's script: step 2 has a picture, and is no frame of it"),
             (self.write("s.vga", "frame\nframe ax\n"), "F7 BadLine(2): "),
         ):

@@ -9,7 +9,7 @@ from vga_report.faults import Files, explained
 from vga_report.mistakes import mistake_in
 
 from .program import run_texts
-from .tools import Folder
+from .tools import Folder, hold
 
 # The bad lines and texts with their reasons, which the page's tests read too: so both tell the same.
 TABLE = json.loads((Path(__file__).resolve().parent / "mistakes.json").read_text("utf-8"))
@@ -39,27 +39,22 @@ class Mistakes(unittest.TestCase):
         self.assertGreaterEqual(len(LINES), 60)
 
     def test_in_good_lines_there_is_none(self) -> None:
-        for line in TABLE["good"]:
-            with self.subTest(line):
-                self.assertIsNone(mistake_in(line))
+        hold(self, mistake_in, ((line, None) for line in TABLE["good"]))
 
     def test_the_program_refuses_each(self) -> None:
         texts = {f"line-{at}": line.encode() + b"\n" for at, (line, _, _) in enumerate(LINES)}
         texts.update({f"text-{at}": text for at, (text, _) in enumerate(TEXTS)})
-        for name, ran in run_texts(texts).items():
-            with self.subTest(texts[name][:60]):
-                self.assertEqual((ran.status, ran.report, ran.said), (1, b"", "vga: F7 BadLine(1)\n"))
+        hold(self, run_texts(texts).get, ((name, (1, b"", "vga: F7 BadLine(1)\n")) for name in texts))
 
 
 class Faults(Folder):
-    def assert_told(self, fault: str, name: str, reason: str, data: bytes, fonts: bytes = bytes(9728)) -> None:
+    def told(self, fault: str, data: bytes, fonts: bytes = bytes(9728)) -> str:
         """What is told of a fault of these files."""
-        files = Files(self.write("s", data), self.write("f", fonts))
-        self.assertEqual(explained("vga: " + fault, files), f"{self.folder / name}: {fault}: {reason}")
+        return explained("vga: " + fault, Files(self.write("s", data), self.write("f", fonts)))
 
     def test_what_is_told(self) -> None:
         length, most = "bytes, and 9,728 are right", "16,777,216 bytes are the most"
-        for fault, name, reason, *files in (
+        hold(self, self.told, ((fault, *files, f"{self.folder / name}: {fault}: {reason}") for fault, name, reason, *files in (
             *(("F7 BadLine(1)", "s:1", reason, text) for text, reason in TEXTS),
             ("F7 BadLine(1)", "s:1", "this is not a script, but a font file", (TOP / "fonts" / "zaklimot.fnt").read_bytes()),
             # A mark stands below a line.
@@ -80,13 +75,10 @@ class Faults(Folder):
             # What is too long.
             ("F6 TooLong", "s", f"the file has more bytes, and {most}", bytes(16_777_217)),
             ("F6 TooLong", "s", f"the steps of the text have more bytes, and {most}", b"int\n"),
-        ):
-            with self.subTest(reason):
-                self.assert_told(fault, name, reason, *files)
+        )))
 
     def test_files_that_cannot_be_read(self) -> None:
-        script, fonts = str(self.folder / "s"), str(self.folder / "f")
-        (self.folder / "f").write_bytes(bytes(9728))
+        script, fonts = str(self.folder / "s"), self.write("f", bytes(9728))
         for make, path, reason in (
             (lambda: None, script, "the script can't be read: there is no such file"),
             (lambda: (self.folder / "s").mkdir(), script, "the script can't be read: it is a folder"),

@@ -36,9 +36,8 @@ class Specimens(Folder):
     def test_a_refused_call_leaves_the_file(self) -> None:
         self.run_preview()
         old = (self.folder / "out" / "specimen-8.png").stat()
-        status, output, said = self.run_preview("step == 'int ax=1112'")
-        self.assertEqual((status, output), (1, "specimen-14.png\nspecimen-16.png\n"))
-        self.assertEqual(said, "preview.py: specimen-8.png is not written: step 2: 2 E4 BadFunction\n")
+        said = "preview.py: specimen-8.png is not written: step 2: 2 E4 BadFunction\n"
+        self.assertEqual(self.run_preview("step == 'int ax=1112'"), (1, "specimen-14.png\nspecimen-16.png\n", said))
         self.assertEqual((self.folder / "out" / "specimen-8.png").stat(), old)
 
     def test_a_program_that_fails_or_gives_no_picture(self) -> None:

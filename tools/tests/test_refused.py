@@ -8,11 +8,8 @@ import sys
 import unittest
 from pathlib import Path
 
-from vga_floppy.image import image_for
-from zaklimot.format import parse_text
-
-from .floppy import Adapter, Machine
 from .making import BLACK, ppm, report
+from .test_floppy import machine
 from .test_images import png
 from .tools import TOP, Folder, run_tool
 
@@ -22,7 +19,7 @@ MEMORY = 1 << 30
 FISH = "share/fish/vendor_completions.d/vga.fish"
 PICTURE, OTHER = ppm(9, 1, BLACK * 9), ppm(9, 1, b"\x3f\0\0" * 9)
 # A floppy's image with what a run has left.
-IMAGE = Machine(image_for({"": parse_text("frame\n")}, "s"), Adapter()).run()
+IMAGE = machine(b"frame\n")[0].run()
 # What stands in the place of a program: it answers each script with the picture of the report `r`.
 PROGRAM = "#!/bin/sh\n[ \"$1\" = go ] && exec cat \"${0%/*}/r\"\nexit 0\n"
 # A program that writes so many pictures of three megabytes, and the memory that their run may take.

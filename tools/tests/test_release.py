@@ -6,7 +6,6 @@ import os
 import posixpath
 import re
 import shutil
-import subprocess
 import tarfile
 import unittest
 import zipfile
@@ -22,10 +21,9 @@ from vga_release.commit import Commit, File
 from vga_release.gathering import FRONT, INSTALL, LINKS, MADE_OF, PAGE, PATHS, Pages, made_of, settled, wheel_of
 from vga_release.packing import Entry, pack
 from vga_report.processes import Done
-from vga_report.trouble import TROUBLE
 
 from .test_pages import anchors, prose
-from .tools import Folder, call
+from .tools import Folder, call, ended, hold, hold_undone
 
 ENTRIES: dict[str, Entry] = {
     "z/lib/b.so.1": File(b"library"), "z/lib/b.so": "b.so.1", "z/bin/vga": File(b"program", True), "z/a": File(b""),
@@ -40,8 +38,9 @@ def packed(entries: dict[str, Entry]) -> bytes:
 
 
 class Packing(unittest.TestCase):
-    def test_the_order_of_files_is_not_seen(self) -> None:
+    def test_a_change_is_seen_and_the_order_of_files_is_not(self) -> None:
         self.assertEqual(packed(ENTRIES), packed(dict(reversed(ENTRIES.items()))))
+        self.assertNotEqual(packed(ENTRIES), packed({**ENTRIES, "z/a": File(b"x")}))
 
     def test_what_the_archive_tells(self) -> None:
         with tarfile.open(fileobj=io.BytesIO(packed(ENTRIES))) as archive:
@@ -55,9 +54,6 @@ class Packing(unittest.TestCase):
         self.assertEqual(owners, {(0, 0, "", "", COMMIT.time)})
         self.assertEqual([oct(member.mode) for member in members if member.isfile()], ["0o644", "0o755", "0o644"])
         self.assertEqual([member.linkname for member in members if member.issym()], ["b.so.1"])
-
-    def test_a_change_is_seen(self) -> None:
-        self.assertNotEqual(packed(ENTRIES), packed({**ENTRIES, "z/a": File(b"x")}))
 
 
 class Made(unittest.TestCase):
@@ -77,7 +73,8 @@ class Made(unittest.TestCase):
 
 class Settling(unittest.TestCase):
     def test_the_links_of_pages(self) -> None:
-        for page, text, settled_text in (
+        pages = Pages(["docs/A.md", "README.md", "src/low/x.rs"], {"docs/B.md": "README.md"})
+        hold(self, lambda page, text: pages.settled(text, page), (
             ("docs/C.md", "[a](A.md#c) ![b](../src/low)", "[a](A.md#c) ![b](../src/low)"),
             # Links to what is not there are words.
             ("docs/C.md", "[of\ntwo](../src/high/) and `x`", "of\ntwo and `x`"),
@@ -87,10 +84,7 @@ class Settling(unittest.TestCase):
             # What stands between fences stays.
             ("docs/C.md", "```\n[a](Z.md)\n```\n[b](Z.md)\n```\n[c](Z.md)\n```\n",
              "```\n[a](Z.md)\n```\nb\n```\n[c](Z.md)\n```\n"),
-        ):
-            with self.subTest(text):
-                pages = Pages(["docs/A.md", "README.md", "src/low/x.rs"], {"docs/B.md": "README.md"})
-                self.assertEqual(pages.settled(text, page), settled_text)
+        ))
 
 
 def sources() -> dict[str, Entry]:
@@ -154,10 +148,8 @@ class Whole(unittest.TestCase):
                 with self.subTest(page=page, command=name):
                     is_there = name in self.places or Path(name).name in made
                     self.assertTrue(is_there or any(name.startswith(told) for told in elsewhere))
-
-    def test_what_is_told_to_be_elsewhere_is_not_here(self) -> None:
-        told = self.pages[FRONT].partition("These prove, build or test")[2].partition("\n\n")[0]
-        for name in re.findall(r"`(tools/[^`]+)`", told):
+        # What is told to be elsewhere is not here.
+        for name in (name for name in elsewhere if name.startswith("tools/")):
             self.assertNotIn(name, self.places)
             self.assertTrue((TOP / name).exists(), name)
 
@@ -204,22 +196,20 @@ class Installing(Folder):
         (self.release / "lib/z.so").symlink_to("z.so.1")
         shutil.copy(TOP / "tools" / "vga_release" / INSTALL, self.release / INSTALL)
 
-    def install(self, *words: str) -> "subprocess.CompletedProcess[str]":
-        return subprocess.run(["sh", self.release / INSTALL, *words], cwd=self.folder, capture_output=True, text=True)
+    def install(self, *words: str) -> tuple[int, str, str]:
+        return ended("sh", self.release / INSTALL, *words, cwd=self.folder)
 
     def test_all_is_laid_and_told(self) -> None:
         prefix = self.folder / "in here"
+        laid = [f"{prefix}/{place}\n" for place in ("bin/vga", "include/z.h", "lib/z.so", "lib/z.so.1", "share/z/f.fnt")]
         for _ in "12":
-            done = self.install("--prefix", str(prefix))
-            self.assertEqual((done.returncode, done.stderr), (0, ""))
-            wanted = [f"{prefix}/{place}" for place in ("bin/vga", "include/z.h", "lib/z.so", "lib/z.so.1", "share/z/f.fnt")]
-            self.assertEqual(done.stdout.splitlines(), wanted)
+            self.assertEqual(self.install("--prefix", str(prefix)), (0, "".join(laid), ""))
         self.assertTrue(os.access(prefix / "bin/vga", os.X_OK))
         self.assertEqual(os.readlink(prefix / "lib/z.so"), "z.so.1")
         self.assertEqual((prefix / "share/z/f.fnt").read_text(), "font")
 
     def test_a_stage_stands_before_the_prefix(self) -> None:
-        self.assertEqual(self.install("--destdir=stage", "--prefix=/usr").returncode, 0)
+        self.assertEqual(self.install("--destdir=stage", "--prefix=/usr")[0], 0)
         self.assertEqual((self.folder / "stage/usr/bin/vga").read_text(), "#!program")
 
     def test_what_it_refuses(self) -> None:
@@ -233,9 +223,7 @@ class Installing(Folder):
         }
         for words, told in wanted.items():
             with self.subTest(words=words):
-                done = self.install(*words)
-                self.assertEqual((done.returncode, done.stdout), (2, ""))
-                self.assertIn(told, done.stderr.splitlines()[-1])
+                hold_undone(self, self.install(*words), rf"{told}.*\n\Z")
         self.assertEqual((self.release / "bin/vga").read_text(), "#!program")
 
 
@@ -254,7 +242,5 @@ class Packed(Folder):
 class Commits(unittest.TestCase):
     def test_what_is_changed_is_no_release(self) -> None:
         with mock.patch("vga_report.processes.captured", return_value=Done(0, b" M README.md\n", b"")):
-            status, _, said = call(command.main, "release")
-        self.assertEqual(status, TROUBLE)
-        self.assertTrue(said.startswith("vga-release: a release is made from a commit"))
-        self.assertIn("M README.md", said)
+            told = "^vga-release: a release is made from a commit, and this is changed: M README.md\n$"
+            hold_undone(self, call(command.main, "release"), told)

@@ -1,8 +1,8 @@
 """The state that cycles leave, also as the program has it; and scripts that begin with one."""
 
-import io
 import unittest
 from functools import partial
+from itertools import product
 from typing import Iterable, Iterator, Mapping, Optional
 
 from vga_report.report import Report
@@ -10,11 +10,11 @@ from vga_trace.state import Beam, Shape, State
 from vga_trace.converting import Listing, Wanted
 from vga_trace.rebuilding import rebuilt
 from vga_trace.step import ADVANCE, FRAME, GET, GETW, IN, INW, OUT, OUTW, PUT, PUTW, READS, WORDS, Step
-from vga_trace.trace import Trace
 
 from .making import stream
 from .noise import noise
 from .program import run_texts
+from .test_trace import trace
 from .tools import hold, refused
 
 # Steps that enable memory, in planar order with all planes open and no bits masked.
@@ -35,7 +35,7 @@ def state_of(steps: Iterable[Step]) -> State:
 
 def listed(data: bytes, **wanted: object) -> list[Step]:
     """The steps of a trace."""
-    return list(Listing(Trace(io.BytesIO(data), "trace"), Wanted(**wanted)).steps())  # type: ignore[arg-type]
+    return list(Listing(trace(data), Wanted(**wanted)).steps())  # type: ignore[arg-type]
 
 
 def answers(steps: Iterable[Step]) -> list[Optional[int]]:
@@ -216,9 +216,8 @@ class Program(unittest.TestCase):
         wanted = {f"{seed} {first}": (seed, first) for seed in SEEDS for first in (1, 2, 150, 399)}
         runs = run_whole({name: listed(noise(seed, 400), first=first, has_time=True) for name, (seed, first) in wanted.items()})
         shown = len(REGISTERS) + len(MEMORY)
-        for name, (seed, _) in wanted.items():
-            with self.subTest(name):
-                self.assertEqual(runs[name][-shown - 1:], runs[f"{seed} 1"][-shown - 1:])
+        ends = {name: run[-shown - 1:] for name, run in runs.items()}
+        hold(self, ends.get, ((name, ends[f"{seed} 1"]) for name, (seed, _) in wanted.items()))
 
 
 def seen(state: State) -> dict[str, object]:
@@ -238,24 +237,21 @@ class Cuts(unittest.TestCase):
     WANTED = ({}, {"has_time": True}, {"frames": "flip"}, {"frames": 0.005, "has_time": True})
 
     def test_the_steps_of_a_state_leave_that_state(self) -> None:
-        for seed in SEEDS:
-            for count in (1, 40, 700):
-                for wanted in self.WANTED:
-                    with self.subTest(seed=seed, count=count, wanted=wanted):
-                        state = state_of(listed(noise(seed, 1000), most=count, **wanted)[:-2])
-                        self.assertEqual(seen(state_of(rebuilt(state))), seen(state))
+        for seed, count, wanted in product(SEEDS, (1, 40, 700), self.WANTED):
+            with self.subTest(seed=seed, count=count, wanted=wanted):
+                state = state_of(listed(noise(seed, 1000), most=count, **wanted)[:-2])
+                self.assertEqual(seen(state_of(rebuilt(state))), seen(state))
 
     def test_the_end_and_later_answers_are_those_of_the_whole(self) -> None:
-        for seed in SEEDS:
-            for wanted in self.WANTED:
-                data = noise(seed, 600)
-                whole = listed(data, **wanted)
-                for first in (2, 3, 77, 300, 599):
-                    with self.subTest(seed=seed, first=first, wanted=wanted):
-                        cut = listed(data, first=first, **wanted)
-                        kept = sum(step.cycle >= first for step in cut)
-                        self.assertEqual(answers(cut)[-kept:], answers(whole)[-kept:])
-                        self.assertEqual(seen(state_of(cut)), seen(state_of(whole)))
+        for seed, wanted in product(SEEDS, self.WANTED):
+            data = noise(seed, 600)
+            whole = listed(data, **wanted)
+            for first in (2, 3, 77, 300, 599):
+                with self.subTest(seed=seed, first=first, wanted=wanted):
+                    cut = listed(data, first=first, **wanted)
+                    kept = sum(step.cycle >= first for step in cut)
+                    self.assertEqual(answers(cut)[-kept:], answers(whole)[-kept:])
+                    self.assertEqual(seen(state_of(cut)), seen(state_of(whole)))
 
     def test_what_is_told_to_be_read_is_read(self) -> None:
         steps = list(rebuilt(state_of(listed(noise(1, 400)))))

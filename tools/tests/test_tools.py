@@ -14,7 +14,7 @@ from vga_report.processes import started
 from vga_report.trouble import TROUBLE, Trouble
 from vga_report.version import version
 
-from .tools import PYTHON, TOOLS, TOP, Folder, call, ended, main_of
+from .tools import PYTHON, TOOLS, TOP, Folder, call, ended, hold, hold_undone, main_of
 
 NOTING = Path(__file__).with_name("noting.sh").read_text("ascii")
 # Starts programs, of which the first sends a signal amid its start; its status tells that the signal came.
@@ -56,9 +56,7 @@ class Words(unittest.TestCase):
 
     def test_words_that_mean_nothing(self) -> None:
         for name in self.NAMES:
-            status, output, errors = call(main_of(name), "--no-such-word")
-            self.assertEqual((status, output), (TROUBLE, ""))
-            self.assertIn(f"{name}: error: ", errors)
+            hold_undone(self, call(main_of(name), "--no-such-word"), f"{name}: error: ")
 
 
 class Endings(unittest.TestCase):
@@ -70,10 +68,10 @@ class Endings(unittest.TestCase):
         return status, said
 
     def test_an_output_that_takes_nothing_or_is_closed(self) -> None:
-        for name in Words.NAMES:
-            for rest, told in ((">/dev/full", "No space left on device"), (">&-", "it is closed")):
-                with self.subTest(name, rest=rest):
-                    self.assertEqual(self.told(name, rest), (TROUBLE, f"{name}: standard output: {told}\n"))
+        ways = ((">/dev/full", "No space left on device"), (">&-", "it is closed"))
+        hold(self, self.told, (
+            (name, rest, (TROUBLE, f"{name}: standard output: {told}\n")) for name in Words.NAMES for rest, told in ways
+        ))
 
     def test_want_of_memory(self) -> None:
         done = call(lambda _: cli.run("tool", mock.Mock(side_effect=MemoryError)))

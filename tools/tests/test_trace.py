@@ -32,7 +32,7 @@ from zaklimot.format import Step as ScriptStep
 
 from .making import ppm, report
 from .program import run_texts
-from .tools import EXAMPLES, SIGNALS, Folder, begin, call, hold, refused, run_tool
+from .tools import EXAMPLES, SIGNALS, Folder, begin, call, hold, hold_undone, refused, run_tool
 
 run = partial(run_tool, "vga-trace")
 # What a trace from power-on begins with.
@@ -116,29 +116,26 @@ class Lines(unittest.TestCase):
 
 
 class Steps(unittest.TestCase):
-    def steps(self, *lines: str) -> list[str]:
-        return texts(*steps_of(cycles("".join(f"- {line}\n" for line in lines).encode())))
+    def steps(self, *lines: str) -> list[Step]:
+        return list(steps_of(cycles("".join(f"- {line}\n" for line in lines).encode())))
 
     def test_each_kind_of_step(self) -> None:
-        for line, text, data in (
-            ("w p 3C4 2 1", "out 3C4 02", "01 C4 03 02"),
-            ("w p 3C4 302 2", "outw 3C4 0302", "02 C4 03 02 03"),
-            ("r p 3C5 F 1", "in 3C5 ; = 0F", "03 C5 03"),
-            ("r p 3DA 5 1", "in 3DA", "03 DA 03"),
-            ("r p 3C4 F02 2", "inw 3C4 ; = 0F02", "04 C4 03"),
-            ("w m A0000 55 1", "put A0000 55", "05 00 00 0A 00 55"),
-            ("w m A0001 1234 2", "putw A0001 1234", "06 01 00 0A 00 34 12"),
-            ("r m A0000 55 1", "get A0000 ; = 55", "07 00 00 0A 00"),
-            ("r m A0000 55 2", "getw A0000 ; = 0055", "08 00 00 0A 00"),
-        ):
-            with self.subTest(line):
-                (step,) = steps_of(cycles(f"- {line}\n".encode()))
-                self.assertEqual((step.text(), step.data()), (text.encode() + b"\n", bytes.fromhex(data)))
-        self.assertEqual((Step(FRAME).text(), Step(FRAME).data()), (b"frame\n", b"\x0b"))
-        self.assertEqual((Step(ADVANCE, 258).text(), Step(ADVANCE, 258).data()), (b"advance 258\n", b"\x0a\x02\x01\0\0"))
+        hold(self, lambda made: [(step.text().decode(), step.data().hex(" ").upper()) for step in made], (
+            (self.steps("w p 3C4 2 1"), [("out 3C4 02\n", "01 C4 03 02")]),
+            (self.steps("w p 3C4 302 2"), [("outw 3C4 0302\n", "02 C4 03 02 03")]),
+            (self.steps("r p 3C5 F 1"), [("in 3C5 ; = 0F\n", "03 C5 03")]),
+            (self.steps("r p 3DA 5 1"), [("in 3DA\n", "03 DA 03")]),
+            (self.steps("r p 3C4 F02 2"), [("inw 3C4 ; = 0F02\n", "04 C4 03")]),
+            (self.steps("w m A0000 55 1"), [("put A0000 55\n", "05 00 00 0A 00 55")]),
+            (self.steps("w m A0001 1234 2"), [("putw A0001 1234\n", "06 01 00 0A 00 34 12")]),
+            (self.steps("r m A0000 55 1"), [("get A0000 ; = 55\n", "07 00 00 0A 00")]),
+            (self.steps("r m A0000 55 2"), [("getw A0000 ; = 0055\n", "08 00 00 0A 00")]),
+            ([Step(FRAME)], [("frame\n", "0B")]),
+            ([Step(ADVANCE, 258)], [("advance 258\n", "0A 02 01 00 00")]),
+        ))
 
     def test_which_bytes_become_words(self) -> None:
-        hold(self, lambda lines: self.steps(*lines), (
+        hold(self, lambda lines: texts(*self.steps(*lines)), (
             (("w m B8000 41 1", "w m B8001 1F 1"), ["putw B8000 1F41"]),
             (("r m B8000 41 1", "r m B8001 1F 1"), ["getw B8000 ; = 1F41"]),
             ((f"w m B800{at} 0{at} 1" for at in range(4)), ["putw B8000 0100", "putw B8002 0302"]),
@@ -182,29 +179,23 @@ def registers(misc: int, clocking: int) -> list[Step]:
 class Passing(unittest.TestCase):
     def test_the_dots_of_pauses(self) -> None:
         """Those of `advance` before steps at some times, behind registers that choose the clock."""
-        for told, misc, clocking, times, dots in (
-            ("28 MHz", 0x67, 0, (0, 1000), [28_322]), ("25 MHz", 0x63, 0, (0, 1000), [25_175]),
-            ("half a clock", 0x67, 8, (0, 1000), [14_161]),
-            ("two pauses", 0x63, 1, (0, 1000, 3000), [25_175, 50_350]),
-            ("a frame is the most", 0x67, 0, (0, 60_000_000), [900 * 449]),
-            ("a frame of narrow characters", 0x67, 1, (0, 60_000_000), [800 * 449]),
-            ("short times are put together", 0x67, 0, (0, 10, 20, 29, 30, 59, 60), [849, 849]),
-            ("no clock that is known", 0x6B, 0, (0, 1000), []),
-            ("time that runs back", 0x67, 0, (2000, 1000, 2000), [28_322]),
-        ):
-            steps = registers(misc, clocking) + [Step(IN, 0x3DA, time=time) for time in times]
-            with self.subTest(told):
-                self.assertEqual([s.address for s in Pauses().steps(steps) if s.opcode == ADVANCE], dots)
-        steps = [Step(OUT, 0x3C2, 0x67), Step(IN, 0x3DA, time=0), Step(IN, 0x3DA, time=1000)]
+        def at(*times: int) -> list[Step]:
+            return [Step(IN, 0x3DA, time=time) for time in times]
+
+        hold(self, lambda _, *steps: [step.address for step in Pauses().steps(steps) if step.opcode == ADVANCE], (
+            ("28 MHz", *registers(0x67, 0), *at(0, 1000), [28_322]), ("25 MHz", *registers(0x63, 0), *at(0, 1000), [25_175]),
+            ("half a clock", *registers(0x67, 8), *at(0, 1000), [14_161]),
+            ("two pauses", *registers(0x63, 1), *at(0, 1000, 3000), [25_175, 50_350]),
+            ("a frame is the most", *registers(0x67, 0), *at(0, 60_000_000), [900 * 449]),
+            ("a frame of narrow characters", *registers(0x67, 1), *at(0, 60_000_000), [800 * 449]),
+            ("short times are put together", *registers(0x67, 0), *at(0, 10, 20, 29, 30, 59, 60), [849, 849]),
+            ("no clock that is known", *registers(0x6B, 0), *at(0, 1000), []),
+            ("time that runs back", *registers(0x67, 0), *at(2000, 1000, 2000), [28_322]),
+            ("the clock before the pause", *registers(0x67, 0), *at(0), Step(OUT, 0x3C2, 0x63, 1000), *at(2000),
+             [28_322, 25_175]),
+        ))
+        steps = [Step(OUT, 0x3C2, 0x67), *at(0, 1000)]
         self.assertEqual(list(Pauses().steps(steps)), steps)
-
-    def test_the_clock_is_that_before_the_pause(self) -> None:
-        change = Step(OUT, 0x3C2, 0x63, 1000)
-        steps = [*registers(0x67, 0), Step(IN, 0x3DA, time=0), change, Step(IN, 0x3DA, time=2000)]
-        self.assertEqual([s.address for s in Pauses().steps(steps) if s.opcode == ADVANCE], [28_322, 25_175])
-
-    def test_with_time_a_whole_frame_stands_at_the_end(self) -> None:
-        self.assertEqual(listed(BEGIN, has_time=True), ["out 3C2 67", "frame", "frame"])
 
     def test_time_that_is_asked_for_and_not_there(self) -> None:
         for wanted in ({"has_time": True}, {"frames": 0.5}):
@@ -275,11 +266,8 @@ class Warnings(unittest.TestCase):
 
 
 class Converting(Folder):
-    def trace(self, data: bytes) -> str:
-        return self.write("trace", data)
-
     def test_a_script_as_bytes_and_as_text(self) -> None:
-        path, script = self.trace(BEGIN + b"5 r p 3CC 67 1\n"), self.folder / "script"
+        path, script = self.write("trace", BEGIN + b"5 r p 3CC 67 1\n"), self.folder / "script"
         figures = b"2 cycles, 3 steps, 13 bytes: 1 out, 1 in, 1 frame\n"
         self.assertEqual(run("convert", path, script), (0, figures, ""))
         self.assertEqual(script.read_bytes(), b"VGAS\x01" + bytes.fromhex("01 C2 03 67 03 CC 03 0B"))
@@ -289,63 +277,48 @@ class Converting(Folder):
     def test_gzip_and_standard_input(self) -> None:
         for data in (BEGIN, gzip.compress(BEGIN)):
             self.assertEqual(run("convert", "-", "-", "--text", given=data)[:2], (0, b"out 3C2 67\nframe\n"))
-            self.assertEqual(run("kinds", self.trace(data)), (0, b"           1 write port 3C2 size 1\n", ""))
-
-    def test_the_first_cycles_alone(self) -> None:
-        self.assertEqual(run("convert", "-", "-", "--text", "--to", "1", given=BEGIN + BEGIN)[1], b"out 3C2 67\nframe\n")
+            self.assertEqual(run("kinds", self.write("trace", data)), (0, b"           1 write port 3C2 size 1\n", ""))
 
     def test_warnings_are_told(self) -> None:
         said = "vga-trace: warning: standard input: cycle 1 writes first, and not port 3C2: the trace doesn't begin at power-on\n"
         self.assertEqual(run("kinds", "-", given=b"- w p 3C4 1 1\n"), (0, b"           1 write port 3C4 size 1\n", said))
 
     def test_faults_leave_what_was_there(self) -> None:
-        script = self.folder / "script"
-        script.write_bytes(b"old")
-        status, out, said = run("convert", self.trace(BEGIN + b"oh\n"), script)
-        self.assertEqual((status, out, script.read_bytes()), (2, b"", b"old"))
-        self.assertIn("trace:2: it is no cycle", said)
-        self.assertEqual(sorted(file.name for file in self.folder.iterdir()), ["script", "trace"])
+        path, script = self.write("trace", BEGIN + b"oh\n"), Path(self.write("script", "old"))
+        hold_undone(self, run("convert", path, script), "trace:2: it is no cycle")
+        self.assertEqual((script.read_bytes(), self.names()), (b"old", ["script", "trace"]))
 
     def test_too_long_is_told_with_a_number_of_cycles_that_fit(self) -> None:
-        steps = b"".join(b"- w p 3C4 %X 1\n" % at for at in range(50))
-        path, script = self.trace(BEGIN + steps), str(self.folder / "script")
-        with mock.patch.multiple(converting, MOST_BYTES=200, FOR_THE_END=64):
-            most = "the script has more than 200 bytes, or means more than 16,777,216 steps"
-            told = f"vga-trace: {path}: {most}; `--to 32` ends before that, and `--from 33` goes on after it\n"
-            self.assertEqual(call(main, "convert", path, script), (2, "", told))
-            self.assertFalse(os.path.exists(script))
-            self.assertEqual(call(main, "convert", path, script, "--to", "32")[0], 0)
+        long = BEGIN + b"".join(b"- w p 3C4 %X 1\n" % at for at in range(50))
+        many, script = BEGIN + 300 * b"- r p 3DA 0 1\n" + b"- w p 3C4 0 1\n", str(self.folder / "script")
+        for data, limits, most, last in (
+            (long, {"MOST_BYTES": 200, "FOR_THE_END": 64}, "200 bytes, or means more than 16,777,216 steps", 32),
+            (many, {"MOST_STEPS": 200, "FOR_THE_END": 10}, "16,777,216 bytes, or means more than 200 steps", 1),
+        ):
+            path, ways = self.write("trace", data), f"`--to {last}` ends before that, and `--from {last + 1}` goes on after it"
+            with self.subTest(most), mock.patch.multiple(converting, **limits):
+                told = f"vga-trace: {path}: the script has more than {most}; {ways}\n"
+                self.assertEqual(call(main, "convert", path, script), (2, "", told))
+                self.assertFalse(os.path.exists(script))
+                self.assertEqual(call(main, "convert", path, script, "--to", str(last))[0], 0)
+                os.unlink(script)
 
     def test_the_program_takes_what_is_written(self) -> None:
         text = b"- w p 3C4 302 2\n- w p 3C4 204 2\n- w p 3CE 1005 2\n- w p 3CE E06 2\n- w p 3CE FF08 2\n"
-        path = self.trace(BEGIN + text + b"- w m B8000 41 1\n- w m B8001 1F 1\n- r m B8000 1F41 2\n")
+        path = self.write("trace", BEGIN + text + b"- w m B8000 41 1\n- w m B8001 1F 1\n- r m B8000 1F41 2\n")
         ran = run_texts({"text": run("convert", path, "-", "--text")[1]})["text"]
         self.assertEqual(ran.status, 0)
         self.assertIn(b"\n7 ok\n8 1F41\n9 picture 37\n", ran.report)
 
-    def test_version_2_where_there_are_blocks(self) -> None:
+    def test_version_2_where_there_are_blocks_and_they_are_wanted(self) -> None:
         given = BEGIN + 6 * b"- r p 3C9 0 1\n"
         text = b"version 2\nout 3C2 67\nrepeat 6\nin 3C9 ; = 00\nend\nframe\n"
         said = f"7 cycles, 8 steps, {len(text)} bytes, 1 repeat: 6 in, 1 out, 1 frame\n"
         self.assertEqual(run("convert", "-", "-", "--text", given=given), (0, text, said))
         data = b"VGAS\x02" + bytes.fromhex("01C20367 0D0600 03C903 0E 0B")
         self.assertEqual(run("convert", "-", "-", given=given)[1], data)
-
-    def test_version_1_where_there_are_none_or_they_are_not_wanted(self) -> None:
-        self.assertEqual(run("convert", "-", "-", given=BEGIN)[1][:5], b"VGAS\x01")
-        given = BEGIN + 6 * b"- r p 3C9 0 1\n"
         data = b"VGAS\x01" + bytes.fromhex("01C20367" + 6 * "03C903" + "0B")
         self.assertEqual(run("convert", "-", "-", "--no-repeat", given=given)[1], data)
-
-    def test_a_script_that_means_too_many_steps_is_told(self) -> None:
-        path = self.write("trace", BEGIN + 300 * b"- r p 3DA 0 1\n" + b"- w p 3C4 0 1\n")
-        script = self.folder / "script"
-        with mock.patch.multiple(converting, MOST_STEPS=200, FOR_THE_END=10):
-            status, _, said = call(main, "convert", path, script)
-        self.assertEqual(status, 2)
-        told = "200 steps; `--to 1` ends before that, and `--from 2` goes on after it"
-        self.assertIn(f"or means more than {told}", said)
-        self.assertFalse(script.exists())
 
     def test_cycles_are_counted_as_they_are(self) -> None:
         lines = qemu("write 3c4 2 1") + 2 * qemu("read 3c4 2 2") + qemu("write 1ce 4 2", "vbe")
@@ -365,9 +338,9 @@ class Converting(Folder):
 class Endings(Folder):
     """Work that is ended from outside, traces without an end, and disks without room."""
 
-    def begun(self, *words: str | Path, **options: object) -> subprocess.Popen[bytes]:
+    def begun(self, *words: str | Path) -> subprocess.Popen[bytes]:
         """The command, to which a trace is given bit by bit."""
-        command = begin("vga-trace", *words, stdin=subprocess.PIPE, **options)
+        command = begin("vga-trace", *words, stdin=subprocess.PIPE)
         self.addCleanup(command.communicate)
         self.addCleanup(command.kill)
         return command
@@ -394,13 +367,12 @@ class Endings(Folder):
     def test_a_compressed_trace_that_is_cut_off(self) -> None:
         for data, cut in product((BEGIN, os.urandom(1000).hex().encode() + b"\n" + BEGIN), (1, 5, 12, 20)):
             path = self.write("trace", gzip.compress(data)[:-cut])
-            status, out, said = run("convert", path, self.folder / "script")
-            self.assertEqual((status, out, self.names()), (2, b"", ["trace"]))
-            self.assertRegex(said, rf"^vga-trace: {path}:\d+: its compressed bytes are damaged .*\n$")
+            told = rf"^vga-trace: {path}:\d+: its compressed bytes are damaged .*\n$"
+            hold_undone(self, run("convert", path, self.folder / "script"), told)
+            self.assertEqual(self.names(), ["trace"])
 
     def test_signals_lose_nothing(self) -> None:
-        script = self.folder / "script"
-        script.write_bytes(b"old")
+        script = Path(self.write("script", "old"))
         for number, status in SIGNALS:
             with self.subTest(number):
                 command = self.begun("convert", "-", script)
@@ -411,18 +383,14 @@ class Endings(Folder):
                     self.assertIsNone(command.poll())
                 command.send_signal(number)
                 self.assertEqual(command.wait(60), status)
-                self.assertEqual([file.name for file in self.folder.iterdir()], ["script"])
-                self.assertEqual(script.read_bytes(), b"old")
+                self.assertEqual((self.names(), script.read_bytes()), (["script"], b"old"))
 
     def test_a_disk_that_is_full(self) -> None:
-        path, script = self.folder / "trace", self.folder / "script"
-        path.write_bytes(BEGIN + b"".join(b"- w m A%04X 1 1\n" % at for at in range(0, 30000, 3)))
-        script.write_bytes(b"old")
-        limits = (4096, resource.RLIM_INFINITY)
-        command = self.begun("convert", path, script, preexec_fn=lambda: resource.setrlimit(resource.RLIMIT_FSIZE, limits))
-        _, said = command.communicate(timeout=60)
-        self.assertEqual((command.returncode, said.decode()), (2, f"vga-trace: {script}: File too large\n"))
-        self.assertEqual((script.read_bytes(), len(list(self.folder.iterdir()))), (b"old", 2))
+        path = self.write("trace", BEGIN + b"".join(b"- w m A%04X 1 1\n" % at for at in range(0, 30000, 3)))
+        script = Path(self.write("script", "old"))
+        limit = partial(resource.setrlimit, resource.RLIMIT_FSIZE, (4096, resource.RLIM_INFINITY))
+        self.assertEqual(run("convert", path, script, prepare=limit), (2, b"", f"vga-trace: {script}: File too large\n"))
+        self.assertEqual((script.read_bytes(), self.names()), (b"old", ["script", "trace"]))
 
 
 class Checking(Folder):
@@ -445,22 +413,20 @@ class Checking(Folder):
         self.assertEqual(self.check(*self.GOOD), (0, ["7 steps, 0 refused, 4 reads answered, 0 differ", *reads], ""))
         self.assertEqual(self.check(*self.GOOD[:-1], "ragged")[0], 0)
 
-    def test_where_the_beam_is_differs_from_none(self) -> None:
-        for answer in ("05", "0C", "0D"):
-            self.assertEqual(self.check(*self.changed(s4=answer))[0], 0)
-        status, lines, _ = self.check(*self.changed(s4="35"))
-        told = "  differ          1 in port 3DA (first at step 4: traced 04, answered 35)"
-        self.assertEqual((status, lines[0], lines[-1]), (1, "7 steps, 0 refused, 4 reads answered, 1 differ", told))
-
     def test_reads_that_differ(self) -> None:
-        for step, answer, told in (
-            ("s3", "0E", "in port 3C5 index 02 (first at step 3: traced 0F, answered 0E)"),
-            ("s5", "00", "get memory A0000 (first at step 5: traced E1, answered 00)"),
-            ("s6", "0034", "getw memory A0000 (first at step 6: traced 1234, answered 0034)"),
-        ):
-            with self.subTest(step):
-                status, lines, _ = self.check(*self.changed(**{step: answer}))
-                self.assertEqual((status, lines[-1]), (1, f"  differ          1 {told}"))
+        def told(step: str, answer: str) -> tuple[int, str, str]:
+            status, lines, _ = self.check(*self.changed(**{step: answer}))
+            return status, lines[0].rpartition(", ")[2], lines[-1]
+
+        front = "  differ          1"
+        hold(self, told, (
+            ("s3", "0E", (1, "1 differ", f"{front} in port 3C5 index 02 (first at step 3: traced 0F, answered 0E)")),
+            ("s4", "35", (1, "1 differ", f"{front} in port 3DA (first at step 4: traced 04, answered 35)")),
+            ("s5", "00", (1, "1 differ", f"{front} get memory A0000 (first at step 5: traced E1, answered 00)")),
+            ("s6", "0034", (1, "1 differ", f"{front} getw memory A0000 (first at step 6: traced 1234, answered 0034)")),
+            # Where the beam is differs from none.
+            *(("s4", answer, (0, "0 differ", "  read            1 getw memory A0000")) for answer in ("05", "0C", "0D")),
+        ))
 
     def test_refusals_by_kind(self) -> None:
         given = BEGIN + 2 * b"- w p 3B4 1 1\n- w p 3B5 2 1\n" + b"- r p 3C7 0 1\n"
@@ -486,25 +452,24 @@ class Checking(Folder):
         self.assertEqual((status, lines[0]), (0, "7 steps, 0 refused, 3 reads answered, 0 differ, 1 skipped"))
 
     def test_a_report_of_another_script(self) -> None:
-        for answers, told in (
-            (self.GOOD[:-1], "standard input: it ends before step 7, `frame`: it is of another script"),
-            ((*self.GOOD, "ok"), "standard input: it has more than the 7 steps of the trace: it is of another script"),
-            (self.changed(s1="00"), "standard input:1: step 1 is `out`, and '00' answers none: it is of another script"),
-            (self.changed(s3="ok"), "standard input:3: step 3 is `in`, and 'ok' answers none: it is of another script"),
-            (self.changed(s3="000F"), "standard input:3: step 3 is `in`, and '000F' answers none: it is of another script"),
-            (self.changed(s7="ok"), "standard input:7: step 7 is `frame`, and 'ok' answers none: it is of another script"),
-        ):
-            with self.subTest(told):
-                self.assertEqual(self.check(*answers), (2, [], f"vga-trace: {told}\n"))
+        other = "vga-trace: standard input:{}: it is of another script\n".format
+        hold(self, self.check, (
+            (*self.GOOD[:-1], (2, [], other(" it ends before step 7, `frame`"))),
+            (*self.GOOD, "ok", (2, [], other(" it has more than the 7 steps of the trace"))),
+            (*self.changed(s1="00"), (2, [], other("1: step 1 is `out`, and '00' answers none"))),
+            (*self.changed(s3="ok"), (2, [], other("3: step 3 is `in`, and 'ok' answers none"))),
+            (*self.changed(s3="000F"), (2, [], other("3: step 3 is `in`, and '000F' answers none"))),
+            (*self.changed(s7="ok"), (2, [], other("7: step 7 is `frame`, and 'ok' answers none"))),
+        ))
 
     def test_with_the_options_of_the_script(self) -> None:
         given = BEGIN + 2 * b"0 r p 3DA 0 1\n"
-        self.assertEqual(self.check("ok", "00", PICTURE, given=given, options=("--polls", "first"))[0], 0)
-        self.assertEqual(self.check("ok", "00", "00", PICTURE, PICTURE, given=given, options=("--time",))[0], 0)
-        self.assertEqual(self.check("ok", PICTURE, given=given, options=("--to", "1"))[0], 0)
-        for option in ("--text", "--no-repeat"):
-            self.assertEqual(self.check("ok", "00", "00", PICTURE, given=given, options=(option,))[0], 0)
-        self.assertEqual(self.check("ok", "00", PICTURE, given=given)[0], 2)
+        hold(self, lambda options, *answers: self.check(*answers, PICTURE, given=given, options=options)[0], (
+            (("--polls", "first"), "ok", "00", 0), (("--to", "1"), "ok", 0), ((), "ok", "00", 2),
+            (("--text",), "ok", "00", "00", 0), (("--no-repeat",), "ok", "00", "00", 0),
+            # A frame began amid the cycles, and a whole one stands at the end.
+            (("--time",), "ok", "00", "00", PICTURE, 0),
+        ))
 
     def test_a_damaged_report(self) -> None:
         said = "vga-trace: standard input:2: step 2 is to come, and not '3 ok'\n"

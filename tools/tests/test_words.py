@@ -8,7 +8,7 @@ from pathlib import Path
 from vga_report.program import FONTS, PROGRAM
 
 from .program import Ran, run_program, want_program
-from .tools import Folder, ended
+from .tools import Folder, ended, hold, hold_undone
 
 # The text of a script, with a comment; its bytes; its printed text; and its report.
 TEXT = b"OUT 3c2 63 ; colour addresses\n\nput A0000 ff\r\nin 3CC"
@@ -51,18 +51,12 @@ class Jobs(Program):
             self.assertEqual((self.folder / name).read_bytes(), SCRIPT)
 
     def test_each_order_of_words(self) -> None:
-        for words, output in [
-            (("dis", "script"), PRINTED),
-            (("dis", "--", "script"), PRINTED),
-            (("run", "script", "--fonts", "fonts"), REPORT),
-            (("run", "--fonts", "fonts", "script"), REPORT),
-            (("run", "--fonts=fonts", "script"), REPORT),
-            (("go", "text", "--fonts", "fonts"), REPORT),
-            (("go", "--fonts", "fonts", "text"), REPORT),
-            (("go", "--fonts=fonts", "text"), REPORT),
-        ]:
-            with self.subTest(words):
-                self.assertEqual(self.ran(*words), (0, output, ""))
+        printed, report = (0, PRINTED, ""), (0, REPORT, "")
+        hold(self, lambda words: self.ran(*words.split()), [
+            ("dis script", printed), ("dis -- script", printed),
+            *((f"run {words}", report) for words in ("script --fonts fonts", "--fonts fonts script", "--fonts=fonts script")),
+            *((f"go {words}", report) for words in ("text --fonts fonts", "--fonts fonts text", "--fonts=fonts text")),
+        ])
 
     def test_a_run_stops_after_the_number_behind_until(self) -> None:
         for number, answers in [
@@ -82,9 +76,7 @@ class Refused(Program):
     def test_words_that_name_no_job(self) -> None:
         for words in REFUSED:
             with self.subTest(words):
-                ran = self.ran(*words.split())
-                self.assertEqual((ran.status, ran.report), (2, b""))
-                self.assertNotEqual(ran.said, "")
+                hold_undone(self, self.ran(*words.split()), ".")
 
     def test_no_word_at_all(self) -> None:
         self.assertEqual(ended("vga", executable=PROGRAM)[:2], (2, ""))
@@ -93,11 +85,8 @@ class Refused(Program):
         for number in NO_NUMBERS:
             for words in (("run", "script"), ("go", "text")):
                 with self.subTest((*words, number)):
-                    ran = self.ran(*words, "--fonts", "fonts", "--until", number)
-                    self.assertEqual((ran.status, ran.report), (2, b""))
-        ran = self.ran("run", "script", "--fonts", "fonts", "--until=+1")
-        self.assertEqual((ran.status, ran.report), (2, b""))
-        self.assertTrue(ran.said.startswith("error: the number behind '--until'"), ran.said)
+                    hold_undone(self, self.ran(*words, "--fonts", "fonts", "--until", number), ".")
+        hold_undone(self, self.ran("run", "script", "--fonts", "fonts", "--until=+1"), "^error: the number behind '--until'")
 
     def test_words_that_are_no_text(self) -> None:
         self.assertEqual(self.ran("dis", b"\xff"), (2, b"", "vga: Missing\n"))

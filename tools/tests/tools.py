@@ -105,6 +105,13 @@ def hold(test: unittest.TestCase, work: Callable[..., object], table: Iterable[t
             test.assertEqual(work(*given), wanted)
 
 
+def hold_undone(test: unittest.TestCase, done: Sequence[Any], told: Any) -> None:
+    """Holds what a call above has answered to work that can't be done: status 2, no output, and words with the pattern."""
+    status, output, said = done
+    test.assertEqual((status, len(output)), (2, 0), said)
+    test.assertRegex(said, told)
+
+
 def refused(work: Callable[..., object], *words: object) -> str:
     """What is told of work that a Trouble ends."""
     try:
