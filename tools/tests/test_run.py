@@ -418,15 +418,28 @@ class Several(Fake):
         rt = self.program("bin/rt", f"#!/bin/sh\nwords=$*; echo \"${{words%% --data*}}\" >> asked; {build}\n")
         crate, told = Path(self.write("crate/src/main.rt", "")).parents[1], self.run_script()[1].encode()
         path = {"PATH": f"{Path(rt).parent}{os.pathsep}{os.environ['PATH']}"}
-        limits = "60 seconds and 1 MiB of output, which two pictures of text fill; --until 2 ends before the second"
-        two = self.write("two.vga", "frame\nin 3DA\nframe\n")
+        limits = "60 seconds and 1 MiB of output, which two pictures of text fill"
         with mock.patch.dict(os.environ, path), mock.patch.multiple(program, CRATE=crate, PROGRAM=crate / "out/vga"):
             self.assertIn("vga-report: rt: it ended with status 3\n", run("run", self.path, "--build")[2])
-            self.assertIn(f" not run it to its end, within {limits}: cp: ", run("run", two, "--try")[2])
+            self.assertIn(f" not run it to its end, within {limits}: cp: ", run("run", self.path, "--try")[2])
             self.vga.rename(self.folder / "ready")
             for _ in "12":
                 self.assertEqual(run("run", self.path, "--build"), (0, told, ""))
         self.assertEqual((crate / "asked").read_text(), "run -- --help\ntry\nrun -- --help\n")
+
+    def test_what_stands_before_the_limit_of_a_try(self) -> None:
+        # A toolchain that runs no script past its first picture.
+        two, crate = self.write("two.vga", "frame\nget 0\nframe\nframe\n"), Path(self.write("crate/src/main.rt", "")).parents[1]
+        tries = f"{self.vga} go {two} --fonts - --until 2; echo run=ended status=0 >&2"
+        ends = "(head -c 99999 /dev/zero; echo; echo checked: too much; echo run=no-answer) >&2"
+        rt = self.program("bin/rt", f'#!/bin/sh\ncase "$*" in *"--until 2") {tries};; *) {ends};; esac\n')
+        told, path = self.folder / "told", f"{Path(rt).parent}{os.pathsep}{os.environ['PATH']}"
+        with mock.patch.dict(os.environ, {"PATH": path}), mock.patch.object(program, "CRATE", crate):
+            status, output, said = run("run", two, "--try", "--json", str(told))
+            self.assertEqual((status, [line.split()[1] for line in output.splitlines()]), (2, [b"step", b"1", b"2"]))
+            self.assertIn("fill; what is shown ends before the second, as with --until 2: too much\n", said)
+            self.assertEqual((run("run", two, "--try", "--until", "2")[0], len(json.loads(told.read_text())["answers"])), (0, 2))
+            self.assertNotIn("the second", run("run", two, "--try", "--until", "1")[2])
 
     def test_it_runs_again_when_the_script_changes(self) -> None:
         words = ["run", self.path, "--vga", self.vga, "--quiet", "--watch", "--html", page := self.folder / "page"]

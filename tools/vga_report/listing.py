@@ -15,7 +15,7 @@ from zaklimot.format.report import VALUE
 from .expecting import ANY, answer_of, dumps_in, is_as_expected, what_differs
 from .faults import Files, explained
 from .processes import IS_POSIX
-from .program import Built, Tried
+from .program import Built, Limited, Tried
 from .progress import Progress
 from .refusals import State, step_of, why_refused
 from .report import Report
@@ -162,8 +162,20 @@ class Script:
     ) -> Iterator[Row]:
         """The steps with their answers, as they come, and why each was refused, if that is wanted.
 
-        A fault is told with its reason.
+        A fault is told with its reason. A run that is ended at a limit tells nothing: a second one then tells what
+        stands before it.
         """
+        given = progress, is_strict, tells_why
+        try:
+            yield from self._rows(program, fonts, until, *given)
+        except Limited as limited:
+            yield from islice(self._rows(program, fonts, limited.before, *given), limited.before)
+            raise
+
+    def _rows(
+        self, program: Union[Built, Tried], fonts: str, until: Optional[int], progress: Progress, is_strict: bool,
+        tells_why: bool,
+    ) -> Iterator[Row]:
         lines, taken, dumps = islice(self._lines(), until), 0, () if until is None else STATE
         state = State() if tells_why else None
         with program.running(self.path, fonts, until, self.is_bytes) as outcome:

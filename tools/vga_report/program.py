@@ -2,10 +2,12 @@
 
 import io
 import os
+import re
 import shutil
 import subprocess
 import tempfile
 from contextlib import contextmanager
+from itertools import islice
 from pathlib import Path
 from typing import Any, BinaryIO, Iterator, Optional, Sequence, cast
 
@@ -25,8 +27,10 @@ FONTS = TOP / "fonts" / "zaklimot.fnt"
 # No script is printed in more bytes: none of its steps has a line that is seven times as long as its bytes.
 MOST_PRINTED = 7 << 24
 CHUNK = 1 << 16
-# So much of what the program says is looked at.
+# So much of what the program says at last is looked at.
 MOST_SAID = 1 << 16
+# What a run without proofs may take.
+LIMITS = "60 seconds and 1 MiB of output, which two pictures of text fill"
 NO_SOURCES = "the program's sources in Rattle are not here: they lie in the repository, and not in a release"
 WITHOUT_RT = (
     ". Without it --vga runs a program that is built already, and --debug FILE writes a page that "
@@ -79,8 +83,8 @@ def _running(words: Sequence[str], asking: float = 0, **given: Any) -> Iterator[
                 yield outcome
             # What was not read is lost, and the program is told so.
             outcome.status = process.wait()
-        said.seek(0)
-        outcome.said = said.read(MOST_SAID).decode("utf-8", "replace")
+        said.seek(max(0, said.seek(0, io.SEEK_END) - MOST_SAID))
+        outcome.said = said.read().decode("utf-8", "replace")
 
 
 def _crate() -> Path:
@@ -134,18 +138,26 @@ class Built:
         return outcome.status == 0
 
 
-def _limits(script: Path) -> str:
-    """What a run without proofs may take, and which steps have one picture alone where the script has more."""
-    steps = script_of(bytes_of(script, MOST_BYTES), str(script)).steps()
-    frames = [number for number, step in enumerate(steps, 1) if step.name == "frame"]
-    before = f"; --until {frames[1] - 1} ends before the second" if frames[1:] else ""
-    return f"60 seconds and 1 MiB of output, which two pictures of text fill{before}"
+class Limited(Trouble):
+    """A run without proofs that came to a limit; so many steps stand before its second picture, 0 without one."""
+
+    def __init__(self, reason: str, before: int) -> None:
+        super().__init__(reason)
+        self.before = before
+
+
+def _before_second_picture(script: Path, until: Optional[int]) -> int:
+    """How many steps stand before the second picture of a run; 0 where it has no second."""
+    steps = islice(script_of(bytes_of(script, MOST_BYTES), str(script)).steps(), until)
+    frames = (number for number, step in enumerate(steps) if step.name == "frame")
+    return next(islice(frames, 1, None), 0)
 
 
 class Tried:
     """The program without its proofs, as `rt try` builds and runs it: in about a minute."""
 
-    ENDED = "run=ended status="
+    # What `rt try` says of a run that has ended; and why it has ended one, behind what that has written.
+    ENDED, CHECKED = "run=ended status=", re.compile("(?m)^checked: (.+)")
 
     @contextmanager
     def running(self, script: Path, fonts: str, until: Optional[int], is_bytes: bool) -> Iterator[Outcome]:
@@ -158,7 +170,11 @@ class Tried:
             with _running(words, ENDING, cwd=_crate(), env={**os.environ, "TMPDIR": temporary}) as outcome:
                 yield outcome
         if self.ENDED not in outcome.said:
-            raise Trouble(f"rt try has not run it to its end, within {_limits(script)}: {outcome.fault}")
+            before = _before_second_picture(script, until)
+            told = f"; what is shown ends before the second, as with --until {before}" if before else ""
+            found = self.CHECKED.search(outcome.said)
+            reason = found[1] if found else outcome.fault
+            raise Limited(f"rt try has not run it to its end, within {LIMITS}{told}: {reason}", before)
         outcome.status = int(outcome.said.rpartition(self.ENDED)[2].split()[0])
 
     def print_steps(self, script: Path, is_bytes: bool, printed: BinaryIO) -> None:
