@@ -40,7 +40,10 @@ class Refusals(unittest.TestCase):
         state = state_behind(["int ax=3", "out 3C0 1F", "in 3DA"])
         self.assertEqual(why_refused("out 3C0 1F", 1, state), "")
         self.assertEqual(why_refused("move 1", 1, state), "")
-        self.assertIn("The index of the attribute controller is 1F", why_refused("in 3C1", 2, state))
+        self.assertIn("The index of the attribute controller is 1F", state.why("in 3C1", 2))
+        for line in ("in 3DA", "out 3C0 5"):
+            state.take(step_of(line))  # type: ignore[arg-type]
+        self.assertEqual(state.why("in 3C1", 2), "")
 
     def test_steps_that_the_adapter_does_not_refuse_so(self) -> None:
         for words in ("frame", "show regs", "advance 5", "int ax=3"):

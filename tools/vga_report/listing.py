@@ -17,7 +17,7 @@ from .faults import Files, explained
 from .processes import IS_POSIX
 from .program import Built, Limited, Tried
 from .progress import Progress
-from .refusals import State, step_of, why_refused
+from .refusals import State, step_of
 from .report import Report
 from .script import expected_in
 from .trouble import Trouble
@@ -216,7 +216,7 @@ def _why(words: str, answer: Answer, state: State) -> str:
     """Why a step was refused, if it was; else the state takes it."""
     refusal = answer.refusal
     if refusal:
-        return why_refused(words, refusal, state)
+        return state.why(words, refusal)
     step = step_of(words) if words[0] in KNOWN else None
     if step is not None:
         state.take(step)
@@ -237,12 +237,13 @@ def listed(row: Row, width: int, more: str = "", why: str = "") -> str:
     if len(words) > width:
         words = words[:width - 2] + ".."
     text = "%6s %6d  %-*s  " % ("" if place is None else place, step.number, width, words)
-    if row.expected is None and step.picture is None and not step.others:
+    is_other = row.expected is not None and row.is_wrong
+    if not is_other and step.picture is None and not step.others:
         text = f"{text}{step.answer}\n"
     else:
         answers = [answer_of(step) + more] if step.picture is not None else list(step.lines)
-        if row.is_wrong:
-            answers[-1] += f"   not {row.expected or 'refused'}"
+        if is_other:
+            answers[-1] += f"   not {row.expected}"
         fronts = zip_longest([text], answers, fillvalue=" " * len(text))
         text = "".join((front + answer).rstrip() + "\n" for front, answer in fronts)
     return f"{text}{'':15}{why}\n" if why else text

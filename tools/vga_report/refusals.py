@@ -4,7 +4,7 @@ The words are those of page/refusals.js; page/tests/refusals.mjs and tests/test_
 The state is what the steps that were done have left, as far as a script tells it.
 """
 
-from functools import lru_cache
+from functools import lru_cache, partial
 from typing import Callable, NamedTuple, Optional
 
 from zaklimot.format import MOST_ADVANCE, REGISTERS, Step, parse_line
@@ -32,6 +32,8 @@ class State:
         self.mode: Optional[int] = None
         self.indexes = dict.fromkeys(COUNTS, 0)
         self._is_data = False
+        # Why a step is refused now: the same steps come again and again.
+        self.why = lru_cache(1000)(partial(why_refused, state=self))
 
     @property
     def base(self) -> int:
@@ -40,6 +42,7 @@ class State:
 
     def take(self, step: Step) -> None:
         """Takes a step that was done."""
+        self.why.cache_clear()
         name, numbers, _ = step
         if name == "out":
             self.out(*numbers)

@@ -1,5 +1,6 @@
 """Scripts in files, and the answers that the comments of a text expect."""
 
+from functools import lru_cache
 from typing import Optional
 
 from zaklimot.format import MOST_BYTES, Script, ScriptFault, read
@@ -16,8 +17,11 @@ TOO_LONG = f"F6 TooLong: a script has at most {MOST_BYTES:,} bytes"
 
 def expected_in(comment: bytes) -> Optional[str]:
     """The answer that a comment expects: what stands behind `=`, up to another `;`."""
-    if MARK_BYTE not in comment:
-        return None
+    return _marked(comment) if MARK_BYTE in comment else None
+
+
+@lru_cache(4096)
+def _marked(comment: bytes) -> Optional[str]:
     text = text_of(comment).strip()
     return " ".join(text[len(MARK):].partition(";")[0].split()) if text.startswith(MARK) else None
 

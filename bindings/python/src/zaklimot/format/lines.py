@@ -6,7 +6,7 @@ import re
 from functools import partial
 from io import BytesIO
 from itertools import islice
-from typing import BinaryIO, Callable, Iterator, NamedTuple, Optional
+from typing import BinaryIO, Callable, Iterator, NamedTuple
 
 from .table import END, FIRST_LINE, MOST_STEPS, REPEAT
 
@@ -123,17 +123,13 @@ def _unrolled(
 def count_in(stream: BinaryIO) -> int:
     """How many steps a text means, if it is a good one."""
     stream.seek(0)
+    lines = (line for line in map(bytes.lstrip, stream) if line and line[0] != _COMMENT)
+    first = next(lines, b"")
+    if first.partition(b";")[0].lower().split() != FIRST_LINE.encode().split():
+        return bool(first) + sum(1 for _ in lines)
     total = opened = count = 0
-    version: Optional[bool] = None
-    for line in stream:
-        line = line.lstrip()
-        if not line or line[0] == _COMMENT:
-            continue
-        if version is None:
-            version = line.partition(b";")[0].lower().split() == FIRST_LINE.encode().split()
-            total += not version
-            continue
-        words = line.partition(b";")[0].lower().split() if version and line[0] in _BLOCK_BYTES else None
+    for line in lines:
+        words = line.partition(b";")[0].lower().split() if line[0] in _BLOCK_BYTES else None
         if words and words[0] == REPEAT.encode() and words[1:]:
             count, opened = int(words[1]) if words[1].isdigit() else 1, total
         elif words and words[0] == END.encode():
