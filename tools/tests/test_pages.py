@@ -67,13 +67,27 @@ def commands_in_prose(text: str) -> list[str]:
     return [line for line in prose(text) if COMMAND.match(line)]
 
 
+def files(*patterns: str) -> list[str]:
+    """The files of the repository whose paths fit a pattern, or all of them."""
+    words = ["git", "ls-files", "-z", "--cached", "--others", "--exclude-standard", "--", *patterns]
+    listed = subprocess.run(words, cwd=ROOT, capture_output=True, check=True).stdout
+    return [name for name in sorted(set(listed.decode().split("\0"))) if name and (ROOT / name).exists()]
+
+
 def pages() -> list[Path]:
     """The pages of the repository."""
-    listed = subprocess.run(
-        ["git", "ls-files", "-z", "--cached", "--others", "--exclude-standard", "--", "*.md"],
-        cwd=ROOT, capture_output=True, check=True,
-    ).stdout
-    return [ROOT / name for name in sorted(set(listed.decode().split("\0"))) if name and (ROOT / name).exists()]
+    return [ROOT / name for name in files("*.md")]
+
+
+def named_files(text: str) -> Iterator[tuple[str, str]]:
+    """The folder and the name of each file that rows of a table name, as `vga_host`: `src/host.rt`, `specs/Ports.antt`."""
+    for line in text.splitlines():
+        folder = ""
+        for name, colon in re.findall(r"`([^` ]+)`(:?)", line):
+            if colon:
+                folder = f"crates/{name}/" if (ROOT / "crates" / name).is_dir() else name
+            elif "/" in name or "." in name:
+                yield folder, name.rstrip("/")
 
 
 class Links(unittest.TestCase):
@@ -92,6 +106,20 @@ class Links(unittest.TestCase):
 
     def test_headings_of_one_name(self) -> None:
         self.assertEqual(anchors('# A b\n\n# A b\n\n<a id="x.y"></a>\n```\n# no\n```\n'), {"a-b", "a-b-1", "x.y"})
+
+
+class Touched(unittest.TestCase):
+    """Each file that a change goes through, as CONTRIBUTING tells them, is there."""
+
+    def test_each_is_there(self) -> None:
+        text = (ROOT / "CONTRIBUTING.md").read_text("utf-8").partition("\n## What a change touches\n")[2].partition("\n## ")[0]
+        named, listed = set(named_files(text)), files()
+        self.assertGreater(len(named), 100)
+        for folder, name in sorted(named):
+            # A module of proofs may be named without its end.
+            wanted = re.compile(rf"({re.escape(folder)}(.*/)?)?{re.escape(name)}(\.antt)?(/.*)?")
+            with self.subTest(folder, name=name):
+                self.assertTrue(any(map(wanted.fullmatch, listed)))
 
 
 class Commands(unittest.TestCase):
