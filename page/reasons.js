@@ -158,7 +158,7 @@ function mistakeInDecimal(number, word) {
   return wrong(word, `${number.name} is a decimal number`);
 }
 
-/** The mistake of a look at the state. */
+/** The mistake of a step that shows the state. */
 function mistakeInShow(words, end) {
   const names = Object.keys(SHOWN);
   if (words.length === 1) return { at: end, width: 1,
