@@ -116,6 +116,8 @@ class Ways(unittest.TestCase):
             steps = list(steps_in(stream))
             self.assertEqual(list(steps_in(stream, printed_lines)), steps)
             self.assertEqual((count_in(stream), script.count), (len(steps), len(steps)))
+            plain = print_text(Script(tuple(script.steps()))).replace("\n", " ; a step\n ; none\n\t\n")
+            self.assertEqual(count_in(io.BytesIO(b"; none\n" + plain.encode())), len(steps))
 
     def test_what_is_made_without_its_class(self) -> None:
         for made, wanted in (

@@ -11,6 +11,7 @@ from typing import BinaryIO, Iterator, NamedTuple, Optional, Union
 
 from zaklimot.format import STATE, Answer, Line, count_in, is_bytes, placed_lines, printed_lines, steps_in
 from zaklimot.format.report import VALUE
+from zaklimot.format.table import OK
 
 from .expecting import ANY, answer_of, dumps_in, is_as_expected, what_differs
 from .faults import Files, explained
@@ -214,9 +215,8 @@ class Script:
 
 def _why(words: str, answer: Answer, state: State) -> str:
     """Why a step was refused, if it was; else the state takes it."""
-    refusal = answer.refusal
-    if refusal:
-        return state.why(words, refusal)
+    if answer.answer != OK and answer.refusal:
+        return state.why(words, answer.refusal)
     step = step_of(words) if words[0] in KNOWN else None
     if step is not None:
         state.take(step)

@@ -4,6 +4,8 @@ import json
 import tempfile
 from typing import Any, BinaryIO, Iterator, Optional
 
+from zaklimot.format.table import OK
+
 from .expecting import answer_of
 from .listing import Row
 from .output import counted
@@ -25,6 +27,9 @@ class Tally:
         """Counts a step."""
         step = row.step
         self.steps += 1
+        if step.answer == OK and row.expected is None:
+            # Of most steps there is nothing more to count.
+            return
         self.pictures += step.picture is not None
         self.refused += step.is_refused
         is_wrong = row.is_wrong

@@ -3,9 +3,11 @@
 from __future__ import annotations
 
 import re
+from collections import Counter
 from functools import partial
 from io import BytesIO
 from itertools import islice
+from operator import itemgetter
 from typing import BinaryIO, Callable, Iterator, NamedTuple
 
 from .table import END, FIRST_LINE, MOST_STEPS, REPEAT
@@ -13,8 +15,10 @@ from .table import END, FIRST_LINE, MOST_STEPS, REPEAT
 _WORDS = re.compile(rb"[^ \t\r\n]+")
 # Bytes by their numbers: Python finds a number in bytes some times as fast as it finds other bytes there.
 _COMMENT, _VERTICAL_TAB, _FORM_FEED = b";\v\f"
-# What the lines of blocks begin with, and with the first line of a text that has some; hardly another does.
-_BLOCK_LETTERS, _BLOCK_BYTES, _WHOLE_BYTES = "rReE", b"rReE", b"rReEvV"
+# What the lines of blocks begin with; hardly another line does.
+_BLOCK_LETTERS, _BLOCK_BYTES = "rReE", b"rReE"
+# A line's first letter by its byte; nothing where the line may be of a block, or the first of a text that has blocks.
+_LETTERS = ["" if byte in b"rReEvV" else chr(byte) for byte in range(256)]
 _BLANKS = b" \t\r\n"
 # Of a longer block the lines are read again in each of its rounds.
 _MOST_KEPT = 4096
@@ -68,8 +72,7 @@ def placed_lines(stream: BinaryIO, before: int = 0) -> Iterator[Line]:
             line, _, comment = line.partition(b";")
         line = line.lstrip(_BLANKS)
         if line:
-            letter = line[0]
-            words = next(lines_in(BytesIO(line))).words if letter in _WHOLE_BYTES else chr(letter)
+            words = _LETTERS[line[0]] or next(lines_in(BytesIO(line))).words
             yield _made_line((number, words, comment))
 
 
@@ -123,10 +126,13 @@ def _unrolled(
 def count_in(stream: BinaryIO) -> int:
     """How many steps a text means, if it is a good one."""
     stream.seek(0)
-    lines = (line for line in map(bytes.lstrip, stream) if line and line[0] != _COMMENT)
+    filled = filter(None, map(bytes.lstrip, stream))
+    lines = (line for line in filled if line[0] != _COMMENT)
     first = next(lines, b"")
     if first.partition(b";")[0].lower().split() != FIRST_LINE.encode().split():
-        return bool(first) + sum(1 for _ in lines)
+        # They are counted by their first bytes, without a look at each.
+        begins = Counter(map(itemgetter(0), filled))
+        return bool(first) + sum(begins.values()) - begins[_COMMENT]
     total = opened = count = 0
     for line in lines:
         words = line.partition(b";")[0].lower().split() if line[0] in _BLOCK_BYTES else None

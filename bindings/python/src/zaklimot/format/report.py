@@ -103,6 +103,7 @@ class Report:
         self, stream: io.BufferedReader, heard: Optional[Callable[[int], None]] = None, first: int = 1
     ) -> None:
         self._stream = stream
+        self._read_line = stream.readline
         self._heard = heard
         self._first = first
         # The answers of steps that a look finds, with the refusals that came.
@@ -113,10 +114,10 @@ class Report:
 
     def answers(self) -> Iterator[Answer]:
         """The answers in their order; a ReportError where the report is damaged, behind those before that place."""
-        number = self._first
+        number, plain_of = self._first, self._plain.get
         while line := self._next_line():
             front, _, answer = line.partition(b" ")
-            plain = self._plain.get(answer)
+            plain = plain_of(answer)
             self.count += 1
             if plain is not None and front == b"%d" % number:
                 yield _made_answer((number, self.line, plain, (), None))
@@ -160,10 +161,10 @@ class Report:
 
     def _next_line(self) -> bytes:
         """The next line with its newline, as far as there is one; nothing at the report's end."""
-        self.line += 1
-        if self._heard is not None and self.line % _LINES_BETWEEN == 0:
-            self._heard(self.line)
-        return self._stream.readline(MOST_LINE)
+        self.line = line = self.line + 1
+        if line % _LINES_BETWEEN == 0 and self._heard is not None:
+            self._heard(line)
+        return self._read_line(MOST_LINE)
 
     def _text_of(self, line: bytes) -> str:
         """A line's text, without its newline."""
