@@ -14,6 +14,8 @@ from .trouble import Trouble
 ANY = "*"
 # What a line begins with that has a line of a dump, below the step that is to answer it.
 DUMPED, COMMENT = ";|", ord(";")
+# What a line without a step may begin with: a blank, or the first letter of a block's lines.
+MAYBE_NONE = b" \t\r\n\v\f" + "".join(name[0] + name[0].upper() for name in BLOCK_LINES).encode()
 FRONT = "..."
 REFUSAL = re.compile(r"(E[1-9][0-9]?) [A-Za-z]+")
 
@@ -71,7 +73,7 @@ def dumps_in(data: bytes, name: str) -> dict[int, tuple[str, ...]]:
             dumps.setdefault(step, []).append(text_of(comment[1:]).strip())
             continue
         step, before = number, front
-        if expected_in(comment) and comment.strip(b" =\t\r\n") and not _has_step(front):
+        if (not front or front[0] in MAYBE_NONE) and expected_in(comment) and comment.strip(b" =\t\r\n") and not _has_step(front):
             raise Trouble(f"no step stands on this line, so nothing answers {expected_in(comment)}", name, number)
     return {number: tuple(lines) for number, lines in dumps.items()}
 

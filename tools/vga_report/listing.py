@@ -231,13 +231,13 @@ def _wait_for(report: BinaryIO, shown: str, progress: Progress) -> None:
             progress.tell(f"{shown}: no answer yet after {time.monotonic() - begun:.0f} seconds")
 
 
-def listed(row: Row, width: int, more: str = "", why: str = "") -> str:
+def listed(row: Row, is_wrong: bool, width: int, more: str = "", why: str = "") -> str:
     """A step in the listing, and below it why it was refused: lines that end with a newline each."""
     step, words, place = row.step, row.words, row.line
     if len(words) > width:
         words = words[:width - 2] + ".."
     text = "%6s %6d  %-*s  " % ("" if place is None else place, step.number, width, words)
-    is_other = row.expected is not None and row.is_wrong
+    is_other = is_wrong and row.expected is not None
     if not is_other and step.picture is None and not step.others:
         text = f"{text}{step.answer}\n"
     else:

@@ -180,13 +180,13 @@ def _run_by(
         for row in script.rows(program, fonts, words.until, progress, words.strict, tells_why):
             if not tally.steps:
                 shower.begin(script)
-            tally.count(row)
+            is_wrong = tally.count(row)
             if blessing is not None:
                 blessing.take(row)
             if told is not None:
                 told.add(row, row.why)
             if choice.has_all or choice.has(row):
-                shower.show(row)
+                shower.show(row, is_wrong)
         progress.clear()
         if words.bless:
             return _bless(words, blessing)
@@ -229,7 +229,7 @@ class _Shower:
         if self._is_listed:
             write(heading(script.width) + "\n")
 
-    def show(self, row: Row) -> None:
+    def show(self, row: Row, is_wrong: bool) -> None:
         """Shows a step, and writes its picture where that is wanted, with its path; why it was refused is told once."""
         picture, words = row.step.picture, self._words
         path = "" if picture is None else _saved_picture(row, words)
@@ -242,7 +242,7 @@ class _Shower:
                 why = ""
             elif len(self._whys) < MOST_WHYS:
                 self._whys.add(why)
-            write(listed(row, self._width, path and f"  {path}", why))
+            write(listed(row, is_wrong, self._width, path and f"  {path}", why))
             if words.show and isinstance(picture, Picture):
                 columns = shutil.get_terminal_size((80, 24)).columns
                 write("".join(line + "\n" for line in block_lines(picture, columns)))

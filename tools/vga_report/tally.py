@@ -23,13 +23,13 @@ class Tally:
         # The answers that differ may be as many as the steps.
         self._told = tempfile.SpooledTemporaryFile(MOST_TOLD)
 
-    def count(self, row: Row) -> None:
-        """Counts a step."""
+    def count(self, row: Row) -> bool:
+        """Counts a step, and tells whether another answer was expected."""
         step = row.step
         self.steps += 1
         if step.answer == OK and row.expected is None:
             # Of most steps there is nothing more to count.
-            return
+            return False
         self.pictures += step.picture is not None
         self.refused += step.is_refused
         is_wrong = row.is_wrong
@@ -40,6 +40,7 @@ class Tally:
             self.wrong += 1
             place = f"{self.shown}:{row.line}: step {step.number}"
             self._told.write(f"{place}: {row.words} {row.mismatch()}\n".encode("utf-8", "surrogateescape"))
+        return is_wrong
 
     def differing(self) -> Iterator[str]:
         """The answers that differ, a line each."""
