@@ -148,6 +148,10 @@ class Front(unittest.TestCase):
         wrapped = [line for line in lines if not line.startswith(("|", "!["))]
         self.assertEqual([line for line in wrapped if len(line) > self.MOST_COLUMNS], [])
 
+    def test_the_page_that_runs_scripts_has_the_size_that_is_told(self) -> None:
+        size = (ROOT / "page" / "zaklimot.html").stat().st_size
+        self.assertIn(f"The page has {size:,} bytes.", (ROOT / "docs" / "PAGE.md").read_text("utf-8"))
+
 
 # The reference pages, and their sections that are examples and no rules.
 REFERENCE = {
