@@ -246,6 +246,10 @@ class Listings(Fake):
         self.assertEqual(self.run_script("--html", "-", path=path)[1].count("No part of the adapter decodes port"), 3)
         path = self.write("t.vga", "in 60\nin 61 ; = E1 NotDecoded\n")
         self.assertEqual(self.run_script("--quiet", path=path)[0], 0)
+        done = self.write("done.vga", "out 3C2 1 ; = ok\nout 3C2 1 ; = E1\nout 3C2 1\n")
+        status, output, _ = self.run_script(path=done)
+        self.assertEqual((status, output.count("   ok   not E1\n")), (1, 1))
+        self.assertIn("OUT 3C2 1 answers ok, not E1\n3 steps, 0 pictures, 1 of 2 answers as expected\n", output)
         status, output, _ = self.run_script("--quiet", "--strict", path=path)
         self.assertEqual((status, output.splitlines()[0]), (
             1, f"{path}:1: step 1: IN 60 answers E1 NotDecoded, and no refusal is expected"
@@ -306,7 +310,7 @@ class Expectations(unittest.TestCase):
             (Answer(1, 1, "E1 NotDecoded"), "get", ["E1 NotDecoded"], ["E1", "E2"]),
             (Answer(1, 1, "E6 WrongKind"), "int", ["E6", "E6 WrongKind"], ["E6 BadPage", "E7"]),
             (Answer(1, 1, "ax=0300 bx=0000 cx=0D0E dx=0102"), "int", ["cx=0D0E", "dx=0102 ax=0300"], ["cx=0D0F", "cx", "ex=0"]),
-            (picture, "frame", ["picture 9x1", "picture 9x1 8f4a...", answer_of(picture)], ["picture", "picture 9x2"]),
+            (picture, "frame", ["picture 9x1", "picture 9x1 8f4a...", answer_of(picture)], ["picture", "picture 37", "picture 9x2"]),
             (Answer(1, 1, "a", ("b",)), "show", ["2 lines dd8c6a395b5dd36c56d23275028f526c"], ["a", "a b", "2 lines"]),
         ]:
             for expected in good + bad:
