@@ -444,6 +444,10 @@ class Several(Fake):
             self.assertIn("fill; what is shown ends before the second, as with --until 2: too much\n", said)
             self.assertEqual((run("run", two, "--try", "--until", "2")[0], len(json.loads(told.read_text())["answers"])), (0, 2))
             self.assertNotIn("the second", run("run", two, "--try", "--until", "1")[2])
+            # What can't be built isn't asked for again.
+            Path(rt).write_text("#!/bin/sh\necho >> asked\necho no crate >&2\n")
+            self.assertTrue(run("run", two, "--try")[2].endswith("two pictures of text fill: no crate\n"))
+            self.assertEqual((crate / "asked").read_text(), "\n")
 
     def test_it_runs_again_when_the_script_changes(self) -> None:
         words = ["run", self.path, "--vga", self.vga, "--quiet", "--watch", "--html", page := self.folder / "page"]

@@ -170,9 +170,10 @@ class Tried:
             with _running(words, ENDING, cwd=_crate(), env={**os.environ, "TMPDIR": temporary}) as outcome:
                 yield outcome
         if self.ENDED not in outcome.said:
-            before = _before_second_picture(script, until)
-            told = f"; what is shown ends before the second, as with --until {before}" if before else ""
             found = self.CHECKED.search(outcome.said)
+            # What `rt` can't build has no steps before the second picture either.
+            before = _before_second_picture(script, until) if found else 0
+            told = f"; what is shown ends before the second, as with --until {before}" if before else ""
             reason = found[1] if found else outcome.fault
             raise Limited(f"rt try has not run it to its end, within {LIMITS}{told}: {reason}", before)
         outcome.status = int(outcome.said.rpartition(self.ENDED)[2].split()[0])
