@@ -17,8 +17,7 @@ from vga_report.script import expected_in
 from vga_report.trouble import Trouble
 from vga_report.words import parser
 from zaklimot.format import (
-    BLOCK_LINES, FORMS, Answer, Block, Line, Script, Step, count_in, lines_in, placed_lines, print_text, printed_lines,
-    steps_in,
+    BLOCK_LINES, FORMS, Answer, Block, Line, Script, Step, count_in, lines_in, places_in, print_text, steps_in, words_in,
 )
 from zaklimot.format.report import _made_answer
 from zaklimot.format.text import _made_step
@@ -30,7 +29,7 @@ PIECES = [
     b"\f", b"\x85", b" ", b"\t", b"\r", b"; ", b";", b";|", b";| 1 2", b"; = 55", b"; =", b";= ok ; more", b" ; = * ", b"=",
 ]
 # The Python functions that a plain step, and one that is refused, call at most, and what they call of Python's own.
-MOST_CALLS = 44
+MOST_CALLS = 30
 
 
 def text_of_chance(chance: random.Random) -> bytes:
@@ -102,7 +101,7 @@ class Ways(unittest.TestCase):
                 self.assertEqual(list(lines_in(io.BytesIO(data))), slow_lines(data))
                 for text in (data, b"version 2\n" + data):
                     stream = io.BytesIO(text)
-                    self.assertEqual(places(steps_in(stream, placed_lines)), places(steps_in(stream)))
+                    self.assertEqual(list(places_in(stream)), places(steps_in(stream)))
                 found.append(slow_dumps(data))
                 self.assertEqual(self.dumps(data), found[-1])
         for kind in (str, dict):
@@ -114,7 +113,8 @@ class Ways(unittest.TestCase):
             script = script_of_chance(chance)
             stream = io.BytesIO(print_text(script).encode())
             steps = list(steps_in(stream))
-            self.assertEqual(list(steps_in(stream, printed_lines)), steps)
+            self.assertEqual(list(words_in(stream)), [line.words for line in steps])
+            self.assertEqual(list(places_in(stream)), places(steps))
             self.assertEqual((count_in(stream), script.count), (len(steps), len(steps)))
             plain = print_text(Script(tuple(script.steps()))).replace("\n", " ; a step\n ; none\n\t\n")
             self.assertEqual(count_in(io.BytesIO(b"; none\n" + plain.encode())), len(steps))

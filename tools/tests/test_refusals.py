@@ -5,22 +5,23 @@ import unittest
 from pathlib import Path
 from typing import Sequence
 
-from vga_report.refusals import OF_CALLS, State, step_of, why_refused
-from zaklimot.format import REFUSALS
+from vga_report.refusals import OF_CALLS, State, why_refused
+from zaklimot.format import REFUSALS, Answer
 
 from .program import run_texts
 
 # Scripts whose last step is refused, the answer, and why; the page's tests read them too.
 CASES = json.loads(Path(__file__).with_name("refusals.json").read_text("utf-8"))
 
+# What a step answers that was done.
+DONE = Answer(1, 1, "ok")
+
 
 def state_behind(lines: Sequence[str]) -> State:
     """The state that steps leave."""
     state = State()
     for line in lines:
-        step = step_of(line)
-        assert step is not None
-        state.take(step)
+        state.why_of(line, DONE)
     return state
 
 
@@ -42,7 +43,7 @@ class Refusals(unittest.TestCase):
         self.assertEqual(why_refused("move 1", 1, state), "")
         self.assertIn("The index of the attribute controller is 1F", state.why("in 3C1", 2))
         for line in ("in 3DA", "out 3C0 5"):
-            state.take(step_of(line))  # type: ignore[arg-type]
+            self.assertEqual(state.why_of(line, DONE), "")
         self.assertEqual(state.why("in 3C1", 2), "")
 
     def test_steps_that_the_adapter_does_not_refuse_so(self) -> None:

@@ -45,7 +45,7 @@ elif words[0] in ("go", "run"):
         if step[0] == b"move":
             sys.exit("vga: F7 BadLine(%d)" % at)
     out = sys.stdout.buffer
-    stop = int(words[5]) if words[4:] else len(numbered)
+    stop = min(int(words[5]) if words[4:] else len(numbered), len(numbered))
     for number, (_, step) in enumerate(numbered[:stop], 1):
         answer = {{b"get": b"E6", b"frame": b"picture 37\\n" + {picture!r}, b"show": b"a\\nb", b"in": b"E1 NotDecoded",
                   b"int": b"ax=0003 bx=0000 cx=0000 dx=0000"}}.get(step[0], b"ok")
@@ -108,10 +108,11 @@ class Listings(Fake):
         self.assertEqual(self.run_script("--only", "x"), (2, "", message))
 
     def test_a_stopped_run_shows_the_state(self) -> None:
-        lines = self.run_script("--until", "2")[1].splitlines()
-        self.assertEqual(lines[3], "            3  show regs           look")
-        self.assertEqual(lines[6], "            6  show bda            look")
-        self.assertEqual(lines[7], "6 steps, 0 pictures, 1 of 1 answers as expected")
+        for path, steps in ((self.path, 2), (self.write("none.vga", "; no step\n"), 0)):
+            lines = self.run_script("--until", "2", path=path)[1].splitlines()[1 + steps:]
+            self.assertEqual(lines[0], f"            {1 + steps}  show regs           look")
+            self.assertEqual(lines[3], f"            {4 + steps}  show bda            look")
+            self.assertEqual(lines[4].partition(",")[0], f"{4 + steps} steps")
 
     def test_pictures_as_files_and_as_blocks(self) -> None:
         folder = self.folder / "p"
@@ -176,6 +177,15 @@ class Listings(Fake):
         true = run("run", self.path, "--vga", "/bin/true")
         self.assertEqual(true, (2, b"", f"vga-report: {self.path}: the report ends after 0 of 6 steps\n"))
         self.assertEqual(run("run", self.write("none.vga", "; no step\n"), "--vga", "/bin/true")[0], 0)
+
+    def test_a_fault_in_the_place_of_a_report(self) -> None:
+        vga = self.program("faulty", "import sys\nif sys.argv[1] == 'go': print('F7 BadLine(2)')\n")
+        for text in ("frame\nmove\n", "; no step\n; no step\n"):
+            path = self.write("fault.vga", text)
+            told = f"vga-report: {path}:2: F7 BadLine(2): "
+            with self.subTest(text):
+                status, output, said = run("run", path, "--vga", vga)
+                self.assertEqual((status, output, said[:len(told)]), (2, b"", told))
 
     def test_a_report_that_goes_on_behind_its_script(self) -> None:
         self.change_program("", "", "if words[0] == 'go': out.write(b'7 ok\\n')\n")
@@ -441,7 +451,7 @@ class Several(Fake):
         with mock.patch.dict(os.environ, {"PATH": path}), mock.patch.object(program, "CRATE", crate):
             status, output, said = run("run", two, "--try", "--json", str(told))
             self.assertEqual((status, [line.split()[1] for line in output.splitlines()]), (2, [b"step", b"1", b"2"]))
-            self.assertIn("fill; what is shown ends before the second, as with --until 2: too much\n", said)
+            self.assertIn("fill; --until 2 ends before the second: too much\n", said)
             self.assertEqual((run("run", two, "--try", "--until", "2")[0], len(json.loads(told.read_text())["answers"])), (0, 2))
             self.assertNotIn("the second", run("run", two, "--try", "--until", "1")[2])
             # What can't be built isn't asked for again.

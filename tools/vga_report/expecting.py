@@ -1,7 +1,6 @@
 """Answers that a script expects, held against those that came."""
 
 import hashlib
-import io
 import re
 
 from zaklimot.format import BLOCK_LINES, READING, REGISTERS, Answer
@@ -13,9 +12,9 @@ from .trouble import Trouble
 
 ANY = "*"
 # What a line begins with that has a line of a dump, below the step that is to answer it.
-DUMPED, COMMENT = ";|", ord(";")
-# What a line without a step may begin with: a blank, or the first letter of a block's lines.
-MAYBE_NONE = b" \t\r\n\v\f" + "".join(name[0] + name[0].upper() for name in BLOCK_LINES).encode()
+DUMPED = ";|"
+# A line that may be without a step, by its first letter, which may be that of a block's lines: its words and its comment.
+STEPLESS = re.compile(rb"\n([ \t\r\v\f%s][^;\n]*|);([^\n]*)" % "".join(name[0] + name[0].upper() for name in BLOCK_LINES).encode())
 FRONT = "..."
 REFUSAL = re.compile(r"(E[1-9][0-9]?) [A-Za-z]+")
 
@@ -30,8 +29,8 @@ def answer_of(step: Answer) -> str:
     return step.answer
 
 
-def is_as_expected(step: Answer, expected: str, name: str) -> bool:
-    """Whether a step of this name answers what is expected of it."""
+def is_as_expected(step: Answer, expected: str, words: str) -> bool:
+    """Whether a step of these words answers what is expected of it."""
     if expected == step.answer and step.picture is None and not step.others:
         return True
     answer = answer_of(step).lower()
@@ -39,7 +38,7 @@ def is_as_expected(step: Answer, expected: str, name: str) -> bool:
     if wanted in (ANY, answer) or wanted.endswith(FRONT) and answer.startswith(wanted[:-len(FRONT)]):
         return True
     refusal = REFUSAL.fullmatch(step.answer)
-    if refusal is not None and name not in READING:
+    if refusal is not None and words.partition(" ")[0].lower() not in READING:
         return wanted == refusal[1].lower()
     if step.picture is not None:
         return wanted == f"picture {step.picture.size}"
@@ -62,18 +61,21 @@ def is_worth_telling(step: Answer, words: str) -> bool:
 def dumps_in(data: bytes, name: str) -> dict[int, tuple[str, ...]]:
     """The dumps that stand whole in a text, by the lines of their steps; a Trouble where no step is to give an answer."""
     dumps: dict[int, list[str]] = {}
-    # The line before, and its number, of which a dump's line may be the next: whether it has a step is looked for then.
-    step, before = 0, b""
-    for number, line in enumerate(io.BytesIO(data), 1):
-        if COMMENT not in line:
-            step, before = number, line
-            continue
-        front, _, comment = line.partition(b";")
-        if comment[:1] == b"|" and not front.strip() and _has_step(before):
-            dumps.setdefault(step, []).append(text_of(comment[1:]).strip())
-            continue
-        step, before = number, front
-        if (not front or front[0] in MAYBE_NONE) and expected_in(comment) and comment.strip(b" =\t\r\n") and not _has_step(front):
+    text, begin, number = b"\n" + data, 0, 0
+    # The step whose dump it is, 0 without one, and the dump's last line so far.
+    step = last = 0
+    for found in STEPLESS.finditer(text):
+        front, comment = found.groups()
+        number += text.count(b"\n", begin, found.start() + 1)
+        begin = found.start() + 1
+        if comment[:1] == b"|" and not front.strip():
+            if number != last + 1:
+                before = text[text.rfind(b"\n", 0, found.start()) + 1:found.start()]
+                step = number - 1 if _has_step(before.partition(b";")[0]) else 0
+            last = number
+            if step:
+                dumps.setdefault(step, []).append(text_of(comment[1:]).strip())
+        elif expected_in(comment) and comment.strip(b" =\t\r") and not _has_step(front):
             raise Trouble(f"no step stands on this line, so nothing answers {expected_in(comment)}", name, number)
     return {number: tuple(lines) for number, lines in dumps.items()}
 

@@ -5,20 +5,19 @@ import re
 import select
 import time
 from functools import partial
-from itertools import islice, zip_longest
+from itertools import chain, count, islice, repeat, zip_longest
 from pathlib import Path
 from typing import BinaryIO, Iterator, NamedTuple, Optional, Union
 
-from zaklimot.format import STATE, Answer, Line, count_in, is_bytes, placed_lines, printed_lines, steps_in
+from zaklimot.format import STATE, Answer, count_in, is_bytes, places_in, steps_in, words_in
 from zaklimot.format.report import VALUE
-from zaklimot.format.table import OK
 
 from .expecting import ANY, answer_of, dumps_in, is_as_expected, what_differs
 from .faults import Files, explained
 from .processes import IS_POSIX
 from .program import Built, Limited, Tried
 from .progress import Progress
-from .refusals import State, step_of
+from .refusals import State
 from .report import Report
 from .script import expected_in
 from .trouble import Trouble
@@ -31,10 +30,6 @@ EMPTY = 5
 # The widest column of steps; what is longer has its end cut off.
 MOST_WORDS = 47
 RANGE = re.compile(r"([0-9]{1,10})(?:-([0-9]{1,10}))?")
-# How the steps begin that refusals hang on: `out`, `in` and `int`.
-KNOWN = "oOiI"
-# What stands for a step and its line behind the last.
-NO_STEP = (None, None)
 KINDS = ("refused", "read", "pictures", "dumps", "differs")
 
 
@@ -58,10 +53,11 @@ class Row(NamedTuple):
     @property
     def is_wrong(self) -> bool:
         """Whether another answer was expected."""
-        if self.expected is None:
+        step, expected = self.step, self.expected
+        if expected is None:
             return self.is_strict and self.is_refused
-        is_other = bool(self.dump) and self.expected != ANY and self.dump != self.step.lines
-        return is_other or not is_as_expected(self.step, self.expected, self.name)
+        is_other = bool(self.dump) and expected != ANY and self.dump != step.lines
+        return is_other or not is_as_expected(step, expected, self.words)
 
     @property
     def is_refused(self) -> bool:
@@ -131,10 +127,10 @@ class Script:
         self._text = None if self.is_bytes else io.BytesIO(data)
         self._dumps = {} if self.is_bytes else dumps_in(data, shown)
         program.print_steps(self.path, self.is_bytes, printed)
-        count = count_in(printed)
-        meant = count if self._text is None else count_in(self._text)
+        understood = count_in(printed)
+        meant = understood if self._text is None else count_in(self._text)
         # Without a line for each step there is no telling which is which; the words are then those of the text.
-        self._printed = printed if count == meant else None
+        self._printed = printed if understood == meant else None
         # How many steps it means; None where that isn't known, of bytes that the program doesn't print.
         self.count: Optional[int] = meant if meant or not self.is_bytes or len(data) <= EMPTY else None
         self.width = min(max(len(HEADING), self._longest()), MOST_WORDS)
@@ -142,20 +138,17 @@ class Script:
     def _longest(self) -> int:
         """The length of the longest step."""
         if self._printed is None:
-            assert self._text is not None
-            return max((len(line.words) for line in steps_in(self._text)), default=0)
+            return max((len(words) for words, _ in self._steps()), default=0)
         self._printed.seek(0)
         return max(map(len, self._printed), default=1) - 1
 
-    def _lines(self) -> Iterator[tuple[Line, Line]]:
-        """The steps: each as it was understood, and as it stands in the script."""
-        printed = None if self._printed is None else steps_in(self._printed, printed_lines)
-        if self._text is None:
-            assert printed is not None
-            return ((line, Line(at, line.words)) for at, line in enumerate(printed, 1))
-        if printed is None:
-            return ((line, line) for line in steps_in(self._text))
-        return zip(printed, steps_in(self._text, placed_lines))
+    def _steps(self) -> Iterator[tuple[str, tuple[int, bytes]]]:
+        """The steps: each one's words as they were understood, with the number of its line and its comment."""
+        if self._printed is None:
+            assert self._text is not None
+            return ((line.words, (line.number, line.comment)) for line in steps_in(self._text))
+        places = zip(count(1), repeat(b"")) if self._text is None else places_in(self._text)
+        return zip(words_in(self._printed), places)
 
     def rows(
         self, program: Union[Built, Tried], fonts: str, until: Optional[int], progress: Progress,
@@ -177,23 +170,22 @@ class Script:
         self, program: Union[Built, Tried], fonts: str, until: Optional[int], progress: Progress, is_strict: bool,
         tells_why: bool,
     ) -> Iterator[Row]:
-        lines, taken, dumps = islice(self._lines(), until), 0, () if until is None else STATE
+        dumps = () if until is None else STATE
         state = State() if tells_why else None
+        is_told, taken = progress.is_wanted, 0
         with program.running(self.path, fonts, until, self.is_bytes) as outcome:
             _wait_for(outcome.report, self.shown, progress)
             report = Report(outcome.report, "the report", progress)  # type: ignore[arg-type]
-            is_told = progress.is_wanted
-            for step in report.steps():
+            steps, dump_of = self._begun(report.steps(), fonts), self._dumps.get
+            for (words, (number, comment)), step in zip(islice(self._steps(), until), steps):
                 if is_told and progress.is_due():
                     progress.tell(f"{self.shown}: step {step.number} of {self.count}")
-                understood, line = next(lines, NO_STEP)
-                if understood is not None and line is not None:
-                    taken += 1
-                    words, number, comment = understood.words, line.number, line.comment
-                    expected = expected_in(comment) if comment else None
-                    why = "" if state is None else _why(words, step, state)
-                    yield made_row((step, words, number, expected, self._dumps.get(number, ()), why, is_strict))
-                elif step.number <= taken + len(dumps):
+                taken = step.number
+                expected = expected_in(comment) if comment else None
+                why = "" if state is None else state.why_of(words, step)
+                yield made_row((step, words, number, expected, dump_of(number, ()), why, is_strict))
+            for step in steps:
+                if step.number <= taken + len(dumps):
                     # Behind the last there are the dumps of a stopped run.
                     yield Row(step, dumps[step.number - taken - 1], is_strict=is_strict)
                 elif self.count is not None:
@@ -201,8 +193,19 @@ class Script:
                 else:
                     yield Row(step, "", is_strict=is_strict)
         if outcome.status:
-            raise Trouble(explained(outcome.fault, Files(str(self.path), fonts)).replace(str(self.path), self.shown))
+            raise self._trouble(outcome.fault, fonts)
         self._check_end(report.count, until, len(dumps))
+
+    def _begun(self, steps: Iterator[Answer], fonts: str) -> Iterator[Answer]:
+        """The answers of a report; a Trouble where a fault stands in its place."""
+        first = next(steps, None)
+        if first is not None and first.number == 0:
+            raise self._trouble(first.answer, fonts)
+        return chain([] if first is None else [first], steps)
+
+    def _trouble(self, fault: str, fonts: str) -> Trouble:
+        """A fault of the program's, with its reason."""
+        return Trouble(explained(fault, Files(str(self.path), fonts)).replace(str(self.path), self.shown))
 
     def _check_end(self, answered: int, until: Optional[int], dumps: int) -> None:
         """Ends the work where a report ends before its script."""
@@ -211,16 +214,6 @@ class Script:
         wanted = (self.count if until is None else min(until, self.count)) + dumps
         if answered < wanted:
             raise Trouble(f"the report ends after {answered:,} of {wanted:,} steps", self.shown)
-
-
-def _why(words: str, answer: Answer, state: State) -> str:
-    """Why a step was refused, if it was; else the state takes it."""
-    if answer.answer != OK and answer.refusal:
-        return state.why(words, answer.refusal)
-    step = step_of(words) if words[0] in KNOWN else None
-    if step is not None:
-        state.take(step)
-    return ""
 
 
 def _wait_for(report: BinaryIO, shown: str, progress: Progress) -> None:
@@ -233,18 +226,19 @@ def _wait_for(report: BinaryIO, shown: str, progress: Progress) -> None:
 
 def listed(row: Row, is_wrong: bool, width: int, more: str = "", why: str = "") -> str:
     """A step in the listing, and below it why it was refused: lines that end with a newline each."""
-    step, words, place = row.step, row.words, row.line
+    step, words, line, expected, _, _, _ = row
     if len(words) > width:
         words = words[:width - 2] + ".."
-    text = "%6s %6d  %-*s  " % ("" if place is None else place, step.number, width, words)
-    is_other = is_wrong and row.expected is not None
+    place = "" if line is None else line
+    is_other = is_wrong and expected is not None
     if not is_other and step.picture is None and not step.others:
-        text = f"{text}{step.answer}\n"
+        text = "%6s %6d  %-*s  %s\n" % (place, step.number, width, words, step.answer)
     else:
+        front = "%6s %6d  %-*s  " % (place, step.number, width, words)
         answers = [answer_of(step) + more] if step.picture is not None else list(step.lines)
         if is_other:
-            answers[-1] += f"   not {row.expected}"
-        fronts = zip_longest([text], answers, fillvalue=" " * len(text))
+            answers[-1] += f"   not {expected}"
+        fronts = zip_longest([front], answers, fillvalue=" " * len(front))
         text = "".join((front + answer).rstrip() + "\n" for front, answer in fronts)
     return f"{text}{'':15}{why}\n" if why else text
 

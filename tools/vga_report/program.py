@@ -173,7 +173,7 @@ class Tried:
             found = self.CHECKED.search(outcome.said)
             # What `rt` can't build has no steps before the second picture either.
             before = _before_second_picture(script, until) if found else 0
-            told = f"; what is shown ends before the second, as with --until {before}" if before else ""
+            told = f"; --until {before} ends before the second" if before else ""
             reason = found[1] if found else outcome.fault
             raise Limited(f"rt try has not run it to its end, within {LIMITS}{told}: {reason}", before)
         outcome.status = int(outcome.said.rpartition(self.ENDED)[2].split()[0])

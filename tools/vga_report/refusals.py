@@ -5,9 +5,9 @@ The state is what the steps that were done have left, as far as a script tells i
 """
 
 from functools import lru_cache, partial
-from typing import Callable, NamedTuple, Optional
+from typing import Callable, Collection, NamedTuple, Optional, Sequence
 
-from zaklimot.format import MOST_ADVANCE, REGISTERS, Step, parse_line
+from zaklimot.format import MOST_ADVANCE, REGISTERS, Answer, Step, parse_line
 
 from .timing import MODES, bytes_written
 
@@ -20,6 +20,10 @@ SEQUENCER, GRAPHICS, CRT, ATTRIBUTES = "sequencer", "graphics controller", "CRT 
 # How many registers a group has, and the bits of its index.
 COUNTS = {SEQUENCER: (5, 7), GRAPHICS: (9, 15), CRT: (25, 31), ATTRIBUTES: (21, 31)}
 INDEX_PORTS = {0x3C4: SEQUENCER, 0x3CE: GRAPHICS, 0x3B4: CRT, 0x3D4: CRT}
+# How the steps begin that may change what refusals hang on: `out`, `in` and `int`.
+CHANGING = "oOiI"
+# The ports that change what refusals hang on when they are written, and input status 1, which does so when it is read.
+WRITTEN, STATUS_PORTS = {*INDEX_PORTS, 0x3C0, 0x3C2, 0x3CF}, {0x3BA, 0x3DA}
 # The memory map that a mode set leaves in graphics controller 6; other modes have that of A0000.
 MAPS = {3: 3, 7: 2}
 
@@ -40,35 +44,40 @@ class State:
         """The port of the CRT controller's index."""
         return 0x3D4 if self.misc & 1 else 0x3B4
 
-    def take(self, step: Step) -> None:
-        """Takes a step that was done."""
-        self.why.cache_clear()
-        name, numbers, _ = step
-        if name == "out":
-            self.out(*numbers)
-        elif name == "outw":
-            for port, value in bytes_written(step):
-                self.out(port, value)
-        elif name == "int":
-            mode = numbers[0] & 0x7F
-            if numbers[0] >> 8 == 0 and mode in MODES:
-                self.mode, self.misc, self.map, self._is_data = mode, MODES[mode][0], MAPS.get(mode, 1), False
-        elif self._is_data and name in ("in", "inw"):
-            self._is_data = self.base + 6 not in (numbers[0], numbers[0] + (name == "inw"))
+    def why_of(self, words: str, answer: Answer) -> str:
+        """Why a step was refused, by its answer; nothing of a step that was done, which is taken."""
+        # No answer of another letter is a refusal.
+        refusal = answer.refusal if answer.answer[0] == "E" else 0
+        if refusal:
+            return self.why(words, refusal)
+        change = _change_of(words) if words[0] in CHANGING else None
+        if change is not None:
+            self.why.cache_clear()
+            change(self)
+        return ""
 
-    def out(self, port: int, value: int) -> None:
-        """Takes a byte that was written to a port."""
-        group = INDEX_PORTS.get(port)
-        if group is not None:
-            self.indexes[group] = value & COUNTS[group][1]
-        elif port == 0x3C2:
-            self.misc = value
-        elif port == 0x3C0:
-            if not self._is_data:
-                self.indexes[ATTRIBUTES] = value & COUNTS[ATTRIBUTES][1]
-            self._is_data = not self._is_data
-        elif port == 0x3CF and self.indexes[GRAPHICS] == 6:
-            self.map = value >> 2 & 3
+    def set_mode(self, mode: int) -> None:
+        """Takes a mode set."""
+        self.mode, self.misc, self.map, self._is_data = mode, MODES[mode][0], MAPS.get(mode, 1), False
+
+    def read_status(self, ports: Collection[int]) -> None:
+        """Takes a read of ports, of which input status 1 may be one."""
+        self._is_data = self._is_data and self.base + 6 not in ports
+
+    def write(self, written: Sequence[tuple[int, int]]) -> None:
+        """Takes bytes that were written to ports."""
+        for port, value in written:
+            group = INDEX_PORTS.get(port)
+            if group is not None:
+                self.indexes[group] = value & COUNTS[group][1]
+            elif port == 0x3C2:
+                self.misc = value
+            elif port == 0x3C0:
+                if not self._is_data:
+                    self.indexes[ATTRIBUTES] = value & COUNTS[ATTRIBUTES][1]
+                self._is_data = not self._is_data
+            elif port == 0x3CF and self.indexes[GRAPHICS] == 6:
+                self.map = value >> 2 & 3
 
 
 class _Data(NamedTuple):
@@ -103,6 +112,22 @@ def step_of(words: str) -> Optional[Step]:
         return parse_line(words.lower().split())
     except (ValueError, IndexError):
         return None
+
+
+@lru_cache(4096)
+def _change_of(words: str) -> Optional[Callable[[State], None]]:
+    """What a step changes of the state, where it may change it; None where it can't."""
+    step = step_of(words)
+    if step is None:
+        return None
+    name, numbers, _ = step
+    if name == "int":
+        return partial(State.set_mode, mode=numbers[0] & 0x7F) if numbers[0] >> 8 == 0 and numbers[0] & 0x7F in MODES else None
+    if name in ("in", "inw"):
+        ports = {numbers[0], numbers[0] + (name == "inw")} & STATUS_PORTS
+        return partial(State.read_status, ports=ports) if ports else None
+    written = [(port, value) for port, value in bytes_written(step) if port in WRITTEN]
+    return partial(State.write, written=written) if written else None
 
 
 def _not_decoded(step: Step, state: State) -> Optional[str]:

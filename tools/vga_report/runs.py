@@ -236,11 +236,12 @@ class _Shower:
         if words.html:
             self._page.add_row(row)
         elif self._is_listed:
-            self._progress.clear()
+            if self._progress.is_wanted:
+                self._progress.clear()
             why = row.why
-            if why in self._whys:
+            if why and why in self._whys:
                 why = ""
-            elif len(self._whys) < MOST_WHYS:
+            elif why and len(self._whys) < MOST_WHYS:
                 self._whys.add(why)
             write(listed(row, is_wrong, self._width, path and f"  {path}", why))
             if words.show and isinstance(picture, Picture):

@@ -25,15 +25,15 @@ class Tally:
 
     def count(self, row: Row) -> bool:
         """Counts a step, and tells whether another answer was expected."""
-        step = row.step
+        step, expected = row.step, row.expected
         self.steps += 1
-        if step.answer == OK and row.expected is None:
+        if expected is None and step.answer == OK:
             # Of most steps there is nothing more to count.
             return False
         self.pictures += step.picture is not None
         self.refused += step.is_refused
         is_wrong = row.is_wrong
-        if row.expected is not None:
+        if expected is not None:
             self.expected += 1
             self.met += not is_wrong
         if is_wrong:

@@ -19,7 +19,7 @@ docs/SCRIPT.md and docs/REPORT.md tell the formats. This package needs Python 3.
 
 from .answers import is_answer_to
 from .binary import decode, encode, encoded, is_bytes, read
-from .lines import Line, count_in, lines_in, placed_lines, printed_lines, steps_in
+from .lines import Line, count_in, lines_in, places_in, steps_in, words_in
 from .picture import Digest, Picture
 from .report import Answer, Report, ReportError
 from .script import Block, Script, Step
@@ -35,6 +35,6 @@ __all__ = [
     "MOST_ADVANCE", "MOST_BLOCK", "MOST_BYTES", "MOST_COUNT", "MOST_STEPS", "OPCODES", "PLANE_BYTES", "READING",
     "REFUSALS", "REGISTERS", "REPEAT", "SHOWN", "STATE", "Answer", "Block", "Digest", "Fault", "Field", "Form", "Line",
     "Picture", "Report", "ReportError", "Script", "ScriptFault", "Step", "count_in", "decode", "encode", "encoded",
-    "is_answer_to", "is_bytes", "lines_in", "parse_line", "parse_text", "placed_lines", "print_text", "printed",
-    "printed_lines", "read", "refusal_of", "steps_in",
+    "is_answer_to", "is_bytes", "lines_in", "parse_line", "parse_text", "places_in", "print_text", "printed", "read",
+    "refusal_of", "steps_in", "words_in",
 ]

@@ -5,10 +5,9 @@ from __future__ import annotations
 import re
 from collections import Counter
 from functools import partial
-from io import BytesIO
 from itertools import islice
 from operator import itemgetter
-from typing import BinaryIO, Callable, Iterator, NamedTuple
+from typing import BinaryIO, Iterator, NamedTuple
 
 from .table import END, FIRST_LINE, MOST_STEPS, REPEAT
 
@@ -17,8 +16,6 @@ _WORDS = re.compile(rb"[^ \t\r\n]+")
 _COMMENT, _VERTICAL_TAB, _FORM_FEED = b";\v\f"
 # What the lines of blocks begin with; hardly another line does.
 _BLOCK_LETTERS, _BLOCK_BYTES = "rReE", b"rReE"
-# A line's first letter by its byte; nothing where the line may be of a block, or the first of a text that has blocks.
-_LETTERS = ["" if byte in b"rReEvV" else chr(byte) for byte in range(256)]
 _BLANKS = b" \t\r\n"
 # Of a longer block the lines are read again in each of its rounds.
 _MOST_KEPT = 4096
@@ -58,42 +55,47 @@ def lines_in(stream: BinaryIO, before: int = 0) -> Iterator[Line]:
             yield _made_line((number, b" ".join(words).decode("utf-8", "surrogateescape"), comment))
 
 
-def printed_lines(stream: BinaryIO, before: int = 0) -> Iterator[Line]:
-    """The same of a stream that `vga dis` has printed: each line is words with one blank between them, and no more."""
-    for number, line in enumerate(stream, before + 1):
-        yield _made_line((number, line[:-1].decode("ascii"), b""))
-
-
-def placed_lines(stream: BinaryIO, before: int = 0) -> Iterator[Line]:
-    """The same as `lines_in` for whoever wants numbers and comments: the words of a step are its first letter alone."""
-    for number, line in enumerate(stream, before + 1):
-        comment = b""
-        if _COMMENT in line:
-            line, _, comment = line.partition(b";")
-        line = line.lstrip(_BLANKS)
-        if line:
-            words = _LETTERS[line[0]] or next(lines_in(BytesIO(line))).words
-            yield _made_line((number, words, comment))
-
-
-def steps_in(stream: BinaryIO, read: Callable[[BinaryIO, int], Iterator[Line]] = lines_in) -> Iterator[Line]:
+def steps_in(stream: BinaryIO) -> Iterator[Line]:
     """The steps that a text means, in their order: those of a block in each of its rounds.
 
-    The stream is read from its beginning, and again from any place, by `lines_in`, `printed_lines` or `placed_lines`.
+    The stream is read from its beginning, and again from any place.
     """
     stream.seek(0)
-    lines = read(stream, 0)
+    lines = lines_in(stream)
     first = next(lines, None)
     if first is not None and first.has_blocks:
-        yield from _unrolled(stream, lines, read)
+        yield from _unrolled(stream, lines)
     elif first is not None:
         yield first
         yield from lines
 
 
-def _unrolled(
-    stream: BinaryIO, lines: Iterator[Line], read: Callable[[BinaryIO, int], Iterator[Line]]
-) -> Iterator[Line]:
+def words_in(stream: BinaryIO) -> Iterator[str]:
+    """The words of the same steps, of a stream that `vga dis` has printed: a line of it is a step's words and no more."""
+    stream.seek(0)
+    if stream.readline().split() == FIRST_LINE.encode().split():
+        return (line.words for line in steps_in(stream))
+    stream.seek(0)
+    return (line[:-1].decode("ascii") for line in stream)
+
+
+def places_in(stream: BinaryIO) -> Iterator[tuple[int, bytes]]:
+    """Where the same steps stand in a text: the number of each one's line, and the bytes of its comment."""
+    stream.seek(0)
+    first = next(lines_in(stream), None)
+    if first is not None and first.has_blocks:
+        yield from ((line.number, line.comment) for line in steps_in(stream))
+        return
+    stream.seek(0)
+    for number, line in enumerate(stream, 1):
+        comment = b""
+        if _COMMENT in line:
+            line, _, comment = line.partition(b";")
+        if line.strip(_BLANKS):
+            yield number, comment
+
+
+def _unrolled(stream: BinaryIO, lines: Iterator[Line]) -> Iterator[Line]:
     """The steps that lines of version 2 mean, as far as they are good ones."""
     left, count, place, number = MOST_STEPS, 0, 0, 0
     block: list[Line] = []
@@ -111,7 +113,7 @@ def _unrolled(
             for _ in range(rounds if length else 0):
                 if length > _MOST_KEPT:
                     stream.seek(place)
-                yield from block if length <= _MOST_KEPT else islice(read(stream, number), length)
+                yield from block if length <= _MOST_KEPT else islice(lines_in(stream, number), length)
             stream.seek(behind)
             count = 0
         else:

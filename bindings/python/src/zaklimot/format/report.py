@@ -5,6 +5,7 @@ from __future__ import annotations
 import io
 import re
 from functools import partial
+from itertools import count
 from typing import Callable, Iterator, NamedTuple, Optional, Union
 
 from .picture import Digest, Picture
@@ -103,7 +104,6 @@ class Report:
         self, stream: io.BufferedReader, heard: Optional[Callable[[int], None]] = None, first: int = 1
     ) -> None:
         self._stream = stream
-        self._read_line = stream.readline
         self._heard = heard
         self._first = first
         # The answers of steps that a look finds, with the refusals that came.
@@ -114,16 +114,22 @@ class Report:
 
     def answers(self) -> Iterator[Answer]:
         """The answers in their order; a ReportError where the report is damaged, behind those before that place."""
-        number, plain_of = self._first, self._plain.get
-        while line := self._next_line():
+        read_line, plain_of = self._stream.readline, self._plain.get
+        for number in count(self._first):
+            # As `_next_line` reads it, without a call of its own.
+            self.line = place = self.line + 1
+            if place % _LINES_BETWEEN == 0 and self._heard is not None:
+                self._heard(place)
+            line = read_line(MOST_LINE)
             front, _, answer = line.partition(b" ")
             plain = plain_of(answer)
+            if not line:
+                return
             self.count += 1
             if plain is not None and front == b"%d" % number:
-                yield _made_answer((number, self.line, plain, (), None))
+                yield _made_answer((number, place, plain, (), None))
             else:
                 yield self._answer(number, line)
-            number += 1
 
     def _answer(self, number: int, line: bytes) -> Answer:
         """The answer that begins with a line, and has this number if it is one."""
@@ -164,7 +170,7 @@ class Report:
         self.line = line = self.line + 1
         if line % _LINES_BETWEEN == 0 and self._heard is not None:
             self._heard(line)
-        return self._read_line(MOST_LINE)
+        return self._stream.readline(MOST_LINE)
 
     def _text_of(self, line: bytes) -> str:
         """A line's text, without its newline."""
