@@ -122,7 +122,8 @@ class Gated(unittest.TestCase):
             self.assertLessEqual(set(crates.below(name)), set(below[:place]), name)
 
     def test_what_the_gate_has_not_left(self) -> None:
-        with mock.patch.object(toolchain, "TOP", Path("nowhere")), self.assertRaises(Trouble):
+        told = r"^nowhere/crates/vga_bits/out/rlib/vga_bits\.rlib: it is not there: run rt ci first.* crates/\*/out"
+        with mock.patch.object(toolchain, "TOP", Path("nowhere")), self.assertRaisesRegex(Trouble, told):
             toolchain.rlib("vga_bits")
 
 

@@ -22,6 +22,8 @@ from .targets import BACKENDS, X86_64, Target
 
 CRATE = TOP / "crates" / "vga_c"
 ARCHIVE = CRATE / "out" / "libvga_c.a"
+# A build that was stopped takes a library away, and what `rt ci` has kept hides that it is lacking.
+AGAIN = ". If rt ci has passed, a build was stopped since: remove the folders crates/*/out, and run it again"
 # What every crate stands on, unnamed.
 ALWAYS = "std"
 
@@ -47,7 +49,7 @@ def rlib(name: str) -> Path:
     """The library that `rt ci` built of a crate."""
     path = TOP / "crates" / name / "out" / "rlib" / f"{name}.rlib"
     if not path.exists():
-        raise Trouble("it is not there: run rt ci first", str(path))
+        raise Trouble(f"it is not there: run rt ci first{AGAIN}", str(path))
     return path
 
 
