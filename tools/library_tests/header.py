@@ -67,7 +67,7 @@ def names_in(table: str) -> tuple[set[str], set[str]]:
     return defined, wanted
 
 
-def check_names(built: Built) -> str:
+def check_names(built: Built, _: Path) -> str:
     """The names that are seen of both libraries are the header's calls, and they want few of the C library."""
     calls = set(calls_of(HEADER.read_text("ascii")))
     for path, word in ((built.static, "-g"), (built.shared, "-D")):

@@ -163,7 +163,7 @@ class Testing(Folder):
             mock.patch.multiple(processes, captured=noting, check_program=lambda _: None),
             mock.patch.object(suite, "captured", noting),
         )
-        self.assertEqual(suite.check_suite(built, Path("made")), "1 cases agree")
+        self.assertEqual(suite.check_cases("suite", built, Path("made")), "1 cases agree")
         self.assertEqual(called[0][0], "aarch64-linux-gnu-gcc")
         front = "env ASAN_OPTIONS=detect_leaks=0 qemu-aarch64 -L /usr/aarch64-linux-gnu made/harness-given "
         texts, scripts = (word for word in called[1] if "harness" in word)
