@@ -8,9 +8,9 @@ import tempfile
 from pathlib import Path, PurePosixPath
 from typing import Iterable, Mapping, Match
 
-from vga_library.building import memory_part
 from vga_library.making import MOVING, Place, make_library
 from vga_library.targets import X86_64, Target
+from vga_library.toolchain import memory_part
 from vga_manual.command import manual_files
 from vga_report import TOP
 from vga_report.processes import run

@@ -4,31 +4,27 @@ import gzip
 import io
 import tarfile
 from pathlib import PurePosixPath
-from typing import BinaryIO, Mapping, Union
+from typing import BinaryIO, Mapping, Optional, Union
 
 from .commit import File
 
-PLAIN, RUN, FOLDER = 0o644, 0o755, 0o755
+PLAIN, RUN = 0o644, 0o755
 LEVEL = 9
 # A file, or where a link leads.
 Entry = Union[File, str]
 
 
-def _member(name: str, time: int) -> tarfile.TarInfo:
-    """What an archive tells of a member, but for its kind: no owner, and the time of the commit."""
+def _member(name: str, entry: Optional[Entry], time: int) -> tarfile.TarInfo:
+    """What an archive tells of a file, a link, or a folder, which has no entry: no owner, and the time of the commit."""
     made = tarfile.TarInfo(name)
-    made.mtime, made.uid, made.gid, made.uname, made.gname = time, 0, 0, "", ""
-    return made
-
-
-def _add(archive: tarfile.TarFile, name: str, entry: Entry, time: int) -> None:
-    member = _member(name, time)
-    if isinstance(entry, str):
-        member.type, member.linkname, member.mode = tarfile.SYMTYPE, entry, RUN
-        archive.addfile(member)
+    made.mtime, made.mode = time, RUN
+    if isinstance(entry, File):
+        made.size, made.mode = len(entry.content), RUN if entry.is_executable else PLAIN
+    elif entry is None:
+        made.type = tarfile.DIRTYPE
     else:
-        member.size, member.mode = len(entry.content), RUN if entry.is_executable else PLAIN
-        archive.addfile(member, io.BytesIO(entry.content))
+        made.type, made.linkname = tarfile.SYMTYPE, entry
+    return made
 
 
 def pack(stream: BinaryIO, entries: Mapping[str, Entry], time: int) -> None:
@@ -37,9 +33,6 @@ def pack(stream: BinaryIO, entries: Mapping[str, Entry], time: int) -> None:
     with gzip.GzipFile(filename="", mode="wb", compresslevel=LEVEL, fileobj=stream, mtime=time) as packed:
         with tarfile.open(fileobj=packed, mode="w", format=tarfile.PAX_FORMAT) as archive:
             for name in sorted({*entries, *folders}):
-                if name in entries:
-                    _add(archive, name, entries[name], time)
-                else:
-                    member = _member(name, time)
-                    member.type, member.mode = tarfile.DIRTYPE, FOLDER
-                    archive.addfile(member)
+                entry = entries.get(name)
+                content = io.BytesIO(entry.content) if isinstance(entry, File) else None
+                archive.addfile(_member(name, entry, time), content)
