@@ -109,7 +109,7 @@ def _script(words: argparse.Namespace, progress: Progress) -> int:
         figures = write_script(stream, drawn.parts, drawn.answer, not words.bytes)
         if words.picture is not None:
             save_png(words.picture, drawn.picture)
-    line = f"mode {words.mode}: {told}{drawn.told}; {figures.line()}"
+    line = f"mode {words.mode}: {told}{drawn.told}; {figures}"
     print(line, file=sys.stderr if STANDARD in (words.script, words.picture) else sys.stdout)
     return AGREED
 

@@ -8,13 +8,12 @@ from typing import Callable, Iterator, Sequence
 from vga_trace.step import FRAME, Step
 from zaklimot.format import Picture
 
-from .areas import Areas
 from .cells import cells_of, put_cells, rows_of, typed_cells
 from .colours import Indexed
 from .glyphs import loading, own_glyphs, with_glyphs
 from .mode import Kind, Mode
 from .nearest import Colour
-from .screen import screen_of
+from .screen import Areas, screen_of
 from .steps import Part, Service
 
 # Cycles of a mode set: of registers and palette, of the glyphs of text, of memory that is cleared.

@@ -1,18 +1,26 @@
-"""Screens of pixels: what their memory is to hold, and the steps that write it."""
+"""Screens of pixels: what their memory is to hold, and the steps that write it.
+
+A shorter script takes more cycles: the video BIOS draws areas of one colour, and rows of cells that are alike. The pixels
+are looked at in cells then, as the BIOS has them: eight columns for a character, and so many lines as it is high.
+"""
 
 from __future__ import annotations
 
-from typing import Sequence
+from typing import Iterator, Sequence
 
 from vga_trace.step import Step
 
 from .colours import Indexed
 from .mode import Kind, Mode
 from .planes import ALL_PLANES, WINDOW, best_numbers, drawing, is_all_planes, map_mask, planes_of, put_steps
-from .steps import Item, Service
+from .steps import Item, Part, Repeat, Service
 
 # Pixels of a row, each the number of a colour.
 Rows = Sequence[bytes]
+Cell = tuple[bytes, ...]
+CELL_WIDTH = 8
+# Bytes that a block must save: what its words would have saved in common with those beside it.
+LEAST_SAVED = 32
 
 
 class Screen:
@@ -71,3 +79,113 @@ def scroll(screen: Screen, window: tuple[int, int, int, int], lines: int, colour
     cycles = screen.window_cycles(columns, rows, lines or rows)
     function = 0x0600 if lines == 0 else 0x0700 | lines
     return Service(cycles, function, colour << 8, row << 8 | column, row + rows - 1 << 8 | column + columns - 1)
+
+
+class Areas:
+    """The memory of a screen while areas of it are drawn: what it holds, and what it is to hold."""
+
+    def __init__(self, screen: Screen, want: Rows) -> None:
+        mode = screen.mode
+        self._screen = screen
+        self._height = mode.cell_height
+        self._columns, self._rows = mode.columns, mode.rows
+        self._want = want
+        self.have = [bytearray(mode.width) for _ in want]
+        self._cells = [[self._cell(column, row) for column in range(self._columns)] for row in range(self._rows)]
+        # Cells that are as they are to be: those of colour 0 are from the first.
+        self._blank = tuple([bytes(CELL_WIDTH)] * self._height)
+        self._is_done = [[cell == self._blank for cell in row] for row in self._cells]
+
+    def parts(self) -> Iterator[Part]:
+        """Steps for the areas, which are drawn then."""
+        rectangles = list(self._rectangles())
+        if rectangles:
+            yield Part(f"{len(rectangles)} areas of one colour", rectangles)
+        bands = list(self._bands())
+        if bands:
+            yield Part(f"{len(bands)} times rows of cells that are alike: go down by a row, draw the first", bands)
+
+    def _cell(self, column: int, row: int) -> Cell:
+        left = CELL_WIDTH * column
+        return tuple(line[left:left + CELL_WIDTH] for line in self._want[self._height * row:self._height * (row + 1)])
+
+    def _finish(self, window: tuple[int, int, int, int]) -> None:
+        """Takes a window of cells as drawn."""
+        column, row, columns, rows = window
+        left, right = CELL_WIDTH * column, CELL_WIDTH * (column + columns)
+        for y in range(self._height * row, self._height * (row + rows)):
+            self.have[y][left:right] = self._want[y][left:right]
+        for at in range(row, row + rows):
+            self._is_done[at][column:column + columns] = [True] * columns
+
+    def _places(self) -> Iterator[tuple[int, int]]:
+        """Columns and rows of the cells that are still to be drawn when it is their turn."""
+        for row in range(self._rows):
+            for column in range(self._columns):
+                if not self._is_done[row][column]:
+                    yield column, row
+
+    def _is_open(self, row: int, column: int, columns: int, cells: Sequence[Cell]) -> bool:
+        """Whether a row has these cells from a column on, none of them drawn."""
+        return (
+            row < self._rows and self._cells[row][column:column + columns] == cells
+            and not any(self._is_done[row][column:column + columns])
+        )
+
+    def _rows_alike(self, column: int, row: int, columns: int) -> int:
+        """How many rows from this one on have the same cells, none of them drawn."""
+        cells, rows = self._cells[row][column:column + columns], 1
+        while self._is_open(row + rows, column, columns, cells):
+            rows += 1
+        return rows
+
+    def _rectangles(self) -> Iterator[Item]:
+        """Areas of whole cells of one colour: as wide as can be, and then as high."""
+        for column, row in self._places():
+            cell = self._cells[row][column]
+            colour = cell[0][0]
+            if cell != tuple([bytes([colour]) * CELL_WIDTH] * self._height):
+                continue
+            columns = 1
+            while column + columns < self._columns and self._is_open(row, column + columns, 1, [cell]):
+                columns += 1
+            window = (column, row, columns, self._rows_alike(column, row, columns))
+            yield scroll(self._screen, window, 0, colour)
+            self._finish(window)
+
+    def _bands(self) -> Iterator[Repeat]:
+        """Rows of cells that are alike, as wide as the first cell's go down, where a block of them is shorter."""
+        for column, row in self._places():
+            rows = self._rows_alike(column, row, 1)
+            if rows < 2:
+                continue
+            window = (column, row, self._columns_alike(column, row, rows), rows)
+            block, saved = self._band(window)
+            if saved >= LEAST_SAVED:
+                yield block
+                self._finish(window)
+
+    def _columns_alike(self, column: int, row: int, rows: int) -> int:
+        """How many columns from one on have the same cell in so many rows. Blank columns between them count too."""
+        columns = 1
+        for at in range(column + 1, self._columns):
+            cells = [self._cells[row + down][at] for down in range(rows)]
+            if cells != [cells[0]] * rows:
+                break
+            if cells[0] != self._blank:
+                if any(self._is_done[row + down][at] for down in range(rows)):
+                    break
+                columns = at + 1 - column
+        return columns
+
+    def _band(self, window: tuple[int, int, int, int]) -> tuple[Repeat, int]:
+        """A block that draws a window, and how many bytes it is shorter than its rows one by one."""
+        column, row, columns, rows = window
+        left, right = CELL_WIDTH * column, CELL_WIDTH * (column + columns)
+        have = [bytes(len(line)) for line in self._want]
+        want = list(have)
+        for y in range(self._height * row, self._height * (row + 1)):
+            want[y] = have[y][:left] + self._want[y][left:right] + have[y][right:]
+        steps = self._screen.drawn(have, want)
+        block = Repeat(rows, (scroll(self._screen, window, 1), *self._screen.restored(steps)))  # type: ignore[arg-type]
+        return block, rows * sum(step.step.size for step in steps) - block.step.size
