@@ -15,8 +15,7 @@ from .passing import Clocked, Pauses, with_flips, with_frames_every
 from .rebuilding import rebuilt
 from .state import State
 from .step import FRAME, NAMES, Step, steps_of, without_polls
-from .trace import Trace
-from .watch import Watch
+from .trace import Trace, Watch
 
 # When a script has a frame: at its end alone, before each page flip, where a screen was taken, once in each frame of the dot
 # clock in which something was written, or every so many seconds.
@@ -54,7 +53,7 @@ class Listing:
     """The steps of a trace, in the order of the script; `watch` has the cycles, as many as are wanted."""
 
     def __init__(self, trace: Trace, wanted: Wanted) -> None:
-        self._trace = trace
+        self.trace = trace
         self._wanted = wanted
         self.watch = Watch(trace, wanted.most)
         self._pauses = Pauses()
@@ -64,7 +63,7 @@ class Listing:
     def steps(self) -> Iterator[Step]:
         """The steps, and the frame at the end. Where time passes there are two: the first began amid the cycles."""
         wanted = self._wanted
-        steps = steps_of(self.watch.cycles(), self._trace.screens)
+        steps = steps_of(self.watch.cycles(), self.trace.screens)
         if not wanted.keeps_polls:
             steps = without_polls(steps)
         if wanted.frames == FLIP:
@@ -101,7 +100,7 @@ class Listing:
                 break
             state.take(step)
         else:
-            raise Trouble(f"it has {self.watch.count:,} cycles, and none from {self._wanted.first:,} on becomes a step", self._trace.name)
+            raise Trouble(f"it has {self.watch.count:,} cycles, and none from {self._wanted.first:,} on becomes a step", self.trace.name)
         for rebuilding in rebuilt(state):
             self.rebuilding += 1
             yield rebuilding
@@ -110,7 +109,7 @@ class Listing:
 
     def _with_screens(self, steps: Iterator[Step]) -> Iterator[Step]:
         """The steps, with a frame at each place where a screen was taken."""
-        screens, taken = self._trace.screens, 0
+        screens, taken = self.trace.screens, 0
         for step in steps:
             while taken < len(screens) and screens[taken] < step.cycle:
                 yield Step(FRAME, time=step.time)
@@ -122,7 +121,7 @@ class Listing:
         """The steps, of which the first must have a time."""
         for number, step in enumerate(steps):
             if number == 0 and step.time is None:
-                raise self._trace.trouble("the first cycle has no time, and time is asked for")
+                raise self.trace.trouble("the first cycle has no time, and time is asked for")
             yield step
 
 
@@ -172,23 +171,17 @@ class Written:
         return f"{', '.join(parts)}: {kinds}"
 
 
-def convert(listing: Listing, trace: Trace, stream: BinaryIO, form: Form) -> Written:
+def convert(listing: Listing, stream: BinaryIO, form: Form) -> Written:
     """Writes a script; a Trouble where it has more bytes, or means more steps, than a script may."""
     written = Written(form)
     body = bytearray()
     coded = written.coded(listing.steps())
     for row in folded(coded) if form.has_blocks else alone(coded):
         if not written.takes(row):
-            raise Trouble(_too_long(written.last_cycle), trace.name)
+            last, most = written.last_cycle, f"more than {MOST_BYTES:,} bytes, or means more than {MOST_STEPS:,} steps"
+            part = f"; `--to {last}` ends before that, and `--from {last + 1}` goes on after it"
+            raise Trouble(f"the script has {most}{part if last else ', and no cycle fits'}", listing.trace.name)
         body += row.text if form.is_text else row.data
     stream.write(written.header())
     stream.write(body)
     return written
-
-
-def _too_long(last: int) -> str:
-    """What is said of a script that is too long behind a cycle."""
-    most = f"more than {MOST_BYTES:,} bytes, or means more than {MOST_STEPS:,} steps"
-    if last == 0:
-        return f"the script has {most}, and no cycle fits"
-    return f"the script has {most}; `--to {last}` ends before that, and `--from {last + 1}` goes on after it"
