@@ -101,10 +101,6 @@ def replay(base: Path) -> Replayed:
     return Replayed(cycles, steps, length, plain, reads, differing, refused, _differing_dots(report, steps, screens))
 
 
-def _say(text: str) -> None:
-    print(text, file=sys.stderr, flush=True)
-
-
 def _parser() -> argparse.ArgumentParser:
     parser = cli.tool_parser(
         "traces.py", "Records software on qemu, and replays it: " + ", ".join(SOFTWARE),
@@ -128,11 +124,12 @@ def _replay_all(words: argparse.Namespace, progress: Progress) -> int:
     for name in words.names or SOFTWARE:
         software, base = SOFTWARE[name], words.folder / name
         if software.is_unpacked and words.unpacked is None:
-            _say(f"{name}: left out, since --unpacked names no folder")
+            print(f"{name}: left out, since --unpacked names no folder", file=sys.stderr, flush=True)
             continue
         trace = base.with_name(name + ".trace.gz")
         if not trace.exists():
-            record(software.make(words.folder, words.unpacked), trace, base, lambda text: _say(f"{name}: {text}"), progress)
+            machine = software.make(words.folder, words.unpacked)
+            record(machine, trace, base, lambda text: print(f"{name}: {text}", file=sys.stderr, flush=True), progress)
         replayed = replay(base)
         status |= not replayed.is_as_known(software)
         print(replayed.row(name), flush=True)

@@ -91,22 +91,14 @@ def is_for_machine(step: Step) -> bool:
     return place in decoded and last in decoded
 
 
-def steps_for(script: format.Script) -> bytes:
-    """A script's steps and blocks as the interpreter's."""
-    def packed(item: Item) -> bytes:
-        if isinstance(item, Block):
-            return _packed(REPEAT, item.count) + b"".join(map(_step_for, item.steps)) + _packed(END)
-        return _step_for(item)
-
-    return b"".join(map(packed, script.items))
-
-
 def _packed(opcode: int, *fields: int) -> bytes:
     return bytes([opcode]) + FORMS[opcode].pack(*fields)
 
 
-def _step_for(step: Step) -> bytes:
-    """A step as the interpreter's: one of a machine, or one that it passes over."""
+def _packed_item(step: Item) -> bytes:
+    """A block as the interpreter's, or a step: one of a machine, or one that it passes over."""
+    if isinstance(step, Block):
+        return _packed(REPEAT, step.count) + b"".join(map(_packed_item, step.steps)) + _packed(END)
     if not is_for_machine(step):
         return _packed(PASS_OVER, 1)
     if step.name == "int":
@@ -173,7 +165,8 @@ def table_for(scripts: Mapping[str, format.Script]) -> bytes:
         named = name.encode("utf-8", "surrogateescape")
         if len(named) > MOST_NAME:
             raise Trouble(f"the name of a script has at most {MOST_NAME} bytes", name)
-        parts += [_packed(SCRIPT, 3 if any(map(_has_call, script.items)) else 0, len(named)), named, steps_for(script)]
+        parts += [_packed(SCRIPT, 3 if any(map(_has_call, script.items)) else 0, len(named)), named]
+        parts += map(_packed_item, script.items)
     steps = b"".join(parts) + _packed(FINISH)
     return HEADER.pack(NAME, VERSION, len(parts[0]), len(steps), zlib.crc32(steps)) + steps
 

@@ -71,19 +71,11 @@ def write_tables(page: str, paths: Sequence[str]) -> None:
     _, last, after = rest.partition(LAST_MARK)
     if not first or not last:
         raise Trouble(f"it lacks the marks: {FIRST_MARK} and {LAST_MARK}", page)
-    made = "\n".join(_lines([_read(path) for path in paths]))
+    results = [_read(path) for path in paths]
+    compared = "Compared were " + ", ".join(result.version for result in results) + "."
+    tables = ("\n".join(lines) for lines in (_counts(results), _folders(results), _rules(results)))
+    made = "\n\n".join([compared, *tables])
     write_over(page, f"{before}{first}\n\n{made}\n\n{last}{after}".encode("utf-8", "surrogateescape"))
-
-
-def _lines(results: Sequence[Results]) -> Iterator[str]:
-    """The tables, as lines of Markdown."""
-    yield "Compared were " + ", ".join(result.version for result in results) + "."
-    yield ""
-    yield from _counts(results)
-    yield ""
-    yield from _folders(results)
-    yield ""
-    yield from _rules(results)
 
 
 def _row(*cells: str) -> str:

@@ -19,8 +19,7 @@ from vga_report.trouble import Trouble
 from vga_report.words import number_to, seconds
 from zaklimot.format import HEADERS
 
-from .feeding import Fed, Program, Wrong
-from .judging import Limits
+from .feeding import Fed, Limits, Program, Wrong
 from .making import Input, make
 
 # Where the texts are that are changed.
