@@ -6,7 +6,8 @@ are looked at in cells then, as the BIOS has them: eight columns for a character
 
 from __future__ import annotations
 
-from typing import Iterator, Sequence
+from itertools import takewhile
+from typing import Iterator, Optional, Sequence
 
 from vga_trace.step import Step
 
@@ -88,13 +89,14 @@ class Areas:
         mode = screen.mode
         self._screen = screen
         self._height = mode.cell_height
-        self._columns, self._rows = mode.columns, mode.rows
         self._want = want
         self.have = [bytearray(mode.width) for _ in want]
-        self._cells = [[self._cell(column, row) for column in range(self._columns)] for row in range(self._rows)]
-        # Cells that are as they are to be: those of colour 0 are from the first.
+        # The cells row by row, each None once it is drawn. Those of colour 0 are as they are to be from the first.
+        self._cells: list[list[Optional[Cell]]] = [
+            [tuple(line[x:x + CELL_WIDTH] for line in want[y:y + self._height]) for x in range(0, mode.width, CELL_WIDTH)]
+            for y in range(0, mode.height, self._height)
+        ]
         self._blank = tuple([bytes(CELL_WIDTH)] * self._height)
-        self._is_done = [[cell == self._blank for cell in row] for row in self._cells]
 
     def parts(self) -> Iterator[Part]:
         """Steps for the areas, which are drawn then."""
@@ -105,57 +107,42 @@ class Areas:
         if bands:
             yield Part(f"{len(bands)} times rows of cells that are alike: go down by a row, draw the first", bands)
 
-    def _cell(self, column: int, row: int) -> Cell:
-        left = CELL_WIDTH * column
-        return tuple(line[left:left + CELL_WIDTH] for line in self._want[self._height * row:self._height * (row + 1)])
-
     def _finish(self, window: tuple[int, int, int, int]) -> None:
         """Takes a window of cells as drawn."""
         column, row, columns, rows = window
         left, right = CELL_WIDTH * column, CELL_WIDTH * (column + columns)
         for y in range(self._height * row, self._height * (row + rows)):
             self.have[y][left:right] = self._want[y][left:right]
-        for at in range(row, row + rows):
-            self._is_done[at][column:column + columns] = [True] * columns
+        for cells in self._cells[row:row + rows]:
+            for at in range(column, column + columns):
+                cells[at] = self._blank if cells[at] == self._blank else None
 
-    def _places(self) -> Iterator[tuple[int, int]]:
-        """Columns and rows of the cells that are still to be drawn when it is their turn."""
-        for row in range(self._rows):
-            for column in range(self._columns):
-                if not self._is_done[row][column]:
-                    yield column, row
-
-    def _is_open(self, row: int, column: int, columns: int, cells: Sequence[Cell]) -> bool:
-        """Whether a row has these cells from a column on, none of them drawn."""
-        return (
-            row < self._rows and self._cells[row][column:column + columns] == cells
-            and not any(self._is_done[row][column:column + columns])
-        )
+    def _places(self) -> Iterator[tuple[int, int, Cell]]:
+        """Columns and rows of the cells that are still to be drawn when it is their turn, and these."""
+        for row, cells in enumerate(self._cells):
+            for column, cell in enumerate(cells):
+                if cell is not None and cell != self._blank:
+                    yield column, row, cell
 
     def _rows_alike(self, column: int, row: int, columns: int) -> int:
-        """How many rows from this one on have the same cells, none of them drawn."""
-        cells, rows = self._cells[row][column:column + columns], 1
-        while self._is_open(row + rows, column, columns, cells):
-            rows += 1
-        return rows
+        """How many rows from this one on have the same cells as it, none of which is drawn."""
+        wanted = self._cells[row][column:column + columns]
+        return sum(1 for _ in takewhile(lambda cells: cells[column:column + columns] == wanted, self._cells[row:]))
 
     def _rectangles(self) -> Iterator[Item]:
         """Areas of whole cells of one colour: as wide as can be, and then as high."""
-        for column, row in self._places():
-            cell = self._cells[row][column]
+        for column, row, cell in self._places():
             colour = cell[0][0]
             if cell != tuple([bytes([colour]) * CELL_WIDTH] * self._height):
                 continue
-            columns = 1
-            while column + columns < self._columns and self._is_open(row, column + columns, 1, [cell]):
-                columns += 1
+            columns = sum(1 for _ in takewhile(lambda other: other == cell, self._cells[row][column:]))
             window = (column, row, columns, self._rows_alike(column, row, columns))
             yield scroll(self._screen, window, 0, colour)
             self._finish(window)
 
     def _bands(self) -> Iterator[Repeat]:
         """Rows of cells that are alike, as wide as the first cell's go down, where a block of them is shorter."""
-        for column, row in self._places():
+        for column, row, _ in self._places():
             rows = self._rows_alike(column, row, 1)
             if rows < 2:
                 continue
@@ -168,14 +155,10 @@ class Areas:
     def _columns_alike(self, column: int, row: int, rows: int) -> int:
         """How many columns from one on have the same cell in so many rows. Blank columns between them count too."""
         columns = 1
-        for at in range(column + 1, self._columns):
-            cells = [self._cells[row + down][at] for down in range(rows)]
-            if cells != [cells[0]] * rows:
+        for count, cells in enumerate(zip(*(cells[column:] for cells in self._cells[row:row + rows])), 1):
+            if cells[0] is None or len(set(cells)) > 1:
                 break
-            if cells[0] != self._blank:
-                if any(self._is_done[row + down][at] for down in range(rows)):
-                    break
-                columns = at + 1 - column
+            columns = columns if cells[0] == self._blank else count
         return columns
 
     def _band(self, window: tuple[int, int, int, int]) -> tuple[Repeat, int]:

@@ -388,11 +388,16 @@ class Beam:
         return line * shape.line + character * shape.dots + min(self.dot, shape.dots - 1)
 
     def advance(self, dots: int, shape: Shape, crtc: Sequence[int]) -> None:
-        """Goes on by so many dots."""
-        frame, was_at_begin = self.frame, self.is_at_begin
-        left = self._end_line(self._end_character(dots, shape), shape)
-        if left:
-            frames, rest = divmod(self.line * shape.line + left, shape.frame)
+        """Goes on by so many dots. The line and the character stay as they are, inside or outside, until they end."""
+        frame, was_at_begin, begin = self.frame, self.is_at_begin, self.drawn(shape)
+        end = begin + dots
+        if end // shape.dots == begin // shape.dots:
+            self.dot += dots
+        elif end // shape.line == begin // shape.line:
+            self.character += end // shape.dots - begin // shape.dots
+            self.dot = end % shape.dots
+        else:
+            frames, rest = divmod(end, shape.frame)
             self.frame += frames
             self.line, rest = divmod(rest, shape.line)
             self.character, self.dot = divmod(rest, shape.dots)
@@ -404,39 +409,3 @@ class Beam:
         """Goes on to the end of the frame."""
         self.frame = (self.frame + 1) % FRAMES
         self.line = self.character = self.dot = 0
-
-    def _end_character(self, dots: int, shape: Shape) -> int:
-        """Goes on to the end of the character, or by so many dots; the dots that are left."""
-        to_end = max(shape.dots - self.dot, 1) if self.dot else 0
-        if dots < to_end:
-            self.dot += dots
-            return 0
-        if to_end:
-            self.dot = 0
-            self.character += 1
-            self._wrap(shape)
-        return dots - to_end
-
-    def _end_line(self, dots: int, shape: Shape) -> int:
-        """From a character's first dot, goes on to the end of the line, or by so many dots; the dots that are left."""
-        is_amid = self.character > 0 or self.line >= shape.lines
-        to_end = max(shape.characters - self.character, 1) * shape.dots if is_amid else 0
-        if dots == 0:
-            return 0
-        if dots < to_end:
-            passed, self.dot = divmod(dots, shape.dots)
-            self.character += passed
-            return 0
-        if to_end:
-            self.character = shape.characters
-            self._wrap(shape)
-        return dots - to_end
-
-    def _wrap(self, shape: Shape) -> None:
-        """Ends the line where its last character is behind, and with the last line the frame."""
-        if self.character >= shape.characters:
-            self.character = 0
-            self.line += 1
-            if self.line >= shape.lines:
-                self.line = 0
-                self.frame += 1
