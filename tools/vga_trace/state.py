@@ -5,7 +5,7 @@ from __future__ import annotations
 from operator import and_, or_, xor
 from typing import Callable, Mapping, NamedTuple, Optional, Sequence
 
-from .step import ADVANCE, FRAME, GET, GETW, IN, INW, OUT, OUTW, PUT, PUTW, Step
+from .step import ADVANCE, FRAME, GET, GETW, IN, INW, OUT, OUTW, PUT, PUTW, WORDS, Step
 
 ATTRIBUTE, ATTRIBUTE_READ, MISC, SEQUENCER, MASK = 0x3C0, 0x3C1, 0x3C2, 0x3C4, 0x3C6
 DAC_READ, DAC_WRITE, DAC_DATA, MISC_READ, GRAPHICS = 0x3C7, 0x3C8, 0x3C9, 0x3CC, 0x3CE
@@ -59,9 +59,11 @@ class State:
 
     def take(self, step: Step) -> Optional[int]:
         """Takes a step, and answers what it reads; None of a write and of a refusal. Of input status 1 all bits are 0."""
-        opcode, address, value = step.opcode, step.address, step.value
+        opcode, address, value, count = step.opcode, step.address, step.value, 2 if step.opcode in WORDS else 1
+        seq, gfx = self.seq.registers, self.gfx.registers
         if opcode in (PUT, PUTW):
-            self._put(address, (value,) if opcode == PUT else (value & 0xFF, value >> 8))
+            for place, byte in zip(self._places(address, count), value.to_bytes(2, "little")):
+                self.memory.put(place, byte, seq, gfx)
         elif opcode == OUT:
             if self._takes(address, value):
                 self._write(address, value)
@@ -72,9 +74,10 @@ class State:
         elif opcode == FRAME:
             self.beam.end_frame()
         elif opcode in (GET, GETW):
-            return self._get(address, 1 if opcode == GET else 2)
+            read = bytes(self.memory.get(place, seq, gfx) for place in self._places(address, count))
+            return int.from_bytes(read, "little") if read else None
         elif opcode in (IN, INW):
-            ports = range(address, address + (1 if opcode == IN else 2))
+            ports = range(address, address + count)
             if all(map(self._answers, ports)):
                 return int.from_bytes(bytes(map(self._read, ports)), "little")
         return None
@@ -86,16 +89,6 @@ class State:
         if not (self.misc & ENABLE_MEMORY and 0 <= place <= size - count):
             return ()
         return [place + at & 0xFFFF for at in range(count)]
-
-    def _put(self, address: int, values: Sequence[int]) -> None:
-        seq, gfx = self.seq.registers, self.gfx.registers
-        for place, value in zip(self._places(address, len(values)), values):
-            self.memory.put(place, value, seq, gfx)
-
-    def _get(self, address: int, count: int) -> Optional[int]:
-        seq, gfx = self.seq.registers, self.gfx.registers
-        read = bytes(self.memory.get(place, seq, gfx) for place in self._places(address, count))
-        return int.from_bytes(read, "little") if read else None
 
     def _chosen(self, port: int) -> Optional[Bank]:
         """The bank whose index is written and read at a port."""

@@ -197,9 +197,10 @@ class Watch:
         self._vbe_enabled: Optional[int] = None
         self._index = 0
         self._sequencer = {MAP_MASK: 0, MEMORY_MODE: 0}
-        self._chained: Optional[int] = None
-        self._is_memory_seen = False
-        self._silent: list[int] = []
+        self._is_chained = False
+        # The cycle from which on chain 4 has had no cycle of memory so far, and the first time that it ended so.
+        self._silent: Optional[int] = None
+        self._first_silent: Optional[int] = None
         self.count = 0
         self.untimed = 0
 
@@ -211,21 +212,17 @@ class Watch:
             if cycle.is_write and not self._is_begun:
                 self._begin(cycle)
             if cycle.space == MEMORY:
-                self._is_memory_seen = True
+                self._silent = None
             elif cycle.is_write:
                 self._write(cycle)
             yield cycle
-        # What is lacking stays so for the frames at the end.
-        chained = self._chained
-        self._end_chain()
-        self._chained = chained
 
     @property
     def lacking(self) -> str:
         """Why a picture may be another one here: what the cycles lack so far that a screen shows."""
         if self._vbe_enabled is not None:
             return "VBE is on: what qemu shows is no VGA's"
-        if self._chained is not None and not self._is_memory_seen:
+        if self._silent is not None:
             return "chain 4 is on, and no memory was recorded since: --chain-4 does so"
         return ""
 
@@ -238,8 +235,9 @@ class Watch:
             told.append(f"cycle {self._other_begin:,} writes first, and not port 3C2: the trace doesn't begin at power-on")
         if self._vbe_enabled is not None:
             told.append(f"cycle {self._vbe_enabled:,} turns VBE on: what follows is no VGA's, and its memory isn't traced")
-        if self._silent:
-            told.append(f"chain 4 with map mask 0F has no cycle of memory, first from cycle {self._silent[0]:,} on: "
+        silent = self._first_silent or self._silent
+        if silent is not None:
+            told.append(f"chain 4 with map mask 0F has no cycle of memory, first from cycle {silent:,} on: "
                         "qemu traces none there without the plugin")
         return told
 
@@ -271,16 +269,10 @@ class Watch:
     def _look_at_chain(self) -> None:
         """Sees whether memory is now such that an emulator may serve it without telling."""
         is_open = self._sequencer[MAP_MASK] & ALL_PLANES == ALL_PLANES
-        if not (is_open and self._sequencer[MEMORY_MODE] & CHAIN_4):
-            self._end_chain()
-        elif self._chained is None:
-            self._chained, self._is_memory_seen = self.count, False
-
-    def _end_chain(self) -> None:
-        """Keeps where a time of chain 4 began that had no cycle of memory."""
-        if self._chained is not None and not self._is_memory_seen:
-            self._silent.append(self._chained)
-        self._chained = None
+        was_chained, self._is_chained = self._is_chained, is_open and self._sequencer[MEMORY_MODE] & CHAIN_4 != 0
+        if self._is_chained != was_chained:
+            self._first_silent = self._first_silent or self._silent
+            self._silent = self.count if self._is_chained else None
 
 
 @contextmanager
