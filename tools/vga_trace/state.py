@@ -5,7 +5,7 @@ from __future__ import annotations
 from operator import and_, or_, xor
 from typing import Callable, Mapping, NamedTuple, Optional, Sequence
 
-from .step import ADVANCE, FRAME, GET, GETW, IN, INW, OUT, OUTW, PUT, PUTW, WORDS, Step
+from .step import ADVANCE, FRAME, GET, GETW, IN, INW, OUT, OUTW, PUT, PUTW, Step
 
 ATTRIBUTE, ATTRIBUTE_READ, MISC, SEQUENCER, MASK = 0x3C0, 0x3C1, 0x3C2, 0x3C4, 0x3C6
 DAC_READ, DAC_WRITE, DAC_DATA, MISC_READ, GRAPHICS = 0x3C7, 0x3C8, 0x3C9, 0x3CC, 0x3CE
@@ -44,7 +44,7 @@ class State:
         self.crtc = Controller()
         self.attr = Attributes()
         self.dac = Dac()
-        self.memory = Memory()
+        self.memory = Memory(self.seq.registers, self.gfx.registers)
         self.beam = Beam()
 
     @property
@@ -59,11 +59,10 @@ class State:
 
     def take(self, step: Step) -> Optional[int]:
         """Takes a step, and answers what it reads; None of a write and of a refusal. Of input status 1 all bits are 0."""
-        opcode, address, value, count = step.opcode, step.address, step.value, 2 if step.opcode in WORDS else 1
-        seq, gfx = self.seq.registers, self.gfx.registers
+        opcode, address, value = step.opcode, step.address, step.value
         if opcode in (PUT, PUTW):
-            for place, byte in zip(self._places(address, count), value.to_bytes(2, "little")):
-                self.memory.put(place, byte, seq, gfx)
+            for place, byte in zip(self._places(address, 1 if opcode == PUT else 2), value.to_bytes(2, "little")):
+                self.memory.put(place, byte)
         elif opcode == OUT:
             if self._takes(address, value):
                 self._write(address, value)
@@ -74,10 +73,10 @@ class State:
         elif opcode == FRAME:
             self.beam.end_frame()
         elif opcode in (GET, GETW):
-            read = bytes(self.memory.get(place, seq, gfx) for place in self._places(address, count))
+            read = bytes(map(self.memory.get, self._places(address, 1 if opcode == GET else 2)))
             return int.from_bytes(read, "little") if read else None
         elif opcode in (IN, INW):
-            ports = range(address, address + count)
+            ports = range(address, address + (1 if opcode == IN else 2))
             if all(map(self._answers, ports)):
                 return int.from_bytes(bytes(map(self._read, ports)), "little")
         return None
@@ -170,56 +169,57 @@ class Memory:
     graphics controller, as they can be held.
     """
 
-    def __init__(self) -> None:
+    def __init__(self, seq: Sequence[int], gfx: Sequence[int]) -> None:
+        self._seq, self._gfx = seq, gfx
         self.words = [0] * PLANE_BYTES
         self.latches = 0
 
-    def put(self, place: int, value: int, seq: Sequence[int], gfx: Sequence[int]) -> None:
+    def put(self, place: int, value: int) -> None:
         """Writes a byte. The latches stay."""
-        reached = SPREAD[self._reached(place, seq)]
-        offset = self._offset(place, seq, gfx)
-        stored = self.latches if gfx[5] & 3 == 1 else self._stored(value, gfx)
+        reached = SPREAD[self._reached(place)]
+        offset = self._offset(place)
+        stored = self.latches if self._gfx[5] & 3 == 1 else self._stored(value)
         self.words[offset] = self.words[offset] & ~reached | stored & reached
 
-    def get(self, place: int, seq: Sequence[int], gfx: Sequence[int]) -> int:
+    def get(self, place: int) -> int:
         """Reads a byte, which loads the latches."""
-        self.latches = self.words[self._offset(place, seq, gfx)]
-        if gfx[5] & 8:
-            return self._compared(gfx)
-        plane = place & 3 if seq[4] & 8 else gfx[4] & 2 | place & 1 if gfx[5] & 0x10 else gfx[4]
+        self.latches = self.words[self._offset(place)]
+        if self._gfx[5] & 8:
+            return self._compared()
+        plane = place & 3 if self._seq[4] & 8 else self._gfx[4] & 2 | place & 1 if self._gfx[5] & 0x10 else self._gfx[4]
         return self.latches >> 8 * plane & 0xFF
 
-    def _offset(self, place: int, seq: Sequence[int], gfx: Sequence[int]) -> int:
+    def _offset(self, place: int) -> int:
         """The offset in the planes: by chain 4, by chain odd/even, or the place itself."""
-        if seq[4] & 8:
+        if self._seq[4] & 8:
             return place & 0xFFFC
-        return place & 0xFFFE if gfx[6] & 2 else place
+        return place & 0xFFFE if self._gfx[6] & 2 else place
 
-    def _reached(self, place: int, seq: Sequence[int]) -> int:
+    def _reached(self, place: int) -> int:
         """The planes that a write reaches."""
-        if seq[4] & 8:
-            return seq[2] & 1 << (place & 3)
-        if seq[4] & 4:
-            return seq[2]
-        return seq[2] & (ODD if place & 1 else EVEN)
+        if self._seq[4] & 8:
+            return self._seq[2] & 1 << (place & 3)
+        if self._seq[4] & 4:
+            return self._seq[2]
+        return self._seq[2] & (ODD if place & 1 else EVEN)
 
-    def _stored(self, value: int, gfx: Sequence[int]) -> int:
+    def _stored(self, value: int) -> int:
         """What write modes 0, 2 and 3 store in all planes."""
-        mode, mask, latches = gfx[5] & 3, gfx[8], self.latches
-        rotated = (value << 8 | value) >> (gfx[3] & 7) & 0xFF
+        mode, mask, latches = self._gfx[5] & 3, self._gfx[8], self.latches
+        rotated = (value << 8 | value) >> (self._gfx[3] & 7) & 0xFF
         if mode == 0:
-            set_planes = SPREAD[gfx[1]]
-            data = rotated * EACH & ~set_planes | SPREAD[gfx[0]] & set_planes
+            set_planes = SPREAD[self._gfx[1]]
+            data = rotated * EACH & ~set_planes | SPREAD[self._gfx[0]] & set_planes
         elif mode == 2:
             data = SPREAD[value & 0xF]
         else:
-            data, mask = SPREAD[gfx[0]], mask & rotated
-        data, mask = FUNCTIONS[gfx[3] >> 3](data, latches), mask * EACH
+            data, mask = SPREAD[self._gfx[0]], mask & rotated
+        data, mask = FUNCTIONS[self._gfx[3] >> 3](data, latches), mask * EACH
         return data & mask | latches & ~mask
 
-    def _compared(self, gfx: Sequence[int]) -> int:
+    def _compared(self) -> int:
         """Read mode 1: a 1 where each plane that counts has the bit of colour compare."""
-        differing = (self.latches ^ SPREAD[gfx[2]]) & SPREAD[gfx[7]]
+        differing = (self.latches ^ SPREAD[self._gfx[2]]) & SPREAD[self._gfx[7]]
         differing |= differing >> 16
         return ~(differing | differing >> 8) & 0xFF
 
