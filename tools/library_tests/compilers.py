@@ -115,7 +115,9 @@ def run(words: Sequence[str | Path], **given: Any) -> str:
     return tested(words, **given).output.decode("utf-8", "surrogateescape")
 
 
-def build(compiler: str, built: Built, sources: Sequence[Path], made: Path, *flags: str) -> list[str | Path]:
+def build(
+    compiler: str, built: Built, sources: Sequence[Path], made: Path, *flags: str, standard: str = "c99"
+) -> list[str | Path]:
     """Builds a program with the static library, and answers the words that run it."""
-    run([compiler, "-std=c99", *STRICT, *flags, "-I", built.include, *sources, built.static, "-o", made])
+    run([compiler, f"-std={standard}", *STRICT, *flags, "-I", built.include, *sources, built.static, "-o", made])
     return [*built.runner, made]

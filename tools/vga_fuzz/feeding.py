@@ -102,20 +102,18 @@ def _trouble_of_fault(outcome: Outcome, script: Optional[Script]) -> Optional[st
     return f"{len(outcome.report)} bytes are written before {line[1]}" if outcome.report else None
 
 
-def _limit(limits: Limits) -> None:
-    """Sets the limits of the process that will be the program."""
-    resource.setrlimit(resource.RLIMIT_CORE, (0, 0))
-    resource.setrlimit(resource.RLIMIT_AS, (limits.memory, limits.memory))
-    resource.setrlimit(resource.RLIMIT_FSIZE, (limits.output, limits.output))
-
-
 def run(words: Sequence[str], folder: Path, limits: Limits) -> Outcome:
     """Runs a program. A write past the limit of output fails, as one on a full disk does."""
     report, said = folder / "report", folder / "said"
+    most = {resource.RLIMIT_CORE: 0, resource.RLIMIT_AS: limits.memory, resource.RLIMIT_FSIZE: limits.output}
+
+    def limit() -> None:
+        for what, value in most.items():
+            resource.setrlimit(what, (value, value))
+
     with open(report, "wb") as output, open(said, "wb") as errors:
         # Python ignores the signal of a file that has become too large, and the program shall too.
-        given = {"restore_signals": False, "preexec_fn": lambda: _limit(limits)}
-        with started(words, stdout=output, stderr=errors, **given) as process:
+        with started(words, stdout=output, stderr=errors, restore_signals=False, preexec_fn=limit) as process:
             try:
                 status = process.wait(limits.seconds)
             except subprocess.TimeoutExpired:

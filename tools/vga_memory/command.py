@@ -30,6 +30,8 @@ CALLS = (
 )
 RIGHT, REFUSED, REFUSED_IN_STEP = "as in its example", "out of memory", "out of memory in a step"
 FAULT = "vga: F10 OutOfMemory\n"
+# What is answered before the first call, where an allocation of the words is refused or one of those that are made first.
+BEFORE_CALLS = Answer(1, b"", "Error: memory allocation failed\n")
 # The allocations that reading the words takes, at most. They are a run's first ones, so that the last runs meet them.
 IN_WORDS = 12
 
@@ -71,7 +73,7 @@ def refused_call(answer: Answer) -> Optional[tuple[str, str]]:
 
 def judge_calls(answers: Sequence[Answer]) -> dict[str, int]:
     """How many allocations each call was refused. With each answer the allocation that was refused stands earlier."""
-    refused = [refused_call(answer) for answer in answers if not _is_before_calls(answer)]
+    refused = [refused_call(answer) for answer in answers if answer != BEFORE_CALLS]
     _expect_in_turn([found is not None for found in refused])
     met = [found for found in refused if found is not None]
     places = [CALLS.index(call) for call, _ in met]
@@ -81,11 +83,6 @@ def judge_calls(answers: Sequence[Answer]) -> dict[str, int]:
         if ("run", ending) not in met:
             raise Wrong(f"no run ended so: {ending}")
     return {call: places.count(place) for place, call in enumerate(CALLS)}
-
-
-def _is_before_calls(answer: Answer) -> bool:
-    """Whether the allocation was refused before the first call, among the words or among those that are made first."""
-    return answer.status == 1 and not answer.written and answer.said == "Error: memory allocation failed\n"
 
 
 def _expect_in_turn(were_refused: Sequence[bool]) -> None:

@@ -95,6 +95,9 @@ class Trace:
             self.line += 1
             cycle = self._cycle(line)
             if cycle is not None:
+                fault = cycle.fault()
+                if fault is not None:
+                    raise self.trouble(fault)
                 self.count += 1
                 yield cycle
         if self._is_plain is None:
@@ -163,7 +166,7 @@ class Trace:
         if space is None:
             return None
         time = None if seconds is None else 1_000_000 * int(seconds) + int(micros)
-        return self._judged(Cycle(kind == b"write", space, int(address, 16), int(value, 16), int(size), time))
+        return Cycle(kind == b"write", space, int(address, 16), int(value, 16), int(size), time)
 
     def _plain(self, line: bytes) -> Optional[Cycle]:
         """The cycle of a line of the plain form, which has nothing but cycles and comments."""
@@ -173,16 +176,10 @@ class Trace:
                 raise self.trouble("it is no cycle: `TIME r|w p|m ADDRESS VALUE SIZE` is one")
             return None
         time, kind, space, address, value, size = found.groups()
-        return self._judged(Cycle(
+        return Cycle(
             kind == b"w", PORT if space == b"p" else MEMORY, int(address, 16), int(value, 16), int(size),
             None if time == b"-" else int(time),
-        ))
-
-    def _judged(self, cycle: Cycle) -> Cycle:
-        fault = cycle.fault()
-        if fault is not None:
-            raise self.trouble(fault)
-        return cycle
+        )
 
 
 class Watch:
@@ -210,7 +207,10 @@ class Watch:
             self.count += 1
             self.untimed += cycle.time is None
             if cycle.is_write and not self._is_begun:
-                self._begin(cycle)
+                # The first write of a video BIOS is that of miscellaneous output.
+                self._is_begun = True
+                if cycle.space == MEMORY or cycle.address != MISCELLANEOUS_OUTPUT:
+                    self._other_begin = self.count
             if cycle.space == MEMORY:
                 self._silent = None
             elif cycle.is_write:
@@ -240,12 +240,6 @@ class Watch:
             told.append(f"chain 4 with map mask 0F has no cycle of memory, first from cycle {silent:,} on: "
                         "qemu traces none there without the plugin")
         return told
-
-    def _begin(self, cycle: Cycle) -> None:
-        """Looks at the first write, which of a video BIOS is that of miscellaneous output."""
-        self._is_begun = True
-        if cycle.space == MEMORY or cycle.address != MISCELLANEOUS_OUTPUT:
-            self._other_begin = self.count
 
     def _write(self, cycle: Cycle) -> None:
         """Follows a write to ports."""
