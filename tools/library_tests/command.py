@@ -47,13 +47,9 @@ def _parser() -> argparse.ArgumentParser:
         "tools/vga-library-tests --only header", "docs/LIBRARY.md", cli.JUDGES,
     )
     parser.set_defaults(job=_run)
-    parser.add_argument(
-        "--target", choices=[*TARGETS], default=X86_64.name,
-        help=f"the processor; programs of another one than {X86_64.name} run in QEMU",
-    )
-    parser.add_argument(
-        "--archive", type=Path, metavar="FILE", help="takes this archive instead of those of both compilers"
-    )
+    told = f"the processor; programs of another one than {X86_64.name} run in QEMU"
+    cli.add(parser, "--target", told, choices=[*TARGETS], default=X86_64.name)
+    cli.add(parser, "--archive FILE", "takes this archive instead of those of both compilers", type=Path)
     cli.add_checks(parser, [*ONCE, *EACH])
     return parser
 

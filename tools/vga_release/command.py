@@ -15,9 +15,8 @@ from vga_report.progress import Progress
 from vga_report.streams import check_folder, to_read, write_file, writing
 from vga_report.trouble import Trouble
 
-from .commit import clean_commit
 from .gathering import release_entries
-from .packing import pack
+from .packing import clean_commit, pack
 
 PROGRAM = TOP / "crates" / "vga"
 MACHINE = "x86_64-linux"

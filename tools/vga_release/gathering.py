@@ -15,8 +15,7 @@ from vga_manual.command import manual_files
 from vga_report import TOP
 from vga_report.processes import run
 
-from .commit import Commit, File, files_of
-from .packing import Entry
+from .packing import Commit, Entry, File, files_of
 
 # The tools that need no toolchain: the command of each, and its package.
 TOOLS = tuple(f"tools/vga{mark}{name}" for name in ("floppy", "fuzz", "picture", "report", "trace") for mark in "-_")

@@ -1,17 +1,60 @@
-"""An archive whose bytes hang on nothing but its files and the time of the commit."""
+"""The commit that a release is made from, and an archive that hangs on nothing but its files and the commit's time."""
 
 import gzip
 import io
 import tarfile
 from pathlib import PurePosixPath
-from typing import BinaryIO, Mapping, Optional, Union
+from typing import BinaryIO, Mapping, NamedTuple, Optional, Sequence, Union
 
-from .commit import File
+from vga_report import TOP
+from vga_report.processes import ended_well
+from vga_report.trouble import Trouble
 
+EXECUTABLE = 0o100
 PLAIN, RUN = 0o644, 0o755
 LEVEL = 9
+
+
+class File(NamedTuple):
+    """A file of a release."""
+
+    content: bytes
+    is_executable: bool = False
+
+
 # A file, or where a link leads.
 Entry = Union[File, str]
+
+
+class Commit(NamedTuple):
+    """A commit's number, and its time in seconds since 1970."""
+
+    number: str
+    time: int
+
+
+def clean_commit() -> Commit:
+    """The commit that is checked out. Where a file differs from it, there is none to make a release from."""
+    changed = _git("status", "--porcelain", "--untracked-files=no").decode("utf-8", "replace").split("\n")[0]
+    if changed:
+        raise Trouble(f"a release is made from a commit, and this is changed: {changed.strip()}")
+    number, time = _git("log", "-1", "--format=%H %ct").decode("ascii").split()
+    return Commit(number, int(time))
+
+
+def files_of(commit: Commit, paths: Sequence[str]) -> dict[str, File]:
+    """The files of a commit below these paths."""
+    files: dict[str, File] = {}
+    with tarfile.open(fileobj=io.BytesIO(_git("archive", "--format=tar", commit.number, "--", *paths))) as archive:
+        for member in archive.getmembers():
+            stream = archive.extractfile(member) if member.isfile() else None
+            if stream is not None:
+                files[member.name] = File(stream.read(), bool(member.mode & EXECUTABLE))
+    return files
+
+
+def _git(*words: str) -> bytes:
+    return ended_well(["git", "-C", str(TOP), *words]).output
 
 
 def _member(name: str, entry: Optional[Entry], time: int) -> tarfile.TarInfo:
