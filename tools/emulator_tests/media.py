@@ -10,8 +10,6 @@ speaker was silent, or where the screen behind the key has not the text that a s
 qemu-system-x86 and seabios.
 """
 
-from __future__ import annotations
-
 import argparse
 import sys
 import time

@@ -10,8 +10,6 @@ grub-pc-bin, xorriso, mtools, and gcc for mode 13. Software of packages that are
 the folder of `--unpacked`: the newest linux-image, busybox-static, console-setup-linux, memtest86+.
 """
 
-from __future__ import annotations
-
 import argparse
 import sys
 from pathlib import Path

@@ -1,7 +1,5 @@
 """The words of the command line, and the checks one after the other."""
 
-from __future__ import annotations
-
 import argparse
 import shutil
 import tempfile

@@ -1,7 +1,5 @@
 """The examples in C: pictures that programs draw, and the debugger forward and back."""
 
-from __future__ import annotations
-
 from pathlib import Path
 
 from vga_library.making import FONTS

@@ -1,7 +1,5 @@
 """The header: that compilers take it, that structs lie as they should, and that its names are the library's."""
 
-from __future__ import annotations
-
 from pathlib import Path
 
 from vga_library.making import FONTS

@@ -1,7 +1,5 @@
 """The library as a packager lays it, and as `pkg-config` finds it."""
 
-from __future__ import annotations
-
 import os
 import shutil
 import sys

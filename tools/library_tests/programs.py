@@ -1,7 +1,5 @@
 """Programs that call the library: misuse, threads, and an allocation failure."""
 
-from __future__ import annotations
-
 import difflib
 import re
 from pathlib import Path

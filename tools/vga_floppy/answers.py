@@ -1,7 +1,5 @@
 """The report of a run: docs/REPORT.md's lines, out of the table and the bytes of the answers."""
 
-from __future__ import annotations
-
 from itertools import chain, repeat
 from typing import Iterator
 

@@ -1,7 +1,5 @@
 """The words of the command line, what each command does, and how it ends."""
 
-from __future__ import annotations
-
 import argparse
 import os
 

@@ -7,8 +7,6 @@ the answers, each from this number on; P tells how many steps were begun; E, the
 number how many bytes of answers there are, and as its bytes their sum.
 """
 
-from __future__ import annotations
-
 import re
 import struct
 from pathlib import Path

@@ -4,8 +4,6 @@ Each step is an opcode and its fields, low bytes first. The same table tells wha
 image, or what came over the serial port, stands alone.
 """
 
-from __future__ import annotations
-
 import struct
 import zlib
 from itertools import takewhile

@@ -1,7 +1,5 @@
 """A script that draws an image: its parts, and the picture that its frame is to show."""
 
-from __future__ import annotations
-
 from dataclasses import dataclass
 from typing import Callable, Iterator, Sequence
 

@@ -1,7 +1,5 @@
 """Glyphs of an image's own, in the place of those of a font that it has no use for."""
 
-from __future__ import annotations
-
 from collections import Counter
 from functools import lru_cache, partial
 from itertools import permutations

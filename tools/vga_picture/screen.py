@@ -4,8 +4,6 @@ A shorter script takes more cycles: the video BIOS draws areas of one colour, an
 are looked at in cells then, as the BIOS has them: eight columns for a character, and so many lines as it is high.
 """
 
-from __future__ import annotations
-
 from itertools import takewhile
 from typing import Iterator, Optional, Sequence
 

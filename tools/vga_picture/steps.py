@@ -1,7 +1,5 @@
 """What a script that draws is made of: steps, services, blocks that are repeated; how it is written, and its figures."""
 
-from __future__ import annotations
-
 from collections import Counter
 from dataclasses import dataclass
 from typing import BinaryIO, Sequence, Union

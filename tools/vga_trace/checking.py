@@ -1,7 +1,5 @@
 """A report against the trace that its script was made from; and the kinds of its cycles."""
 
-from __future__ import annotations
-
 from collections import Counter
 from dataclasses import dataclass, field
 from typing import Iterable, Iterator, Mapping, Optional

@@ -1,7 +1,5 @@
 """From a trace to a script."""
 
-from __future__ import annotations
-
 from collections import Counter
 from dataclasses import dataclass, field
 from typing import BinaryIO, Iterable, Iterator, Optional, Union

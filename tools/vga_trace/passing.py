@@ -1,7 +1,5 @@
 """What a script has between cycles: time that passes, and frames."""
 
-from __future__ import annotations
-
 from typing import Iterable, Iterator, Optional
 
 from vga_report.timing import Timing, bytes_written

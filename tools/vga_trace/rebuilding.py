@@ -1,7 +1,5 @@
 """The steps that take the adapter from power-on to a state, so that a script can begin in the middle of a trace."""
 
-from __future__ import annotations
-
 from typing import Iterable, Iterator, TypeVar
 
 from .state import ATTRIBUTE, DAC_DATA, DAC_WRITE, ENABLE_MEMORY, GRAPHICS, MASK, MISC, SEQUENCER, STATUS

@@ -1,7 +1,5 @@
 """A trace replayed by the program: its pictures held against the screens that qemu showed, or as pictures that move."""
 
-from __future__ import annotations
-
 import zlib
 from dataclasses import dataclass, field
 from pathlib import Path

@@ -3,8 +3,6 @@
 What a trace may lack is found while its cycles pass: it is told, and nothing is put in its place.
 """
 
-from __future__ import annotations
-
 import gzip
 import io
 import re
