@@ -28,7 +28,7 @@ from vga_report.reports import held, wanted_pictures
 from vga_report.streams import reading, writing
 from vga_report.trouble import Trouble
 from vga_trace.checking import check
-from vga_trace.converting import Form, Listing, Wanted, Written, convert
+from vga_trace.converting import Listing, Wanted, Written, convert
 from vga_trace.recording import PHASES, dump, record
 from vga_trace.replaying import run_script
 from vga_trace.trace import opened
@@ -62,11 +62,11 @@ class Replayed(NamedTuple):
         return (self.differing, self.refused, self.dots) == (0, software.refused, software.dots)
 
 
-def _converted(trace: Path, script: Path, form: Form) -> tuple[Listing, Written]:
+def _converted(trace: Path, script: Path, has_blocks: bool) -> tuple[Listing, Written]:
     """Makes a script of a trace."""
     with opened(str(trace)) as read, writing(str(script)) as stream:
         listing = Listing(read, Wanted())
-        return listing, convert(listing, stream, form)
+        return listing, convert(listing, stream, has_blocks=has_blocks)
 
 
 def _differing_dots(report: Path, step: int, screens: Sequence[Path]) -> Optional[int]:
@@ -80,8 +80,8 @@ def _differing_dots(report: Path, step: int, screens: Sequence[Path]) -> Optiona
 def replay(base: Path) -> Replayed:
     """Makes a script of BASE.trace.gz, runs it, and holds its report against the trace and BASE.0.ppm and so on."""
     trace, script, report = (base.with_name(base.name + end) for end in (".trace.gz", ".bin", ".report"))
-    _, plain = _converted(trace, script, Form(has_blocks=False))
-    listing, made = _converted(trace, script, Form())
+    _, plain = _converted(trace, script, has_blocks=False)
+    listing, made = _converted(trace, script, has_blocks=True)
     for line in listing.warnings():
         print(f"{trace}: {line}", file=sys.stderr)
     run_script(str(PROGRAM), str(FONTS), script, report)

@@ -19,16 +19,13 @@ FINISH, OUT, OUTW, IN, INW, PUT, PUTW, GET, GETW, INT = range(10)
 PASS_OVER, LOOK_AWAY, FILL, REPEAT, END, SCRIPT, END_OF_RESET = range(10, 17)
 STEPS = {name: form.opcode for name, form in format.FORMS.items() if OUT <= form.opcode <= GETW}
 READS = (IN, INW, GET, GETW)
-FORMS = {
-    OUT: struct.Struct("<HB"), OUTW: struct.Struct("<HH"), IN: struct.Struct("<H"), INW: struct.Struct("<H"),
-    PUT: struct.Struct("<HHB"), PUTW: struct.Struct("<HHH"), GET: struct.Struct("<HH"), GETW: struct.Struct("<HH"),
+FORMS = {opcode: struct.Struct(f"<{fields}") for opcode, fields in {
+    OUT: "HB", OUTW: "HH", IN: "H", INW: "H", PUT: "HHB", PUTW: "HHH", GET: "HH", GETW: "HH",
     # ax, bx, cx, dx; where it looks for its block or table; the table's length, and the block's.
-    INT: struct.Struct("<4HBHH"),
-    PASS_OVER: struct.Struct("<H"), LOOK_AWAY: struct.Struct("<HB"), FILL: struct.Struct("<HB"),
-    REPEAT: struct.Struct("<H"), FINISH: struct.Struct(""), END: struct.Struct(""),
-    # The last value of miscellaneous output before the script, and the length of the script's name.
-    SCRIPT: struct.Struct("<BB"), END_OF_RESET: struct.Struct(""),
-}
+    INT: "4HBHH",
+    # The last value of miscellaneous output before a script, and the length of the script's name.
+    SCRIPT: "BB", PASS_OVER: "H", LOOK_AWAY: "HB", FILL: "HB", REPEAT: "H", END: "", END_OF_RESET: "", FINISH: "",
+}.items()}
 # Bytes of such a number stand behind the fields, the last of which is the number.
 BEHIND = (INT, SCRIPT)
 # The header before the steps: a name, the version of the forms, where the first script stands, behind the steps that

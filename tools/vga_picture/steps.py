@@ -61,13 +61,12 @@ def _cycles(item: Item) -> int:
 
 def _lines(parts: Sequence[Part], answer: str, version: int) -> bytes:
     """A script as text. The answer is what its last step, the frame, is expected to give."""
-    lines = [b"; %s\n" % parts[0].note.encode(), f"{FIRST_LINE}\n".encode() if version == 2 else b""]
+    lines = [f"; {parts[0].note}", *([FIRST_LINE] if version == 2 else [])]
     for number, part in enumerate(parts):
-        lines.append(b"\n; %s\n" % part.note.encode() if number else b"")
+        lines += ["", f"; {part.note}"] if number else []
         # Registers that are 0 are left out.
-        lines.extend(b"%b\n" % line.encode() for item in part.items for line in printed_item(item.step, is_short=True))
-    last = lines.pop()
-    return b"".join(lines) + last.rstrip(b"\n") + f" ; = {answer}\n".encode()
+        lines += (line for item in part.items for line in printed_item(item.step, is_short=True))
+    return ("\n".join(lines) + f" ; = {answer}\n").encode()
 
 
 def write_script(stream: BinaryIO, parts: Sequence[Part], answer: str, is_text: bool) -> str:

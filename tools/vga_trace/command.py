@@ -21,7 +21,7 @@ from vga_report.trouble import Trouble
 from vga_report.words import add_program, add_shape, number_to, seconds
 
 from .checking import check, count
-from .converting import CLOCK, END, FLIP, SCREENS, Form, Frames, Listing, Wanted, convert
+from .converting import CLOCK, END, FLIP, SCREENS, Frames, Listing, Wanted, convert
 from .recording import Deed, Machine, chain_4, record
 from .replaying import Moving, pictures_of, replay
 from .trace import Trace, opened
@@ -158,7 +158,7 @@ def _convert(words: argparse.Namespace, _: Progress) -> None:
     """Makes a script, and says what it has and what the trace lacks."""
     with _opened(words) as trace, writing(words.script) as stream:
         listing = Listing(trace, _wanted(words))
-        written = convert(listing, stream, Form(words.text, words.repeat))
+        written = convert(listing, stream, words.text, words.repeat)
     _warn(listing, name_of(words.trace))
     print(written.line(listing), file=sys.stderr if words.script == STANDARD else sys.stdout)
 
@@ -200,7 +200,7 @@ def _pictures(words: argparse.Namespace, _: Progress) -> None:
         script, shown, moving = Path(name) / "script", 0.0, Moving(shape)
         with _opened(words) as trace, writing(str(script)) as stream:
             listing = Listing(trace, Wanted(frames=CLOCK, most=words.to, first=words.from_, longest=words.longest))
-            convert(listing, stream, Form())
+            convert(listing, stream)
         _warn(listing, name_of(words.trace))
         with Built(program).running(script, words.fonts, None, True) as outcome:
             for picture, lasts in pictures_of(outcome.report, script, words.longest):

@@ -39,14 +39,6 @@ class Wanted:
     longest: float = 1
 
 
-@dataclass(frozen=True)
-class Form:
-    """What is written: a text or bytes, and whether rows of equal steps become blocks, which version 2 has."""
-
-    is_text: bool = False
-    has_blocks: bool = True
-
-
 class Listing:
     """The steps of a trace, in the order of the script; `watch` has the cycles, as many as are wanted."""
 
@@ -127,7 +119,7 @@ class Listing:
 class Written:
     """How many steps of each kind and how many blocks a script has, and its bytes and those of its text."""
 
-    form: Form
+    is_text: bool
     kinds: Counter[str] = field(default_factory=Counter)
     steps: int = 0
     blocks: int = 0
@@ -139,7 +131,7 @@ class Written:
         """Steps with their bytes and lines, counted by kind."""
         for step in steps:
             self.kinds[NAMES[step.opcode]] += 1
-            yield Coded(step, step.data(), step.text() if self.form.is_text else b"")
+            yield Coded(step, step.data(), step.text() if self.is_text else b"")
 
     def takes(self, row: Row) -> bool:
         """Counts a row, and tells whether a script may still have it."""
@@ -153,13 +145,13 @@ class Written:
 
     def header(self) -> bytes:
         """What stands before the rows: version 2 alone has blocks."""
-        if self.form.is_text:
+        if self.is_text:
             return f"{FIRST_LINE}\n".encode() if self.blocks else b""
         return HEADERS[2 if self.blocks else 1]
 
     def line(self, listing: Listing) -> str:
         """The figures."""
-        length = self.text_bytes + len(self.header()) if self.form.is_text else self.script_bytes
+        length = self.text_bytes + len(self.header()) if self.is_text else self.script_bytes
         kinds = ", ".join(f"{count:,} {kind}" for kind, count in self.kinds.most_common())
         parts = [f"{listing.watch.count:,} cycles", f"{self.steps:,} steps", f"{length:,} bytes"]
         if self.blocks:
@@ -169,17 +161,20 @@ class Written:
         return f"{', '.join(parts)}: {kinds}"
 
 
-def convert(listing: Listing, stream: BinaryIO, form: Form) -> Written:
-    """Writes a script; a Trouble where it has more bytes, or means more steps, than a script may."""
-    written = Written(form)
+def convert(listing: Listing, stream: BinaryIO, is_text: bool = False, has_blocks: bool = True) -> Written:
+    """Writes a script as text or bytes; a Trouble where it has more bytes, or means more steps, than a script may.
+
+    Rows of equal steps become blocks, which version 2 has, if these are wanted.
+    """
+    written = Written(is_text)
     body = bytearray()
     coded = written.coded(listing.steps())
-    for row in folded(coded) if form.has_blocks else alone(coded):
+    for row in folded(coded) if has_blocks else alone(coded):
         if not written.takes(row):
             last, most = written.last_cycle, f"more than {MOST_BYTES:,} bytes, or means more than {MOST_STEPS:,} steps"
             part = f"; `--to {last}` ends before that, and `--from {last + 1}` goes on after it"
             raise Trouble(f"the script has {most}{part if last else ', and no cycle fits'}", listing.trace.name)
-        body += row.text if form.is_text else row.data
+        body += row.text if is_text else row.data
     stream.write(written.header())
     stream.write(body)
     return written

@@ -18,7 +18,7 @@ from zaklimot.format import Answer, Picture
 from zaklimot.format.picture import marks_in_row
 
 from .checking import FRAME_ANSWERS, Checked, check
-from .converting import SCREENS, Form, Listing, Wanted, convert
+from .converting import SCREENS, Listing, Wanted, convert
 from .known import Dots, Names, Screen, known, whole_rows
 from .recording import PHASES, dump
 from .state import State
@@ -187,7 +187,7 @@ def replay(
     wanted = Wanted(frames=SCREENS)
     with opened(str(trace)) as read, writing(str(script)) as stream:
         listing = Listing(read, wanted)
-        figures = convert(listing, stream, Form()).line(listing)
+        figures = convert(listing, stream).line(listing)
         cycles = read.screens
     run_script(program, fonts, script, report)
     with opened(str(trace)) as read, reading(str(report)) as answers:
