@@ -62,9 +62,6 @@ def check_cases(way: str, built: Built, folder: Path) -> str:
     done = captured([*words, "--jobs", str(os.cpu_count() or 1)])
     if done.status not in (AGREED, DIFFERED):
         raise Wrong(done.errors.decode("utf-8", "replace"))
-    return judged(json.loads(done.output), _stopped_bytes() if scripts == BYTES else set())
-
-
-def _stopped_bytes() -> set[str]:
-    """The cases of bytes that are to be stopped, which zak_run does not do."""
-    return {case.name for case in read_cases(str(SUITE)) if case.is_bytes and case.until is not None}
+    # Cases of bytes that are to be stopped, which zak_run does not do.
+    stopped = {case.name for case in read_cases(str(SUITE)) if case.is_bytes and case.until is not None}
+    return judged(json.loads(done.output), stopped if scripts == BYTES else set())

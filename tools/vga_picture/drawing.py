@@ -11,7 +11,7 @@ from .colours import Indexed
 from .glyphs import loading, own_glyphs, with_glyphs
 from .mode import Kind, Mode
 from .nearest import Colour
-from .screen import Areas, screen_of
+from .screen import Areas, PlaneScreen, Screen
 from .steps import Part, Service
 
 # Cycles of a mode set: of registers and palette, of the glyphs of text, of memory that is cleared.
@@ -65,7 +65,7 @@ def _begin(mode: Mode, colours: Sequence[Colour], count: int) -> list[Part]:
 
 def draw_pixels(image: Indexed, mode: Mode, is_short: bool) -> Drawn:
     """A script for a graphics mode. A short one has areas by the video BIOS first."""
-    screen = screen_of(mode)
+    screen = PlaneScreen(mode) if mode.kind is Kind.PLANES else Screen(mode)
     count = len(image.colours)
     image = screen.numbered(image)
     parts = _begin(mode, image.colours, count)

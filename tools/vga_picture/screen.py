@@ -10,7 +10,7 @@ from typing import Iterator, Optional, Sequence
 from vga_trace.step import Step
 
 from .colours import Indexed
-from .mode import Kind, Mode
+from .mode import Mode
 from .planes import ALL_PLANES, WINDOW, best_numbers, drawing, is_all_planes, map_mask, planes_of, put_steps
 from .steps import Item, Part, Repeat, Service
 
@@ -65,11 +65,6 @@ class PlaneScreen(Screen):
 
     def window_cycles(self, columns: int, rows: int, blank: int) -> int:
         return 2 * self.mode.cell_height * columns * rows + 8
-
-
-def screen_of(mode: Mode) -> Screen:
-    """The screen of a graphics mode."""
-    return PlaneScreen(mode) if mode.kind is Kind.PLANES else Screen(mode)
 
 
 def scroll(screen: Screen, window: tuple[int, int, int, int], lines: int, colour: int = 0) -> Service:

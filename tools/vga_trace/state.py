@@ -112,7 +112,7 @@ class State:
     def _takes(self, port: int, value: int) -> bool:
         """Whether a write to a port is taken."""
         if port == ATTRIBUTE:
-            return self.attr.takes_next()
+            return not self.attr.is_data or self.attr.has_register
         if port in (MISC, MASK, DAC_READ, DAC_WRITE, DAC_DATA) or self._chosen(port) is not None:
             return True
         bank = self._chosen(port - 1)
@@ -288,10 +288,6 @@ class Attributes(Bank):
     def __init__(self) -> None:
         super().__init__("3F" * PALETTE + "EFFF3F0F0F", 0x3F, {})
         self.is_data = False
-
-    def takes_next(self) -> bool:
-        """Whether what is written next is taken."""
-        return not self.is_data or self.has_register
 
     def write_next(self, value: int) -> None:
         """Writes the index or the data, whichever is next. While the palette is looked at, it isn't written."""

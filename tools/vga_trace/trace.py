@@ -242,7 +242,10 @@ class Watch:
     def _write(self, cycle: Cycle) -> None:
         """Follows a write to ports."""
         if cycle.space == VBE:
-            self._write_vbe(cycle)
+            if cycle.address == VBE_INDEX:
+                self._vbe_index = cycle.value
+            elif cycle.address in VBE_DATA and self._vbe_index == VBE_ENABLE and cycle.value & 1:
+                self._vbe_enabled = self._vbe_enabled or self.count
             return
         for at in range(cycle.size):
             port, value = cycle.address + at, cycle.value >> 8 * at & 0xFF
@@ -251,12 +254,6 @@ class Watch:
             elif port == SEQUENCER_DATA and self._index in self._sequencer:
                 self._sequencer[self._index] = value
                 self._look_at_chain()
-
-    def _write_vbe(self, cycle: Cycle) -> None:
-        if cycle.address == VBE_INDEX:
-            self._vbe_index = cycle.value
-        elif cycle.address in VBE_DATA and self._vbe_index == VBE_ENABLE and cycle.value & 1 and self._vbe_enabled is None:
-            self._vbe_enabled = self.count
 
     def _look_at_chain(self) -> None:
         """Sees whether memory is now such that an emulator may serve it without telling."""
