@@ -85,6 +85,8 @@ def scripts_of(path: str) -> dict[str, Script]:
 def _write_report(words: argparse.Namespace, run: Run, name: str) -> None:
     """Writes the report of a run, or those of its scripts into a folder."""
     scripts = run.table.scripts()
+    if words.report == STANDARD and len(scripts) != 1:
+        raise Trouble(f"it has the answers of {len(scripts)} scripts: name a folder for their reports", name)
     # A script of a folder has a name, and its report is a file of a folder too, be it the only one.
     if words.report == STANDARD or len(scripts) == 1 and not scripts[0].name:
         with writing(words.report) as stream:
