@@ -27,7 +27,6 @@ GAP = 5
 
 # A bit for each dot of a cell, the first of the first line lowest.
 Dots = int
-Cell = tuple[int, int]
 
 
 @dataclass(frozen=True)

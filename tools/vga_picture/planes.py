@@ -30,6 +30,7 @@ FIRST_NUMBERS = (0, 15, 1, 2, 4, 8, 3, 5, 6, 9, 10, 12, 7, 11, 13, 14)
 MOST_SETS = 400
 DIGITS = tuple(bytes(48 + (number >> plane & 1) for number in range(256)) for plane in range(PLANES))
 
+# Pixels of rows, each the number of a colour.
 Rows = Sequence[bytes]
 Planes = tuple[bytes, ...]
 

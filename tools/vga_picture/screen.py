@@ -11,11 +11,9 @@ from vga_trace.step import Step
 
 from .colours import Indexed
 from .mode import Mode
-from .planes import ALL_PLANES, WINDOW, best_numbers, drawing, is_all_planes, map_mask, planes_of, put_steps
+from .planes import ALL_PLANES, WINDOW, Rows, best_numbers, drawing, is_all_planes, map_mask, planes_of, put_steps
 from .steps import Item, Part, Repeat, Service
 
-# Pixels of a row, each the number of a colour.
-Rows = Sequence[bytes]
 Cell = tuple[bytes, ...]
 CELL_WIDTH = 8
 # Bytes that a block must save: what its words would have saved in common with those beside it.

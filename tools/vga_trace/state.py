@@ -55,7 +55,9 @@ class State:
     @property
     def shape(self) -> Shape:
         """The shape of the frame."""
-        return Shape.of(self.seq.registers, self.crtc.registers)
+        crtc = self.crtc.registers
+        lines = crtc[6] + ((crtc[7] & 1) << 8) + ((crtc[7] >> 5 & 1) << 9) + 2
+        return Shape(8 if self.seq.registers[1] & 1 else 9, crtc[0] + 5, lines)
 
     def take(self, step: Step) -> Optional[int]:
         """Takes a step, and answers what it reads; None of a write and of a refusal. Of input status 1 all bits are 0."""
@@ -337,12 +339,6 @@ class Shape(NamedTuple):
     dots: int
     characters: int
     lines: int
-
-    @classmethod
-    def of(cls, seq: Sequence[int], crtc: Sequence[int]) -> Shape:
-        """The shape that registers choose."""
-        lines = crtc[6] + ((crtc[7] & 1) << 8) + ((crtc[7] >> 5 & 1) << 9) + 2
-        return cls(8 if seq[1] & 1 else 9, crtc[0] + 5, lines)
 
     @property
     def line(self) -> int:
