@@ -45,21 +45,16 @@ def _read(path: str) -> Results:
     try:
         found = json.loads(data)
         command, rules = found["command"], found["rules"]
-        _check(rules)
+        for rule, case in ((rule, case) for rule in rules for case in rule["cases"]):
+            # What lacks a part raises an error.
+            int(case["answers"]) + int(case["differing"])
+            str.format("{}{}{}", rule["rule"], rule["folder"], case["answer"])
     except (ValueError, KeyError, TypeError) as error:
         raise Trouble("it isn't what `vga-report suite --json` prints", name) from error
     on, bios = ON.search(command), BIOS.search(command)
     if on is None or on[1] not in MACHINES:
         raise Trouble("its command is no `vga-floppy run --on` of an emulator", name)
     return Results(on[1], MACHINES[on[1]].full_version(bios[1] if bios else None), rules)
-
-
-def _check(rules: Any) -> None:
-    """Has an error raised where results lack a part."""
-    for rule in rules:
-        for case in rule["cases"]:
-            int(case["answers"]) + int(case["differing"])
-            str.format("{}{}{}", rule["rule"], rule["folder"], case["answer"])
 
 
 def write_tables(page: str, paths: Sequence[str]) -> None:
