@@ -10,8 +10,6 @@ speaker was silent, or where the screen behind the key has not the text that a s
 qemu-system-x86 and seabios.
 """
 
-from __future__ import annotations
-
 import argparse
 import sys
 import time
@@ -21,9 +19,9 @@ from typing import Mapping, Sequence
 sys.path.insert(0, str(Path(__file__).resolve().parents[1]))
 
 # The tools beside this folder are found by the line above.
-from vga_floppy.answers import Reports
+from vga_floppy.answers import report_lines
 from vga_floppy.command import scripts_of
-from vga_floppy.image import Run, has_ended, image_for, read_image, read_record
+from vga_floppy.image import has_ended, image_for, read_image, read_record
 from vga_floppy.machines import QEMU, ROMS, SEABIOS
 from vga_floppy.running import DRAWING, PAUSE, monitor_at
 from vga_report import cli
@@ -88,20 +86,12 @@ def _boot(folder: Path, base: str, drive: str, scripts: Mapping[str, Script]) ->
     return image_of((folder / f"{base}-end.ppm").read_bytes(), base).rows[:LINES]
 
 
-def _report(run: Run, name: str) -> list[bytes]:
-    """The lines of the reports of a run."""
-    reports = Reports(run, name)
-    lines = [line for script in run.table.scripts() for line in reports.lines(script)]
-    reports.check_end()
-    return lines
-
-
 def wrong(folder: Path, base: str, text: Sequence[bytes], expected: Sequence[bytes]) -> list[str]:
     """What is wrong with how a run has ended."""
     told = [] if text == expected and len(set(b"".join(text))) > 1 else ["the text after the key is missing"]
     left = read_image((folder / f"{base}.img").read_bytes(), base)
     sent = read_record((folder / f"{base}.record").read_bytes(), base)
-    if not sent.is_whole or _report(left, base) != _report(sent, base):
+    if not sent.is_whole or list(report_lines(left, base)) != list(report_lines(sent, base)):
         told.append("the disk and the serial port have other answers")
     if not any((folder / f"{base}.wav").read_bytes()[WAV_HEADER:]):
         told.append("the speaker was silent")

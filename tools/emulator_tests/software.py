@@ -1,7 +1,5 @@
 """Software that draws, its machines, and discs whose program asks the video BIOS alone."""
 
-from __future__ import annotations
-
 import gzip
 import shutil
 import struct

@@ -10,10 +10,7 @@ grub-pc-bin, xorriso, mtools, and gcc for mode 13. Software of packages that are
 the folder of `--unpacked`: the newest linux-image, busybox-static, console-setup-linux, memtest86+.
 """
 
-from __future__ import annotations
-
 import argparse
-import re
 import sys
 from pathlib import Path
 from typing import NamedTuple, Optional, Sequence
@@ -24,20 +21,18 @@ sys.path.insert(0, str(Path(__file__).resolve().parents[1]))
 from emulator_tests.software import SOFTWARE, Software
 from vga_report import cli
 from vga_report.images import image_bytes, image_of
-from vga_report.processes import captured
 from vga_report.program import FONTS, PROGRAM
 from vga_report.progress import Progress
 from vga_report.report import Report
 from vga_report.reports import held, wanted_pictures
-from vga_report.streams import reading
+from vga_report.streams import reading, writing
 from vga_report.trouble import Trouble
+from vga_trace.checking import check
+from vga_trace.converting import Listing, Wanted, Written, convert
 from vga_trace.recording import PHASES, dump, record
 from vga_trace.replaying import run_script
+from vga_trace.trace import opened
 
-TOOLS = Path(__file__).resolve().parents[1]
-TRACE = TOOLS / "vga-trace"
-CONVERTED = re.compile(r"([\d,]+) cycles, ([\d,]+) steps, ([\d,]+) bytes")
-CHECKED = re.compile(r"([\d,]+) steps, ([\d,]+) refused, ([\d,]+) reads answered, ([\d,]+) differ")
 HEADER = (
     "| Software | Cycles | Steps | Bytes | without repeats | Reads | differing | Refused | Picture |\n"
     "|---|---|---|---|---|---|---|---|---|"
@@ -67,19 +62,11 @@ class Replayed(NamedTuple):
         return (self.differing, self.refused, self.dots) == (0, software.refused, software.dots)
 
 
-def _out(*words: str | Path) -> tuple[int, str]:
-    """Status and standard output of a command; its warnings pass."""
-    done = captured([sys.executable, *words])
-    sys.stderr.write(done.errors.decode("utf-8", "replace"))
-    return done.status, done.output.decode("utf-8", "replace")
-
-
-def _figures(pattern: re.Pattern[str], text: str) -> list[int]:
-    """The numbers of a line of the tools."""
-    found = pattern.search(text)
-    if found is None:
-        raise SystemExit(f"this is no line of figures: {text[:200]!r}")
-    return [int(number.replace(",", "")) for number in found.groups()]
+def _converted(trace: Path, script: Path, has_blocks: bool) -> tuple[Listing, Written]:
+    """Makes a script of a trace."""
+    with opened(str(trace)) as read, writing(str(script)) as stream:
+        listing = Listing(read, Wanted())
+        return listing, convert(listing, stream, has_blocks=has_blocks)
 
 
 def _differing_dots(report: Path, step: int, screens: Sequence[Path]) -> Optional[int]:
@@ -93,16 +80,16 @@ def _differing_dots(report: Path, step: int, screens: Sequence[Path]) -> Optiona
 def replay(base: Path) -> Replayed:
     """Makes a script of BASE.trace.gz, runs it, and holds its report against the trace and BASE.0.ppm and so on."""
     trace, script, report = (base.with_name(base.name + end) for end in (".trace.gz", ".bin", ".report"))
-    *_, plain = _figures(CONVERTED, _out(TRACE, "convert", trace, script, "--no-repeat")[1])
-    cycles, steps, length = _figures(CONVERTED, _out(TRACE, "convert", trace, script)[1])
+    _, plain = _converted(trace, script, has_blocks=False)
+    listing, made = _converted(trace, script, has_blocks=True)
+    for line in listing.warnings():
+        print(f"{trace}: {line}", file=sys.stderr)
     run_script(str(PROGRAM), str(FONTS), script, report)
-    _, refused, reads, differing = _figures(CHECKED, _out(TRACE, "check", trace, report)[1])
-    screens = [dump(base, number) for number in range(PHASES)]
-    return Replayed(cycles, steps, length, plain, reads, differing, refused, _differing_dots(report, steps, screens))
-
-
-def _say(text: str) -> None:
-    print(text, file=sys.stderr, flush=True)
+    with opened(str(trace)) as read, reading(str(report)) as stream:
+        checked = check(Listing(read, Wanted()).steps(), Report(stream, str(report)).steps(), str(report))
+    counts = [sum(kinds.values()) for kinds in (checked.reads, checked.differing, checked.refused)]
+    dots = _differing_dots(report, made.steps, [dump(base, number) for number in range(PHASES)])
+    return Replayed(listing.watch.count, made.steps, made.script_bytes, plain.script_bytes, *counts, dots)
 
 
 def _parser() -> argparse.ArgumentParser:
@@ -128,11 +115,12 @@ def _replay_all(words: argparse.Namespace, progress: Progress) -> int:
     for name in words.names or SOFTWARE:
         software, base = SOFTWARE[name], words.folder / name
         if software.is_unpacked and words.unpacked is None:
-            _say(f"{name}: left out, since --unpacked names no folder")
+            print(f"{name}: left out, since --unpacked names no folder", file=sys.stderr, flush=True)
             continue
         trace = base.with_name(name + ".trace.gz")
         if not trace.exists():
-            record(software.make(words.folder, words.unpacked), trace, base, lambda text: _say(f"{name}: {text}"), progress)
+            machine = software.make(words.folder, words.unpacked)
+            record(machine, trace, base, lambda text: print(f"{name}: {text}", file=sys.stderr, flush=True), progress)
         replayed = replay(base)
         status |= not replayed.is_as_known(software)
         print(replayed.row(name), flush=True)

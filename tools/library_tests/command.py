@@ -1,18 +1,16 @@
 """The words of the command line, and the checks one after the other."""
 
-from __future__ import annotations
-
 import argparse
 import shutil
 import tempfile
 from contextlib import contextmanager
+from functools import partial
 from pathlib import Path
 from typing import Callable, Iterator
 
-from vga_library.building import built_archive, memory_part
 from vga_library.making import MOVING, Place, make_library
 from vga_library.targets import TARGETS, X86_64, Target
-from vga_library.toolchain import gated_archive
+from vga_library.toolchain import built_archive, gated_archive, memory_part
 from vga_report import cli
 from vga_report.progress import Progress
 from vga_report.trouble import Trouble
@@ -22,28 +20,16 @@ from .examples import check_examples, check_scripts
 from .header import check_header, check_names
 from .installing import check_installing
 from .pc import check_pc
-from .programs import check_advances, check_blocks, check_clock, check_lines, check_memory, check_misuse, check_pictures, check_state
-from .programs import check_threads, check_transfers
-from .suite import check_joined, check_restored, check_sliced, check_suite
+from .programs import COUNTED, check_counted, check_memory, check_misuse, check_threads
+from .suite import WAYS, check_cases
 
 Check = Callable[[Built, Path], str]
 # Those of the library of each compiler, and those of one alone.
 EACH: dict[str, Check] = {
-    "names": lambda built, _: check_names(built),
-    "suite": check_suite,
-    "restored": check_restored,
-    "sliced": check_sliced,
-    "joined": check_joined,
-    "state": check_state,
-    "clock": check_clock,
-    "advances": check_advances,
-    "transfers": check_transfers,
-    "pictures": check_pictures,
-    "lines": check_lines,
-    "blocks": check_blocks,
-    "misuse": check_misuse,
-    "memory": check_memory,
-    "threads": check_threads,
+    "names": check_names,
+    **{way: partial(check_cases, way) for way in WAYS},
+    **{name: partial(check_counted, name) for name in COUNTED},
+    "misuse": check_misuse, "memory": check_memory, "threads": check_threads,
 }
 ONCE: dict[str, Check] = {
     "header": check_header, "examples": check_examples, "scripts": check_scripts,
@@ -59,13 +45,9 @@ def _parser() -> argparse.ArgumentParser:
         "tools/vga-library-tests --only header", "docs/LIBRARY.md", cli.JUDGES,
     )
     parser.set_defaults(job=_run)
-    parser.add_argument(
-        "--target", choices=[*TARGETS], default=X86_64.name,
-        help=f"the processor; programs of another one than {X86_64.name} run in QEMU",
-    )
-    parser.add_argument(
-        "--archive", type=Path, metavar="FILE", help="takes this archive instead of those of both compilers"
-    )
+    told = f"the processor; programs of another one than {X86_64.name} run in QEMU"
+    cli.add(parser, "--target", told, choices=[*TARGETS], default=X86_64.name)
+    cli.add(parser, "--archive FILE", "takes this archive instead of those of both compilers", type=Path)
     cli.add_checks(parser, [*ONCE, *EACH])
     return parser
 

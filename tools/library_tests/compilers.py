@@ -5,7 +5,7 @@ from __future__ import annotations
 import shutil
 import tempfile
 from pathlib import Path
-from typing import Mapping, NamedTuple, Optional, Sequence
+from typing import Any, Mapping, NamedTuple, Sequence
 
 from vga_library.targets import AARCH64, X86_64, Target
 from vga_report.processes import captured, tested
@@ -110,12 +110,14 @@ def _has_sanitizers(compiler: Compiler, runner: Sequence[str]) -> bool:
         return captured(words).status == 0 and captured([*runner, made]).status == 0
 
 
-def run(words: Sequence[str | Path], env: Optional[Mapping[str, str]] = None) -> str:
-    """What a program writes that ends well. Else it is told how it ended."""
-    return tested(words, environment=env).output.decode("utf-8", "surrogateescape")
+def run(words: Sequence[str | Path], **given: Any) -> str:
+    """What a program writes that ends well, run as `captured` does. Else it is told how it ended."""
+    return tested(words, **given).output.decode("utf-8", "surrogateescape")
 
 
-def build(compiler: str, built: Built, sources: Sequence[Path], made: Path, *flags: str) -> None:
-    """Builds a program with the static library."""
-    words = [compiler, "-std=c99", *STRICT, *flags, "-I", built.include, *sources, built.static, "-o", made]
-    run(words)
+def build(
+    compiler: str, built: Built, sources: Sequence[Path], made: Path, *flags: str, standard: str = "c99"
+) -> list[str | Path]:
+    """Builds a program with the static library, and answers the words that run it."""
+    run([compiler, f"-std={standard}", *STRICT, *flags, "-I", built.include, *sources, built.static, "-o", made])
+    return [*built.runner, made]

@@ -1,14 +1,12 @@
 """The header: that compilers take it, that structs lie as they should, and that its names are the library's."""
 
-from __future__ import annotations
-
 from pathlib import Path
 
 from vga_library.making import FONTS
 from vga_report.version import HEADER, calls_of, version
 from vga_report.trouble import Wrong
 
-from .compilers import SANITIZED, STRICT, Built, run
+from .compilers import SANITIZED, STRICT, Built, build, run
 
 LAYOUT = Path(__file__).resolve().parent / "c" / "layout.c"
 OBJECTS = LAYOUT.with_name("objects.cpp")
@@ -28,7 +26,7 @@ def _compile(compiler: str, language: str, standard: str, source: Path, include:
 
 
 def check_header(built: Built, folder: Path) -> str:
-    """Compiles the header alone, and the asserts about its structs, as C and as C++."""
+    """Compiles the header alone, and the asserts about its structs, as C and as C++; and the C++ header."""
     alone = folder / "alone.c"
     # Twice, so that its guard is tried too.
     alone.write_text(2 * '#include "zaklimot.h"\n' + "int unused;\n")
@@ -41,18 +39,12 @@ def check_header(built: Built, folder: Path) -> str:
             if language == "c++" or standard in ASSERTING:
                 _compile(name, language, standard, LAYOUT, built.include)
             count += 1
-        count += _check_objects(compiler.cpp, built, folder)
+        # The C++ header is taken, and a card by it answers, throws, moves and closes.
+        for standard in OBJECT_STANDARDS:
+            words = build(compiler.cpp, built, [OBJECTS], folder / "objects", *SANITIZED, standard=standard)
+            run([*words, FONTS])
+            count += 1
     return f"taken in {count} ways by {', '.join(compiler.c for compiler in built.compilers)}"
-
-
-def _check_objects(compiler: str, built: Built, folder: Path) -> int:
-    """The C++ header: it is taken, and a card by it answers, throws, moves and closes, with sanitizers."""
-    made = folder / "objects"
-    for standard in OBJECT_STANDARDS:
-        words = [compiler, f"-std={standard}", *STRICT, *SANITIZED, "-I", built.include]
-        run([*words, OBJECTS, built.static, "-o", made])
-        run([*built.runner, made, FONTS])
-    return len(OBJECT_STANDARDS)
 
 
 def names_in(table: str) -> tuple[set[str], set[str]]:
@@ -67,7 +59,7 @@ def names_in(table: str) -> tuple[set[str], set[str]]:
     return defined, wanted
 
 
-def check_names(built: Built) -> str:
+def check_names(built: Built, _: Path) -> str:
     """The names that are seen of both libraries are the header's calls, and they want few of the C library."""
     calls = set(calls_of(HEADER.read_text("ascii")))
     for path, word in ((built.static, "-g"), (built.shared, "-D")):

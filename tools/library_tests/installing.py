@@ -1,11 +1,10 @@
 """The library as a packager lays it, and as `pkg-config` finds it."""
 
-from __future__ import annotations
-
 import os
 import shutil
 import sys
 from pathlib import Path
+from typing import Any
 
 from vga_report import TOP
 from vga_report.version import version
@@ -34,8 +33,16 @@ def _install(built: Built, stage: Path) -> Path:
     """Lays the library as for a package; the folder of its prefix."""
     command = [sys.executable, TOP / "tools" / "vga-library", "install", "--libdir", LIBRARIES]
     environment = {**os.environ, "PREFIX": "/usr", "DESTDIR": str(stage)}
-    run([*command, "--archive", built.archive], env=environment)
+    run([*command, "--archive", built.archive], environment=environment)
     return stage / "usr"
+
+
+def _check_picture(program: Path, ppm: Path, made_how: str, **given: Any) -> None:
+    """The program draws, however it was made."""
+    run([program, FONTS, ppm], **given)
+    if not ppm.read_bytes().startswith(b"P6\n640 400\n63\n"):
+        raise Wrong(f"{made_how} draws no picture")
+    ppm.unlink()
 
 
 def check_installing(built: Built, folder: Path) -> str:
@@ -47,12 +54,10 @@ def check_installing(built: Built, folder: Path) -> str:
     package = (prefix / LIBRARIES / "pkgconfig" / "zaklimot.pc").read_text("ascii")
     if "prefix=/usr\n" not in package or str(folder) in package:
         raise Wrong(f"zaklimot.pc has\n{package}")
-    made, ppm = folder / "picture", folder / "picture.ppm"
-    words = [COMPILERS[0].c, "-std=c99", *STRICT, PICTURE, *_flags(prefix), "-o", made]
-    run(words)
-    run([made, FONTS, ppm], env={**os.environ, "LD_LIBRARY_PATH": str(prefix / LIBRARIES)})
-    if not ppm.read_bytes().startswith(b"P6\n640 400\n63\n"):
-        raise Wrong("the program that was built with the installed files draws no picture")
+    made, environment = folder / "picture", {**os.environ, "LD_LIBRARY_PATH": str(prefix / LIBRARIES)}
+    run([COMPILERS[0].c, "-std=c99", *STRICT, PICTURE, *_flags(prefix), "-o", made])
+    told = "the program that was built with the installed files"
+    _check_picture(made, folder / "picture.ppm", told, environment=environment)
     ways = [_check_pkg_config(built, folder), _check_cmake(prefix, folder)]
     return "; ".join([f"{len(found)} files, and a program that is linked with the shared library", *filter(None, ways)])
 
@@ -67,7 +72,7 @@ def _check_pkg_config(built: Built, folder: Path) -> str:
     (folder / "first").rename(moved)
     environment = {**os.environ, "PKG_CONFIG_PATH": str(moved / LIBRARIES / "pkgconfig")}
     for name, place in (("prefix", ""), ("libdir", LIBRARIES), ("includedir", "include"), ("fonts", "share/zaklimot/zaklimot.fnt")):
-        told = Path(run(["pkg-config", f"--variable={name}", "zaklimot"], env=environment).strip())
+        told = Path(run(["pkg-config", f"--variable={name}", "zaklimot"], environment=environment).strip())
         if told.resolve() != (moved / place).resolve() or not told.exists():
             raise Wrong(f"from a folder that was moved, pkg-config tells {name} as {told}")
     return ""
@@ -77,16 +82,13 @@ def _check_cmake(prefix: Path, folder: Path) -> str:
     """A project of CMake finds the installed files, builds with either library, and its programs draw."""
     if not shutil.which("cmake"):
         return "CMake is left out: install the package cmake"
-    made, ppm = folder / "cmake", folder / "cmake.ppm"
+    made = folder / "cmake"
     # A packager's folder is no prefix of CMake's own.
     words = ["cmake", "-S", PROJECT, "-B", made, f"-DPICTURE={PICTURE}", "-DCMAKE_BUILD_TYPE=Release"]
     run([*words, f"-DCMAKE_PREFIX_PATH={prefix}"])
     run(["cmake", "--build", made])
     for name in ("picture", "picture_static"):
-        run([made / name, FONTS, ppm])
-        if not ppm.read_bytes().startswith(b"P6\n640 400\n63\n"):
-            raise Wrong(f"{name}, built by CMake, draws no picture")
-        ppm.unlink()
+        _check_picture(made / name, folder / "cmake.ppm", f"{name}, built by CMake,")
     needed = run(["objdump", "-p", made / "picture"])
     if f"NEEDED               libzaklimot.so.{version().major}\n" not in needed:
         raise Wrong("the program that CMake has linked doesn't want the library by its soname")
@@ -99,4 +101,4 @@ def _flags(prefix: Path) -> list[str]:
         return [f"-I{prefix / 'include'}", f"-L{prefix / LIBRARIES}", "-lzaklimot"]
     environment = {**os.environ, "PKG_CONFIG_PATH": str(prefix / LIBRARIES / "pkgconfig")}
     root = f"--define-variable=prefix={prefix}"
-    return run(["pkg-config", root, "--cflags", "--libs", "zaklimot"], env=environment).split()
+    return run(["pkg-config", root, "--cflags", "--libs", "zaklimot"], environment=environment).split()

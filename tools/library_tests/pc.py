@@ -13,14 +13,15 @@ from vga_library.making import FONTS
 from vga_report.processes import captured
 from vga_report.trouble import Wrong
 
-from .compilers import COMPILERS, Built, build, run
-from .suite import HARNESS
+from .compilers import COMPILERS, Built, run
+from .suite import harness
 
 PC = TOP / "examples" / "pc"
 SOURCES = [PC / f"{name}.c" for name in ("pc", "machine", "bios", "display", "floppy", "keys", "window-files")]
 # Scripts whose answers hang on nothing but the adapter, so that the PC gives those of the harness.
 SCRIPTS = ("text-by-services", "asked-of-machines")
 PACKAGES = {"unicorn": "libunicorn-dev", "sdl2": "libsdl2-dev"}
+ROMS = [Path("/usr/share") / place for place in ("vgabios/vgabios.bin", "seabios/vgabios-stdvga.bin")]
 # Boot sectors. One sets a mode and then loops; one halts with interrupts off, and a tick that waits.
 LOOPS, HALTS = "B8{mode:02X}00 CD10 EBFE", "FA BA0600 B9FFFF E2FE 4A 75F8 F4 EBFE"
 # What the second one runs until it halts: six times 65,535 rounds of a loop are longer than a tick.
@@ -49,37 +50,32 @@ def _build(built: Built, made: Path, sources: list[Path], flags: list[str]) -> N
     run([*words, *sources, built.static, *flags, "-o", made])
 
 
-def _tool(name: str, *words: str | Path) -> str:
-    return run([sys.executable, TOP / "tools" / name, *words])
-
-
-def _answers(report: str) -> list[str]:
-    """The answers of a report that a machine gives too."""
-    return [line for line in report.splitlines() if not line.endswith(" skipped")]
-
-
 def _check_script(built: Built, pc: Path, folder: Path, name: str) -> None:
     """The answers that come back on the floppy are those of the harness, but for what a machine skips."""
-    script, image, harness = TOP / "examples" / f"{name}.vga", folder / f"{name}.img", folder / "harness"
-    _tool("vga-floppy", "make", script, image)
+    script, image = TOP / "examples" / f"{name}.vga", folder / f"{name}.img"
+    floppy = [sys.executable, TOP / "tools" / "vga-floppy"]
+    run([*floppy, "make", script, image])
     run([pc, image, FONTS, "--keys", " ", "--seconds", "5"])
-    came = _answers(_tool("vga-floppy", "read", image))
-    build(COMPILERS[0].c, built, HARNESS, harness, "-O2")
-    wanted = run([harness, script, FONTS]).splitlines()
+    came = [line for line in run([*floppy, "read", image]).splitlines() if not line.endswith(" skipped")]
+    wanted = run([*harness(built, folder), script, FONTS]).splitlines()
     others = [line for line in came if line not in wanted]
     if others or not came:
         raise Wrong(f"{name}: on the PC these answers are others: {others[:5]}")
 
 
-def _check_demo(pc: Path, folder: Path, *rom: str | Path) -> None:
-    """The floppy's first screen ends with a white bar."""
-    pictures = folder / "pictures"
+def _screens(pc: Path, folder: Path, *words: str | Path) -> list[Path]:
+    """The pictures of the screens that the PC shows of its own floppy."""
+    pictures, image = folder / "pictures", folder / "demo.img"
     shutil.rmtree(pictures, ignore_errors=True)
     pictures.mkdir()
-    image = folder / "demo.img"
     shutil.copyfile(PC / "demo.img", image)
-    run([pc, image, FONTS, "--seconds", "2", "--pictures", pictures, *rom])
-    last = max(pictures.iterdir()).read_bytes()
+    run([pc, image, FONTS, *words, "--pictures", pictures])
+    return sorted(pictures.iterdir())
+
+
+def _check_demo(pc: Path, folder: Path, *rom: str | Path) -> None:
+    """The floppy's first screen ends with a white bar."""
+    last = _screens(pc, folder, "--seconds", "2", *rom)[-1].read_bytes()
     if not last.startswith(SIZE) or not last.endswith(BAR):
         raise Wrong(f"the PC's floppy shows another first screen{' with ' + str(rom[1]) if rom else ''}")
 
@@ -107,18 +103,9 @@ def _check_time(pc: Path, folder: Path) -> None:
 
 def _check_keys(pc: Path, folder: Path) -> None:
     """The machine ends by itself where it waits for a key that will not come; each screen is in a picture."""
-    pictures = folder / "screens"
-    pictures.mkdir()
-    shutil.copyfile(PC / "demo.img", folder / "demo.img")
-    run([pc, folder / "demo.img", FONTS, "--keys", "  ", "--pictures", pictures])
-    sizes = [path.read_bytes()[:len(SIZE)] for path in sorted(pictures.iterdir())]
+    sizes = [path.read_bytes()[:len(SIZE)] for path in _screens(pc, folder, "--keys", "  ")]
     if list(dict.fromkeys(sizes)) != SCREENS:
         raise Wrong(f"of the floppy's screens the PC shows {sizes}")
-
-
-def _roms() -> list[Path]:
-    places = ("vgabios/vgabios.bin", "seabios/vgabios-stdvga.bin")
-    return [path for path in (Path("/usr/share") / place for place in places) if path.is_file()]
 
 
 def check_pc(built: Built, folder: Path) -> str:
@@ -133,7 +120,7 @@ def check_pc(built: Built, folder: Path) -> str:
     _check_demo(pc, folder)
     _check_time(pc, folder)
     _check_keys(pc, folder)
-    roms = _roms()
+    roms = [rom for rom in ROMS if rom.is_file()]
     for rom in roms:
         _check_demo(pc, folder, "--rom", rom)
     told = f"{len(SCRIPTS)} scripts from floppies, and a screen by the library's BIOS and {len(roms)} ROMs"

@@ -21,10 +21,18 @@ from .compilers import Built, build
 
 # So many cases are told that do not agree.
 MOST_TOLD = 20
-# What the harness is given for a text.
-TEXTS = "{script} {fonts} {until}"
-# Steps of a slice, so that most cases have several.
-SLICE = 7
+# What the harness is given for a text, and for bytes; steps of a slice are so few that most cases have several.
+TEXTS, BYTES, SLICES = "{script} {fonts} {until}", "--bytes {script} {fonts}", "--slices 7"
+# The ways in which the cases are run: those of texts, and those of bytes.
+WAYS = {
+    "suite": (TEXTS, BYTES),
+    # Cards are saved and others restored, at pseudo-random steps and dots.
+    "restored": (f"--restored {TEXTS}", BYTES),
+    # In slices of a few steps, all on one card.
+    "sliced": (f"{SLICES} {TEXTS}", f"{SLICES} --bytes {TEXTS}"),
+    # Writes, and reads, of addresses that follow one another are one call.
+    "joined": (f"--joined {TEXTS}", BYTES),
+}
 HARNESS = [TOP / "examples" / "c" / name for name in ("harness.c", "script.c")]
 
 
@@ -40,39 +48,20 @@ def judged(told: dict[str, Any], left_out: set[str]) -> str:
     return f"{told}, {len(others)} of bytes can't be stopped" if others else told
 
 
-def _answers(built: Built, folder: Path, texts: str, scripts: str, left_out: set[str]) -> str:
-    """What comes of all cases by the harness, with these words for texts and for bytes."""
-    harness = folder / f"harness-{built.name}"
-    build(built.compilers[0].c, built, HARNESS, harness, "-O2")
-    command = shlex.join([*built.runner, str(harness)])
+def harness(built: Built, folder: Path) -> list[str | Path]:
+    """Builds the harness, and answers the words that run it."""
+    return build(built.compilers[0].c, built, HARNESS, folder / f"harness-{built.name}", "-O2")
+
+
+def check_cases(way: str, built: Built, folder: Path) -> str:
+    """Each case agrees in a way of WAYS."""
+    texts, scripts = WAYS[way]
+    command = shlex.join(map(str, harness(built, folder)))
     commands = [f"{command} {texts}", "--bytes", f"{command} {scripts}"]
     words = [sys.executable, TOP / "tools" / "vga-report", "suite", *commands, "--json"]
     done = captured([*words, "--jobs", str(os.cpu_count() or 1)])
     if done.status not in (AGREED, DIFFERED):
         raise Wrong(done.errors.decode("utf-8", "replace"))
-    return judged(json.loads(done.output), left_out)
-
-
-def _stopped_bytes() -> set[str]:
-    """The cases of bytes that are to be stopped, which zak_run does not do."""
-    return {case.name for case in read_cases(str(SUITE)) if case.is_bytes and case.until is not None}
-
-
-def check_suite(built: Built, folder: Path) -> str:
-    """Each case agrees."""
-    return _answers(built, folder, TEXTS, "--bytes {script} {fonts}", _stopped_bytes())
-
-
-def check_restored(built: Built, folder: Path) -> str:
-    """So does each text where cards are saved and others restored, at pseudo-random steps and dots."""
-    return _answers(built, folder, f"--restored {TEXTS}", "--bytes {script} {fonts}", _stopped_bytes())
-
-
-def check_sliced(built: Built, folder: Path) -> str:
-    """So does each in slices of a few steps, all on one card."""
-    return _answers(built, folder, f"--slices {SLICE} {TEXTS}", f"--slices {SLICE} --bytes {TEXTS}", set())
-
-
-def check_joined(built: Built, folder: Path) -> str:
-    """So does each text where writes, and reads, of addresses that follow one another are one call."""
-    return _answers(built, folder, f"--joined {TEXTS}", "--bytes {script} {fonts}", _stopped_bytes())
+    # Cases of bytes that are to be stopped, which zak_run does not do.
+    stopped = {case.name for case in read_cases(str(SUITE)) if case.is_bytes and case.until is not None}
+    return judged(json.loads(done.output), stopped if scripts == BYTES else set())

@@ -9,8 +9,7 @@ from random import Random
 from unittest import mock
 
 from vga_fuzz import command
-from vga_fuzz.feeding import Fed, Program
-from vga_fuzz.judging import Limits, Outcome, meant_by, trouble_of
+from vga_fuzz.feeding import Fed, Limits, Outcome, Program, meant_by, trouble_of
 from vga_fuzz.making import Input, block, make, spelled, step
 from zaklimot.format import (
     FORMS, HEADERS, MAGIC, MOST_COUNT, Block, Script, Step, decode, encode, encoded, parse_text, print_text,

@@ -3,9 +3,9 @@
 import unittest
 from typing import Optional
 
-from vga_memory.command import CRATES, ENDING, FILES, ALLOCATION, cases_of, jobs
-from vga_memory.judging import (
-    CALLS, FAULT, IN_WORDS, REFUSED, REFUSED_IN_STEP, RIGHT, Wrong, judge_calls, judge_program
+from vga_memory.command import (
+    ALLOCATION, CALLS, CRATES, ENDING, FAULT, FILES, IN_WORDS, REFUSED, REFUSED_IN_STEP, RIGHT, Wrong, cases_of, jobs,
+    judge_calls, judge_program,
 )
 from vga_memory.trying import Answer, answers_of, growing
 

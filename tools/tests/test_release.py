@@ -17,9 +17,8 @@ from vga_report import TOP
 from vga_report.version import version
 from vga_library.targets import X86_64
 from vga_release import command
-from vga_release.commit import Commit, File
 from vga_release.gathering import FRONT, INSTALL, LINKS, MADE_OF, PAGE, PATHS, Pages, made_of, settled, wheel_of
-from vga_release.packing import Entry, pack
+from vga_release.packing import Commit, Entry, File, pack
 from vga_report.processes import Done
 
 from .test_pages import anchors, prose

@@ -10,9 +10,9 @@ from unittest import mock
 
 from library_tests import command as tests, compilers, suite
 from library_tests.compilers import MACHINES, Built
-from vga_library import building, command, making, toolchain
-from vga_library.building import HEAP, HEAP_OPTIONS
+from vga_library import command, making, toolchain
 from vga_library.targets import AARCH64, TARGETS, X86_64
+from vga_library.toolchain import HEAP, HEAP_OPTIONS
 from vga_release import gathering
 from vga_report import processes
 from vga_report.processes import PACKAGES, Done
@@ -42,8 +42,9 @@ class Fakes(Folder):
         (self.crate / "out").mkdir(parents=True)
         self.patch(
             mock.patch.dict(os.environ, {"PATH": path, "NOTES": str(self.notes), "KIT": str(kit)}),
-            mock.patch.multiple(building, CRATE=self.crate, KEPT=self.crate / "out" / "incremental"),
-            mock.patch.multiple(toolchain, CRATE=self.crate, rlib=lambda name: Path(f"{name}.rlib")),
+            mock.patch.multiple(
+                toolchain, CRATE=self.crate, KEPT=self.crate / "out" / "incremental", rlib=lambda name: Path(f"{name}.rlib"),
+            ),
             mock.patch.object(making, "FOLDER", self.crate / "out" / "made"),
         )
 
@@ -163,7 +164,7 @@ class Testing(Folder):
             mock.patch.multiple(processes, captured=noting, check_program=lambda _: None),
             mock.patch.object(suite, "captured", noting),
         )
-        self.assertEqual(suite.check_suite(built, Path("made")), "1 cases agree")
+        self.assertEqual(suite.check_cases("suite", built, Path("made")), "1 cases agree")
         self.assertEqual(called[0][0], "aarch64-linux-gnu-gcc")
         front = "env ASAN_OPTIONS=detect_leaks=0 qemu-aarch64 -L /usr/aarch64-linux-gnu made/harness-given "
         texts, scripts = (word for word in called[1] if "harness" in word)

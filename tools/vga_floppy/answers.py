@@ -1,7 +1,5 @@
 """The report of a run: docs/REPORT.md's lines, out of the table and the bytes of the answers."""
 
-from __future__ import annotations
-
 from itertools import chain, repeat
 from typing import Iterator
 
@@ -74,12 +72,10 @@ class Reports:
 
 
 def report_lines(run: Run, name: str, has_all_registers: bool = False) -> Iterator[bytes]:
-    """The lines of the report of a run with one script."""
-    scripts = run.table.scripts()
-    if len(scripts) != 1:
-        raise Trouble(f"it has the answers of {len(scripts)} scripts: name a folder for their reports", name)
+    """The lines of the reports of a run, script by script."""
     reports = Reports(run, name, has_all_registers)
-    yield from reports.lines(scripts[0])
+    for script in run.table.scripts():
+        yield from reports.lines(script)
     reports.check_end()
 
 

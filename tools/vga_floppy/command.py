@@ -1,13 +1,11 @@
 """The words of the command line, what each command does, and how it ends."""
 
-from __future__ import annotations
-
 import argparse
 import os
 
 from vga_report import cli
 from vga_report.cli import add
-from vga_report.output import AGREED, name_of, refuse_twice
+from vga_report.output import name_of, refuse_twice
 from vga_report.progress import Progress
 from vga_report.png import save_png
 from vga_report.script import script_of
@@ -87,6 +85,8 @@ def scripts_of(path: str) -> dict[str, Script]:
 def _write_report(words: argparse.Namespace, run: Run, name: str) -> None:
     """Writes the report of a run, or those of its scripts into a folder."""
     scripts = run.table.scripts()
+    if words.report == STANDARD and len(scripts) != 1:
+        raise Trouble(f"it has the answers of {len(scripts)} scripts: name a folder for their reports", name)
     # A script of a folder has a name, and its report is a file of a folder too, be it the only one.
     if words.report == STANDARD or len(scripts) == 1 and not scripts[0].name:
         with writing(words.report) as stream:
@@ -105,13 +105,12 @@ def _write_report(words: argparse.Namespace, run: Run, name: str) -> None:
     reports.check_end()
 
 
-def _make(words: argparse.Namespace, _: Progress) -> int:
+def _make(words: argparse.Namespace, _: Progress) -> None:
     """Makes an image."""
     write_file(words.image, image_for(scripts_of(words.script), name_of(words.script), is_disk=words.disk))
-    return AGREED
 
 
-def _read(words: argparse.Namespace, _: Progress) -> int:
+def _read(words: argparse.Namespace, _: Progress) -> None:
     """Gives the report of an image or a record."""
     name = name_of(words.file)
     with reading(words.file) as stream:
@@ -121,25 +120,22 @@ def _read(words: argparse.Namespace, _: Progress) -> int:
         came = f"{len(run.answers):,} of {run.table.answer_length():,} bytes of answers came"
         raise Trouble(f"the record ends before the run did: {came}; --part gives the report so far", name)
     _write_report(words, run, name)
-    return AGREED
 
 
-def _run(words: argparse.Namespace, _: Progress) -> int:
+def _run(words: argparse.Namespace, _: Progress) -> None:
     """Runs a script on an emulator."""
     wanted = Wanted(words.bios, words.seconds, words.picture is not None)
-    ran = run_on(MACHINES[words.on], scripts_of(words.script), name_of(words.script), wanted)
-    if ran.picture is not None:
+    run, shown = run_on(MACHINES[words.on], scripts_of(words.script), name_of(words.script), wanted)
+    if shown is not None:
         # In the six bits of a component that the DAC has.
-        save_png(words.picture, ran.picture.picture(2 if ran.picture.most == 255 else 0))
-    _write_report(words, ran.run, words.on)
-    return AGREED
+        save_png(words.picture, shown.picture(2 if shown.most == 255 else 0))
+    _write_report(words, run, words.on)
 
 
-def _table(words: argparse.Namespace, _: Progress) -> int:
+def _table(words: argparse.Namespace, _: Progress) -> None:
     """Writes tables of results into a page."""
     refuse_twice(words.page, *words.results)
     write_tables(words.page, words.results)
-    return AGREED
 
 
 # Runs a command line, and answers its exit status.

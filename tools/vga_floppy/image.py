@@ -7,8 +7,6 @@ the answers, each from this number on; P tells how many steps were begun; E, the
 number how many bytes of answers there are, and as its bytes their sum.
 """
 
-from __future__ import annotations
-
 import re
 import struct
 from pathlib import Path
@@ -109,14 +107,6 @@ def has_ended(path: Path) -> bool:
         return False
 
 
-class Line(NamedTuple):
-    """A line of the record: its letter, its number and its bytes."""
-
-    letter: bytes
-    number: int
-    data: bytes
-
-
 def read_record(data: bytes, name: str) -> Run:
     """The last run of a record, as far as it came; a Trouble where there is none, or a line is damaged."""
     begin = data.rfind(BEGIN)
@@ -124,27 +114,27 @@ def read_record(data: bytes, name: str) -> Run:
         raise Trouble("it holds no record of vga-floppy", name)
     first = data.count(b"\n", 0, begin) + 1
     parts = {TABLE: bytearray(), ANSWERS: bytearray()}
-    end: Optional[Line] = None
-    for number, line in _lines(data[begin:], first, name):
-        if line.letter in parts:
-            part = parts[line.letter]
-            if line.number != len(part):
-                raise Trouble(f"bytes from {len(part)} on are to come, and not from {line.number} on", name, number)
-            part += line.data
-        elif line.letter == END:
-            end = line
+    end: Optional[tuple[int, bytes]] = None
+    for line, letter, number, listed in _lines(data[begin:], first, name):
+        if letter in parts:
+            part = parts[letter]
+            if number != len(part):
+                raise Trouble(f"bytes from {len(part)} on are to come, and not from {number} on", name, line)
+            part += listed
+        elif letter == END:
+            end = number, listed
             break
     answers = bytes(parts[ANSWERS])
     table = Table(bytes(parts[TABLE]), name)
     if end is None:
         return Run(table, answers, False)
-    if end.number != len(answers) or end.data != (sum(answers) & 0xFFFF).to_bytes(2, "little"):
+    if end != (len(answers), (sum(answers) & 0xFFFF).to_bytes(2, "little")):
         raise Trouble("the end of the record tells of other answers", name)
     return Run(table, answers)
 
 
-def _lines(data: bytes, first: int, name: str) -> Iterator[tuple[int, Line]]:
-    """The lines of a record with their numbers in the file, up to one that is cut off."""
+def _lines(data: bytes, first: int, name: str) -> Iterator[tuple[int, bytes, int, bytes]]:
+    """The lines of a record up to one that is cut off: each line's place in the file, its letter, number and bytes."""
     lines = data.split(b"\n")
     for number, line in enumerate(lines[1:-1], first + 1):
         found = LINE.fullmatch(line.strip(b"\r"))
@@ -153,4 +143,4 @@ def _lines(data: bytes, first: int, name: str) -> Iterator[tuple[int, Line]]:
         numbered, listed = bytes.fromhex(found[2].decode()), bytes.fromhex((found[3] or b"").decode())
         if sum(numbered + listed) & 0xFF != int(found[4], 16):
             raise Trouble("the line's sum is wrong: bytes were lost on their way", name, number)
-        yield number, Line(found[1], int.from_bytes(numbered, "big"), listed)
+        yield number, found[1], int.from_bytes(numbered, "big"), listed

@@ -1,7 +1,5 @@
 """The emulators that boot an image: how each is started without a window, and which version it is."""
 
-from __future__ import annotations
-
 import os
 import re
 import shutil

@@ -4,8 +4,6 @@ Each step is an opcode and its fields, low bytes first. The same table tells wha
 image, or what came over the serial port, stands alone.
 """
 
-from __future__ import annotations
-
 import struct
 import zlib
 from itertools import takewhile
@@ -21,16 +19,13 @@ FINISH, OUT, OUTW, IN, INW, PUT, PUTW, GET, GETW, INT = range(10)
 PASS_OVER, LOOK_AWAY, FILL, REPEAT, END, SCRIPT, END_OF_RESET = range(10, 17)
 STEPS = {name: form.opcode for name, form in format.FORMS.items() if OUT <= form.opcode <= GETW}
 READS = (IN, INW, GET, GETW)
-FORMS = {
-    OUT: struct.Struct("<HB"), OUTW: struct.Struct("<HH"), IN: struct.Struct("<H"), INW: struct.Struct("<H"),
-    PUT: struct.Struct("<HHB"), PUTW: struct.Struct("<HHH"), GET: struct.Struct("<HH"), GETW: struct.Struct("<HH"),
+FORMS = {opcode: struct.Struct(f"<{fields}") for opcode, fields in {
+    OUT: "HB", OUTW: "HH", IN: "H", INW: "H", PUT: "HHB", PUTW: "HHH", GET: "HH", GETW: "HH",
     # ax, bx, cx, dx; where it looks for its block or table; the table's length, and the block's.
-    INT: struct.Struct("<4HBHH"),
-    PASS_OVER: struct.Struct("<H"), LOOK_AWAY: struct.Struct("<HB"), FILL: struct.Struct("<HB"),
-    REPEAT: struct.Struct("<H"), FINISH: struct.Struct(""), END: struct.Struct(""),
-    # The last value of miscellaneous output before the script, and the length of the script's name.
-    SCRIPT: struct.Struct("<BB"), END_OF_RESET: struct.Struct(""),
-}
+    INT: "4HBHH",
+    # The last value of miscellaneous output before a script, and the length of the script's name.
+    SCRIPT: "BB", PASS_OVER: "H", LOOK_AWAY: "HB", FILL: "HB", REPEAT: "H", END: "", END_OF_RESET: "", FINISH: "",
+}.items()}
 # Bytes of such a number stand behind the fields, the last of which is the number.
 BEHIND = (INT, SCRIPT)
 # The header before the steps: a name, the version of the forms, where the first script stands, behind the steps that
@@ -91,22 +86,14 @@ def is_for_machine(step: Step) -> bool:
     return place in decoded and last in decoded
 
 
-def steps_for(script: format.Script) -> bytes:
-    """A script's steps and blocks as the interpreter's."""
-    def packed(item: Item) -> bytes:
-        if isinstance(item, Block):
-            return _packed(REPEAT, item.count) + b"".join(map(_step_for, item.steps)) + _packed(END)
-        return _step_for(item)
-
-    return b"".join(map(packed, script.items))
-
-
 def _packed(opcode: int, *fields: int) -> bytes:
     return bytes([opcode]) + FORMS[opcode].pack(*fields)
 
 
-def _step_for(step: Step) -> bytes:
-    """A step as the interpreter's: one of a machine, or one that it passes over."""
+def _packed_item(step: Item) -> bytes:
+    """A block as the interpreter's, or a step: one of a machine, or one that it passes over."""
+    if isinstance(step, Block):
+        return _packed(REPEAT, step.count) + b"".join(map(_packed_item, step.steps)) + _packed(END)
     if not is_for_machine(step):
         return _packed(PASS_OVER, 1)
     if step.name == "int":
@@ -173,7 +160,8 @@ def table_for(scripts: Mapping[str, format.Script]) -> bytes:
         named = name.encode("utf-8", "surrogateescape")
         if len(named) > MOST_NAME:
             raise Trouble(f"the name of a script has at most {MOST_NAME} bytes", name)
-        parts += [_packed(SCRIPT, 3 if any(map(_has_call, script.items)) else 0, len(named)), named, steps_for(script)]
+        parts += [_packed(SCRIPT, 3 if any(map(_has_call, script.items)) else 0, len(named)), named]
+        parts += map(_packed_item, script.items)
     steps = b"".join(parts) + _packed(FINISH)
     return HEADER.pack(NAME, VERSION, len(parts[0]), len(steps), zlib.crc32(steps)) + steps
 

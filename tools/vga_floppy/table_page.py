@@ -45,21 +45,16 @@ def _read(path: str) -> Results:
     try:
         found = json.loads(data)
         command, rules = found["command"], found["rules"]
-        _check(rules)
+        for rule, case in ((rule, case) for rule in rules for case in rule["cases"]):
+            # What lacks a part raises an error.
+            int(case["answers"]) + int(case["differing"])
+            str.format("{}{}{}", rule["rule"], rule["folder"], case["answer"])
     except (ValueError, KeyError, TypeError) as error:
         raise Trouble("it isn't what `vga-report suite --json` prints", name) from error
     on, bios = ON.search(command), BIOS.search(command)
     if on is None or on[1] not in MACHINES:
         raise Trouble("its command is no `vga-floppy run --on` of an emulator", name)
     return Results(on[1], MACHINES[on[1]].full_version(bios[1] if bios else None), rules)
-
-
-def _check(rules: Any) -> None:
-    """Has an error raised where results lack a part."""
-    for rule in rules:
-        for case in rule["cases"]:
-            int(case["answers"]) + int(case["differing"])
-            str.format("{}{}{}", rule["rule"], rule["folder"], case["answer"])
 
 
 def write_tables(page: str, paths: Sequence[str]) -> None:
@@ -71,19 +66,11 @@ def write_tables(page: str, paths: Sequence[str]) -> None:
     _, last, after = rest.partition(LAST_MARK)
     if not first or not last:
         raise Trouble(f"it lacks the marks: {FIRST_MARK} and {LAST_MARK}", page)
-    made = "\n".join(_lines([_read(path) for path in paths]))
+    results = [_read(path) for path in paths]
+    compared = "Compared were " + ", ".join(result.version for result in results) + "."
+    tables = ("\n".join(lines) for lines in (_counts(results), _folders(results), _rules(results)))
+    made = "\n\n".join([compared, *tables])
     write_over(page, f"{before}{first}\n\n{made}\n\n{last}{after}".encode("utf-8", "surrogateescape"))
-
-
-def _lines(results: Sequence[Results]) -> Iterator[str]:
-    """The tables, as lines of Markdown."""
-    yield "Compared were " + ", ".join(result.version for result in results) + "."
-    yield ""
-    yield from _counts(results)
-    yield ""
-    yield from _folders(results)
-    yield ""
-    yield from _rules(results)
 
 
 def _row(*cells: str) -> str:

@@ -7,7 +7,7 @@ import time
 from collections import Counter
 from pathlib import Path
 from random import Random
-from typing import Any, Optional, Sequence
+from typing import Any, Sequence
 
 from vga_report import TOP, cli
 from vga_report.processes import MEBIBYTE
@@ -19,8 +19,7 @@ from vga_report.trouble import Trouble
 from vga_report.words import number_to, seconds
 from zaklimot.format import HEADERS
 
-from .feeding import Fed, Program, Wrong
-from .judging import Limits
+from .feeding import Fed, Limits, Program, Wrong
 from .making import Input, make
 
 # Where the texts are that are changed.
@@ -90,13 +89,6 @@ class Tally:
         ]
 
 
-def _tell(number: int, given: Input, fed: Fed, keep: Optional[str]) -> None:
-    """Says what was wrong with an input, and keeps it."""
-    print(f"input {number} ({given.made}): {fed.trouble}", flush=True)
-    if keep is not None:
-        write_file(str(Path(keep) / f"{number}{'.vga' if given.is_text else '.bin'}"), given.data)
-
-
 def _fuzz(words: argparse.Namespace, folder: Path) -> int:
     """Makes inputs and feeds the program with them, until the time or the inputs are used up, or the user ends it."""
     limits = Limits(words.timeout, words.memory * MEBIBYTE, words.output * MEBIBYTE)
@@ -110,7 +102,9 @@ def _fuzz(words: argparse.Namespace, folder: Path) -> int:
             fed = program.feed(given)
             tally.count(given, fed)
             if fed.trouble is not None:
-                _tell(number, given, fed, words.keep)
+                print(f"input {number} ({given.made}): {fed.trouble}", flush=True)
+                if words.keep is not None:
+                    write_file(str(Path(words.keep) / f"{number}{'.vga' if given.is_text else '.bin'}"), given.data)
             number += 1
     finally:
         # The figures are told of a run that the user ends, too.

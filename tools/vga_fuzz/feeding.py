@@ -1,14 +1,127 @@
-"""Feeds the program with one input, in each way that it takes one, and holds the answers side by side."""
+"""Feeds the program with one input, in each way that it takes one, within limits; and tells what is wrong with how it ends."""
 
+import io
+import resource
+import subprocess
 from pathlib import Path
-from typing import NamedTuple, Optional
+from typing import Callable, NamedTuple, Optional, Sequence
 
-from zaklimot.format import Script, decode, parse_text
+from vga_report.processes import started
+from vga_report.report import Report
+from vga_report.trouble import Trouble
+from zaklimot.format import LINE, Script, ScriptFault, decode, is_answer_to, parse_text
 
-from .judging import (
-    DONE, DONE_ANSWER, OUT_OF_MEMORY, WRITE_FAULT, Limits, Outcome, answer_of, meant_by, run, trouble_of,
-)
 from .making import Input
+
+DONE, FAULTY, WORDS = 0, 1, 2
+DONE_ANSWER = "done"
+WRITE_FAULT, OUT_OF_MEMORY = "F9 WriteFault", "F10 OutOfMemory"
+# So much of what a program says on standard error is read.
+MOST_SAID = 4096
+
+
+class Limits(NamedTuple):
+    """What one run of the program may take."""
+
+    seconds: float
+    memory: int
+    output: int
+
+
+class Outcome(NamedTuple):
+    """How a run ended: its status, or None where it took too long; its report and what it said."""
+
+    status: Optional[int]
+    report: bytes
+    said: bytes
+    is_report_full: bool
+
+
+def answer_of(outcome: Outcome) -> str:
+    """The fault that ended a run, or `done`. The run must be one that `trouble_of` finds nothing wrong with."""
+    return DONE_ANSWER if outcome.status == DONE else outcome.said.decode("ascii")[len("vga: "):-1]
+
+
+def _shown(data: bytes) -> str:
+    """What a program said, for messages."""
+    return repr(data[:100].decode("ascii", "backslashreplace"))
+
+
+def _trouble_of_report(report: bytes, script: Script, is_whole: bool) -> Optional[str]:
+    """Why some bytes are no report of a script, or not the whole lines of one's front."""
+    stream = io.BufferedReader(io.BytesIO(report))  # type: ignore[arg-type]
+    meant = script.steps()
+    try:
+        for answered in Report(stream, "report").steps():
+            if answered.number == 0:
+                return "a fault stands on standard output"
+            step = next(meant, None)
+            if step is None:
+                return f"step {answered.number} is answered, and the script has none"
+            if not is_answer_to(step, answered):
+                return f"step {answered.number}, {step.name}, answers {answered.answer[:60]!r}"
+    except Trouble as trouble:
+        return str(trouble)
+    return "the report ends before the script" if is_whole and next(meant, None) else None
+
+
+def meant_by(read: Callable[[bytes], Script], data: bytes) -> tuple[str, Script]:
+    """What the program is to answer to bytes or a text that are read so, a fault or `done`; and the script that they are."""
+    try:
+        return DONE_ANSWER, read(data)
+    except ScriptFault as fault:
+        return fault.answer, Script()
+
+
+def trouble_of(outcome: Outcome, script: Optional[Script]) -> Optional[str]:
+    """What is wrong with a run, if anything is. What it writes is the report of a script, or has no form here."""
+    if outcome.status is None:
+        return "it has not ended in time"
+    if outcome.status < 0:
+        return f"signal {-outcome.status} has ended it"
+    if outcome.status == WORDS:
+        return f"its words are refused: {_shown(outcome.said)}"
+    if outcome.status not in (DONE, FAULTY):
+        return f"status {outcome.status}: {_shown(outcome.said)}"
+    if outcome.status == DONE:
+        if outcome.said:
+            return f"status 0, and it says {_shown(outcome.said)}"
+        return None if script is None else _trouble_of_report(outcome.report, script, is_whole=True)
+    return _trouble_of_fault(outcome, script)
+
+
+def _trouble_of_fault(outcome: Outcome, script: Optional[Script]) -> Optional[str]:
+    """What is wrong with a run that ended with status 1."""
+    line = LINE.fullmatch(outcome.said.decode("ascii", "backslashreplace"))
+    if line is None:
+        return f"status 1, and no fault: {_shown(outcome.said)}"
+    if line[1] == WRITE_FAULT:
+        return None if outcome.is_report_full else "F9 WriteFault, and each write was taken"
+    if line[1] == OUT_OF_MEMORY and script is not None:
+        return _trouble_of_report(outcome.report, script, is_whole=False)
+    return f"{len(outcome.report)} bytes are written before {line[1]}" if outcome.report else None
+
+
+def run(words: Sequence[str], folder: Path, limits: Limits) -> Outcome:
+    """Runs a program. A write past the limit of output fails, as one on a full disk does."""
+    report, said = folder / "report", folder / "said"
+    most = {resource.RLIMIT_CORE: 0, resource.RLIMIT_AS: limits.memory, resource.RLIMIT_FSIZE: limits.output}
+
+    def limit() -> None:
+        for what, value in most.items():
+            resource.setrlimit(what, (value, value))
+
+    with open(report, "wb") as output, open(said, "wb") as errors:
+        # Python ignores the signal of a file that has become too large, and the program shall too.
+        with started(words, stdout=output, stderr=errors, restore_signals=False, preexec_fn=limit) as process:
+            try:
+                status = process.wait(limits.seconds)
+            except subprocess.TimeoutExpired:
+                status = None
+    with open(said, "rb") as stream:
+        message = stream.read(MOST_SAID)
+    data = report.read_bytes()
+    return Outcome(status, data, message, len(data) >= limits.output)
 
 
 class Fed(NamedTuple):

@@ -16,9 +16,8 @@ from vga_report.processes import run
 from vga_report.streams import filled, refuse_input, to_read
 from vga_report.version import HEADER, Version, version
 
-from .building import HEAP
 from .targets import X86_64, Target
-from .toolchain import CRATE
+from .toolchain import CRATE, HEAP
 
 NAME = "zaklimot"
 # The name by which CMake finds it, and the files that it reads, with places for what is made.

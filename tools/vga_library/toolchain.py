@@ -1,4 +1,4 @@
-"""The Rattle kit's part of the library, and the crate's archive.
+"""What the library is joined of: the crate's archive for a processor, and the functions that take its memory.
 
 Right behind the gate the archive is made over the libraries that `rt ci` proved and built: `rt lib`
 does not take these, and would prove all crates once more. So its calls of the compiler are made
@@ -26,6 +26,11 @@ ARCHIVE = CRATE / "out" / "libvga_c.a"
 AGAIN = ". If rt ci has passed, a build was stopped since: remove the folders crates/*/out, and run it again"
 # What every crate stands on, unnamed.
 ALWAYS = "std"
+# The memory's functions for processors for which the kit has none.
+HEAP = Path(__file__).resolve().parent / "heap.c"
+HEAP_OPTIONS = ("-std=c99", "-O2", "-fPIC", "-Wall", "-Wextra", "-Werror")
+# Where `rt check` keeps its work.
+KEPT = CRATE / "out" / "incremental"
 
 
 def kit_folder() -> Path:
@@ -85,4 +90,22 @@ def gated_archive(backend: str, kept: Path, made: Path, target: Target = X86_64)
     kit = kit_folder()
     words = [*proving_words(kit, kept.absolute()), "--toolchain", kit / "toolchain", "--backend", backend]
     run([kit / "bin" / "rattle", "build", *words, "--target", target.triple, "-o", made], CRATE)
+    return made
+
+
+def built_archive(backend: str, target: Target, heard: Optional[Hearer] = None) -> Path:
+    """The crate's archive for a processor, proved and built. What is kept of its proof makes it quick."""
+    if target == X86_64:
+        return proved_archive(backend, heard)
+    # `rt lib` builds for the kit's own processor alone. The compiler proves the crate for the other one too.
+    run(["rt", "check"], CRATE, heard)
+    return gated_archive(backend, KEPT, CRATE / "out" / f"lib{CRATE.name}-{target.name}.a", target)
+
+
+def memory_part(target: Target, folder: Path) -> Path:
+    """The functions that the crate takes its memory by: the kit's, or a file that is made in the folder."""
+    if target == X86_64:
+        return kit_archive()
+    made = folder / "heap.o"
+    run([target.compiler(), *HEAP_OPTIONS, "-c", HEAP, "-o", made])
     return made

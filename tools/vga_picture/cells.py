@@ -1,7 +1,5 @@
 """Text: the characters and attributes that come nearest to an image, and the steps that write them."""
 
-from __future__ import annotations
-
 import struct
 from dataclasses import dataclass
 from functools import lru_cache
@@ -29,7 +27,6 @@ GAP = 5
 
 # A bit for each dot of a cell, the first of the first line lowest.
 Dots = int
-Cell = tuple[int, int]
 
 
 @dataclass(frozen=True)

@@ -1,7 +1,5 @@
 """Colours that stand for those of an image: in the middle of them, or at their outside, where a dither wants them."""
 
-from __future__ import annotations
-
 from collections import Counter
 from typing import Iterator, Sequence
 

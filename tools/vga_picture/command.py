@@ -1,7 +1,5 @@
 """The words of the command line, what the command does, and how it ends."""
 
-from __future__ import annotations
-
 import argparse
 import os
 import re
@@ -10,7 +8,7 @@ import sys
 from vga_report import cli
 from vga_report.cli import add
 from vga_report.images import image_bytes
-from vga_report.output import AGREED, counted, name_of, refuse_twice
+from vga_report.output import counted, name_of, refuse_twice
 from vga_report.png import save_png
 from vga_report.program import FONTS
 from vga_report.progress import Progress
@@ -95,7 +93,7 @@ def _drawn(words: argparse.Namespace, progress: Progress) -> tuple[Drawn, str]:
     return draw_text(made, mode, font, words.short, words.own_glyphs, tell), told
 
 
-def _script(words: argparse.Namespace, progress: Progress) -> int:
+def _script(words: argparse.Namespace, progress: Progress) -> None:
     """Makes a script, and says what it has."""
     if words.picture is not None and os.path.realpath(words.script) == os.path.realpath(words.picture):
         raise Trouble("the script and its picture are to be two files", words.script)
@@ -109,9 +107,8 @@ def _script(words: argparse.Namespace, progress: Progress) -> int:
         figures = write_script(stream, drawn.parts, drawn.answer, not words.bytes)
         if words.picture is not None:
             save_png(words.picture, drawn.picture)
-    line = f"mode {words.mode}: {told}{drawn.told}; {figures.line()}"
+    line = f"mode {words.mode}: {told}{drawn.told}; {figures}"
     print(line, file=sys.stderr if STANDARD in (words.script, words.picture) else sys.stdout)
-    return AGREED
 
 
 # Runs a command line, and answers its exit status.

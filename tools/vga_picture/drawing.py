@@ -1,20 +1,17 @@
 """A script that draws an image: its parts, and the picture that its frame is to show."""
 
-from __future__ import annotations
-
 from dataclasses import dataclass
 from typing import Callable, Iterator, Sequence
 
 from vga_trace.step import FRAME, Step
 from zaklimot.format import Picture
 
-from .areas import Areas
 from .cells import cells_of, put_cells, rows_of, typed_cells
 from .colours import Indexed
 from .glyphs import loading, own_glyphs, with_glyphs
 from .mode import Kind, Mode
 from .nearest import Colour
-from .screen import screen_of
+from .screen import Areas, PlaneScreen, Screen
 from .steps import Part, Service
 
 # Cycles of a mode set: of registers and palette, of the glyphs of text, of memory that is cleared.
@@ -46,11 +43,14 @@ def _colours(colours: Sequence[Colour], mode: Mode) -> Iterator[Service]:
             first = number
 
 
-def _picture(rows: Sequence[bytes], colours: Sequence[Colour], mode: Mode) -> Picture:
-    """The picture of a frame: each pixel as many dots wide and high as the mode shows it."""
+def _drawn(
+    parts: Sequence[Part], rows: Sequence[bytes], colours: Sequence[Colour], mode: Mode, told: str = ""
+) -> Drawn:
+    """A script with its frame, in whose picture each pixel is as many dots wide and high as the mode shows it."""
     dots = [bytes(colour) * mode.across for colour in colours]
-    lines = (b"".join(map(dots.__getitem__, row)) for row in rows)
-    return Picture.of_dots(mode.width * mode.across, mode.height * mode.down, b"".join(line * mode.down for line in lines))
+    lines = (mode.down * b"".join(map(dots.__getitem__, row)) for row in rows)
+    picture = Picture.of_dots(mode.width * mode.across, mode.height * mode.down, b"".join(lines))
+    return Drawn([*parts, Part("The picture", [Step(FRAME)])], picture, told)
 
 
 def _begin(mode: Mode, colours: Sequence[Colour], count: int) -> list[Part]:
@@ -65,7 +65,7 @@ def _begin(mode: Mode, colours: Sequence[Colour], count: int) -> list[Part]:
 
 def draw_pixels(image: Indexed, mode: Mode, is_short: bool) -> Drawn:
     """A script for a graphics mode. A short one has areas by the video BIOS first."""
-    screen = screen_of(mode)
+    screen = PlaneScreen(mode) if mode.kind is Kind.PLANES else Screen(mode)
     count = len(image.colours)
     image = screen.numbered(image)
     parts = _begin(mode, image.colours, count)
@@ -75,8 +75,7 @@ def draw_pixels(image: Indexed, mode: Mode, is_short: bool) -> Drawn:
     steps = screen.drawn(have, image.rows)
     if steps:
         parts.append(Part(f"{len(steps)} cycles for {'the rest' if areas else 'the pixels'}", steps))
-    parts.append(Part("The picture", [Step(FRAME)]))
-    return Drawn(parts, _picture(image.rows, image.colours, mode))
+    return _drawn(parts, image.rows, image.colours, mode)
 
 
 def draw_text(
@@ -98,7 +97,5 @@ def draw_text(
     steps = typed_cells(cells, mode.columns) if is_short else put_cells(cells)
     if steps:
         parts.append(Part("The cells: a character and its attribute", steps))
-    parts.append(Part("The picture", [Step(FRAME)]))
-    exact = sum(cell.error == 0 for cell in cells)
-    picture = _picture(rows_of(cells, mode, font), image.colours, mode)
-    return Drawn(parts, picture, f", {exact:,} of {len(cells):,} cells fit{told}")
+    told = f", {sum(cell.error == 0 for cell in cells):,} of {len(cells):,} cells fit{told}"
+    return _drawn(parts, rows_of(cells, mode, font), image.colours, mode, told)

@@ -1,7 +1,5 @@
 """An image of another size than the mode's."""
 
-from __future__ import annotations
-
 import re
 import struct
 from enum import Enum

@@ -1,8 +1,7 @@
 """Glyphs of an image's own, in the place of those of a font that it has no use for."""
 
-from __future__ import annotations
-
 from collections import Counter
+from functools import lru_cache, partial
 from itertools import permutations
 from typing import Iterator, Mapping, Sequence
 
@@ -28,12 +27,10 @@ def own_glyphs(image: Indexed, mode: Mode, cells: Sequence[Chosen]) -> dict[int,
     """
     kept = {BLANK, *LINE_CHARACTERS, *(cell.character for cell in cells if cell.error == 0)}
     gains: Counter[bytes] = Counter()
-    known: dict[bytes, tuple[int, bytes]] = {}
+    wanted_of = lru_cache(maxsize=None)(partial(_wanted, colours=image.colours, width=mode.cell_width))
     for cell, dots in zip(cells, dots_of_cells(image, mode)):
         if cell.error:
-            if dots not in known:
-                known[dots] = _wanted(dots, image.colours, mode.cell_width)
-            error, glyph = known[dots]
+            error, glyph = wanted_of(dots)
             gains[glyph] += max(0, cell.error - error)
     free = [character for character in range(GLYPHS) if character not in kept]
     wanted = sorted((glyph for glyph in gains if gains[glyph]), key=lambda glyph: (-gains[glyph], glyph))

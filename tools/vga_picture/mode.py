@@ -1,7 +1,5 @@
 """The modes that a picture may be drawn in: what docs/MODES.md tells of them, as far as drawing needs it."""
 
-from __future__ import annotations
-
 from dataclasses import dataclass, replace
 from enum import Enum
 

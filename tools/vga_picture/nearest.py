@@ -1,7 +1,5 @@
 """The nearest of some colours."""
 
-from __future__ import annotations
-
 from typing import Sequence
 
 # Red, green and blue, six bits each.

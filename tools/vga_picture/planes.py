@@ -10,17 +10,17 @@ from __future__ import annotations
 from collections import Counter
 from functools import lru_cache
 from itertools import combinations
-from typing import Iterable, Iterator, Mapping, NamedTuple, Optional, Sequence, TypeVar
+from typing import Iterator, Mapping, NamedTuple, Optional, Sequence
 
+from vga_trace.rebuilding import ALL_PLANES, map_mask, masks_of
+from vga_trace.rebuilding import FIRST_ADDRESS as WINDOW
+from vga_trace.state import PLANES
 from vga_trace.step import OUTW, PUT, PUTW, Step
 
-PLANES, ALL_PLANES = 4, 0x0F
 # Masks in the order in which they are written: all planes, which a mode set leaves; then those of three, of two, of one.
 MASKS = tuple(sorted(range(1, 16), key=lambda mask: (-bin(mask).count("1"), mask)))
 # A byte of each plane.
 Bytes = tuple[int, int, int, int]
-WINDOW = 0xA0000
-SEQUENCER, MAP_MASK = 0x3C4, 0x02
 NUMBERS = 16
 # Pixels of a word.
 WORD = 16
@@ -30,20 +30,15 @@ FIRST_NUMBERS = (0, 15, 1, 2, 4, 8, 3, 5, 6, 9, 10, 12, 7, 11, 13, 14)
 MOST_SETS = 400
 DIGITS = tuple(bytes(48 + (number >> plane & 1) for number in range(256)) for plane in range(PLANES))
 
+# Pixels of rows, each the number of a colour.
 Rows = Sequence[bytes]
 Planes = tuple[bytes, ...]
-Value = TypeVar("Value")
 
 
 def planes_of(rows: Rows) -> Planes:
     """The four planes of rows of pixels, each a number of four bits; eight pixels to a byte, the leftmost in bit 7."""
     length = len(rows[0]) // 8
     return tuple(b"".join(int(row.translate(digits), 2).to_bytes(length, "big") for row in rows) for digits in DIGITS)
-
-
-def map_mask(mask: int) -> Step:
-    """Lets writes reach the planes of a mask alone."""
-    return Step(OUTW, SEQUENCER, mask << 8 | MAP_MASK)
 
 
 def is_all_planes(steps: Sequence[Step]) -> bool:
@@ -139,33 +134,9 @@ class Word(NamedTuple):
     high: Bytes
 
 
-def _masks(values: Iterable[Value]) -> dict[Value, int]:
-    """The planes of each value."""
-    masks: dict[Value, int] = {}
-    for plane, value in enumerate(values):
-        masks[value] = masks.get(value, 0) | 1 << plane
-    return masks
-
-
 def _changed(have: Bytes, want: Bytes) -> int:
     """The planes whose byte changes."""
     return sum(1 << plane for plane in range(PLANES) if have[plane] != want[plane])
-
-
-def _by_words(have: Word, want: Word) -> list[Write]:
-    """A write for each different word."""
-    lows, highs = _changed(have.low, want.low), _changed(have.high, want.high)
-    return [
-        Write(mask & (lows | highs), low if mask & lows else None, high if mask & highs else None)
-        for (low, high), mask in _masks(zip(want.low, want.high)).items() if mask & (lows | highs)
-    ]
-
-
-def _by_bytes(have: Word, want: Word) -> list[Write]:
-    """A write for each different byte."""
-    lows, highs = _changed(have.low, want.low), _changed(have.high, want.high)
-    writes = [Write(mask & lows, low, None) for low, mask in _masks(want.low).items() if mask & lows]
-    return writes + [Write(mask & highs, None, high) for high, mask in _masks(want.high).items() if mask & highs]
 
 
 def _only(values: Bytes, planes: int) -> Optional[int]:
@@ -185,12 +156,13 @@ def _last_writes(open_low: int, open_high: int, mask: int, want: Word) -> Iterat
         yield Write(mask, low, high), open_low & ~mask, open_high & ~mask
 
 
-def _searched(have: Word, want: Word, most: int) -> Optional[tuple[Write, ...]]:
+def _searched(lows: int, highs: int, want: Word, most: int) -> Optional[tuple[Write, ...]]:
     """The fewest writes, at most so many, in the order of masks; None where there are none.
 
+    `lows` and `highs` are the planes whose low and whose high byte changes.
     They are found from the last one backwards: what is still to be made then are the bytes that no later write makes.
     """
-    kept_low, kept_high = ALL_PLANES & ~_changed(have.low, want.low), ALL_PLANES & ~_changed(have.high, want.high)
+    kept_low, kept_high = ALL_PLANES & ~lows, ALL_PLANES & ~highs
     paths: dict[tuple[int, int], tuple[Write, ...]] = {(ALL_PLANES, ALL_PLANES): ()}
     for mask in reversed(MASKS):
         for (open_low, open_high), path in list(paths.items()):
@@ -206,11 +178,17 @@ def _searched(have: Word, want: Word, most: int) -> Optional[tuple[Write, ...]]:
 
 @lru_cache(maxsize=None)
 def _least(have: Word, want: Word) -> tuple[Write, ...]:
-    by_words, by_bytes = _by_words(have, want), _by_bytes(have, want)
-    best = by_words if len(by_words) <= len(by_bytes) else by_bytes
-    lows = sum(write.low is not None for write in by_bytes)
-    if len(best) > max(lows, len(by_bytes) - lows):
-        return _searched(have, want, len(best) - 1) or tuple(best)
+    lows, highs = _changed(have.low, want.low), _changed(have.high, want.high)
+    # A write for each different word, or for each different byte.
+    by_words = [
+        Write(mask & (lows | highs), low if mask & lows else None, high if mask & highs else None)
+        for (low, high), mask in masks_of(zip(want.low, want.high)).items() if mask & (lows | highs)
+    ]
+    by_lows = [Write(mask & lows, low, None) for low, mask in masks_of(want.low).items() if mask & lows]
+    by_highs = [Write(mask & highs, None, high) for high, mask in masks_of(want.high).items() if mask & highs]
+    best = min(by_words, by_lows + by_highs, key=len)
+    if len(best) > max(len(by_lows), len(by_highs)):
+        return _searched(lows, highs, want, len(best) - 1) or tuple(best)
     return tuple(best)
 
 

@@ -1,15 +1,13 @@
-"""What a script that draws is made of: steps, services, blocks that are repeated, and its figures."""
-
-from __future__ import annotations
+"""What a script that draws is made of: steps, services, blocks that are repeated; how it is written, and its figures."""
 
 from collections import Counter
-from dataclasses import dataclass, field
+from dataclasses import dataclass
 from typing import BinaryIO, Sequence, Union
 
 from vga_report.trouble import Trouble
-from vga_trace.step import Step
+from vga_trace.step import FRAME, Step
 from zaklimot import format
-from zaklimot.format import FIRST_LINE, HEADERS, MOST_BYTES, MOST_STEPS
+from zaklimot.format import FIRST_LINE, MOST_BYTES, MOST_STEPS
 from zaklimot.format.text import printed_item
 
 
@@ -54,55 +52,33 @@ class Part:
     items: Sequence[Item]
 
 
-@dataclass
-class Figures:
-    """The steps by kind, those of a block as often as they are taken; the cycles of them all; the script's bytes."""
-
-    kinds: Counter[str] = field(default_factory=Counter)
-    cycles: int = 0
-    blocks: int = 0
-    length: int = 0
-
-    def add(self, item: Item, times: int = 1) -> None:
-        """Counts an item. A word is one cycle, as a bus of 16 bits takes it."""
-        if isinstance(item, Repeat):
-            self.blocks += 1
-            for step in item.steps:
-                self.add(step, item.count)
-            return
-        name = item.step.name
-        self.kinds[name] += times
-        self.cycles += times * (item.cycles if isinstance(item, Service) else name != "frame")
-
-    def line(self) -> str:
-        """The figures as they are told."""
-        kinds = ", ".join(f"{count:,} {kind}" for kind, count in self.kinds.most_common())
-        blocks = f", {self.blocks:,} repeat" if self.blocks else ""
-        return f"{sum(self.kinds.values()):,} steps, {self.cycles:,} cycles, {self.length:,} bytes: {kinds}{blocks}"
+def _cycles(item: Item) -> int:
+    """The cycles of an item. A word is one, as a bus of 16 bits takes it."""
+    if isinstance(item, Repeat):
+        return item.count * sum(map(_cycles, item.steps))
+    return item.cycles if isinstance(item, Service) else int(item.opcode != FRAME)
 
 
-def _lines(parts: Sequence[Part], answer: str, is_version_2: bool) -> bytes:
+def _lines(parts: Sequence[Part], answer: str, version: int) -> bytes:
     """A script as text. The answer is what its last step, the frame, is expected to give."""
-    lines = [b"; %s\n" % parts[0].note.encode(), f"{FIRST_LINE}\n".encode() if is_version_2 else b""]
+    lines = [f"; {parts[0].note}", *([FIRST_LINE] if version == 2 else [])]
     for number, part in enumerate(parts):
-        lines.append(b"\n; %s\n" % part.note.encode() if number else b"")
+        lines += ["", f"; {part.note}"] if number else []
         # Registers that are 0 are left out.
-        lines.extend(b"%b\n" % line.encode() for item in part.items for line in printed_item(item.step, is_short=True))
-    last = lines.pop()
-    return b"".join(lines) + last.rstrip(b"\n") + f" ; = {answer}\n".encode()
+        lines += (line for item in part.items for line in printed_item(item.step, is_short=True))
+    return ("\n".join(lines) + f" ; = {answer}\n").encode()
 
 
-def write_script(stream: BinaryIO, parts: Sequence[Part], answer: str, is_text: bool) -> Figures:
-    """Writes a script, whose last step is a frame; a Trouble where it is longer than a script may be."""
-    figures = Figures()
-    for part in parts:
-        for item in part.items:
-            figures.add(item)
-    is_version_2 = figures.blocks > 0
-    data = HEADERS[2 if is_version_2 else 1] + b"".join(format.encoded(item.step) for part in parts for item in part.items)
-    lines = _lines(parts, answer, is_version_2) if is_text else b""
-    if max(len(data), len(lines)) > MOST_BYTES or sum(figures.kinds.values()) > MOST_STEPS:
+def write_script(stream: BinaryIO, parts: Sequence[Part], answer: str, is_text: bool) -> str:
+    """Writes a script, whose last step is a frame, and answers its figures; a Trouble where it is too long for one."""
+    items = [item for part in parts for item in part.items]
+    blocks = sum(isinstance(item, Repeat) for item in items)
+    script = format.Script(tuple(item.step for item in items), 2 if blocks else 1)
+    data = _lines(parts, answer, script.version) if is_text else format.encode(script)
+    if max(script.size, len(data)) > MOST_BYTES or script.count > MOST_STEPS:
         raise Trouble(f"the script would be longer than {MOST_BYTES:,} bytes or steps")
-    figures.length = len(lines or data)
-    stream.write(lines or data)
-    return figures
+    stream.write(data)
+    kinds = [f"{count:,} {kind}" for kind, count in Counter(step.name for step in script.steps()).most_common()]
+    kinds += [f"{blocks:,} repeat"] if blocks else []
+    cycles = sum(map(_cycles, items))
+    return f"{script.count:,} steps, {cycles:,} cycles, {len(data):,} bytes: {', '.join(kinds)}"

@@ -8,16 +8,15 @@ from pathlib import Path
 from vga_report import TOP, cli
 from vga_report.version import version
 from vga_report.crates import phases
-from vga_library.building import built_archive
 from vga_library.targets import AARCH64, BACKENDS, X86_64, Target
+from vga_library.toolchain import built_archive
 from vga_report.processes import Hearer, check_program, run
 from vga_report.progress import Progress
 from vga_report.streams import check_folder, to_read, write_file, writing
 from vga_report.trouble import Trouble
 
-from .commit import clean_commit
 from .gathering import release_entries
-from .packing import pack
+from .packing import clean_commit, pack
 
 PROGRAM = TOP / "crates" / "vga"
 MACHINE = "x86_64-linux"

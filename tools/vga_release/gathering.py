@@ -8,15 +8,14 @@ import tempfile
 from pathlib import Path, PurePosixPath
 from typing import Iterable, Mapping, Match
 
-from vga_library.building import memory_part
 from vga_library.making import MOVING, Place, make_library
 from vga_library.targets import X86_64, Target
+from vga_library.toolchain import memory_part
 from vga_manual.command import manual_files
 from vga_report import TOP
 from vga_report.processes import run
 
-from .commit import Commit, File, files_of
-from .packing import Entry
+from .packing import Commit, Entry, File, files_of
 
 # The tools that need no toolchain: the command of each, and its package.
 TOOLS = tuple(f"tools/vga{mark}{name}" for name in ("floppy", "fuzz", "picture", "report", "trace") for mark in "-_")

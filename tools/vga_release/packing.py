@@ -1,34 +1,73 @@
-"""An archive whose bytes hang on nothing but its files and the time of the commit."""
+"""The commit that a release is made from, and an archive that hangs on nothing but its files and the commit's time."""
 
 import gzip
 import io
 import tarfile
 from pathlib import PurePosixPath
-from typing import BinaryIO, Mapping, Union
+from typing import BinaryIO, Mapping, NamedTuple, Optional, Sequence, Union
 
-from .commit import File
+from vga_report import TOP
+from vga_report.processes import ended_well
+from vga_report.trouble import Trouble
 
-PLAIN, RUN, FOLDER = 0o644, 0o755, 0o755
+EXECUTABLE = 0o100
+PLAIN, RUN = 0o644, 0o755
 LEVEL = 9
+
+
+class File(NamedTuple):
+    """A file of a release."""
+
+    content: bytes
+    is_executable: bool = False
+
+
 # A file, or where a link leads.
 Entry = Union[File, str]
 
 
-def _member(name: str, time: int) -> tarfile.TarInfo:
-    """What an archive tells of a member, but for its kind: no owner, and the time of the commit."""
+class Commit(NamedTuple):
+    """A commit's number, and its time in seconds since 1970."""
+
+    number: str
+    time: int
+
+
+def clean_commit() -> Commit:
+    """The commit that is checked out. Where a file differs from it, there is none to make a release from."""
+    changed = _git("status", "--porcelain", "--untracked-files=no").decode("utf-8", "replace").split("\n")[0]
+    if changed:
+        raise Trouble(f"a release is made from a commit, and this is changed: {changed.strip()}")
+    number, time = _git("log", "-1", "--format=%H %ct").decode("ascii").split()
+    return Commit(number, int(time))
+
+
+def files_of(commit: Commit, paths: Sequence[str]) -> dict[str, File]:
+    """The files of a commit below these paths."""
+    files: dict[str, File] = {}
+    with tarfile.open(fileobj=io.BytesIO(_git("archive", "--format=tar", commit.number, "--", *paths))) as archive:
+        for member in archive.getmembers():
+            stream = archive.extractfile(member) if member.isfile() else None
+            if stream is not None:
+                files[member.name] = File(stream.read(), bool(member.mode & EXECUTABLE))
+    return files
+
+
+def _git(*words: str) -> bytes:
+    return ended_well(["git", "-C", str(TOP), *words]).output
+
+
+def _member(name: str, entry: Optional[Entry], time: int) -> tarfile.TarInfo:
+    """What an archive tells of a file, a link, or a folder, which has no entry: no owner, and the time of the commit."""
     made = tarfile.TarInfo(name)
-    made.mtime, made.uid, made.gid, made.uname, made.gname = time, 0, 0, "", ""
-    return made
-
-
-def _add(archive: tarfile.TarFile, name: str, entry: Entry, time: int) -> None:
-    member = _member(name, time)
-    if isinstance(entry, str):
-        member.type, member.linkname, member.mode = tarfile.SYMTYPE, entry, RUN
-        archive.addfile(member)
+    made.mtime, made.mode = time, RUN
+    if isinstance(entry, File):
+        made.size, made.mode = len(entry.content), RUN if entry.is_executable else PLAIN
+    elif entry is None:
+        made.type = tarfile.DIRTYPE
     else:
-        member.size, member.mode = len(entry.content), RUN if entry.is_executable else PLAIN
-        archive.addfile(member, io.BytesIO(entry.content))
+        made.type, made.linkname = tarfile.SYMTYPE, entry
+    return made
 
 
 def pack(stream: BinaryIO, entries: Mapping[str, Entry], time: int) -> None:
@@ -37,9 +76,6 @@ def pack(stream: BinaryIO, entries: Mapping[str, Entry], time: int) -> None:
     with gzip.GzipFile(filename="", mode="wb", compresslevel=LEVEL, fileobj=stream, mtime=time) as packed:
         with tarfile.open(fileobj=packed, mode="w", format=tarfile.PAX_FORMAT) as archive:
             for name in sorted({*entries, *folders}):
-                if name in entries:
-                    _add(archive, name, entries[name], time)
-                else:
-                    member = _member(name, time)
-                    member.type, member.mode = tarfile.DIRTYPE, FOLDER
-                    archive.addfile(member)
+                entry = entries.get(name)
+                content = io.BytesIO(entry.content) if isinstance(entry, File) else None
+                archive.addfile(_member(name, entry, time), content)

@@ -1,7 +1,5 @@
 """A report against the trace that its script was made from; and the kinds of its cycles."""
 
-from __future__ import annotations
-
 from collections import Counter
 from dataclasses import dataclass, field
 from typing import Iterable, Iterator, Mapping, Optional
@@ -18,6 +16,8 @@ DONE = "ok"
 FRAME_ANSWERS = ("picture", "ragged")
 # The ports of data, each with that of its index.
 INDEX_OF = {0x3C1: 0x3C0, 0x3C5: 0x3C4, 0x3CF: 0x3CE, 0x3D5: 0x3D4, 0x3B5: 0x3B4}
+# Windows of memory, by the 32 KiB that they have.
+WINDOWS = {0x14: "A0000", 0x15: "A0000", 0x16: "B0000", 0x17: "B8000"}
 
 
 @dataclass
@@ -45,18 +45,17 @@ class Checked:
             for kind, count in kinds.most_common(most):
                 yield f"  {name:7} {count:9,} {kind}" + ("" if name == "read" else f" ({self.examples[kind]})")
 
-    def refuse(self, kind: str, number: int) -> None:
-        """Counts a refusal."""
-        self.refused[kind] += 1
-        self.examples.setdefault(kind, f"first at step {number:,}")
+    def note(self, kinds: Counter[str], kind: str, told: str) -> None:
+        """Counts a refusal or a read that differs; of each kind the first is told."""
+        kinds[kind] += 1
+        self.examples.setdefault(kind, f"first at step {told}")
 
     def compare(self, kind: str, step: Step, number: int, answer: str) -> None:
         """Counts a read. Where the beam is no trace can tell: these bits of input status 1 aren't compared."""
         self.reads[kind] += 1
         if (int(answer, 16) ^ step.value) & ~(BEAM_BITS if step.is_status else 0):
-            self.differing[kind] += 1
-            told = f"first at step {number:,}: traced {step.value:0{len(answer)}X}, answered {answer}"
-            self.examples.setdefault(kind, told)
+            told = f"{number:,}: traced {step.value:0{len(answer)}X}, answered {answer}"
+            self.note(self.differing, kind, told)
 
 
 def _fits(step: Step, answer: Answer) -> bool:
@@ -91,7 +90,7 @@ def check(steps: Iterable[Step], answers: Iterator[Answer], name: str) -> Checke
         if answer.answer == SKIPPED:
             checked.skipped += 1
         elif answer.kind == REFUSAL:
-            checked.refuse(f"{answer.answer}: {kind}", number)
+            checked.note(checked.refused, f"{answer.answer}: {kind}", f"{number:,}")
         elif answer.kind == VALUE:
             checked.compare(kind, step, number, answer.answer)
         indexes.update((port, value) for port, value in bytes_written(step.step) if port in indexes)
@@ -102,11 +101,7 @@ def check(steps: Iterable[Step], answers: Iterator[Answer], name: str) -> Checke
 
 def place_of(address: int) -> str:
     """A name of the window of memory that an address is in."""
-    if 0xA0000 <= address < 0xB0000:
-        return "memory A0000"
-    if 0xB0000 <= address < 0xB8000:
-        return "memory B0000"
-    return "memory B8000" if 0xB8000 <= address < 0xC0000 else "memory elsewhere"
+    return f"memory {WINDOWS.get(address >> 15, 'elsewhere')}"
 
 
 def count(cycles: Iterable[Cycle]) -> Counter[str]:

@@ -1,7 +1,5 @@
 """The words of the command line, what each command does, and how it ends."""
 
-from __future__ import annotations
-
 import argparse
 import os
 import re
@@ -9,7 +7,7 @@ import sys
 from itertools import islice
 from pathlib import Path
 from tempfile import TemporaryDirectory
-from typing import ContextManager, Optional, Sequence, TextIO
+from typing import ContextManager, Optional, Sequence
 
 from vga_report import cli
 from vga_report.cli import add
@@ -23,7 +21,7 @@ from vga_report.trouble import Trouble
 from vga_report.words import add_program, add_shape, number_to, seconds
 
 from .checking import check, count
-from .converting import CLOCK, END, FLIP, SCREENS, Form, Frames, Listing, Wanted, convert
+from .converting import CLOCK, END, FLIP, SCREENS, Frames, Listing, Wanted, convert
 from .recording import Deed, Machine, chain_4, record
 from .replaying import Moving, pictures_of, replay
 from .trace import Trace, opened
@@ -150,23 +148,19 @@ def _opened(words: argparse.Namespace) -> ContextManager[Trace]:
     return opened(words.trace, is_whole=words.to is None)
 
 
-def _say(text: str, stream: Optional[TextIO] = None) -> None:
-    print(text, file=stream or sys.stderr)
+def _warn(listing: Listing, name: str) -> None:
+    """Tells what a trace of this name lacks."""
+    for line in listing.warnings():
+        print(f"vga-trace: warning: {name}: {line}", file=sys.stderr)
 
 
-def _warn(lines: Sequence[str], name: str) -> None:
-    for line in lines:
-        _say(f"vga-trace: warning: {name}: {line}")
-
-
-def _convert(words: argparse.Namespace, _: Progress) -> int:
+def _convert(words: argparse.Namespace, _: Progress) -> None:
     """Makes a script, and says what it has and what the trace lacks."""
     with _opened(words) as trace, writing(words.script) as stream:
         listing = Listing(trace, _wanted(words))
-        written = convert(listing, trace, stream, Form(words.text, words.repeat))
-    _warn(listing.warnings(), name_of(words.trace))
-    _say(written.line(listing), sys.stderr if words.script == STANDARD else sys.stdout)
-    return AGREED
+        written = convert(listing, stream, words.text, words.repeat)
+    _warn(listing, name_of(words.trace))
+    print(written.line(listing), file=sys.stderr if words.script == STANDARD else sys.stdout)
 
 
 def _check(words: argparse.Namespace, _: Progress) -> int:
@@ -176,23 +170,22 @@ def _check(words: argparse.Namespace, _: Progress) -> int:
     with _opened(words) as trace, reading(words.report) as stream:
         listing = Listing(trace, _wanted(words))
         checked = check(listing.steps(), Report(stream, name).steps(), name)
-    _warn(listing.warnings(), name_of(words.trace))
+    _warn(listing, name_of(words.trace))
     print("\n".join(checked.lines(words.most)))
     return AGREED if checked.agrees else DIFFERED
 
 
-def _kinds(words: argparse.Namespace, _: Progress) -> int:
+def _kinds(words: argparse.Namespace, _: Progress) -> None:
     """Counts cycles."""
     _check_range(words)
     with _opened(words) as trace:
         listing = Listing(trace, Wanted(most=words.to))
         found = count(islice(listing.watch.cycles(), words.from_ - 1, None))
-    _warn(listing.warnings(), name_of(words.trace))
+    _warn(listing, name_of(words.trace))
     print("\n".join(f"{number:12,} {kind}" for kind, number in found.most_common()))
-    return AGREED
 
 
-def _pictures(words: argparse.Namespace, _: Progress) -> int:
+def _pictures(words: argparse.Namespace, _: Progress) -> None:
     """Makes a script of a trace in real time, runs it, and writes its pictures."""
     _check_range(words)
     if words.folder is None and words.apng is None:
@@ -207,8 +200,8 @@ def _pictures(words: argparse.Namespace, _: Progress) -> int:
         script, shown, moving = Path(name) / "script", 0.0, Moving(shape)
         with _opened(words) as trace, writing(str(script)) as stream:
             listing = Listing(trace, Wanted(frames=CLOCK, most=words.to, first=words.from_, longest=words.longest))
-            convert(listing, trace, stream, Form())
-        _warn(listing.warnings(), name_of(words.trace))
+            convert(listing, stream)
+        _warn(listing, name_of(words.trace))
         with Built(program).running(script, words.fonts, None, True) as outcome:
             for picture, lasts in pictures_of(outcome.report, script, words.longest):
                 if words.folder is not None:
@@ -221,8 +214,7 @@ def _pictures(words: argparse.Namespace, _: Progress) -> int:
         if outcome.status:
             raise Trouble(f"it ended with status {outcome.status}: {outcome.fault}", program)
     if words.apng is not None:
-        _say(f"{words.apng}: {moving.write(words.apng)}", sys.stderr if words.apng == STANDARD else sys.stdout)
-    return AGREED
+        print(f"{words.apng}: {moving.write(words.apng)}", file=sys.stderr if words.apng == STANDARD else sys.stdout)
 
 
 def _record(words: argparse.Namespace, progress: Progress) -> int:
@@ -255,18 +247,18 @@ def _judge(machine: Machine, folder: Path, program: str, fonts: str, progress: P
 
     def say(text: str) -> None:
         progress.clear()
-        _say(f"vga-trace: {text}")
+        print(f"vga-trace: {text}", file=sys.stderr)
 
     screens = record(machine, trace, dumps, say, progress)
     if progress.is_due():
         progress.tell(f"{trace}: a script is made")
-    replayed = replay(trace, dumps, screens, program, fonts, progress)
+    figures, checked, judge = replay(trace, dumps, screens, program, fonts, progress)
     progress.clear()
-    _warn(replayed.warnings, str(trace))
-    lines = [replayed.figures, *replayed.checked.lines(MOST_TOLD)]
-    are_equal = replayed.checked.agrees and bool(screens)
+    _warn(judge.listing, str(trace))
+    lines = [figures, *checked.lines(MOST_TOLD)]
+    are_equal = checked.agrees and bool(screens)
     for number, at in enumerate(screens):
-        verdict = replayed.verdicts.get(number)
+        verdict = judge.verdicts.get(number)
         are_equal &= verdict is not None and verdict.is_equal
         if verdict is None:
             lines.append(f"screen {number + 1} at {at:.1f} s: here no frame has the shape of a picture")

@@ -1,7 +1,5 @@
 """From a trace to a script."""
 
-from __future__ import annotations
-
 from collections import Counter
 from dataclasses import dataclass, field
 from typing import BinaryIO, Iterable, Iterator, Optional, Union
@@ -15,8 +13,7 @@ from .passing import Clocked, Pauses, with_flips, with_frames_every
 from .rebuilding import rebuilt
 from .state import State
 from .step import FRAME, NAMES, Step, steps_of, without_polls
-from .trace import Trace
-from .watch import Watch
+from .trace import Trace, Watch
 
 # When a script has a frame: at its end alone, before each page flip, where a screen was taken, once in each frame of the dot
 # clock in which something was written, or every so many seconds.
@@ -42,19 +39,11 @@ class Wanted:
     longest: float = 1
 
 
-@dataclass(frozen=True)
-class Form:
-    """What is written: a text or bytes, and whether rows of equal steps become blocks, which version 2 has."""
-
-    is_text: bool = False
-    has_blocks: bool = True
-
-
 class Listing:
     """The steps of a trace, in the order of the script; `watch` has the cycles, as many as are wanted."""
 
     def __init__(self, trace: Trace, wanted: Wanted) -> None:
-        self._trace = trace
+        self.trace = trace
         self._wanted = wanted
         self.watch = Watch(trace, wanted.most)
         self._pauses = Pauses()
@@ -64,7 +53,7 @@ class Listing:
     def steps(self) -> Iterator[Step]:
         """The steps, and the frame at the end. Where time passes there are two: the first began amid the cycles."""
         wanted = self._wanted
-        steps = steps_of(self.watch.cycles(), self._trace.screens)
+        steps = steps_of(self.watch.cycles(), self.trace.screens)
         if not wanted.keeps_polls:
             steps = without_polls(steps)
         if wanted.frames == FLIP:
@@ -101,7 +90,7 @@ class Listing:
                 break
             state.take(step)
         else:
-            raise Trouble(f"it has {self.watch.count:,} cycles, and none from {self._wanted.first:,} on becomes a step", self._trace.name)
+            raise Trouble(f"it has {self.watch.count:,} cycles, and none from {self._wanted.first:,} on becomes a step", self.trace.name)
         for rebuilding in rebuilt(state):
             self.rebuilding += 1
             yield rebuilding
@@ -110,7 +99,7 @@ class Listing:
 
     def _with_screens(self, steps: Iterator[Step]) -> Iterator[Step]:
         """The steps, with a frame at each place where a screen was taken."""
-        screens, taken = self._trace.screens, 0
+        screens, taken = self.trace.screens, 0
         for step in steps:
             while taken < len(screens) and screens[taken] < step.cycle:
                 yield Step(FRAME, time=step.time)
@@ -122,7 +111,7 @@ class Listing:
         """The steps, of which the first must have a time."""
         for number, step in enumerate(steps):
             if number == 0 and step.time is None:
-                raise self._trace.trouble("the first cycle has no time, and time is asked for")
+                raise self.trace.trouble("the first cycle has no time, and time is asked for")
             yield step
 
 
@@ -130,7 +119,7 @@ class Listing:
 class Written:
     """How many steps of each kind and how many blocks a script has, and its bytes and those of its text."""
 
-    form: Form
+    is_text: bool
     kinds: Counter[str] = field(default_factory=Counter)
     steps: int = 0
     blocks: int = 0
@@ -142,7 +131,7 @@ class Written:
         """Steps with their bytes and lines, counted by kind."""
         for step in steps:
             self.kinds[NAMES[step.opcode]] += 1
-            yield Coded(step, step.data(), step.text() if self.form.is_text else b"")
+            yield Coded(step, step.data(), step.text() if self.is_text else b"")
 
     def takes(self, row: Row) -> bool:
         """Counts a row, and tells whether a script may still have it."""
@@ -156,13 +145,13 @@ class Written:
 
     def header(self) -> bytes:
         """What stands before the rows: version 2 alone has blocks."""
-        if self.form.is_text:
+        if self.is_text:
             return f"{FIRST_LINE}\n".encode() if self.blocks else b""
         return HEADERS[2 if self.blocks else 1]
 
     def line(self, listing: Listing) -> str:
         """The figures."""
-        length = self.text_bytes + len(self.header()) if self.form.is_text else self.script_bytes
+        length = self.text_bytes + len(self.header()) if self.is_text else self.script_bytes
         kinds = ", ".join(f"{count:,} {kind}" for kind, count in self.kinds.most_common())
         parts = [f"{listing.watch.count:,} cycles", f"{self.steps:,} steps", f"{length:,} bytes"]
         if self.blocks:
@@ -172,23 +161,20 @@ class Written:
         return f"{', '.join(parts)}: {kinds}"
 
 
-def convert(listing: Listing, trace: Trace, stream: BinaryIO, form: Form) -> Written:
-    """Writes a script; a Trouble where it has more bytes, or means more steps, than a script may."""
-    written = Written(form)
+def convert(listing: Listing, stream: BinaryIO, is_text: bool = False, has_blocks: bool = True) -> Written:
+    """Writes a script as text or bytes; a Trouble where it has more bytes, or means more steps, than a script may.
+
+    Rows of equal steps become blocks, which version 2 has, if these are wanted.
+    """
+    written = Written(is_text)
     body = bytearray()
     coded = written.coded(listing.steps())
-    for row in folded(coded) if form.has_blocks else alone(coded):
+    for row in folded(coded) if has_blocks else alone(coded):
         if not written.takes(row):
-            raise Trouble(_too_long(written.last_cycle), trace.name)
-        body += row.text if form.is_text else row.data
+            last, most = written.last_cycle, f"more than {MOST_BYTES:,} bytes, or means more than {MOST_STEPS:,} steps"
+            part = f"; `--to {last}` ends before that, and `--from {last + 1}` goes on after it"
+            raise Trouble(f"the script has {most}{part if last else ', and no cycle fits'}", listing.trace.name)
+        body += row.text if is_text else row.data
     stream.write(written.header())
     stream.write(body)
     return written
-
-
-def _too_long(last: int) -> str:
-    """What is said of a script that is too long behind a cycle."""
-    most = f"more than {MOST_BYTES:,} bytes, or means more than {MOST_STEPS:,} steps"
-    if last == 0:
-        return f"the script has {most}, and no cycle fits"
-    return f"the script has {most}; `--to {last}` ends before that, and `--from {last + 1}` goes on after it"

@@ -65,7 +65,11 @@ def folded(coded: Iterable[Coded]) -> Iterator[Row]:
             if len(ahead.coded) - at < size:
                 ahead = ahead.fetched(at, rest)
                 at = 0
-        yield _block(group, count, last)
+        data = format.encoded(format.Block(count, tuple(coded.step.step for coded in group)))
+        text = b"".join(coded.text for coded in group)
+        if text:
+            text = f"{format.REPEAT} {count}\n".encode() + text + f"{format.END}\n".encode()
+        yield Row(data, text, count * size, last.cycle)
 
 
 class _Ahead:
@@ -92,10 +96,3 @@ class _Ahead:
                 if keys[at:at + least * size] == keys[at:at + size] * least:
                     return size
         return 0
-
-
-def _block(group: list[Coded], count: int, last: Step) -> Row:
-    """A block of a group, which is taken so many times, and whose last step is this."""
-    data = format.encoded(format.Block(count, tuple(coded.step.step for coded in group)))
-    text = b"".join(coded.text for coded in group)
-    return Row(data, f"{format.REPEAT} {count}\n".encode() + text + f"{format.END}\n".encode() if text else b"", count * len(group), last.cycle)

@@ -1,7 +1,5 @@
 """What qemu is known to show otherwise: by pictures, or by registers and memory at a screen."""
 
-from __future__ import annotations
-
 from typing import Callable, Iterator, NamedTuple, Optional, Sequence
 
 from zaklimot.format import Picture

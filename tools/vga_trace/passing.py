@@ -1,7 +1,5 @@
 """What a script has between cycles: time that passes, and frames."""
 
-from __future__ import annotations
-
 from typing import Iterable, Iterator, Optional
 
 from vga_report.timing import Timing, bytes_written
@@ -29,24 +27,19 @@ class Pauses:
     def steps(self, steps: Iterable[Step]) -> Iterator[Step]:
         """The steps, with the clock advanced before those to which time has passed."""
         for step in steps:
-            self._wait(step)
-            dots = self._dots()
+            dots = self._dots(step.time)
             if dots:
                 yield Step(ADVANCE, dots)
             self._timing.take(step.step)
             yield step
 
-    def _wait(self, step: Step) -> None:
-        """Counts the time from the last step that has one to this one."""
-        if step.time is None:
-            return
-        passed = 0 if self._last is None else step.time - self._last
-        self._last = step.time
-        self.backwards += passed < 0
-        self._owed += max(passed, 0)
-
-    def _dots(self) -> int:
-        """The dots of the time that was counted, a frame's at most; 0 of less than a line, which is kept for later."""
+    def _dots(self, now: Optional[int]) -> int:
+        """The dots of the time since the last step that has one, a frame's at most; 0 of less than a line, kept for later."""
+        if now is not None:
+            passed = 0 if self._last is None else now - self._last
+            self._last = now
+            self.backwards += passed < 0
+            self._owed += max(passed, 0)
         if self._owed < LEAST_PAUSE:
             return 0
         owed, self._owed = self._owed, 0

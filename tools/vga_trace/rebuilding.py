@@ -1,8 +1,6 @@
 """The steps that take the adapter from power-on to a state, so that a script can begin in the middle of a trace."""
 
-from __future__ import annotations
-
-from typing import Iterator
+from typing import Iterable, Iterator, TypeVar
 
 from .state import ATTRIBUTE, DAC_DATA, DAC_WRITE, ENABLE_MEMORY, GRAPHICS, MASK, MISC, SEQUENCER, STATUS
 from .state import PLANE_BYTES, PLANES, PROTECT, TAKEN, State
@@ -13,6 +11,7 @@ ALL_PLANES = 0x0F
 # Sequencer and graphics controller such that a byte goes to the planes of the map mask, at its address' offset.
 PLANAR = ((SEQUENCER, 0x04, 0x06), *((GRAPHICS, index, 0) for index in range(6)), (GRAPHICS, 0x06, 0x04), (GRAPHICS, 0x08, 0xFF))
 MAP_MASK, RETRACE_END = 0x02, 0x11
+Value = TypeVar("Value")
 
 
 def rebuilt(state: State) -> Iterator[Step]:
@@ -26,6 +25,19 @@ def rebuilt(state: State) -> Iterator[Step]:
 def _register(port: int, index: int, value: int) -> Step:
     """A register that is written by a word, behind the port of its index."""
     return Step(OUTW, port, value << 8 | index)
+
+
+def map_mask(planes: int) -> Step:
+    """Lets writes reach these planes alone."""
+    return _register(SEQUENCER, MAP_MASK, planes)
+
+
+def masks_of(values: Iterable[Value]) -> dict[Value, int]:
+    """The planes of each value, of the values of all planes."""
+    masks: dict[Value, int] = {}
+    for plane, value in enumerate(values):
+        masks[value] = masks.get(value, 0) | 1 << plane
+    return masks
 
 
 def _steps(state: State, begin: State) -> Iterator[Step]:
@@ -52,10 +64,10 @@ def _latches(latches: int) -> Iterator[Step]:
     if not latches:
         return
     for plane in range(PLANES):
-        yield _register(SEQUENCER, MAP_MASK, 1 << plane)
+        yield map_mask(1 << plane)
         yield Step(PUT, FIRST_ADDRESS, latches >> 8 * plane & 0xFF)
     yield Step(GET, FIRST_ADDRESS)
-    yield _register(SEQUENCER, MAP_MASK, ALL_PLANES)
+    yield map_mask(ALL_PLANES)
     yield Step(PUT, FIRST_ADDRESS, 0)
 
 
@@ -66,15 +78,12 @@ def _planes(words: list[int]) -> Iterator[Step]:
         low, high = words[offset], words[offset + 1]
         if not (low or high):
             continue
-        values: dict[int, int] = {}
-        for plane in range(PLANES):
-            value = low >> 8 * plane & 0xFF | (high >> 8 * plane & 0xFF) << 8
-            values[value] = values.get(value, 0) | 1 << plane
-        for value, planes in values.items():
+        values = (low >> 8 * plane & 0xFF | (high >> 8 * plane & 0xFF) << 8 for plane in range(PLANES))
+        for value, planes in masks_of(values).items():
             if value:
                 steps.setdefault(planes, []).append(Step(PUTW, FIRST_ADDRESS + offset, value))
     for planes in sorted(steps):
-        yield _register(SEQUENCER, MAP_MASK, planes)
+        yield map_mask(planes)
         yield from steps[planes]
 
 

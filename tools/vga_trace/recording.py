@@ -1,7 +1,5 @@
 """Records on qemu what software does to a VGA: its trace, and its screens at chosen times."""
 
-from __future__ import annotations
-
 import gzip
 import os
 import subprocess

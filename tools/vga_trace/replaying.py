@@ -1,12 +1,10 @@
 """A trace replayed by the program: its pictures held against the screens that qemu showed, or as pictures that move."""
 
-from __future__ import annotations
-
 import zlib
 from dataclasses import dataclass, field
 from pathlib import Path
 from threading import Event
-from typing import BinaryIO, Iterator, Mapping, Optional, Sequence
+from typing import BinaryIO, Iterator, Optional, Sequence
 
 from vga_report.images import Image, image_bytes, image_of
 from vga_report.png import Animation, Shape, save_png
@@ -20,7 +18,7 @@ from zaklimot.format import Answer, Picture
 from zaklimot.format.picture import marks_in_row
 
 from .checking import FRAME_ANSWERS, Checked, check
-from .converting import SCREENS, Form, Listing, Wanted, convert
+from .converting import SCREENS, Listing, Wanted, convert
 from .known import Dots, Names, Screen, known, whole_rows
 from .recording import PHASES, dump
 from .state import State
@@ -178,30 +176,25 @@ def run_script(program: str, fonts: str, script: Path, report: Path) -> None:
         messages.unlink(missing_ok=True)
 
 
-@dataclass
-class Replayed:
-    """What came of a replay: the script's figures, the reads, the screens, and what the trace lacks."""
+def replay(
+    trace: Path, base: Path, screens: Sequence[float], program: str, fonts: str, progress: Progress
+) -> tuple[str, Checked, Judge]:
+    """Makes script.bin and report.txt beside a trace whose screens were taken, and holds all against one another.
 
-    figures: str
-    checked: Checked
-    verdicts: Mapping[int, Verdict]
-    warnings: Sequence[str]
-
-
-def replay(trace: Path, base: Path, screens: Sequence[float], program: str, fonts: str, progress: Progress) -> Replayed:
-    """Makes script.bin and report.txt beside a trace whose screens were taken, and holds all against one another."""
+    Answers the script's figures, the reads, and what has judged the screens.
+    """
     script, report = trace.with_name("script.bin"), trace.with_name("report.txt")
     wanted = Wanted(frames=SCREENS)
     with opened(str(trace)) as read, writing(str(script)) as stream:
         listing = Listing(read, wanted)
-        figures = convert(listing, read, stream, Form()).line(listing)
+        figures = convert(listing, stream).line(listing)
         cycles = read.screens
     run_script(program, fonts, script, report)
     with opened(str(trace)) as read, reading(str(report)) as answers:
         judge = Judge(Listing(read, wanted), base, screens, cycles)
         name = str(report)
         checked = check(judge.steps(), judge.answers(Report(answers, name, progress).steps()), name)
-    return Replayed(figures, checked, judge.verdicts, judge.listing.warnings())
+    return figures, checked, judge
 
 
 class Moving:

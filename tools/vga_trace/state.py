@@ -44,7 +44,7 @@ class State:
         self.crtc = Controller()
         self.attr = Attributes()
         self.dac = Dac()
-        self.memory = Memory()
+        self.memory = Memory(self.seq.registers, self.gfx.registers)
         self.beam = Beam()
 
     @property
@@ -55,13 +55,16 @@ class State:
     @property
     def shape(self) -> Shape:
         """The shape of the frame."""
-        return Shape.of(self.seq.registers, self.crtc.registers)
+        crtc = self.crtc.registers
+        lines = crtc[6] + ((crtc[7] & 1) << 8) + ((crtc[7] >> 5 & 1) << 9) + 2
+        return Shape(8 if self.seq.registers[1] & 1 else 9, crtc[0] + 5, lines)
 
     def take(self, step: Step) -> Optional[int]:
         """Takes a step, and answers what it reads; None of a write and of a refusal. Of input status 1 all bits are 0."""
         opcode, address, value = step.opcode, step.address, step.value
         if opcode in (PUT, PUTW):
-            self._put(address, (value,) if opcode == PUT else (value & 0xFF, value >> 8))
+            for place, byte in zip(self._places(address, 1 if opcode == PUT else 2), value.to_bytes(2, "little")):
+                self.memory.put(place, byte)
         elif opcode == OUT:
             if self._takes(address, value):
                 self._write(address, value)
@@ -72,7 +75,8 @@ class State:
         elif opcode == FRAME:
             self.beam.end_frame()
         elif opcode in (GET, GETW):
-            return self._get(address, 1 if opcode == GET else 2)
+            read = bytes(map(self.memory.get, self._places(address, 1 if opcode == GET else 2)))
+            return int.from_bytes(read, "little") if read else None
         elif opcode in (IN, INW):
             ports = range(address, address + (1 if opcode == IN else 2))
             if all(map(self._answers, ports)):
@@ -86,16 +90,6 @@ class State:
         if not (self.misc & ENABLE_MEMORY and 0 <= place <= size - count):
             return ()
         return [place + at & 0xFFFF for at in range(count)]
-
-    def _put(self, address: int, values: Sequence[int]) -> None:
-        seq, gfx = self.seq.registers, self.gfx.registers
-        for place, value in zip(self._places(address, len(values)), values):
-            self.memory.put(place, value, seq, gfx)
-
-    def _get(self, address: int, count: int) -> Optional[int]:
-        seq, gfx = self.seq.registers, self.gfx.registers
-        read = bytes(self.memory.get(place, seq, gfx) for place in self._places(address, count))
-        return int.from_bytes(read, "little") if read else None
 
     def _chosen(self, port: int) -> Optional[Bank]:
         """The bank whose index is written and read at a port."""
@@ -120,7 +114,7 @@ class State:
     def _takes(self, port: int, value: int) -> bool:
         """Whether a write to a port is taken."""
         if port == ATTRIBUTE:
-            return self.attr.takes_next()
+            return not self.attr.is_data or self.attr.has_register
         if port in (MISC, MASK, DAC_READ, DAC_WRITE, DAC_DATA) or self._chosen(port) is not None:
             return True
         bank = self._chosen(port - 1)
@@ -177,56 +171,57 @@ class Memory:
     graphics controller, as they can be held.
     """
 
-    def __init__(self) -> None:
+    def __init__(self, seq: Sequence[int], gfx: Sequence[int]) -> None:
+        self._seq, self._gfx = seq, gfx
         self.words = [0] * PLANE_BYTES
         self.latches = 0
 
-    def put(self, place: int, value: int, seq: Sequence[int], gfx: Sequence[int]) -> None:
+    def put(self, place: int, value: int) -> None:
         """Writes a byte. The latches stay."""
-        reached = SPREAD[self._reached(place, seq)]
-        offset = self._offset(place, seq, gfx)
-        stored = self.latches if gfx[5] & 3 == 1 else self._stored(value, gfx)
+        reached = SPREAD[self._reached(place)]
+        offset = self._offset(place)
+        stored = self.latches if self._gfx[5] & 3 == 1 else self._stored(value)
         self.words[offset] = self.words[offset] & ~reached | stored & reached
 
-    def get(self, place: int, seq: Sequence[int], gfx: Sequence[int]) -> int:
+    def get(self, place: int) -> int:
         """Reads a byte, which loads the latches."""
-        self.latches = self.words[self._offset(place, seq, gfx)]
-        if gfx[5] & 8:
-            return self._compared(gfx)
-        plane = place & 3 if seq[4] & 8 else gfx[4] & 2 | place & 1 if gfx[5] & 0x10 else gfx[4]
+        self.latches = self.words[self._offset(place)]
+        if self._gfx[5] & 8:
+            return self._compared()
+        plane = place & 3 if self._seq[4] & 8 else self._gfx[4] & 2 | place & 1 if self._gfx[5] & 0x10 else self._gfx[4]
         return self.latches >> 8 * plane & 0xFF
 
-    def _offset(self, place: int, seq: Sequence[int], gfx: Sequence[int]) -> int:
+    def _offset(self, place: int) -> int:
         """The offset in the planes: by chain 4, by chain odd/even, or the place itself."""
-        if seq[4] & 8:
+        if self._seq[4] & 8:
             return place & 0xFFFC
-        return place & 0xFFFE if gfx[6] & 2 else place
+        return place & 0xFFFE if self._gfx[6] & 2 else place
 
-    def _reached(self, place: int, seq: Sequence[int]) -> int:
+    def _reached(self, place: int) -> int:
         """The planes that a write reaches."""
-        if seq[4] & 8:
-            return seq[2] & 1 << (place & 3)
-        if seq[4] & 4:
-            return seq[2]
-        return seq[2] & (ODD if place & 1 else EVEN)
+        if self._seq[4] & 8:
+            return self._seq[2] & 1 << (place & 3)
+        if self._seq[4] & 4:
+            return self._seq[2]
+        return self._seq[2] & (ODD if place & 1 else EVEN)
 
-    def _stored(self, value: int, gfx: Sequence[int]) -> int:
+    def _stored(self, value: int) -> int:
         """What write modes 0, 2 and 3 store in all planes."""
-        mode, mask, latches = gfx[5] & 3, gfx[8], self.latches
-        rotated = (value << 8 | value) >> (gfx[3] & 7) & 0xFF
+        mode, mask, latches = self._gfx[5] & 3, self._gfx[8], self.latches
+        rotated = (value << 8 | value) >> (self._gfx[3] & 7) & 0xFF
         if mode == 0:
-            set_planes = SPREAD[gfx[1]]
-            data = rotated * EACH & ~set_planes | SPREAD[gfx[0]] & set_planes
+            set_planes = SPREAD[self._gfx[1]]
+            data = rotated * EACH & ~set_planes | SPREAD[self._gfx[0]] & set_planes
         elif mode == 2:
             data = SPREAD[value & 0xF]
         else:
-            data, mask = SPREAD[gfx[0]], mask & rotated
-        data, mask = FUNCTIONS[gfx[3] >> 3](data, latches), mask * EACH
+            data, mask = SPREAD[self._gfx[0]], mask & rotated
+        data, mask = FUNCTIONS[self._gfx[3] >> 3](data, latches), mask * EACH
         return data & mask | latches & ~mask
 
-    def _compared(self, gfx: Sequence[int]) -> int:
+    def _compared(self) -> int:
         """Read mode 1: a 1 where each plane that counts has the bit of colour compare."""
-        differing = (self.latches ^ SPREAD[gfx[2]]) & SPREAD[gfx[7]]
+        differing = (self.latches ^ SPREAD[self._gfx[2]]) & SPREAD[self._gfx[7]]
         differing |= differing >> 16
         return ~(differing | differing >> 8) & 0xFF
 
@@ -296,10 +291,6 @@ class Attributes(Bank):
         super().__init__("3F" * PALETTE + "EFFF3F0F0F", 0x3F, {})
         self.is_data = False
 
-    def takes_next(self) -> bool:
-        """Whether what is written next is taken."""
-        return not self.is_data or self.has_register
-
     def write_next(self, value: int) -> None:
         """Writes the index or the data, whichever is next. While the palette is looked at, it isn't written."""
         if not self.is_data:
@@ -349,12 +340,6 @@ class Shape(NamedTuple):
     characters: int
     lines: int
 
-    @classmethod
-    def of(cls, seq: Sequence[int], crtc: Sequence[int]) -> Shape:
-        """The shape that registers choose."""
-        lines = crtc[6] + ((crtc[7] & 1) << 8) + ((crtc[7] >> 5 & 1) << 9) + 2
-        return cls(8 if seq[1] & 1 else 9, crtc[0] + 5, lines)
-
     @property
     def line(self) -> int:
         """The dots of a line."""
@@ -388,11 +373,16 @@ class Beam:
         return line * shape.line + character * shape.dots + min(self.dot, shape.dots - 1)
 
     def advance(self, dots: int, shape: Shape, crtc: Sequence[int]) -> None:
-        """Goes on by so many dots."""
-        frame, was_at_begin = self.frame, self.is_at_begin
-        left = self._end_line(self._end_character(dots, shape), shape)
-        if left:
-            frames, rest = divmod(self.line * shape.line + left, shape.frame)
+        """Goes on by so many dots. The line and the character stay as they are, inside or outside, until they end."""
+        frame, was_at_begin, begin = self.frame, self.is_at_begin, self.drawn(shape)
+        end = begin + dots
+        if end // shape.dots == begin // shape.dots:
+            self.dot += dots
+        elif end // shape.line == begin // shape.line:
+            self.character += end // shape.dots - begin // shape.dots
+            self.dot = end % shape.dots
+        else:
+            frames, rest = divmod(end, shape.frame)
             self.frame += frames
             self.line, rest = divmod(rest, shape.line)
             self.character, self.dot = divmod(rest, shape.dots)
@@ -404,39 +394,3 @@ class Beam:
         """Goes on to the end of the frame."""
         self.frame = (self.frame + 1) % FRAMES
         self.line = self.character = self.dot = 0
-
-    def _end_character(self, dots: int, shape: Shape) -> int:
-        """Goes on to the end of the character, or by so many dots; the dots that are left."""
-        to_end = max(shape.dots - self.dot, 1) if self.dot else 0
-        if dots < to_end:
-            self.dot += dots
-            return 0
-        if to_end:
-            self.dot = 0
-            self.character += 1
-            self._wrap(shape)
-        return dots - to_end
-
-    def _end_line(self, dots: int, shape: Shape) -> int:
-        """From a character's first dot, goes on to the end of the line, or by so many dots; the dots that are left."""
-        is_amid = self.character > 0 or self.line >= shape.lines
-        to_end = max(shape.characters - self.character, 1) * shape.dots if is_amid else 0
-        if dots == 0:
-            return 0
-        if dots < to_end:
-            passed, self.dot = divmod(dots, shape.dots)
-            self.character += passed
-            return 0
-        if to_end:
-            self.character = shape.characters
-            self._wrap(shape)
-        return dots - to_end
-
-    def _wrap(self, shape: Shape) -> None:
-        """Ends the line where its last character is behind, and with the last line the frame."""
-        if self.character >= shape.characters:
-            self.character = 0
-            self.line += 1
-            if self.line >= shape.lines:
-                self.line = 0
-                self.frame += 1

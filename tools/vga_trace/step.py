@@ -1,7 +1,5 @@
 """Steps of a script: what cycles become, as bytes and as text."""
 
-from __future__ import annotations
-
 from typing import Iterable, Iterator, NamedTuple, Optional, Sequence
 
 from vga_report import format

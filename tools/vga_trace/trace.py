@@ -1,12 +1,14 @@
-"""A trace, cycle by cycle: what software did to the VGA, by qemu's log or in the plain form."""
+"""A trace, cycle by cycle: what software did to the VGA, by qemu's log or in the plain form.
 
-from __future__ import annotations
+What a trace may lack is found while its cycles pass: it is told, and nothing is put in its place.
+"""
 
 import gzip
 import io
 import re
 import zlib
 from contextlib import contextmanager
+from itertools import islice
 from typing import BinaryIO, Iterator, NamedTuple, Optional
 
 from vga_report.output import name_of
@@ -40,6 +42,13 @@ PLAIN = re.compile(
 SCREEN = b"screen of 'vga-trace'"
 # A line of the plain form without a cycle: blanks, and a comment.
 PASSED = re.compile(rb"\s*(?:;.*)?", re.DOTALL)
+# What tells that a trace lacks something: registers of the VGA, and of the Bochs VBE extensions.
+MISCELLANEOUS_OUTPUT = 0x3C2
+SEQUENCER_INDEX, SEQUENCER_DATA = 0x3C4, 0x3C5
+MAP_MASK, MEMORY_MODE = 2, 4
+ALL_PLANES, CHAIN_4 = 0x0F, 0x08
+VBE_INDEX, VBE_DATA = 0x1CE, (0x1CF, 0x1D0)
+VBE_ENABLE = 4
 
 
 class Cycle(NamedTuple):
@@ -84,6 +93,9 @@ class Trace:
             self.line += 1
             cycle = self._cycle(line)
             if cycle is not None:
+                fault = cycle.fault()
+                if fault is not None:
+                    raise self.trouble(fault)
                 self.count += 1
                 yield cycle
         if self._is_plain is None:
@@ -152,7 +164,7 @@ class Trace:
         if space is None:
             return None
         time = None if seconds is None else 1_000_000 * int(seconds) + int(micros)
-        return self._judged(Cycle(kind == b"write", space, int(address, 16), int(value, 16), int(size), time))
+        return Cycle(kind == b"write", space, int(address, 16), int(value, 16), int(size), time)
 
     def _plain(self, line: bytes) -> Optional[Cycle]:
         """The cycle of a line of the plain form, which has nothing but cycles and comments."""
@@ -162,16 +174,94 @@ class Trace:
                 raise self.trouble("it is no cycle: `TIME r|w p|m ADDRESS VALUE SIZE` is one")
             return None
         time, kind, space, address, value, size = found.groups()
-        return self._judged(Cycle(
+        return Cycle(
             kind == b"w", PORT if space == b"p" else MEMORY, int(address, 16), int(value, 16), int(size),
             None if time == b"-" else int(time),
-        ))
+        )
 
-    def _judged(self, cycle: Cycle) -> Cycle:
-        fault = cycle.fault()
-        if fault is not None:
-            raise self.trouble(fault)
-        return cycle
+
+class Watch:
+    """The cycles of a trace, counted and looked at."""
+
+    def __init__(self, trace: Trace, most: Optional[int] = None) -> None:
+        self._trace = trace
+        self._most = most
+        self._is_begun = False
+        self._other_begin: Optional[int] = None
+        self._vbe_index = 0
+        self._vbe_enabled: Optional[int] = None
+        self._index = 0
+        self._sequencer = {MAP_MASK: 0, MEMORY_MODE: 0}
+        self._is_chained = False
+        # The cycle from which on chain 4 has had no cycle of memory so far, and the first time that it ended so.
+        self._silent: Optional[int] = None
+        self._first_silent: Optional[int] = None
+        self.count = 0
+        self.untimed = 0
+
+    def cycles(self) -> Iterator[Cycle]:
+        """The cycles, so many at most."""
+        for cycle in islice(self._trace.cycles(), self._most):
+            self.count += 1
+            self.untimed += cycle.time is None
+            if cycle.is_write and not self._is_begun:
+                # The first write of a video BIOS is that of miscellaneous output.
+                self._is_begun = True
+                if cycle.space == MEMORY or cycle.address != MISCELLANEOUS_OUTPUT:
+                    self._other_begin = self.count
+            if cycle.space == MEMORY:
+                self._silent = None
+            elif cycle.is_write:
+                self._write(cycle)
+            yield cycle
+
+    @property
+    def lacking(self) -> str:
+        """Why a picture may be another one here: what the cycles lack so far that a screen shows."""
+        if self._vbe_enabled is not None:
+            return "VBE is on: what qemu shows is no VGA's"
+        if self._silent is not None:
+            return "chain 4 is on, and no memory was recorded since: --chain-4 does so"
+        return ""
+
+    def warnings(self) -> list[str]:
+        """What the cycles up to now lack, a line each."""
+        told = []
+        if self._trace.damaged:
+            told.append(f"{self._trace.damaged:,} lines of cycles are damaged and left out, line {self._trace.first_damaged:,} first")
+        if self._other_begin is not None:
+            told.append(f"cycle {self._other_begin:,} writes first, and not port 3C2: the trace doesn't begin at power-on")
+        if self._vbe_enabled is not None:
+            told.append(f"cycle {self._vbe_enabled:,} turns VBE on: what follows is no VGA's, and its memory isn't traced")
+        silent = self._first_silent or self._silent
+        if silent is not None:
+            told.append(f"chain 4 with map mask 0F has no cycle of memory, first from cycle {silent:,} on: "
+                        "qemu traces none there without the plugin")
+        return told
+
+    def _write(self, cycle: Cycle) -> None:
+        """Follows a write to ports."""
+        if cycle.space == VBE:
+            if cycle.address == VBE_INDEX:
+                self._vbe_index = cycle.value
+            elif cycle.address in VBE_DATA and self._vbe_index == VBE_ENABLE and cycle.value & 1:
+                self._vbe_enabled = self._vbe_enabled or self.count
+            return
+        for at in range(cycle.size):
+            port, value = cycle.address + at, cycle.value >> 8 * at & 0xFF
+            if port == SEQUENCER_INDEX:
+                self._index = value
+            elif port == SEQUENCER_DATA and self._index in self._sequencer:
+                self._sequencer[self._index] = value
+                self._look_at_chain()
+
+    def _look_at_chain(self) -> None:
+        """Sees whether memory is now such that an emulator may serve it without telling."""
+        is_open = self._sequencer[MAP_MASK] & ALL_PLANES == ALL_PLANES
+        was_chained, self._is_chained = self._is_chained, is_open and self._sequencer[MEMORY_MODE] & CHAIN_4 != 0
+        if self._is_chained != was_chained:
+            self._first_silent = self._first_silent or self._silent
+            self._silent = self.count if self._is_chained else None
 
 
 @contextmanager
