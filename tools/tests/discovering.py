@@ -22,7 +22,7 @@ from vga_report.output import counted
 from vga_report.processes import captured, in_parallel
 from vga_report.trouble import Trouble
 
-from .program import UNBUILT
+from .tools import UNBUILT
 
 HERE = Path(__file__).resolve().parent
 TOOL = HERE.parent / "tests-of-tools"

@@ -16,9 +16,8 @@ from vga_report.program import PROGRAM
 from vga_report.trouble import TROUBLE
 from vga_report.version import version
 
-from .program import want_program
-from .test_words import HELP
-from .tools import Folder, call, ended, refused
+from .test_edges import HELP
+from .tools import Folder, call, ended, refused, want_program
 
 PAGE, BASH, ZSH, FISH = PLACES
 HEADINGS = ("Commands:", "Arguments:", "Options:", "Examples:")

@@ -25,9 +25,8 @@ from vga_report.trouble import Trouble
 from zaklimot.format import Answer, count_in, steps_in
 
 from .making import BLACK, RED, ppm, stream
-from .program import run_texts
 from .test_command import run
-from .tools import EXAMPLES, TOP, Folder, begin, hold, refused, run_tool
+from .tools import EXAMPLES, TOP, Folder, begin, hold, refused, run_texts, run_tool
 
 # A program that understands texts of a few steps: `asm` copies, `dis` prints in upper case, `go` answers by the name.
 FAKE = """import sys

@@ -31,8 +31,7 @@ from zaklimot.format import HEADERS, Block, decode, encoded
 from zaklimot.format import Step as ScriptStep
 
 from .making import ppm, report
-from .program import run_texts
-from .tools import EXAMPLES, SIGNALS, Folder, begin, call, hold, hold_undone, refused, run_tool
+from .tools import EXAMPLES, SIGNALS, Folder, begin, call, hold, hold_undone, refused, run_texts, run_tool
 
 run = partial(run_tool, "vga-trace")
 # What a trace from power-on begins with.

@@ -16,8 +16,7 @@ from vga_report.program import FONTS
 from zaklimot import Script, format
 
 from .making import png_chunks
-from .program import run_program, want_program
-from .tools import EXAMPLES, TOP, Folder, ended, run_tool
+from .tools import EXAMPLES, TOP, Folder, ended, run_program, run_tool, want_program
 
 PAGE = TOP / "docs" / "TUTORIAL.md"
 TEXT = PAGE.read_text("utf-8")

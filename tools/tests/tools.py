@@ -1,4 +1,4 @@
-"""How tests run the tools: in folders of their own, with fake programs, and ended by signals."""
+"""How tests run the tools, in folders of their own, with fake programs, and ended by signals; and the built program."""
 
 from __future__ import annotations
 
@@ -17,8 +17,9 @@ import unittest
 import warnings
 from functools import partial
 from pathlib import Path
-from typing import Any, BinaryIO, Callable, Iterable, Optional, Sequence
+from typing import Any, BinaryIO, Callable, Iterable, Mapping, NamedTuple, Optional, Sequence
 
+from vga_report.program import FONTS, PROGRAM
 from vga_report.trouble import Trouble
 
 from .making import report
@@ -37,6 +38,8 @@ MOST_SECONDS = 200
 SIGNALS = ((signal.SIGTERM, 143), (signal.SIGHUP, 129), (signal.SIGINT, 130))
 # A child that is to be there is waited for this many seconds.
 WAITING = 60
+# Why a test is skipped. The gate sees to it that none is, once the program is built.
+UNBUILT = "the program isn't built: (cd crates/vga && rt run -- --help) builds it"
 
 
 def main_of(name: str) -> Callable[[Sequence[str]], int]:
@@ -96,6 +99,33 @@ def ended(*words: str | bytes | Path, **options: Any) -> tuple[int, Any, Any]:
     given = {"stdout": subprocess.PIPE, "stderr": subprocess.PIPE, "text": True, "timeout": MOST_SECONDS, **options}
     done = subprocess.run(words, **given)
     return done.returncode, done.stdout, done.stderr
+
+
+def want_program() -> None:
+    """Skips a test where the program isn't built yet."""
+    if not os.access(PROGRAM, os.X_OK):
+        raise unittest.SkipTest(UNBUILT)
+
+
+class Ran(NamedTuple):
+    """How a run of the program ended: its status, its report, and what it said."""
+
+    status: int
+    report: bytes
+    said: str
+
+
+def run_program(*words: str | bytes | Path, given: bytes = b"", folder: Optional[Path] = None) -> Ran:
+    """How a run of the program with these words ends."""
+    status, report, said = ended(PROGRAM, *words, cwd=folder, input=given, text=False)
+    return Ran(status, report, said.decode())
+
+
+def run_texts(texts: Mapping[str, bytes]) -> dict[str, Ran]:
+    """What `vga go` answers to each of these texts. Without the program the test is skipped."""
+    want_program()
+    words = ("go", "/dev/stdin", "--fonts", FONTS)
+    return {name: run_program(*words, given=text) for name, text in texts.items()}
 
 
 def hold(test: unittest.TestCase, work: Callable[..., object], table: Iterable[tuple[Any, ...]]) -> None:
