@@ -24,20 +24,47 @@ PICTURE = ppm(9, 1, RED * 4 + BLACK * 5)
 run = partial(run_tool, PROGRAM.name)
 
 
-class Text(Folder):
-    def test_a_file_and_standard_input(self) -> None:
-        # The frame at power-on; the sum is that of `md5sum` over its 37 bytes.
-        path = self.report("r", "ok", ppm(9, 1, 9 * BLACK))
-        text = b"1 ok\n2 picture 37 9x1 8f4a7758d19428aa7b8da8bb8fc0c974\n"
-        self.assertEqual(run("text", path), (0, text, ""))
-        self.assertEqual(run("text", "-", given=Path(path).read_bytes()), (0, text, ""))
+class Reports(Folder):
+    """Reports that are shown, cut into pictures and compared, in a folder that has some."""
 
-    def test_a_damaged_report_is_shown_up_to_the_damage(self) -> None:
-        message = "vga-report: standard input:2: step 2 is to come, and not '3 ok'\n"
-        self.assertEqual(run("text", "-", given=b"1 ok\n3 ok\n"), (2, b"1 ok\n", message))
+    REPORTS = {
+        "black": ("ok", ppm(9, 1, BLACK * 9)), "red": ("ok", PICTURE), "two": (PICTURE, "ok", ppm(1, 1, WHITE)),
+        "high": (ppm(100, 101, BLACK * 10100),), "wide": (ppm(5000, 1, BLACK * 5000),), "read": ("ok", "E1", "00"),
+        "refused": ("ok", "E1 NotDecoded", "01"), "three": ("ok", "ok", "55"), "many": ("ok",) * 50000,
+        "a": ("00", PICTURE), "b": ("01", ppm(9, 1, RED * 3 + BLACK * 6)),
+    }
+
+    def setUp(self) -> None:
+        super().setUp()
+        for name, answers in self.REPORTS.items():
+            self.report(name, *answers)
+
+    def done(self, words: str, given: bytes = b"") -> tuple[int, bytes, str]:
+        """Exit status, output and standard error of the command in the folder."""
+        return run(*words.split(), given=given, prepare=lambda: os.chdir(self.folder))
+
+    def rows(self, name: str) -> tuple[int, int, list[bytes]]:
+        """Width, height and rows of a PNG."""
+        return png_rows((self.folder / name).read_bytes())
+
+    def test_as_text(self) -> None:
+        # The frame at power-on; the sum is that of `md5sum` over its 37 bytes.
+        text, red = b"1 ok\n2 picture 37 9x1 8f4a7758d19428aa7b8da8bb8fc0c974\n", hashlib.md5(PICTURE).hexdigest()
+        front = "vga-report: standard input:2: "
+        lacking = f"{front}the picture is shown by its digest, and its dots are not in the file\n"
+        differs = f"step 2 differs\n  standard input:2: {text[7:-1].decode()}\n  red:2: picture 37 9x1 {red}\n".encode()
+        hold(self, self.done, (
+            ("text black", (0, text, "")), ("text -", report(*self.REPORTS["black"]), (0, text, "")),
+            # A text is as good as its report, but for the dots.
+            ("text -", text, (0, text, "")),
+            ("compare - black", text, (0, b"standard input and black agree: 2 steps, 1 picture\n", "")),
+            ("compare - red", text, (1, differs, "")), ("pictures - p", text, (2, b"", lacking)),
+            # A damaged report is shown up to the damage.
+            ("text -", b"1 ok\n3 ok\n", (2, b"1 ok\n", f"{front}step 2 is to come, and not '3 ok'\n")),
+        ))
 
     def test_a_closed_pipe_ends_it_silently(self) -> None:
-        process = begin(PROGRAM.name, "text", self.report("r", *("ok" for _ in range(50000))))
+        process = begin(PROGRAM.name, "text", self.folder / "many")
         assert process.stdout is not None and process.stderr is not None
         with process, process.stdout, process.stderr:
             self.assertEqual(process.stdout.readline(), b"1 ok\n")
@@ -45,91 +72,55 @@ class Text(Folder):
             self.assertEqual(process.stderr.read(), b"")
         self.assertEqual(process.returncode, 141)
 
+    def test_pictures(self) -> None:
+        cut = "vga-report: standard input:2: the picture of step 2 is cut off: of 37 bytes there are 35\n"
+        large = "vga-report: a picture of {} dots would get {}, and 100,000,000 dots are the most\n".format
+        hold(self, self.done, (
+            ("pictures two n/n", (0, b"n/n/0001.png\nn/n/0003.png\n", "")),
+            ("pictures two s --scale 2 --aspect", (0, b"s/0001.png\ns/0003.png\n", "")),
+            # The bytes as they are.
+            ("pictures two p --ppm", (0, b"p/0001.ppm\np/0003.ppm\n", "")),
+            ("pictures two - --ppm", (0, PICTURE + ppm(1, 1, WHITE), "")),
+            # Those before the damage are written.
+            ("pictures - d", report(PICTURE, PICTURE)[:-3], (2, b"d/0001.png\n", cut)),
+            ("pictures high h --scale 100", (2, b"", large("100x101", "10000x10100"))),
+            ("pictures wide h --scale 200 --aspect", (2, b"", large("5000x1", "1000000x750000"))),
+        ))
+        white = (1, 1, [b"\xff\xff\xff"])
+        self.assertEqual((self.rows("n/n/0003.png"), self.rows("s/0003.png")[:2]), (white, (3, 2)))
+        self.assertEqual(png_rows(self.done("pictures two - --step 3")[1]), white)
+        self.assertEqual((self.folder / "p/0001.ppm").read_bytes(), PICTURE)
+        self.assertEqual((self.rows("d/0001.png")[:2], list((self.folder / "h").iterdir())), ((9, 1), []))
 
-class Pictures(Folder):
-    def test_each_picture_is_a_file(self) -> None:
-        path, folder = self.report("r", PICTURE, "ok", ppm(1, 1, WHITE)), self.folder / "a" / "b"
-        names = f"{folder / '0001.png'}\n{folder / '0003.png'}\n".encode()
-        self.assertEqual(run("pictures", path, folder), (0, names, ""))
-        self.assertEqual(png_rows((folder / "0003.png").read_bytes()), (1, 1, [b"\xff\xff\xff"]))
-        self.assertEqual(run("pictures", path, folder, "--scale", "2", "--aspect")[0], 0)
-        self.assertEqual(png_rows((folder / "0003.png").read_bytes())[:2], (3, 2))
-        # The bytes as they are.
-        self.assertEqual(run("pictures", path, folder, "--ppm")[0], 0)
-        self.assertEqual((folder / "0001.ppm").read_bytes(), PICTURE)
-
-    def test_one_step_on_standard_output(self) -> None:
-        path = self.report("r", PICTURE, "ok", ppm(1, 1, WHITE))
-        status, picture, _ = run("pictures", path, "-", "--step", "3")
-        self.assertEqual((status, png_rows(picture)), (0, (1, 1, [b"\xff\xff\xff"])))
-        self.assertEqual(run("pictures", path, "-", "--ppm"), (0, PICTURE + ppm(1, 1, WHITE), ""))
-
-    def test_an_enlarged_picture_has_at_most_100_million_dots(self) -> None:
-        path, folder = self.report("r", ppm(100, 101, BLACK * 10100)), self.folder / "a"
-        message = "vga-report: a picture of 100x101 dots would get 10000x10100, and 100,000,000 dots are the most\n"
-        self.assertEqual(run("pictures", path, folder, "--scale", "100"), (2, b"", message))
-        self.assertEqual(list(folder.iterdir()), [])
-        path = self.report("r", ppm(5000, 1, BLACK * 5000))
-        self.assertIn("would get 1000000x750000,", run("pictures", path, folder, "--scale", "200", "--aspect")[2])
-
-    def test_pictures_before_the_damage_are_written(self) -> None:
-        status, _, message = run("pictures", "-", self.folder, given=report(PICTURE, PICTURE)[:-3])
-        self.assertEqual((status, (self.folder / "0001.png").exists()), (2, True))
-        self.assertIn("standard input:2: the picture of step 2 is cut off: of 37 bytes there are 35", message)
-
-
-class Compare(Folder):
-    def test_reports_that_agree(self) -> None:
-        path = self.report("a", "ok", PICTURE)
-        text = f"{path} and standard input agree: 2 steps, 1 picture\n".encode()
-        self.assertEqual(run("compare", path, "-", given=report("ok", PICTURE)), (0, text, ""))
-
-    def test_the_first_step_that_differs(self) -> None:
-        path, other = self.report("a", "ok", "E1", "00"), self.report("b", "ok", "E1 NotDecoded", "01")
-        text = f"step 2 differs\n  {path}:2: E1 (read)\n  {other}:2: E1 NotDecoded (refused)\n"
-        self.assertEqual(run("compare", path, other), (1, text.encode(), ""))
-        text += f"step 3 differs\n  {path}:3: 00\n  {other}:3: 01\n"
-        self.assertEqual(run("compare", path, other, "--all"), (1, text.encode(), ""))
+    def test_compared(self) -> None:
+        first = b"step 2 differs\n  read:2: E1 (read)\n  refused:2: E1 NotDecoded (refused)\n"
+        both, agree = first + b"step 3 differs\n  read:3: 00\n  refused:3: 01\n", b"red and red agree: 2 steps, 1 picture\n"
+        none = "vga-report: no pictures differ, so m.png isn't written\n"
+        hold(self, self.done, (
+            ("compare red red", (0, agree, "")), ("compare read refused", (1, first, "")),
+            ("compare read refused --all", (1, both, "")), ("compare read refused --picture m.png", (1, first, none)),
+        ))
+        self.assertFalse((self.folder / "m.png").exists())
 
     def test_a_picture_with_its_differing_dots_marked(self) -> None:
-        path, other = self.report("a", "00", PICTURE), self.report("b", "01", ppm(9, 1, RED * 3 + BLACK * 6))
-        marked = self.folder / "marked.png"
-        status, text, message = run("compare", path, other, "--all", "--picture", marked)
-        self.assertEqual((status, message), (1, ""))
+        status, text, said = self.done("compare a b --all --picture marked.png")
+        self.assertEqual((status, said), (1, ""))
         self.assertIn(b"\n  1 of 9 dots differ, the first is dot 3 of row 0: 3F0000, not 000000\n", text)
         red, mark = b"\x55\x00\x00", b"\xff\x20\x20"
-        self.assertEqual(png_rows(marked.read_bytes()), (9, 1, [red * 3 + mark + BLACK * 5]))
-
-    def test_a_marked_picture_on_standard_output(self) -> None:
-        path, other = self.report("a", PICTURE), self.report("b", ppm(9, 1, BLACK * 9))
-        status, picture, text = run("compare", path, other, "--picture", "-", "--scale", "2")
-        self.assertEqual((status, png_rows(picture)[:2]), (1, (18, 2)))
-        self.assertTrue(text.startswith("step 1 differs\n"), text)
-
-    def test_no_picture_differs(self) -> None:
-        path, other, marked = self.report("a", "00"), self.report("b", "01"), self.folder / "marked.png"
-        status, _, message = run("compare", path, other, "--picture", marked)
-        self.assertEqual((status, message), (1, f"vga-report: no pictures differ, so {marked} isn't written\n"))
-        self.assertFalse(marked.exists())
-
-    def test_a_report_as_text_shows_it(self) -> None:
-        path, other = self.report("a", "ok", PICTURE), self.report("b", "ok", ppm(9, 1, BLACK * 9))
-        shown = run("text", path)[1]
-        self.assertEqual(run("compare", "-", path, given=shown)[0], 0)
-        self.assertEqual(run("text", "-", given=shown), (0, shown, ""))
-        status, text, _ = run("compare", "-", other, given=shown)
-        self.assertEqual(status, 1)
-        self.assertIn(f"  standard input:2: picture 37 9x1 {hashlib.md5(PICTURE).hexdigest()}\n".encode(), text)
-        message = "vga-report: standard input:2: the picture is shown by its digest, and its dots are not in the file\n"
-        self.assertEqual(run("pictures", "-", self.folder / "p", given=shown), (2, b"", message))
+        self.assertEqual(self.rows("marked.png"), (9, 1, [red * 3 + mark + BLACK * 5]))
+        status, picture, said = self.done("compare a b --picture - --scale 2")
+        self.assertEqual((status, png_rows(picture)[:2], said.partition("\n")[0]), (1, (18, 2), "step 1 differs"))
 
     def test_as_expected_and_not(self) -> None:
-        path, expected = self.report("r", "ok", "ok", "55"), self.folder / "e"
-        hold(self, lambda text: run("check", path, self.write("e", text)), [
-            ("1-2 ok\n3 55\n", (0, f"{path} is as expected: 3 steps, 0 pictures\n".encode(), "")),
-            ("1-2 ok\n3 54\n", (1, f"{path}:3: step 3: 55, not 54 ({expected}:2)\n".encode(), "")),
-            ("1-2 ok\n", (1, f"{path}:3: step 3: 55, not the end ({expected})\n".encode(), "")),
-            ("1-4 ok\n", (1, f"{path}:3: step 3: 55 (read), not ok ({expected}:1)\n".encode(), "")),
+        def told(expected: str) -> tuple[int, bytes, str]:
+            self.write("e", expected)
+            return self.done("check three e")
+
+        hold(self, told, [
+            ("1-2 ok\n3 55\n", (0, b"three is as expected: 3 steps, 0 pictures\n", "")),
+            ("1-2 ok\n3 54\n", (1, b"three:3: step 3: 55, not 54 (e:2)\n", "")),
+            ("1-2 ok\n", (1, b"three:3: step 3: 55, not the end (e)\n", "")),
+            ("1-4 ok\n", (1, b"three:3: step 3: 55 (read), not ok (e:1)\n", "")),
         ])
 
 
@@ -160,7 +151,8 @@ class Streams(Folder):
     def test_each_is_told_or_not_wanted(self) -> None:
         path, long = self.report("r", "ok"), self.report("long", *("ok" for _ in range(50000)))
         told = "vga-report: standard {}put: {}\n".format
-        hold(self, lambda word, streams: ended("sh", "-c", f'"$@" {streams}', "sh", sys.executable, PROGRAM, "text", word), (
+        shell = partial(ended, "sh", "-c")
+        hold(self, lambda word, streams: shell(f'"$@" {streams}', "sh", sys.executable, PROGRAM, "text", word), (
             (path, ">&-", (2, "", told("out", "it is closed"))),
             ("-", "<&-", (2, "", told("in", "it is closed"))), (path, "<&-", (0, "1 ok\n", "")),
             # Nothing is said on standard output in the place of a closed error.
