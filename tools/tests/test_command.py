@@ -163,7 +163,7 @@ class Streams(Folder):
         self.assertEqual(Path(path).read_bytes(), b"1 ok\n")
 
 
-# Cases of a suite, each a script with the report that is expected of it; the words of the command;
+# Cases of a suite, each a script with the report that is expected of it, and its lines of the list; the command's words;
 # and what is told.
 NOTHING_ASKED = "all that it asks is a picture, a dump, a refusal or a fault of the script"
 ENDED = "the command ended with status 3, and said\n             first\n             no such part?"
@@ -171,7 +171,7 @@ REFUSING = (
     ("get A0000\nget A0000\n", "1 E1 NotDecoded\n2 FF\n"),
     ("get A0000\nget A0000\n", "1 E1 NotDecoded\n2 55\n"),
 )
-SUITES: list[tuple[tuple[tuple[str, str], ...], str, list[str]]] = [
+SUITES: list[tuple[tuple[tuple[str, ...], ...], str, list[str]]] = [
     # A skipped step, and damage behind a difference, hide none.
     ((("frame\nget A0000\n", "1 ragged\n2 55\n"),), "", ["c/0: step 2: FF, not 55 (`get A0000`, c/0.vga:2)\n"]),
     ((("get A0000\ncut\n", "1 55\n2 ok\n"),), "", ["c/0: step 1: FF, not 55 (`get A0000`, c/0.vga:1)\n"]),
@@ -201,6 +201,10 @@ SUITES: list[tuple[tuple[tuple[str, str], ...], str, list[str]]] = [
         "  failed   c/2\n           c/2: its report:1: the report ends within a line\n",
     ]),
     ((("wait\n", "1 FF\n"),), "--timeout 1", ["  failed   c/0\n           c/0: the command took too long\n"]),
+    # A step of a front is named where it stands.
+    ((("\nget 1\n", "1 FF\n2 55\n", "front front\nc/0"), ("get 1\n", "1 55\n2 FF\n")), "", [
+        "c/0: step 2: FF, not 55 (`get 1`, c/0.vga:2)\n", "c/1: step 1: FF, not 55 (`get 0`, front:2)\n",
+    ]),
 ]
 
 
@@ -260,11 +264,12 @@ class Suite(Folder):
         })
 
     def test_what_is_told_of_cases(self) -> None:
+        self.write("front", "; A front.\nget 0\n")
         for cases, words, wanted in SUITES:
             with self.subTest(cases, words=words):
                 self.lines = ["fonts two.fnt"]
-                for number, (script, expected) in enumerate(cases):
-                    self.case(f"c/{number}", script, expected)
+                for number, case in enumerate(cases):
+                    self.case(f"c/{number}", *case)
                 status, output, _ = self.run_suite(*words.split())
                 self.assertEqual(status, 1)
                 for text in wanted:
@@ -353,15 +358,6 @@ class Suite(Folder):
         self.assertEqual(self.run_suite("--only", "x")[0], 2)
         self.assertEqual(self.run_suite("--bytes", ""), empty)
 
-    def test_a_step_of_a_front_is_named_where_it_stands(self) -> None:
-        self.write("front", "; A front.\nget 0\n")
-        self.lines.append("front front")
-        self.case("a/one", "\nget 1\n", "1 FF\n2 55\n")
-        self.case("a/two", "get 1\n", "1 55\n2 FF\n")
-        output = self.run_suite()[1]
-        self.assertIn("a/one: step 2: FF, not 55 (`get 1`, a/one.vga:2)\n", output)
-        self.assertIn("a/two: step 1: FF, not 55 (`get 0`, front:2)\n", output)
-
     def test_all_that_a_harness_says_is_shown(self) -> None:
         self.case("a/one", "frame\n", "1 ok\n")
         program = f"{shlex.quote(sys.executable)} -c 'import sys; [print(at, file=sys.stderr) for at in range(50)]; sys.exit(3)' {{script}}"
@@ -405,13 +401,6 @@ class Suite(Folder):
                 self.assertIn(f"\n{cases}: ", self.run_suite(*words)[1])
         message = f"vga-report: {self.folder / 'list.txt'}: no case has a name as --only and --except want it\n"
         self.assertEqual(self.run_suite("--only", "a/", "--except", "a"), (2, "", message))
-
-    def test_scripts_go_into_no_folder_that_has_files(self) -> None:
-        self.case("a/one", "frame\n", "1 ok\n")
-        path, mine = self.write("list.txt", "\n".join(self.lines) + "\n"), Path(self.write("mine/a/one.vga", "mine"))
-        done = run("scripts", self.folder / "mine", "--list", path)
-        hold_undone(self, done, "the folder has files, and none of them is to be lost")
-        self.assertEqual(mine.read_text(), "mine")
 
     def test_a_font_has_a_limit(self) -> None:
         self.write("one.vga", "frame\n")

@@ -13,7 +13,7 @@ from vga_report.program import FONTS
 
 from .test_page import Alone
 from .test_run import Fake
-from .tools import TOOLS, Folder, ended
+from .tools import TOOLS, Folder, ended, hold_undone
 
 TEXT = "; A script.\nint ax=3 ; = ax=0003\nframe ; <!-- </script> \u00e9\n"
 OTHER_FONTS = bytes(9728)
@@ -92,46 +92,15 @@ class Pages(Release):
         self.assertEqual(self.ran(str(path), "--debug", str(self.made))[0], 0)
         self.assertEqual(self.opened(self.made.read_text("utf-8"))["text"], "frame ; \ufffd\n\0\n")
 
-    def test_a_file_that_is_read_is_not_written(self) -> None:
-        for path in (self.script, str(self.fonts), str(self.built)):
-            with self.subTest(path):
-                before = Path(path).read_bytes()
-                status, output, said = self.ran(self.script, "--debug", path)
-                self.assertEqual((status, output), (2, ""))
-                self.assertTrue(said.startswith(f"vga-report: {path}: it is read as "), said)
-                self.assertTrue(said.endswith(", so it isn't written\n"), said)
-                self.assertEqual(Path(path).read_bytes(), before)
-        link = self.folder / "link"
-        link.symlink_to(self.script)
-        self.assertIn("so it isn't written", self.ran(self.script, "--debug", str(link))[2])
-        self.assertEqual(self.names(), ["a release", "fonts", "link", "script.vga"])
-
-    def test_what_can_not_be_done(self) -> None:
-        def said(*words: str, given: bytes = b"") -> str:
-            status, output, told = self.ran(*words, given=given)
-            self.assertEqual((status, output), (2, ""))
-            self.assertFalse(self.made.exists())
-            return told.removeprefix("vga-report: ")
-
-        debug = ["--debug", str(self.made)]
-        self.assertEqual(said("none", *debug), "none: No such file or directory\n")
-        self.assertEqual(said("-", *debug, given=bytes(16_777_217)), "standard input: F6 TooLong: a script has at most 16,777,216 bytes\n")
-        nothing, page = "^--debug runs nothing here: ", "^--debug writes a page that runs the script: "
-        for words, told in (
-            (["--only", "1"], nothing), (["--try"], nothing), (["--vga", "x"], nothing),
-            (["--bless"], page), (["--show"], page), (["--pictures", "p"], page),
-            (["--html", "-"], "both want files"), (["--html", str(self.made)], "want two files"),
-        ):
-            self.assertRegex(said(self.script, *debug, *words), told, words)
-        self.fonts.write_bytes(bytes(9727))
-        told = f"{self.fonts}: the font file has 9,727 bytes, and 9,728 are right\n"
-        self.assertEqual(said(self.script, *debug), told)
-        self.fonts.write_bytes(OTHER_FONTS)
+    def test_a_page_that_is_not_there_or_another(self) -> None:
+        hold_undone(self, self.ran(self.script, "--debug", str(self.built)), f"^vga-report: {self.built}: it is read as ")
         self.built.write_text("<!DOCTYPE html>\n")
-        self.assertEqual(said(self.script, *debug), "zaklimot.html: it is not the page that runs scripts\n")
+        told = "^vga-report: zaklimot.html: it is not the page that runs scripts\n$"
+        hold_undone(self, self.ran(self.script, "--debug", str(self.made)), told)
         self.built.unlink()
         told = "the page is not built: `tools/vga-page make page/zaklimot.html` builds it"
-        self.assertIn(told, said(self.script, *debug))
+        hold_undone(self, self.ran(self.script, "--debug", str(self.made)), told)
+        self.assertEqual(self.names(), ["a release", "fonts", "script.vga"])
 
 
 @unittest.skipIf(sys.platform == "win32", "a script is a program on POSIX")

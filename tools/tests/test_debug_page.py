@@ -285,15 +285,6 @@ class Commands(Folder):
         self.assertEqual((status, output), (TROUBLE, ""))
         return said
 
-    def test_words_that_cannot_be_meant(self) -> None:
-        for words, reason in (
-            (["make", "x", "--proof", "p"], "--proof keeps a proof of --gated"),
-            (["make", "x", "--module", "m", "--gated"], "--module takes a module as it is"),
-            (["module", "x", "--proof", "p"], "--proof keeps a proof of --gated"),
-        ):
-            with self.subTest(words):
-                self.assertTrue(self.said(*words).startswith(f"vga-page: {reason}"))
-
     def test_a_module_that_was_made_already(self) -> None:
         self.patch(mock.patch.object(command, "read_sources", small_sources))
         module, made = Path(self.write("module", module_of(Modules.right))), self.folder / "page"

@@ -113,23 +113,8 @@ class Animations(Folder):
             done = run("pictures", path, "--apng", moving, "--script", script)
             self.assertEqual(done, (0, f"{moving}: 2 frames, {seconds:.3f} seconds\n".encode(), ""))
 
-    def test_what_is_no_script_of_the_report(self) -> None:
-        path, moving = self.report("r", "ok", PICTURE), self.folder / "m.png"
-        for script, told in (
-            (self.write("i.png", png(1, 1, bytes(4))), "F7 BadLine(1): "), ("/dev/zero", "F6 TooLong: "),
-            ("/dev/null", "it is not the report's script: step 2 has a picture, and is no frame of it"),
-            (self.write("s.vga", "frame\nframe ax\n"), "F7 BadLine(2): "),
-        ):
-            with self.subTest(script):
-                status, output, message = run("pictures", path, "--apng", str(moving), "--script", script)
-                self.assertEqual((status, output, moving.exists()), (2, b"", False))
-                self.assertTrue(message.startswith(f"vga-report: {script}:"), message)
-                self.assertIn(told, message)
-
-    def test_sizes_and_words_that_can_not_be_meant(self) -> None:
+    def test_one_step_of_those_that_differ_in_size(self) -> None:
         path, moving = self.report("r", PICTURE, ppm(1, 1, RED)), str(self.folder / "m.png")
-        message = "vga-report: step 2 has a picture of another size than step 1: --step picks those of one size\n"
-        self.assertEqual(run("pictures", path, "--apng", moving), (2, b"", message))
         self.assertEqual(run("pictures", path, "--apng", moving, "--step", "2")[0], 0)
 
     def test_times_by_registers(self) -> None:

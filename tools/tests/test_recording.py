@@ -395,5 +395,3 @@ class RealTime(Folder):
         program = self.program("vga", "#!/bin/sh\nexit 3\n")
         status, _, said = run("pictures", trace, self.folder / "pictures", "--vga", program)
         self.assertEqual((status, said.startswith("vga-trace: ")), (2, True), said)
-        told = "vga-trace: the pictures want a folder, or --apng a file\n"
-        self.assertEqual(run("pictures", trace, "--vga", program)[2], told)

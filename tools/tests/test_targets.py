@@ -8,7 +8,7 @@ import zipfile
 from pathlib import Path
 from unittest import mock
 
-from library_tests import command as tests, compilers, suite
+from library_tests import compilers, suite
 from library_tests.compilers import MACHINES, Built
 from vga_library import building, command, making, toolchain
 from vga_library.building import HEAP, HEAP_OPTIONS
@@ -168,8 +168,3 @@ class Testing(Folder):
         front = "env ASAN_OPTIONS=detect_leaks=0 qemu-aarch64 -L /usr/aarch64-linux-gnu made/harness-given "
         texts, scripts = (word for word in called[1] if "harness" in word)
         self.assertEqual((texts, scripts), (f"{front}{{script}} {{fonts}} {{until}}", f"{front}--bytes {{script}} {{fonts}}"))
-
-    def test_checks_of_this_machine_alone(self) -> None:
-        told = "vga-library-tests: pc: there is no such check for aarch64\n"
-        done = call(tests.main, "--target", "aarch64", "--only", "pc")
-        self.assertEqual(done, (TROUBLE, "", told))
