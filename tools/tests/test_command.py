@@ -163,7 +163,7 @@ class Streams(Folder):
         self.assertEqual(Path(path).read_bytes(), b"1 ok\n")
 
 
-# Cases of a suite, each a script with the report that is expected of it, and its lines of the list; the command's words;
+# Cases of a suite: scripts with the reports that are expected of them, and lines of the list; the command's words;
 # and what is told.
 NOTHING_ASKED = "all that it asks is a picture, a dump, a refusal or a fault of the script"
 ENDED = "the command ended with status 3, and said\n             first\n             no such part?"

@@ -93,7 +93,8 @@ class Pages(Release):
         self.assertEqual(self.opened(self.made.read_text("utf-8"))["text"], "frame ; \ufffd\n\0\n")
 
     def test_a_page_that_is_not_there_or_another(self) -> None:
-        hold_undone(self, self.ran(self.script, "--debug", str(self.built)), f"^vga-report: {self.built}: it is read as ")
+        built = str(self.built)
+        hold_undone(self, self.ran(self.script, "--debug", built), f"^vga-report: {built}: it is read as ")
         self.built.write_text("<!DOCTYPE html>\n")
         told = "^vga-report: zaklimot.html: it is not the page that runs scripts\n$"
         hold_undone(self, self.ran(self.script, "--debug", str(self.made)), told)

@@ -165,7 +165,8 @@ REFUSED = {
     "trace record {o} --screen soon": "'soon' is no number of seconds",
     "trace convert - - --time --frames clock":
         "vga-trace: frames by the clock have the time already: without --time\n",
-    **{f"page {words}": "vga-page: --proof keeps a proof of --gated" for words in ("make x --proof p", "module x --proof p")},
+    "page make x --proof p": "vga-page: --proof keeps a proof of --gated",
+    "page module x --proof p": "vga-page: --proof keeps a proof of --gated",
     "page make x --module m --gated": "vga-page: --module takes a module as it is",
     "library-tests --target aarch64 --only pc": "vga-library-tests: pc: there is no such check for aarch64\n",
     # Numbers have ranges.

@@ -262,19 +262,20 @@ class Warnings(unittest.TestCase):
 class Converting(Folder):
     def test_traces_of_each_form(self) -> None:
         data, lacking = BEGIN + b"5 r p 3CC 67 1\n", b"- w p 3C4 1 1\n"
-        short, script = bytes.fromhex("01 C2 03 67 03 CC 03 0B"), b"out 3C2 67\nin 3CC ; = 67\nframe\n"
+        script, text = b"VGAS\x01" + bytes.fromhex("01 C2 03 67 03 CC 03 0B"), b"out 3C2 67\nin 3CC ; = 67\nframe\n"
         figures = "2 cycles, 3 steps, {} bytes: 1 out, 1 in, 1 frame\n".format
         begins = "cycle 1 writes first, and not port 3C2: the trace doesn't begin at power-on\n"
-        kinds = b"           1 write port 3C2 size 1\n           1 read port 3CC size 1\n"
+        kind = b"           1 %s port %s size 1\n"
+        kinds = kind % (b"write", b"3C2") + kind % (b"read", b"3CC")
         hold(self, lambda given, *words: run(*words, given=given), (
-            *((form, "convert", "-", "-", (0, b"VGAS\x01" + short, figures(13))) for form in (data, gzip.compress(data))),
+            *((form, "convert", "-", "-", (0, script, figures(13))) for form in (data, gzip.compress(data))),
             *((form, "kinds", "-", (0, kinds, "")) for form in (data, gzip.compress(data))),
-            (data, "convert", "-", "-", "--text", (0, script, figures(31))),
-            (lacking, "kinds", "-", (0, kinds.replace(b"3C2", b"3C4")[:35], f"vga-trace: warning: standard input: {begins}")),
+            (data, "convert", "-", "-", "--text", (0, text, figures(31))),
+            (lacking, "kinds", "-", (0, kind % (b"write", b"3C4"), f"vga-trace: warning: standard input: {begins}")),
         ))
         path = self.folder / "script"
         done = run("convert", self.write("trace", gzip.compress(data)), path)
-        self.assertEqual((done, path.read_bytes()), ((0, figures(13).encode(), ""), b"VGAS\x01" + short))
+        self.assertEqual((done, path.read_bytes()), ((0, figures(13).encode(), ""), script))
 
     def test_too_long_is_told_with_a_number_of_cycles_that_fit(self) -> None:
         long = BEGIN + b"".join(b"- w p 3C4 %X 1\n" % at for at in range(50))
@@ -501,8 +502,8 @@ def lines(steps: Iterable[Step]) -> list[str]:
 
 class Folding(unittest.TestCase):
     def test_rows_of_equal_steps_and_groups(self) -> None:
-        nine, other = [Step(PUT, 0xA0000 + at, at) for at in range(9)] * 3, [Step(IN, 0x3C9, value) for value in range(20)]
-        group = nine[:8]
+        nine = [Step(PUT, 0xA0000 + at, at) for at in range(9)] * 3
+        group, other = nine[:8], [Step(IN, 0x3C9, value) for value in range(20)]
         hold(self, lines, (
             ([WRITE, *[POLL] * 100, WRITE], ["out 3C0 20", "repeat 100", "in 3DA", "end", "out 3C0 20"]),
             ([POLL, WRITE] * 30 + [POLL], ["repeat 30", "in 3DA", "out 3C0 20", "end", "in 3DA"]),
