@@ -14,7 +14,6 @@ from unittest import mock
 from page_tests import built, node, scripts, suite
 from page_tests import command as tests_command
 from vga_report.version import HEADER, calls_of
-from vga_report.processes import Failed, run
 from vga_page import command, page, wasm
 from vga_page.bundling import joined
 from vga_page.page import DATA, SCRIPT, STYLE, Sources, about, data_of, examples, make_page, packed, page_text
@@ -259,24 +258,6 @@ class Modules(unittest.TestCase):
         self.assertEqual(kit_of(with_kit(module, "kit 1")), "kit 1")
         told = [check_module(one).partition("bytes")[2] for one in (with_kit(module, "kit 1"), module)]
         self.assertEqual(told[0], told[1])
-
-
-class Running(unittest.TestCase):
-    def test_what_ends_badly_is_told(self) -> None:
-        hold(self, partial(refused, run), (
-            (["sh", "-c", "echo a >&2; exit 3"], "sh: it ended with status 3\n  sh -c echo a >&2; exit 3\na\n"),
-            (["no-such-program"], "no-such-program: it is not in the path"),
-        ))
-        with self.assertRaises(Failed) as raised:
-            run(["sleep", "60"], seconds=0.1)
-        self.assertEqual(str(raised.exception), "sleep: it had not ended after 0 seconds")
-
-    def test_lines_are_heard_and_output_is_answered(self) -> None:
-        heard: list[str] = []
-        said = run(["sh", "-c", "echo one; echo two >&2; echo three"], heard=heard.append)
-        self.assertEqual(said, "one\nthree\n")
-        self.assertTrue(heard[-1] in ("two", "three"))
-        self.assertEqual(run(["sh", "-c", 'printf "$ONE"'], environment={"ONE": "1"}), "1")
 
 
 class Commands(Folder):

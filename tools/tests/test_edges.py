@@ -180,21 +180,6 @@ class Faults(Program):
         self.assertFalse((self.folder / "new").exists())
 
 
-class Order(Program):
-    def test_fonts_are_read_before_the_script(self) -> None:
-        for command, name, content in (("run", "script", SCRIPT), ("go", "text", TEXT)):
-            with self.subTest(command):
-                fonts, script = self.folder / f"{command}-fonts", self.folder / f"{command}-{name}"
-                os.mkfifo(fonts)
-                os.mkfifo(script)
-                with subprocess.Popen([PROGRAM, command, script, "--fonts", fonts], stdout=subprocess.PIPE) as running:
-                    self.addCleanup(running.kill)
-                    give(fonts, FONTS.read_bytes(), lambda: self.assertIsNone(writer(script)))
-                    give(script, content)
-                    self.assertEqual(running.communicate(timeout=MOST_SECONDS)[0], REPORT)
-                self.assertEqual(running.returncode, 0)
-
-
 def writer(pipe: Path) -> Optional[int]:
     """The end of a pipe that is written, where somebody reads it."""
     try:
@@ -262,6 +247,19 @@ class Streams(Program):
         self.assertTrue(b"".join(pieces) == report)
         # A call writes all that is kept back but the line for which no room is left.
         self.assertEqual(len(pieces), -(-len(report) // BUFFER_LEN))
+
+    def test_fonts_are_read_before_the_script(self) -> None:
+        for command, name, content in (("run", "script", SCRIPT), ("go", "text", TEXT)):
+            with self.subTest(command):
+                fonts, script = self.folder / f"{command}-fonts", self.folder / f"{command}-{name}"
+                os.mkfifo(fonts)
+                os.mkfifo(script)
+                with subprocess.Popen([PROGRAM, command, script, "--fonts", fonts], stdout=subprocess.PIPE) as running:
+                    self.addCleanup(running.kill)
+                    give(fonts, FONTS.read_bytes(), lambda: self.assertIsNone(writer(script)))
+                    give(script, content)
+                    self.assertEqual(running.communicate(timeout=MOST_SECONDS)[0], REPORT)
+                self.assertEqual(running.returncode, 0)
 
 
 def limit_files(room: int) -> None:

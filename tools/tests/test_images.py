@@ -31,27 +31,6 @@ def png(width: int, height: int, lines: bytes, depth: int = 8, colour: int = 2, 
     return b"\x89PNG\r\n\x1a\n" + b"".join(parts) + chunk(b"IEND", b"")
 
 
-class Images(unittest.TestCase):
-    def test_forms_of_png(self) -> None:
-        red, white = b"\xff\x00\x00", b"\xff\xff\xff"
-        hold(self, lambda data: list(image_of(data, "i").rows), [
-            (png(2, 1, b"\0" + red + white), [red + white]),
-            (png(2, 1, b"\0" + red + b"\x01" + white + b"\x80", colour=6), [red + white]),
-            (png(2, 1, b"\0\xff\0\xff\0\0\0" + b"\xff\0" * 3, depth=16), [b"\xff\xff\0" + white]),
-            (png(2, 1, b"\0\x80\xff", colour=0), [b"\x80" * 3 + white]),
-            (png(2, 1, b"\0\x80\0\xff\0", colour=4), [b"\x80" * 3 + white]),
-            (png(3, 1, b"\0\xa0", depth=1, colour=0), [white + b"\0\0\0" + white]),
-            (png(3, 1, b"\0\x10\x10", depth=4, colour=3, palette=red + white), [white + red + white]),
-            (png(2, 2, b"\x01" + red + b"\0\xff\xff" + b"\x02" + b"\0" * 6), [red + white] * 2),
-            (png(2, 2, b"\0" + red + white + b"\x03" + b"\x80\x00\x00\x00\x80\x80"), [red + white] * 2),
-            (png(2, 2, b"\0" + red + white + b"\x04" + b"\0" * 3 + b"\0" * 3), [red + white] * 2),
-        ])
-
-    def test_ppm(self) -> None:
-        self.assertEqual(image_of(b"P6 # a\n1\t1\n255\n\x01\x02\x03", "i").rows, (b"\x01\x02\x03",))
-        self.assertEqual(image_of(ppm(1, 1, RED), "i").most, 63)
-
-
 class ComparePicture(Folder):
     def compared(self, image: bytes, *words: str, picture: bytes = PICTURE) -> tuple[int, str]:
         """The status, and what is said of an image beside a picture, without the names."""
@@ -137,7 +116,7 @@ def shown(picture: Picture, shape: Shape = Shape(), other: Optional[Picture] = N
     return png_rows(stream.getvalue())
 
 
-class Written(unittest.TestCase):
+class Images(unittest.TestCase):
     def test_six_bits_become_eight(self) -> None:
         dots = bytes(range(0, 63, 3)) + b"\x3f" + bytes([1, 2])
         (row,) = shown(Picture.of_dots(8, 1, dots))[2]
@@ -190,3 +169,22 @@ class Written(unittest.TestCase):
         expected = (2, 2, [BLACK + MARK, MARK * 2])
         self.assertEqual(shown(picture, other=other), expected)
         self.assertEqual(shown(other, other=picture), expected)
+
+    def test_forms_of_png(self) -> None:
+        red, white = b"\xff\x00\x00", b"\xff\xff\xff"
+        hold(self, lambda data: list(image_of(data, "i").rows), [
+            (png(2, 1, b"\0" + red + white), [red + white]),
+            (png(2, 1, b"\0" + red + b"\x01" + white + b"\x80", colour=6), [red + white]),
+            (png(2, 1, b"\0\xff\0\xff\0\0\0" + b"\xff\0" * 3, depth=16), [b"\xff\xff\0" + white]),
+            (png(2, 1, b"\0\x80\xff", colour=0), [b"\x80" * 3 + white]),
+            (png(2, 1, b"\0\x80\0\xff\0", colour=4), [b"\x80" * 3 + white]),
+            (png(3, 1, b"\0\xa0", depth=1, colour=0), [white + b"\0\0\0" + white]),
+            (png(3, 1, b"\0\x10\x10", depth=4, colour=3, palette=red + white), [white + red + white]),
+            (png(2, 2, b"\x01" + red + b"\0\xff\xff" + b"\x02" + b"\0" * 6), [red + white] * 2),
+            (png(2, 2, b"\0" + red + white + b"\x03" + b"\x80\x00\x00\x00\x80\x80"), [red + white] * 2),
+            (png(2, 2, b"\0" + red + white + b"\x04" + b"\0" * 3 + b"\0" * 3), [red + white] * 2),
+        ])
+
+    def test_ppm(self) -> None:
+        self.assertEqual(image_of(b"P6 # a\n1\t1\n255\n\x01\x02\x03", "i").rows, (b"\x01\x02\x03",))
+        self.assertEqual(image_of(ppm(1, 1, RED), "i").most, 63)

@@ -53,7 +53,7 @@ class Header(unittest.TestCase):
         self.assertEqual(asserted, {*STRUCT.findall(TEXT), "zak_status"})
 
 
-class Places(unittest.TestCase):
+class Making(unittest.TestCase):
     def test_where_files_are_laid(self) -> None:
         self.assertEqual(Place("/usr", stage="stage").folder("lib"), Path("stage/usr/lib"))
         self.assertEqual(Place("/usr").folder("lib"), Path("/usr/lib"))
@@ -75,6 +75,17 @@ class Places(unittest.TestCase):
         self.assertIn('set(PACKAGE_VERSION "1.2")', told)
         for whole in (text, told):
             self.assertNotIn("@", whole)
+
+    def test_crates_below_stand_lowest_first(self) -> None:
+        below = crates.below("vga_c")
+        self.assertEqual(below[0], "vga_bits")
+        self.assertEqual(len(below), len(set(below)))
+        for place, name in enumerate(below):
+            self.assertLessEqual(set(crates.below(name)), set(below[:place]), name)
+
+    def test_what_the_gate_has_not_left(self) -> None:
+        with mock.patch.object(toolchain, "TOP", Path("nowhere")), self.assertRaises(Trouble):
+            toolchain.rlib("vga_bits")
 
 
 class Made(Folder):
@@ -111,19 +122,6 @@ class Made(Folder):
         self.assertIsNotNone(making.kept("llvm", X86_64))
         self.low.with_name("more.rt").write_text("")
         self.assertIsNone(making.kept("llvm", X86_64))
-
-
-class Gated(unittest.TestCase):
-    def test_crates_below_stand_lowest_first(self) -> None:
-        below = crates.below("vga_c")
-        self.assertEqual(below[0], "vga_bits")
-        self.assertEqual(len(below), len(set(below)))
-        for place, name in enumerate(below):
-            self.assertLessEqual(set(crates.below(name)), set(below[:place]), name)
-
-    def test_what_the_gate_has_not_left(self) -> None:
-        with mock.patch.object(toolchain, "TOP", Path("nowhere")), self.assertRaises(Trouble):
-            toolchain.rlib("vga_bits")
 
 
 class Page(unittest.TestCase):

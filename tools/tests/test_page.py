@@ -79,7 +79,7 @@ class Alone(Folder):
         return frames
 
 
-class Runs(Alone, Fake):
+class Pages(Alone, Fake):
     def test_a_run(self) -> None:
         page = self.folder / "page.html"
         status, output, said = self.run_script("--html", str(page))
@@ -106,8 +106,6 @@ class Runs(Alone, Fake):
         self.assertEqual((status, said), (0, "6 steps, 1 refused, 1 picture, 4 of 4 answers as expected\n"))
         self.assert_stands_alone(output)
 
-
-class Comparisons(Alone):
     def test_two_reports(self) -> None:
         path, other = self.report("a", "00", PICTURE), self.report("b", "01", ppm(9, 1, RED * 3 + BLACK * 6))
         page = self.folder / "page.html"

@@ -37,7 +37,9 @@ def packed(entries: dict[str, Entry]) -> bytes:
     return stream.getvalue()
 
 
-class Packing(unittest.TestCase):
+class Parts(unittest.TestCase):
+    """The archive, and what goes into it."""
+
     def test_a_change_is_seen_and_the_order_of_files_is_not(self) -> None:
         self.assertEqual(packed(ENTRIES), packed(dict(reversed(ENTRIES.items()))))
         self.assertNotEqual(packed(ENTRIES), packed({**ENTRIES, "z/a": File(b"x")}))
@@ -55,8 +57,6 @@ class Packing(unittest.TestCase):
         self.assertEqual([oct(member.mode) for member in members if member.isfile()], ["0o644", "0o755", "0o644"])
         self.assertEqual([member.linkname for member in members if member.issym()], ["b.so.1"])
 
-
-class Made(unittest.TestCase):
     def test_what_it_is_made_of(self) -> None:
         text = made_of(COMMIT, "kit", ENTRIES).content.decode("ascii")
         self.assertTrue(text.startswith("commit 0123abcd\ntoolchain kit\nsha256 "))
@@ -70,8 +70,6 @@ class Made(unittest.TestCase):
         self.assertEqual([path for path in PATHS if not (TOP / path).exists()], [])
         self.assertEqual(command.release_name(), f"zaklimot-{version()}-x86_64-linux")
 
-
-class Settling(unittest.TestCase):
     def test_the_links_of_pages(self) -> None:
         pages = Pages(["docs/A.md", "README.md", "src/low/x.rs"], {"docs/B.md": "README.md"})
         hold(self, lambda page, text: pages.settled(text, page), (
@@ -85,6 +83,11 @@ class Settling(unittest.TestCase):
             ("docs/C.md", "```\n[a](Z.md)\n```\n[b](Z.md)\n```\n[c](Z.md)\n```\n",
              "```\n[a](Z.md)\n```\nb\n```\n[c](Z.md)\n```\n"),
         ))
+
+    def test_what_is_changed_is_no_release(self) -> None:
+        with mock.patch("vga_report.processes.captured", return_value=Done(0, b" M README.md\n", b"")):
+            told = "^vga-release: a release is made from a commit, and this is changed: M README.md\n$"
+            hold_undone(self, call(command.main, "release"), told)
 
 
 def sources() -> dict[str, Entry]:
@@ -168,7 +171,7 @@ def commands_of(text: str) -> Iterator[str]:
             yield line.strip("(")
 
 
-class Wheels(Folder):
+class Packed(Folder):
     def test_the_wheel_has_the_library(self) -> None:
         files = {place: entry for place, entry in sources().items() if isinstance(entry, File)}
         for place in ("lib/libzaklimot.so", "share/zaklimot/zaklimot.fnt"):
@@ -182,6 +185,16 @@ class Wheels(Folder):
         with zipfile.ZipFile(made[0]) as wheel:
             self.assertEqual(wheel.read("zaklimot/carried/libzaklimot.so"), b"lib/libzaklimot.so")
             self.assertIn("zaklimot/format/table.py", wheel.namelist())
+
+    def test_the_archive_and_its_checksum(self) -> None:
+        given = self.write("given", "built")
+        made = {"clean_commit": lambda: COMMIT, "release_entries": lambda *_: ENTRIES, "check_program": lambda _: None}
+        self.patch(mock.patch.multiple(command, **made))
+        words = ["--program", given, "--archive", given, "--archive-aarch64", given]
+        status, output, _ = call(command.main, self.folder, *words)
+        archive, sums = map(Path, output.splitlines())
+        number = hashlib.sha256(archive.read_bytes()).hexdigest()
+        self.assertEqual((status, sums.read_text("ascii")), (0, f"{number}  {archive.name}\n"))
 
 
 class Installing(Folder):
@@ -225,22 +238,3 @@ class Installing(Folder):
             with self.subTest(words=words):
                 hold_undone(self, self.install(*words), rf"{told}.*\n\Z")
         self.assertEqual((self.release / "bin/vga").read_text(), "#!program")
-
-
-class Packed(Folder):
-    def test_the_archive_and_its_checksum(self) -> None:
-        given = self.write("given", "built")
-        made = {"clean_commit": lambda: COMMIT, "release_entries": lambda *_: ENTRIES, "check_program": lambda _: None}
-        self.patch(mock.patch.multiple(command, **made))
-        words = ["--program", given, "--archive", given, "--archive-aarch64", given]
-        status, output, _ = call(command.main, self.folder, *words)
-        archive, sums = map(Path, output.splitlines())
-        number = hashlib.sha256(archive.read_bytes()).hexdigest()
-        self.assertEqual((status, sums.read_text("ascii")), (0, f"{number}  {archive.name}\n"))
-
-
-class Commits(unittest.TestCase):
-    def test_what_is_changed_is_no_release(self) -> None:
-        with mock.patch("vga_report.processes.captured", return_value=Done(0, b" M README.md\n", b"")):
-            told = "^vga-release: a release is made from a commit, and this is changed: M README.md\n$"
-            hold_undone(self, call(command.main, "release"), told)

@@ -10,6 +10,7 @@ import shutil
 import stat
 import sys
 import unittest
+from functools import partial
 from pathlib import Path
 from threading import Event
 from unittest import mock
@@ -18,7 +19,7 @@ from vga_library.targets import AARCH64
 from vga_report import cli
 from vga_report.crates import Phases
 from vga_report.listing import _wait_for
-from vga_report.processes import MEBIBYTE, Limits, Outcome, run_command, started
+from vga_report.processes import MEBIBYTE, Failed, Limits, Outcome, run, run_command, started
 from vga_report.progress import DELAY, Progress
 from vga_report.streams import reading, write_file, writing
 from vga_report.trouble import TROUBLE, Trouble
@@ -179,8 +180,6 @@ class Programs(unittest.TestCase):
         status, _, said = ended(sys.executable, "-c", INTERRUPTED.format(tools=str(TOOLS)))
         self.assertEqual((status, said), (7, ""))
 
-
-class Sources(unittest.TestCase):
     def test_unions_of_types_are_not_evaluated(self) -> None:
         # Python 3.9, which the tools are content with, has no `|` between types.
         for path in TOOLS.glob("vga_*/*.py"):
@@ -191,6 +190,22 @@ class Sources(unittest.TestCase):
             with self.subTest(path.relative_to(TOOLS)):
                 is_late = any(isinstance(node, ast.ImportFrom) and node.module == "__future__" for node in nodes)
                 self.assertEqual([] if is_late else unions, [])
+
+    def test_what_ends_badly_is_told(self) -> None:
+        hold(self, partial(refused, run), (
+            (["sh", "-c", "echo a >&2; exit 3"], "sh: it ended with status 3\n  sh -c echo a >&2; exit 3\na\n"),
+            (["no-such-program"], "no-such-program: it is not in the path"),
+        ))
+        with self.assertRaises(Failed) as raised:
+            run(["sleep", "60"], seconds=0.1)
+        self.assertEqual(str(raised.exception), "sleep: it had not ended after 0 seconds")
+
+    def test_lines_are_heard_and_output_is_answered(self) -> None:
+        heard: list[str] = []
+        said = run(["sh", "-c", "echo one; echo two >&2; echo three"], heard=heard.append)
+        self.assertEqual(said, "one\nthree\n")
+        self.assertTrue(heard[-1] in ("two", "three"))
+        self.assertEqual(run(["sh", "-c", 'printf "$ONE"'], environment={"ONE": "1"}), "1")
 
 
 @unittest.skipUnless(Path("/proc/self/stat").exists(), "processes are looked at as Linux shows them")
@@ -230,9 +245,6 @@ class Commands(Folder):
         files = (self.folder / "out", self.folder / "said")
         self.assertRaises(Trouble, run_command, ["/none/there"], *files, Limits(), Event())
 
-
-@unittest.skipUnless(Path("/proc/self/stat").exists(), "processes are looked at as Linux shows them")
-class Signals(Folder):
     def test_signals_end_all_that_was_begun(self) -> None:
         self.write("two.fnt", "12")
         self.write("one.vga", "frame\n")

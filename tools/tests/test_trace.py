@@ -108,6 +108,30 @@ class Lines(unittest.TestCase):
             (b"; good\n\nhello\noh\n", f"3: {none}; this line is the first that is no comment"),
         )))
 
+    def test_what_a_trace_lacks(self) -> None:
+        def vbe(index: str, value: str) -> bytes:
+            return qemu("write 3c2 67 1") + qemu(f"write 1ce {index} 2", "vbe") + qemu(f"write 1cf {value} 2", "vbe")
+
+        begin = "cycle 2 writes first, and not port 3C2: the trace doesn't begin at power-on"
+        enabled = "cycle 3 turns VBE on: what follows is no VGA's, and its memory isn't traced"
+        silent = "chain 4 with map mask 0F has no cycle of memory, first from cycle 3 on: " \
+            "qemu traces none there without the plugin"
+        chained = BEGIN + b"- w p 3C4 0F02 2\n- w p 3C4 0E04 2\n"
+        hold(self, warned, (
+            (b"- r p 3CC 0 1\n" + BEGIN + b"- w m A0000 1 1\n", []),
+            (b"- r p 3CC 0 1\n- w m B8000 1 1\n" + BEGIN, [begin]),
+            (b"- r p 3CC 0 1\n- w p 3C4 1 1\n" + BEGIN, [begin]),
+            (vbe("4", "41"), [enabled]), (vbe("4", "0"), []), (vbe("3", "1"), []),
+            (chained, [silent]), (chained + b"- w p 3C4 0604 2\n- w m A0000 1 1\n", [silent]),
+            (BEGIN + b"- w p 3C4 4 1\n- w p 3C5 E 1\n- w p 3C4 0F02 2\n", [silent.replace("3 on", "4 on")]),
+            (chained + b"- w p 3C4 0E04 2\n- w m A0000 1 1\n- w p 3C4 0604 2\n", []),
+            (BEGIN + b"- w p 3C4 0702 2\n- w p 3C4 0E04 2\n", []),
+            (qemu("write 3c2 67 1") + b"x\n" + 2 * b"memory_region_ops_wri\n" + qemu("write 3c4 2 1")[:-9],
+             ["3 lines of cycles are damaged and left out, line 3 first"]),
+        ))
+        told = "the time runs back 1 times, which is no pause"
+        self.assertEqual(warned(b"2 w p 3C2 67 1\n1 r p 3DA 0 1\n", has_time=True), [told])
+
 
 class Steps(unittest.TestCase):
     def steps(self, *lines: str) -> list[Step]:
@@ -231,32 +255,6 @@ class Frames(unittest.TestCase):
         self.assertEqual(listed(BEGIN + b"- w p 3D4 400C 2\n"), ["out 3C2 67", "outw 3D4 400C", "frame"])
         flipped = ["out 3C2 67", "frame", "outw 3D4 400C", "frame"]
         self.assertEqual(listed(BEGIN + b"- w p 3D4 400C 2\n", frames="flip"), flipped)
-
-
-class Warnings(unittest.TestCase):
-    def test_what_a_trace_lacks(self) -> None:
-        def vbe(index: str, value: str) -> bytes:
-            return qemu("write 3c2 67 1") + qemu(f"write 1ce {index} 2", "vbe") + qemu(f"write 1cf {value} 2", "vbe")
-
-        begin = "cycle 2 writes first, and not port 3C2: the trace doesn't begin at power-on"
-        enabled = "cycle 3 turns VBE on: what follows is no VGA's, and its memory isn't traced"
-        silent = "chain 4 with map mask 0F has no cycle of memory, first from cycle 3 on: " \
-            "qemu traces none there without the plugin"
-        chained = BEGIN + b"- w p 3C4 0F02 2\n- w p 3C4 0E04 2\n"
-        hold(self, warned, (
-            (b"- r p 3CC 0 1\n" + BEGIN + b"- w m A0000 1 1\n", []),
-            (b"- r p 3CC 0 1\n- w m B8000 1 1\n" + BEGIN, [begin]),
-            (b"- r p 3CC 0 1\n- w p 3C4 1 1\n" + BEGIN, [begin]),
-            (vbe("4", "41"), [enabled]), (vbe("4", "0"), []), (vbe("3", "1"), []),
-            (chained, [silent]), (chained + b"- w p 3C4 0604 2\n- w m A0000 1 1\n", [silent]),
-            (BEGIN + b"- w p 3C4 4 1\n- w p 3C5 E 1\n- w p 3C4 0F02 2\n", [silent.replace("3 on", "4 on")]),
-            (chained + b"- w p 3C4 0E04 2\n- w m A0000 1 1\n- w p 3C4 0604 2\n", []),
-            (BEGIN + b"- w p 3C4 0702 2\n- w p 3C4 0E04 2\n", []),
-            (qemu("write 3c2 67 1") + b"x\n" + 2 * b"memory_region_ops_wri\n" + qemu("write 3c4 2 1")[:-9],
-             ["3 lines of cycles are damaged and left out, line 3 first"]),
-        ))
-        told = "the time runs back 1 times, which is no pause"
-        self.assertEqual(warned(b"2 w p 3C2 67 1\n1 r p 3DA 0 1\n", has_time=True), [told])
 
 
 class Converting(Folder):
