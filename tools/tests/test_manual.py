@@ -3,7 +3,6 @@
 import re
 import shutil
 import unittest
-from pathlib import Path
 from typing import Mapping
 from unittest import mock
 
@@ -27,10 +26,8 @@ FAKE = '''\
 case "$*" in --help) name=vga ;; "help --help") exit 2 ;; *) name=$1 ;; esac
 exec cat "${0%/*}/$name.txt"
 '''
-# Completes the last of the words after the file's name; and the help of a command more, with
-# letters that shells and roff don't take as they are.
-COMPLETING = HELP.with_name("manual") / "completing.bash"
-TRY = COMPLETING.with_name("try.txt").read_text("utf-8")
+# The help of a command more, with letters that shells and roff don't take as they are.
+TRY = (HELP.with_name("manual") / "try.txt").read_text("utf-8")
 # What else is added to the kept helps: the command in the list, an option, and an argument.
 ADDED = (
     ("vga", "  help  Print", "  try   Tries it, doesn't it?\n  help  Print"),
@@ -123,12 +120,6 @@ class Fakes(Folder):
         for name, text in helps.items():
             self.write(f"{name}.txt", text)
         return self.program("fake", FAKE)
-
-    def lay_files(self) -> Path:
-        """A folder with files, in which a shell completes."""
-        for name in (*BARS, "one two.vga", "zaklimot.fnt", "fonts/other.fnt"):
-            self.write(f"files/{name}", "")
-        return self.folder / "files"
 
     def made(self, helps: Mapping[str, str]) -> dict[str, str]:
         files = manual_files(self.printing(helps))
@@ -270,47 +261,6 @@ class Completions(Fakes):
             if shutil.which(shell):
                 done = ended(shell, "-n", self.write("completion", made[place]))
                 self.assertEqual((done[0], done[2]), (0, ""), shell)
-
-
-FILES = ["bars.bin", "bars.vga", "fonts", "one two.vga", "zaklimot.fnt"]
-COMMANDS, BARS, FONTS = ["asm", "dis", "go", "help", "run"], FILES[:2], ["fonts", "zaklimot.fnt"]
-# Words between blanks, and what bash offers for the last of them, by the kept helps and by more.
-# Bash breaks a word at the sign of equality.
-OFFERED = (
-    (kept_helps, {
-        "": COMMANDS, "g": ["go"], "help ": COMMANDS, "play ": [],
-        "asm ": FILES, "asm b": BARS, "asm o": ["one two.vga"], "asm x ": FILES,
-        "asm x y ": ["--help", "-h"], "dis x ": ["--help", "-h"], "dis -- ": FILES,
-        "dis -- -": [], "dis -- x ": [], "run ": FILES, "run --until 5 b": BARS,
-        "-": ["--help", "-h"], "--h": ["--help"], "dis -h --": [],
-        "run -": ["--fonts", "--help", "--until", "-h"], "run x --fonts ": FONTS,
-        "run x --fonts b": BARS, "run x --fonts fonts/": ["fonts/other.fnt"],
-        "run --fonts =": FONTS, "run --fonts = z": ["zaklimot.fnt"],
-        "run --fonts = z ": FILES, "run --fonts z x ": ["--help", "--until", "-h"],
-        "go --until ": [], "go --until b": [], "go --until = b": [], "go x --until -": [],
-    }),
-    (more_helps, {
-        "t": ["try"], "help t": ["try"], "run --s": ["--sound"], "dis a z": FONTS[1:],
-        "try -": ["--help", "--quiet", "--sound", "-h", "-q", "-s"],
-        "try -s x --": ["--help", "--quiet"], "try -s z": FONTS[1:], "try a b c z": FONTS[1:],
-    }),
-)
-
-
-@unittest.skipUnless(shutil.which("bash"), "bash isn't installed")
-class Bash(Fakes):
-    """What bash offers by the completion, in a folder with files."""
-
-    def test_what_is_offered(self) -> None:
-        files = self.lay_files()
-        for helps, offered in OFFERED:
-            completion = self.write("completion", self.made(helps())[BASH])
-            bash = ["bash", "--norc", "--noprofile", COMPLETING, completion, "vga"]
-            for words, wanted in offered.items():
-                with self.subTest(words, helps=helps.__name__):
-                    status, output, said = ended(*bash, *words.split(" "), cwd=files)
-                    self.assertEqual((status, said), (0, ""))
-                    self.assertEqual(sorted(filter(None, output.split("\n"))), wanted)
 
 
 FORM = "it does not have the form of"
