@@ -9,8 +9,6 @@ from typing import Iterator, NamedTuple
 
 from zaklimot.format import parse_text
 
-from .making import ppm
-
 # Where the font file has the glyphs of each height; and the palettes.
 FONTS_AT = {8: 0, 14: 256 * 8, 16: 256 * 22}
 LARGE, SMALL = [0, 1, 2, 3, 4, 5, 0x14, 7, *range(0x38, 0x40)], [*range(8), *range(0x10, 0x18)]
@@ -84,7 +82,7 @@ class Screen:
         rows = self.text_rows() if self.mode == 3 else self.pixel_rows()
         lines = [b"".join(bytes(self.dac[entry]) * shape.across for entry in row) * shape.down for row in rows]
         width = len(rows[0]) * shape.across
-        self.frames.append(ppm(width, len(rows) * shape.down, b"".join(lines)))
+        self.frames.append(b"P6\n%d %d\n63\n" % (width, len(lines) * shape.down) + b"".join(lines))
 
     def do_int(self, ax: int, bx: int, cx: int, dx: int, block: bytes) -> None:
         if ax >> 8 == 0:

@@ -15,8 +15,9 @@ from pathlib import Path
 from vga_report.cases import Case, read_cases
 from zaklimot.format import MOST_BYTES
 
-from .making import BLACK, RED, WHITE, png_rows, ppm, report
-from .tools import TOOLS, Folder, begin, ended, hold, hold_undone, refused, run_tool
+from .tools import (
+    BLACK, RED, TOOLS, WHITE, Folder, begin, ended, hold, hold_undone, png_rows, ppm, refused, report, run_tool,
+)
 
 PROGRAM = TOOLS / "vga-report"
 ADAPTER = shlex.join([sys.executable, str(TOOLS / "tests" / "adapter.py")]) + " {script}"

@@ -12,8 +12,7 @@ from vga_report.trouble import Trouble
 from zaklimot.format import Answer, Picture
 from zaklimot.format.answers import GROUPS
 
-from .making import BLACK, RED, WHITE, ppm, report, stream
-from .tools import hold, refused
+from .tools import BLACK, RED, WHITE, hold, ppm, refused, report, stream
 
 DUMP = "misc 00\nseq 00: 00"
 PICTURE = ppm(3, 2, RED * 2 + BLACK * 4)

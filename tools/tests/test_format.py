@@ -18,8 +18,7 @@ from zaklimot.format import (
 )
 from zaklimot.format.table import CODES
 
-from .making import stream
-from .tools import ended, hold, refused
+from .tools import ended, hold, refused, stream
 
 DOCS, CRATES = TOP / "docs", TOP / "crates"
 

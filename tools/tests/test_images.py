@@ -13,9 +13,8 @@ from vga_report.png import MARK, Shape, write_png
 from vga_report.timing import USUAL, Timing
 from zaklimot.format import Picture, parse_text
 
-from .making import BLACK, RED, WHITE, png_chunks, png_rows, ppm
 from .test_command import PICTURE, run
-from .tools import Folder, hold
+from .tools import BLACK, RED, WHITE, Folder, hold, png_chunks, png_rows, ppm
 
 GREY = b"\x15\x15\x15"
 

@@ -6,10 +6,9 @@ import re
 from html.parser import HTMLParser
 from typing import Optional
 
-from .making import BLACK, RED, png_rows, ppm
 from .test_command import PICTURE, run
 from .test_run import Fake
-from .tools import Folder
+from .tools import BLACK, RED, Folder, png_rows, ppm
 
 # Elements that have no end.
 VOID = {"meta", "input", "img", "br"}

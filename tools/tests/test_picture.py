@@ -23,9 +23,8 @@ from vga_report.png import write_png
 from vga_report.program import FONTS
 from zaklimot.format import Picture, encode, parse_text
 
-from .making import png_rows, ppm
 from .screen import FONTS_AT, Screen
-from .tools import EXAMPLES, Folder, call, ended, run_texts, run_tool
+from .tools import EXAMPLES, Folder, call, ended, png_rows, ppm, run_texts, run_tool
 from .test_images import png
 
 run = partial(run_tool, "vga-picture")

@@ -24,9 +24,8 @@ from vga_trace.step import ADVANCE, FRAME, IN, OUT, PUT, Step
 from vga_trace.trace import SCREEN
 from zaklimot.format import Picture
 
-from .making import BLACK, RED, WHITE, png_rows, ppm
 from .test_trace import BEGIN, listed, qemu, registers
-from .tools import TOP, Folder, hold, refused, run_tool
+from .tools import BLACK, RED, TOP, WHITE, Folder, hold, png_rows, ppm, refused, run_tool
 
 run = partial(run_tool, "vga-trace")
 PICTURE = ppm(3, 2, RED * 3 + WHITE * 3)

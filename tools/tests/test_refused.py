@@ -8,10 +8,9 @@ import sys
 import unittest
 from pathlib import Path
 
-from .making import BLACK, ppm, report
 from .test_floppy import machine
 from .test_images import png
-from .tools import TOP, Folder, run_tool
+from .tools import BLACK, TOP, Folder, ppm, report, run_tool
 
 # Each tool may take so much memory, in bytes.
 MEMORY = 1 << 30

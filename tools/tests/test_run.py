@@ -24,9 +24,8 @@ from vga_report.script import expected_in
 from vga_report.trouble import Trouble
 from zaklimot.format import Answer, count_in, steps_in
 
-from .making import BLACK, RED, ppm, stream
 from .test_command import run
-from .tools import EXAMPLES, TOP, Folder, begin, hold, refused, run_texts, run_tool
+from .tools import BLACK, EXAMPLES, RED, TOP, Folder, begin, hold, ppm, refused, run_texts, run_tool, stream
 
 # A program that understands texts of a few steps: `asm` copies, `dis` prints in upper case, `go` answers by the name.
 FAKE = """import sys

@@ -12,9 +12,8 @@ from vga_trace.converting import Listing, Wanted
 from vga_trace.rebuilding import rebuilt
 from vga_trace.step import ADVANCE, FRAME, GET, GETW, IN, INW, OUT, OUTW, PUT, PUTW, READS, WORDS, Step
 
-from .making import stream
 from .test_trace import trace
-from .tools import hold, refused, run_texts
+from .tools import hold, refused, run_texts, stream
 
 # Steps that enable memory, in planar order with all planes open and no bits masked.
 PLANAR = [Step(OUT, 0x3C2, 0x03), Step(OUTW, 0x3C4, 0x0604), Step(OUTW, 0x3C4, 0x0F02), Step(OUTW, 0x3CE, 0xFF08)]

@@ -20,7 +20,7 @@ from vga_report.progress import Progress
 from vga_report.trouble import TROUBLE
 from vga_report.version import version
 
-from .test_release import sources
+from .test_library import sources
 from .tools import Folder, call, ended
 
 # A program that notes its words; and one that takes blocks of memory in each way.

@@ -30,8 +30,7 @@ from vga_trace.trace import MEMORY, PORT, VBE, Cycle, Trace
 from zaklimot.format import HEADERS, Block, decode, encoded
 from zaklimot.format import Step as ScriptStep
 
-from .making import ppm, report
-from .tools import EXAMPLES, SIGNALS, Folder, begin, call, hold, hold_undone, refused, run_texts, run_tool
+from .tools import EXAMPLES, SIGNALS, Folder, begin, call, hold, hold_undone, ppm, refused, report, run_texts, run_tool
 
 run = partial(run_tool, "vga-trace")
 # What a trace from power-on begins with.
