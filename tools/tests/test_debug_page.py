@@ -260,11 +260,8 @@ class Modules(unittest.TestCase):
         self.assertEqual(told[0], told[1])
 
 
-class Commands(Folder):
-    def said(self, *words: str | Path) -> str:
-        status, output, said = call(command.main, *words)
-        self.assertEqual((status, output), (TROUBLE, ""))
-        return said
+class Tests(Folder):
+    """That a page is made around a module, and that the page's tests can fail."""
 
     def test_a_module_that_was_made_already(self) -> None:
         self.patch(mock.patch.object(command, "read_sources", small_sources))
@@ -272,13 +269,6 @@ class Commands(Folder):
         status, output, _ = call(command.main, "make", made, "--module", module)
         self.assertEqual((status, built.module_in(made.read_bytes())), (0, module.read_bytes()))
         self.assertIn(f"{made}: {made.stat().st_size:,} bytes; its module has", output)
-        self.assertIn("so it isn't written", self.said("make", module, "--module", module))
-        module.write_bytes(b"no module")
-        self.assertIn("it is no WebAssembly module", self.said("make", made, "--module", module))
-
-
-class Tests(Folder):
-    """That the page's tests can fail."""
 
     def test_a_page_of_other_sources(self) -> None:
         module, other = (with_kit(module_of(Modules.right), kit) for kit in ("one", "other"))

@@ -96,17 +96,19 @@ class Animations(Folder):
         self.assertEqual(run("pictures", path, "--apng", moving, "--step", "2")[0], 0)
 
     def test_times_by_registers(self) -> None:
-        for steps, seconds in [
-            ("", USUAL), ("out 3C2 67", USUAL), ("int ax=83", 404_100 / 28_322_000), ("int ax=d", 359_200 / 25_175_000),
-            ("out 3C2 63;outw 3C4 0101;outw 3D4 5F00;outw 3D4 BF06;outw 3D4 1F07", 359_200 / 25_175_000),
-            ("out 3C2 67;out 3D4 0;out 3D5 5F;outw 3D4 BF06;outw 3D4 1F07;outw 3D4 8E11;outw 3D4 0000", 404_100 / 28_322_000),
-            ("int ax=3;out 3C2 6F", USUAL),
+        text, wide, narrow = (404_100, 28_322_000), (359_200, 25_175_000), (179_600, 12_587_500)
+        for steps, speed in [
+            ("", None), ("out 3C2 67", None), ("int ax=83", text), ("int ax=13", wide), ("int ax=13;int ax=d", narrow),
+            ("out 3C2 63;outw 3C4 0101;outw 3D4 5F00;outw 3D4 BF06;outw 3D4 1F07", wide),
+            ("out 3C2 67;out 3D4 0;out 3D5 5F;outw 3D4 BF06;outw 3D4 1F07;outw 3D4 8E11;outw 3D4 0000", text),
+            ("int ax=3;out 3C2 6F", None),
         ]:
             with self.subTest(steps):
                 timing = Timing()
                 for step in parse_text(steps.replace(";", "\n")).steps():
                     timing.take(step)
-                self.assertAlmostEqual(timing.frame(), seconds)
+                self.assertEqual(timing.speed(), speed)
+                self.assertAlmostEqual(timing.frame(), speed[0] / speed[1] if speed else USUAL)
 
 
 def shown(picture: Picture, shape: Shape = Shape(), other: Optional[Picture] = None) -> tuple[int, int, list[bytes]]:

@@ -156,12 +156,6 @@ class Drawing(Folder):
                 self.assertTrue(ran.report.endswith(made[name][1] + b"\n"), "another picture")
                 self.assertNotIn(b" E", ran.report[:ran.report.index(b"P6")])
 
-    def test_the_answer_that_the_frame_expects(self) -> None:
-        dots = some_dots(320, 200, 5)
-        text = script(ppm_of(dots), "--mode", "13")
-        picture = Picture.of_ppm(shown(dots, 2, 2))
-        self.assertTrue(text.endswith(f"\nframe ; = picture 640x400 {picture.sum}\n".encode()))
-
     def test_bytes_are_the_same_script(self) -> None:
         image = png_of(some_dots(320, 200, 16))
         for words in (["--mode", "0D", "--short"], ["--mode", "13"]):

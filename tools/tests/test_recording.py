@@ -25,7 +25,7 @@ from vga_trace.trace import SCREEN
 from zaklimot.format import Picture
 
 from .test_trace import BEGIN, listed, qemu, registers
-from .tools import BLACK, RED, TOP, WHITE, Folder, hold, png_rows, ppm, refused, run_tool
+from .tools import BLACK, RED, TOP, WHITE, Folder, hold, png_rows, ppm, run_tool
 
 run = partial(run_tool, "vga-trace")
 PICTURE = ppm(3, 2, RED * 3 + WHITE * 3)
@@ -66,7 +66,8 @@ with connection, connection.makefile("rw") as monitor:
             log.flush()
         if name == "send-key" and "-dies" in sys.argv:
             sys.exit()
-        monitor.write('{"return": {}}\\n')
+        answer = '{"error": {"desc": "there is none"}}' if "-refuses" in sys.argv else '{"return": {}}'
+        monitor.write('{"event": "STOP"}\\n' + answer + "\\n")
         monitor.flush()
         if name == "quit" and "-stays" in sys.argv:
             threading.Event().wait(60)
@@ -181,6 +182,7 @@ class Recorded(Folder):
             (("-ends",), usual, begins, ""), (("-ends", "-late"), usual, begins, ""),
             (("-cdrom",), ("MOST_LINES", 100), "its trace has more than 100 bytes: end it sooner", "qmp_capabilities"),
             (("-dies",), usual, "qemu: its monitor doesn't do send-key", "send-key ret"),
+            (("-refuses",), usual, "qemu: its monitor doesn't do qmp_capabilities: there is none\n", "qmp_capabilities"),
             (("-stays",), ("ANSWERING", 2), "qemu-system-x86_64: it doesn't end within 2 seconds", "quit"),
         ):
             with self.subTest(words), mock.patch.object(recording, *limit):
@@ -218,10 +220,6 @@ class Parts(unittest.TestCase):
         text += qemu("write b8001 1f 1", "vga-lowmem") + mark
         steps = ["frame", "out 3C2 67", "frame", "frame", "put B8000 41", "frame", "put B8001 1F", "frame", "frame"]
         self.assertEqual(listed(text, frames="screens"), steps)
-
-    def test_none_in_the_plain_form(self) -> None:
-        told = refused(partial(listed, BEGIN + SCREEN + b"\n", frames="screens"))
-        self.assertRegex(told, "^trace:2: it is no cycle")
 
     def test_the_dump_of_which_fewer_dots_differ(self) -> None:
         other, far, near = Held(None, ""), Held(5, ""), Held(3, "")

@@ -31,7 +31,7 @@ FILES: dict[str, str | bytes] = {
     "r": report(PICTURE), "r2": report(OTHER), "i": PICTURE, "s.vga": "frame\n", "m": IMAGE,
     "t": "- w p 3C4 02 1\n", "empty/notes": "", "made/share": "", f"full/{FISH}/file": "",
     "ok": report("ok", PICTURE), "none": report("ok"), "move.vga": "frame\nmove\n", "font": bytes(9727),
-    "sizes": report(PICTURE, ppm(1, 1, BLACK)),
+    "sizes": report(PICTURE, ppm(1, 1, BLACK)), "end.vga": "version 2\nend\n", "cut": b"VGAS\1\1",
 }
 NAMES = "out, outw, in, inw, put, putw, get, getw, advance, frame, int, show, version, repeat, end"
 MOVE = f"vga-floppy: {{move}}:2: F7 BadLine(2): there is no step 'move'; the steps are {NAMES}\n  move\n  ^^^^\n"
@@ -84,10 +84,14 @@ REFUSED = {
     "report run {s} --vga {o}": "vga-report: {o}: No such file or directory\n",
     "report run {o} --debug {d}/page": "vga-report: {o}: No such file or directory\n",
     "trace kinds {o}": "vga-trace: {o}: No such file or directory\n",
+    "trace convert {t} {o}/script": "vga-trace: {o}/script: No such file or directory\n",
     "picture script {o} - --mode 13": "vga-picture: {o}: No such file or directory\n",
     "floppy make {o} {d}/image": "vga-floppy: {o}: No such file or directory\n",
     "floppy make {d} {o}": "vga-floppy: {d}: Is a directory\n",
     "floppy make {move} {o}": MOVE, "floppy make {move} {o}/image": MOVE, "floppy run --on dosbox {move}": MOVE,
+    "floppy make {end} {o}": "vga-floppy: {end}:2: F7 BadLine(2): no repeat is open here",
+    "floppy make {cut} {o}":
+        "vga-floppy: {cut}: F5 Truncated(5): the step out at offset 5 is cut off: the file ends after 1 of its bytes\n",
     "floppy read {t}": "vga-floppy: {t}: it is no image of vga-floppy\n",
     "floppy read --serial {t}": "vga-floppy: {t}: it holds no record of vga-floppy\n",
     "fuzz {o}": "it is no program",
@@ -167,6 +171,7 @@ REFUSED = {
     "page make x --proof p": "vga-page: --proof keeps a proof of --gated",
     "page module x --proof p": "vga-page: --proof keeps a proof of --gated",
     "page make x --module m --gated": "vga-page: --module takes a module as it is",
+    "page make {o} --module {t}": "it is no WebAssembly module",
     "library-tests --target aarch64 --only pc": "vga-library-tests: pc: there is no such check for aarch64\n",
     # Numbers have ranges.
     "report run {s} --until -1 --vga {p}": "'-1' is no number from 0 to 4294967295\n",

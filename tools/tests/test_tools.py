@@ -21,7 +21,7 @@ from vga_report.crates import Phases
 from vga_report.listing import _wait_for
 from vga_report.processes import MEBIBYTE, Failed, Limits, Outcome, run, run_command, started
 from vga_report.progress import DELAY, Progress
-from vga_report.streams import reading, write_file, writing
+from vga_report.streams import write_file, writing
 from vga_report.trouble import TROUBLE, Trouble
 from vga_report.version import version
 
@@ -241,10 +241,6 @@ class Commands(Folder):
         is_ended.set()
         self.assertEqual(self.run_python("import time; time.sleep(600)", Limits(), is_ended).status, None)
 
-    def test_no_program(self) -> None:
-        files = (self.folder / "out", self.folder / "said")
-        self.assertRaises(Trouble, run_command, ["/none/there"], *files, Limits(), Event())
-
     def test_signals_end_all_that_was_begun(self) -> None:
         self.write("two.fnt", "12")
         self.write("one.vga", "frame\n")
@@ -324,17 +320,6 @@ class Writing(Folder):
     def test_a_device_is_written_as_it_is(self) -> None:
         write_file(os.devnull, b"new")
         self.assertFalse(stat.S_ISREG(os.stat(os.devnull).st_mode))
-
-    def test_a_folder_that_is_not_there(self) -> None:
-        path = str(self.folder / "none" / "a")
-        self.assertEqual(refused(write_file, path, b"new"), f"{path}: No such file or directory")
-
-    def test_an_input_is_no_output(self) -> None:
-        path = self.write("a", "old")
-        with reading(path) as stream:
-            stream.read()
-        self.assertEqual(refused(write_file, path, b"new"), f"{path}: it is read as {path}, so it isn't written")
-        self.assertEqual((self.folder / "a").read_text(), "old")
 
 
 class Terminal(io.StringIO):

@@ -17,7 +17,6 @@ from random import Random
 from typing import Iterable
 from unittest import mock
 
-from vga_report.timing import Timing
 from vga_report.trouble import Trouble
 from vga_trace import converting
 from vga_trace.checking import count
@@ -26,9 +25,8 @@ from vga_trace.converting import Listing, Wanted
 from vga_trace.folding import Coded, Row, alone, folded
 from vga_trace.passing import Pauses, with_flips, with_frames_every
 from vga_trace.step import ADVANCE, FRAME, IN, NAMES, OUT, OUTW, PUT, Step, steps_of, without_polls
-from vga_trace.trace import MEMORY, PORT, VBE, Cycle, Trace
+from vga_trace.trace import MEMORY, PORT, SCREEN, VBE, Cycle, Trace
 from zaklimot.format import HEADERS, Block, decode, encoded
-from zaklimot.format import Step as ScriptStep
 
 from .tools import EXAMPLES, SIGNALS, Folder, begin, call, hold, hold_undone, ppm, refused, report, run_texts, run_tool
 
@@ -99,6 +97,7 @@ class Lines(unittest.TestCase):
             (BEGIN + b"0 w p 3C4 302 1\n", "2: the value 302 has more than 1 bytes"),
             (BEGIN + b"0 w p FFFF 302 2\n", "2: there is no port of address FFFF"),
             (BEGIN + b"0 w m FFFFFFFF 302 2\n", "2: there is no memory of address FFFFFFFF"),
+            (BEGIN + SCREEN + b"\n", no_cycle),
             (b";\n0 w p 3C2 67\n" + BEGIN, "2: a line before the first cycle is neither a cycle nor a comment"),
             (b"", f" {none}"), (b"; nothing\n", f" {none}"),
             # The line of a mistake, where no line has a cycle.
@@ -220,14 +219,6 @@ class Passing(unittest.TestCase):
                 listed(b"- w p 3C2 67 1\n", **wanted)
             told = ["1 cycles have no time, and come without a pause"]
             self.assertEqual(warned(BEGIN + b"- r p 3DA 0 1\n", **wanted), told)
-
-    def test_speed_of_what_a_script_has_chosen(self) -> None:
-        timing = Timing()
-        self.assertIsNone(timing.speed())
-        timing.take(ScriptStep("int", (0x13, 0, 0, 0)))
-        self.assertEqual(timing.speed(), (359_200, 25_175_000.0))
-        timing.take(ScriptStep("int", (0x0D, 0, 0, 0)))
-        self.assertEqual(timing.speed(), (179_600, 12_587_500.0))
 
 
 class Frames(unittest.TestCase):
