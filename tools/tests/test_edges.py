@@ -9,6 +9,7 @@ import socket
 import subprocess
 import threading
 import time
+from itertools import product
 from pathlib import Path
 from typing import Callable, Iterator, Optional
 
@@ -21,6 +22,9 @@ TEXT = b"OUT 3c2 63 ; colour addresses\n\nput A0000 ff\r\nin 3CC"
 SCRIPT = b"VGAS\x01\x01\xc2\x03\x63\x05\x00\x00\x0a\x00\xff\x03\xcc\x03"
 PRINTED = b"out 3C2 63\nput A0000 FF\nin 3CC\n"
 REPORT = b"1 ok\n2 ok\n3 63\n"
+JOBS = (("run", "script"), ("go", "text"))
+# What reads a file and writes to standard output: the command, the file, its options, and what it writes.
+WAYS = (("dis", "script", (), PRINTED), *((*job, ("--fonts", "fonts"), REPORT) for job in JOBS))
 # Each command's help. It is the interface, so a change of a letter is to be seen.
 HELP = Path(__file__).resolve().parent / "help"
 
@@ -82,7 +86,7 @@ class Jobs(Program):
             ("0", b""), ("1", b"1 ok\n"), ("12", REPORT), ("0012", REPORT), ("4294967295", REPORT),
             ("00000000000000000004294967295", REPORT),
         ]:
-            for words in (("run", "script"), ("go", "text")):
+            for words in JOBS:
                 with self.subTest((*words, number)):
                     ran = self.ran(*words, "--fonts", "fonts", "--until", number)
                     self.assertEqual((ran.status, ran.said), (0, ""))
@@ -101,10 +105,9 @@ class Refused(Program):
         self.assertEqual(ended("vga", executable=PROGRAM)[:2], (2, ""))
 
     def test_the_number_behind_until_is_digits_alone(self) -> None:
-        for number in NO_NUMBERS:
-            for words in (("run", "script"), ("go", "text")):
-                with self.subTest((*words, number)):
-                    hold_undone(self, self.ran(*words, "--fonts", "fonts", "--until", number), ".")
+        for words, number in product(JOBS, NO_NUMBERS):
+            with self.subTest((*words, number)):
+                hold_undone(self, self.ran(*words, "--fonts", "fonts", "--until", number), ".")
         hold_undone(self, self.ran("run", "script", "--fonts", "fonts", "--until=+1"), "^error: the number behind '--until'")
 
     def test_words_that_are_no_text(self) -> None:
@@ -123,44 +126,38 @@ class Refused(Program):
 
 class Help(Program):
     def test_each_command_teaches_by_an_example(self) -> None:
-        for name in ("vga", "asm", "dis", "run", "go"):
-            text = (HELP / f"{name}.txt").read_bytes()
-            for flag in ("--help", "-h"):
-                with self.subTest((name, flag)):
-                    words = [] if name == "vga" else [name]
-                    self.assertEqual(self.ran(*words, flag), (0, text, ""))
-
-    def test_help_is_given_beside_other_words(self) -> None:
-        self.assertEqual(self.ran("run", "x", "-h"), (0, (HELP / "run.txt").read_bytes(), ""))
+        hold(self, self.ran, ((*words, (0, (HELP / f"{name}.txt").read_bytes(), "")) for name, *words in (
+            *(("vga", flag) for flag in ("--help", "-h")),
+            *((name, name, flag) for name in ("asm", "dis", "run", "go") for flag in ("--help", "-h")),
+            # Help is given beside other words.
+            ("run", "run", "x", "-h"),
+        )))
 
 
 class Faults(Program):
     """The first fault is printed, and nothing else."""
 
-    def assert_fault(self, words: str, line: str) -> None:
-        with self.subTest(words):
-            self.assertEqual(self.ran(*words.split()), (1, b"", f"vga: {line}\n"))
+    def fault(self, words: str) -> str:
+        """The fault that a run ends with, which prints nothing else."""
+        status, report, said = self.ran(*words.split())
+        self.assertEqual((status, report, said[:5], said[-1:]), (1, b"", "vga: ", "\n"))
+        return said[5:-1]
 
     def test_each_of_a_file(self) -> None:
-        bad = self.folder / "bad"
-        for content, line in [
+        for content, fault in [
             (b"VGAS", "F5 Truncated(4)"),
             (b"VGAS\x09", "F3 BadVersion"),
             (b"VGAS\x01\x01\xc2\x03\x63\xff", "F4 BadStep(9)"),
             (TEXT, "F2 BadMagic"),
         ]:
-            bad.write_bytes(content)
-            self.assert_fault("run bad --fonts fonts", line)
-            self.assert_fault("dis bad", line)
-        self.assert_fault("run script --fonts short", "F1 FontSize")
+            self.write("bad", content)
+            hold(self, self.fault, (("run bad --fonts fonts", fault), ("dis bad", fault)))
 
     def test_a_text_with_a_mistake_makes_no_file(self) -> None:
         self.write("bad", "frame\nfram\n")
-        self.assert_fault("asm bad new", "F7 BadLine(2)")
-        self.assertFalse((self.folder / "new").exists())
-        (self.folder / "new").write_bytes(b"old")
-        self.assert_fault("asm bad new", "F7 BadLine(2)")
-        self.assertEqual((self.folder / "new").read_bytes(), b"old")
+        new = Path(self.write("old", "old"))
+        hold(self, self.fault, (("asm bad new", "F7 BadLine(2)"), ("asm bad old", "F7 BadLine(2)")))
+        self.assertEqual((new.read_text(), new.with_name("new").exists()), ("old", False))
 
     def test_files_that_can_not_be_had_and_what_comes_first(self) -> None:
         self.write("bad", "frame\nfram\n")
@@ -170,13 +167,12 @@ class Faults(Program):
             # Those that are opened, and can't be read.
             "asm . new", "dis .", "run . --fonts fonts", "run script --fonts .", "go . --fonts fonts",
         )
-        for words, line in [
-            *((words, "F8 ReadFault") for words in unread),
+        hold(self, self.fault, [
+            *((words, "F8 ReadFault") for words in unread), ("run script --fonts short", "F1 FontSize"),
             ("run text --fonts short", "F1 FontSize"), ("run text --fonts fonts", "F2 BadMagic"),
             ("go bad --fonts short", "F7 BadLine(2)"),
             ("asm text no/such/file", "F9 WriteFault"), ("asm text .", "F9 WriteFault"),
-        ]:
-            self.assert_fault(words, line)
+        ])
         self.assertFalse((self.folder / "new").exists())
 
 
@@ -203,13 +199,11 @@ def give(pipe: Path, content: bytes, meanwhile: Callable[[], None] = lambda: Non
 
 class Streams(Program):
     def test_a_reader_that_gives_a_byte_at_a_time(self) -> None:
-        for words, content, output in [
-            (("dis", "/dev/stdin"), SCRIPT, PRINTED),
-            (("run", "/dev/stdin", "--fonts", "fonts"), SCRIPT, REPORT),
-            (("go", "/dev/stdin", "--fonts", "fonts"), TEXT, REPORT),
-        ]:
-            with self.subTest(words), subprocess.Popen(
-                [PROGRAM, *words], cwd=self.folder, stdin=subprocess.PIPE, stdout=subprocess.PIPE, bufsize=0
+        for job, name, options, output in WAYS:
+            content = (self.folder / name).read_bytes()
+            with self.subTest(job), subprocess.Popen(
+                [PROGRAM, job, "/dev/stdin", *options], cwd=self.folder, stdin=subprocess.PIPE, stdout=subprocess.PIPE,
+                bufsize=0,
             ) as running:
                 assert running.stdin is not None
                 for at in range(len(content)):
@@ -218,15 +212,12 @@ class Streams(Program):
                 self.assertEqual(running.communicate(timeout=MOST_SECONDS)[0], output)
 
     def test_a_file_that_is_full_has_a_front(self) -> None:
-        for words, output, room in [
-            (("dis", "script"), PRINTED, 5),
-            (("run", "script", "--fonts", "fonts"), REPORT, 7),
-            (("go", "text", "--fonts", "fonts"), REPORT, 7),
-        ]:
-            with self.subTest(words), open(self.folder / "full", "wb") as full:
-                done = ended(PROGRAM, *words, cwd=self.folder, stdout=full, preexec_fn=lambda: limit_files(room))
+        for job, name, options, output in WAYS:
+            with self.subTest(job), open(self.folder / "full", "wb") as full:
+                words = (PROGRAM, job, name, *options)
+                done = ended(*words, cwd=self.folder, stdout=full, preexec_fn=lambda: limit_files(7))
                 self.assertEqual((done[0], done[2]), (1, "vga: F9 WriteFault\n"))
-                self.assertEqual((self.folder / "full").read_bytes(), output[:room])
+                self.assertEqual((self.folder / "full").read_bytes(), output[:7])
 
     def test_a_report_is_written_in_large_pieces(self) -> None:
         steps = 100_000

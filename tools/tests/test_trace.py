@@ -356,8 +356,7 @@ class Endings(Folder):
                 assert command.stdin is not None
                 command.stdin.write(BEGIN * 5000)
                 command.stdin.flush()
-                while len(list(self.folder.iterdir())) < 2:
-                    self.assertIsNone(command.poll())
+                self.wait_until(lambda: len(self.names()) == 2, command)
                 command.send_signal(number)
                 self.assertEqual(command.wait(60), status)
                 self.assertEqual((self.names(), script.read_bytes()), (["script"], b"old"))

@@ -219,13 +219,17 @@ class Folder(unittest.TestCase):
             patch.start()
             self.addCleanup(patch.stop)
 
+    def wait_until(self, is_done: Callable[[], bool], process: Optional[subprocess.Popen[bytes]] = None) -> None:
+        """Waits until something is done, as long as a process runs."""
+        until = time.monotonic() + WAITING
+        while not is_done():
+            self.assertLess(time.monotonic(), until, "it is not done in time")
+            self.assertTrue(process is None or process.poll() is None, "the process has ended")
+            time.sleep(0.01)
+
     def wait_for(self, path: Path, process: Optional[subprocess.Popen[bytes]] = None) -> str:
         """Waits until a file has a whole line, as long as a process runs; what it has."""
-        until = time.monotonic() + WAITING
-        while not (path.exists() and path.read_text().endswith("\n")):
-            self.assertLess(time.monotonic(), until, f"{path} is not written")
-            self.assertTrue(process is None or process.poll() is None)
-            time.sleep(0.01)
+        self.wait_until(lambda: path.exists() and path.read_text().endswith("\n"), process)
         return path.read_text()
 
     def within(self, work: Callable[[int], Any], begun: Path) -> Any:
@@ -238,10 +242,7 @@ class Folder(unittest.TestCase):
 
     def assert_ended(self, *numbers: int) -> None:
         """That processes end soon."""
-        until = time.monotonic() + 10
-        while any(map(is_running, numbers)) and time.monotonic() < until:
-            time.sleep(0.01)
-        self.assertEqual([number for number in numbers if is_running(number)], [])
+        self.wait_until(lambda: not any(map(is_running, numbers)))
 
 
 # Reports, pictures and PNGs are made and read with none of the tools' own code.
