@@ -87,7 +87,10 @@ class Screen:
     def do_int(self, ax: int, bx: int, cx: int, dx: int, block: bytes) -> None:
         if ax >> 8 == 0:
             self.set_mode(ax)
-        elif ax in (0x1012, 0x1003, 0x1110, 0x1111, 0x1112, 0x1302) or ax >> 8 in (1, 6, 7):
+        elif ax == 0x0600:
+            # By no lines a window is blanked, up or down.
+            self.service_07(0, bx, cx, dx, block)
+        elif ax in (0x1012, 0x1003, 0x1110, 0x1111, 0x1112, 0x1302) or ax >> 8 in (1, 7):
             getattr(self, f"service_{ax >> 8:02X}")(ax & 0xFF, bx, cx, dx, block)
         else:
             raise AssertionError(hex(ax))
@@ -151,10 +154,6 @@ class Screen:
             self.lines_of_text = height
         # It sets the cursor's lines.
         self.has_cursor = True
-
-    def service_06(self, lines: int, bx: int, cx: int, dx: int, block: bytes) -> None:
-        assert lines == 0
-        self.service_07(lines, bx, cx, dx, block)
 
     def service_07(self, lines: int, bx: int, cx: int, dx: int, block: bytes) -> None:
         """Scrolls a window down, and blanks the rows that become free."""

@@ -96,6 +96,12 @@ def script(image: bytes, *words: str) -> bytes:
 SIZES = {"0D": (320, 200, 16, 1, 2), "10": (640, 350, 16, 1, 1), "12": (640, 480, 16, 1, 1), "13": (320, 200, 200, 2, 2)}
 
 
+def glyph_lines(font: bytes, height: int, character: int) -> list[list[int]]:
+    """The lines of nine bits of a character: the ninth is the eighth where lines are drawn, and else blank."""
+    lines = ([byte >> 7 - x & 1 for x in range(8)] for byte in font[height * character:][:height])
+    return [[*line, line[7] if 0xC0 <= character < 0xE0 else 0] for line in lines]
+
+
 def text_dots(seed: int = 3, height: int = 16, own: int = 0) -> Dots:
     """A page of cells at random, in sixteen colours, a third of it blank; as the font of so many lines shows them.
 
@@ -114,10 +120,8 @@ def text_dots(seed: int = 3, height: int = 16, own: int = 0) -> Dots:
         if (row, column) == (rows - 1, 79):
             # Behind the last cell a string would scroll.
             character, front, back = 0x41, 1, 2
-        for y in range(height):
-            bits = [font[height * character + y] >> 7 - x & 1 for x in range(8)]
-            bits.append(bits[7] if 0xC0 <= character < 0xE0 else 0)
-            dots[height * row + y] += [colours[front if bit else back] for bit in bits]
+        for y, line in enumerate(glyph_lines(font, height, character), height * row):
+            dots[y] += [colours[front if bit else back] for bit in line]
     return dots
 
 
@@ -420,17 +424,15 @@ class Text(unittest.TestCase):
         return Chooser(FONT[256 * 22:], MODES["3"], colours)
 
     def cell(self, character: int, front: int, back: int) -> bytes:
-        """The dots of a cell, in eight columns and the ninth as a letter has it."""
-        glyph = FONT[256 * 22 + 16 * character:][:16]
-        return b"".join(bytes(front if byte >> 7 - x & 1 else back for x in range(8)) + bytes([back]) for byte in glyph)
+        """The dots of a cell."""
+        return bytes(front if bit else back for line in glyph_lines(FONT[256 * 22:], 16, character) for bit in line)
 
     def test_a_letter_is_found(self) -> None:
         chooser = self.chooser((0, 0, 0), (63, 63, 63), (0, 0, 63))
         self.assertEqual(chooser.chosen(self.cell(0x41, 1, 2)), Chosen(0, 0x41, 0x21))
         self.assertEqual(chooser.chosen(bytes(144)), Chosen(0, 0x20, 0x07))
         self.assertEqual(chooser.chosen(bytes([2] * 144)), Chosen(0, 0x20, 0x20))
-
-    def test_a_letter_with_a_dot_too_many_is_found_with_its_error(self) -> None:
+        # One with a dot too many is found with its error.
         cell = bytearray(self.cell(0x41, 1, 0))
         self.assertEqual(cell[8], 0)
         cell[8] = 1
@@ -442,15 +444,8 @@ class Text(unittest.TestCase):
         found = self.chooser(*colours).chosen(cell)
 
         def error(character: int, front: int, back: int) -> int:
-            glyph = [FONT[256 * 22 + 16 * character + y] for y in range(16)]
-            bits = [[byte >> 7 - x & 1 for x in (*range(8), 7)] for byte in glyph]
-            if not 0xC0 <= character < 0xE0:
-                bits = [[*line[:8], 0] for line in bits]
-            shown_numbers = [front if bit else back for line in bits for bit in line]
-            return sum(
-                2 * (r - p) ** 2 + 4 * (g - q) ** 2 + (b - s) ** 2
-                for (r, g, b), (p, q, s) in ((colours[one], colours[other]) for one, other in zip(shown_numbers, cell))
-            )
+            dots = ((colours[one], colours[other]) for one, other in zip(self.cell(character, front, back), cell))
+            return sum(2 * (r - p) ** 2 + 4 * (g - q) ** 2 + (b - s) ** 2 for (r, g, b), (p, q, s) in dots)
 
         least = min(error(character, front, back) for character in range(256) for front in range(4) for back in range(4))
         self.assertEqual((found.error, error(found.character, found.attribute & 15, found.attribute >> 4)), (least, least))

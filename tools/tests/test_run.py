@@ -21,11 +21,10 @@ from vga_report.program import Tried, build_program
 from vga_report.progress import Progress
 from vga_report.report import Report
 from vga_report.script import expected_in
-from vga_report.trouble import Trouble
 from zaklimot.format import Answer, count_in, steps_in
 
 from .test_command import run
-from .tools import BLACK, EXAMPLES, RED, TOP, Folder, begin, hold, ppm, refused, run_texts, run_tool, stream
+from .tools import BLACK, EXAMPLES, RED, TOP, Folder, begin, hold, hold_refused, ppm, refused, run_texts, run_tool, stream
 
 # A program that understands texts of a few steps: `asm` copies, `dis` prints in upper case, `go` answers by the name.
 FAKE = """import sys
@@ -325,9 +324,7 @@ class Expectations(unittest.TestCase):
 
     def test_choices(self) -> None:
         self.assertTrue(Choice(None).has(Row(Answer(1, 1, "ok"), "")))
-        for text in ("", "1-", "a-b", "1,,2", "0", "5-2", "0-3"):
-            with self.subTest(text), self.assertRaises(Trouble):
-                Choice(text)
+        hold_refused(self, Choice, ((text, "^--only ") for text in ("", "1-", "a-b", "1,,2", "0", "5-2", "0-3")))
 
 
 class Examples(unittest.TestCase):

@@ -137,7 +137,7 @@ def hold(test: unittest.TestCase, work: Callable[..., object], table: Iterable[t
 
 
 def hold_undone(test: unittest.TestCase, done: Sequence[Any], told: Any) -> None:
-    """Holds what a call above has answered to work that can't be done: status 2, no output, and words with the pattern."""
+    """Holds what a call above has answered to work that can't be done: status 2, no output, words with the pattern."""
     status, output, said = done
     test.assertEqual((status, len(output)), (2, 0), said)
     test.assertRegex(said, told)
@@ -150,6 +150,13 @@ def refused(work: Callable[..., object], *words: object) -> str:
     except Trouble as trouble:
         return str(trouble)
     raise AssertionError("it is not refused")
+
+
+def hold_refused(test: unittest.TestCase, work: Callable[..., object], table: Iterable[tuple[Any, ...]]) -> None:
+    """Holds what is told of work that a Trouble ends, for the front of each row, to the row's last, a pattern."""
+    for *given, told in table:
+        with test.subTest(given):
+            test.assertRegex(refused(work, *given), told)
 
 
 def _heed_signals() -> None:
