@@ -70,9 +70,7 @@ class Reports(unittest.TestCase):
         steps, others = (iter(steps_of(report(*answers))) for answers in (("ok",), ("ok",) * 3))
         self.assertEqual([found.number for found in Comparison().differences(steps, others)], [2])
 
-
-class ExpectedReports(unittest.TestCase):
-    def test_alike(self) -> None:
+    def test_as_expected(self) -> None:
         digest = hashlib.md5(PICTURE).hexdigest()
         hold(self, lambda answers, expected: against(report(*answers), expected), ((*row, None) for row in [
             ((), ""),
@@ -86,7 +84,7 @@ class ExpectedReports(unittest.TestCase):
         ]))
         self.assertIsNone(against(b"F7 BadLine(3)\n", "F7 BadLine(3)\n"))
 
-    def test_differing(self) -> None:
+    def test_otherwise_than_expected(self) -> None:
         other = 32 * "0"
         sum_of_picture = hashlib.md5(PICTURE).hexdigest()
         hold(self, lambda answers, expected: against(report(*answers), expected), [
@@ -103,7 +101,7 @@ class ExpectedReports(unittest.TestCase):
             (("ok",), "F2 BadMagic\n", "step 1: ok, not F2 BadMagic (fault)"),
         ])
 
-    def test_mistakes_in_the_file(self) -> None:
+    def test_mistakes_in_what_is_expected(self) -> None:
         def told(expected: str) -> str:
             return refused(lambda: list(Expected(stream(expected.encode()), "e").steps()))
 

@@ -66,7 +66,7 @@ class Program(Folder):
         return run_program(*words, given=given, folder=self.folder)
 
 
-class Jobs(Program):
+class Words(Program):
     def test_asm_writes_the_script_and_prints_nothing(self) -> None:
         # The second file is there, and longer.
         for name in ("new", self.write("old", SCRIPT + b"more")):
@@ -94,8 +94,6 @@ class Jobs(Program):
                     self.assertTrue(ran.report.endswith(b" height 0000\n"))
                     self.assertEqual(self.ran(*words, "--until", number, "--fonts", "fonts"), ran)
 
-
-class Refused(Program):
     def test_words_that_name_no_job(self) -> None:
         for words in REFUSED:
             with self.subTest(words):
@@ -123,8 +121,6 @@ class Refused(Program):
         self.assertEqual(self.ran("run", "script", "--fonts", "fonts", "--help").status, 0)
         self.assertFalse((self.folder / "new").exists())
 
-
-class Help(Program):
     def test_each_command_teaches_by_an_example(self) -> None:
         hold(self, self.ran, ((*words, (0, (HELP / f"{name}.txt").read_bytes(), "")) for name, *words in (
             *(("vga", flag) for flag in ("--help", "-h")),

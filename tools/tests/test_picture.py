@@ -196,6 +196,28 @@ class Drawing(Folder):
         self.assertEqual((width, height), (320, 400))
         self.assertEqual(rows[:2], [png_rows(png_of(dots))[2][0]] * 2)
 
+    def test_images_of_other_sizes(self) -> None:
+        red, blue, black, bar = (63, 0, 0), (0, 0, 63), (0, 0, 0), (32, 0, 63)
+        few = [[(at // 60, 0, 0) for at in range(960)]] * 2
+        # A screen is four wide and three high: eight by three take half its height, one by one three quarters of its width.
+        for mode, words, dots, told, rows in (
+            ("0D", ["--scale"], [[red, blue]], "2x1 stretched to 320x200, 2", [[red] * 160 + [blue] * 160] * 200),
+            # A dot is the one under its middle.
+            ("13", ["--scale"], few, "960x2 stretched to 320x200, 16", [few[0][1::3]] * 200),
+            ("13", ["--fit"], [[red, blue] * 4] * 3, "8x3 stretched to 320x100, with bars of 000000 to 320x200, 3",
+             [[black] * 320] * 50 + [[*[red] * 40, *[blue] * 40] * 4] * 100 + [[black] * 320] * 50),
+            ("13", ["--fit"], [[red, red, blue]] * 2, "3x2 stretched to 320x177, with bars of 000000 to 320x200, 3",
+             [[black] * 320] * 11 + [[red] * 213 + [blue] * 107] * 177 + [[black] * 320] * 12),
+            ("13", ["--fit", "--bars", "#8000fF"], [[red], [blue]],
+             "1x2 stretched to 120x200, with bars of 8000FF to 320x200, 3",
+             [[bar] * 100 + [dot] * 120 + [bar] * 100 for dot in (red, blue) for _ in range(100)]),
+        ):
+            with self.subTest(told):
+                for image in (png_of(dots), ppm_of(dots)):
+                    said, text = made_of(image, "--mode", mode, *words)
+                    self.assertIn(f"mode {mode}: {told} colours; ", said)
+                    self.assertEqual(drawn(text)[0], shown(rows, *SIZES[mode][3:]))
+
 
 def assembled(text: bytes) -> bytes:
     """The bytes of a script's text."""
@@ -495,37 +517,6 @@ class Text(unittest.TestCase):
         dots[0][1] = next(colour for colour in dots[5] if colour not in (dots[0][0], dots[0][1]))
         said = made_of(png_of(dots), "--mode", "3")[0]
         self.assertRegex(said, r"^mode 3: 720x400, 16 colours, 1,999 of 2,000 cells fit; ")
-
-
-class Sizes(unittest.TestCase):
-    RED, BLUE = (63, 0, 0), (0, 0, 63)
-
-    def test_stretched(self) -> None:
-        said, text = made_of(png_of([[self.RED, self.BLUE]]), "--mode", "0D", "--scale")
-        self.assertEqual(drawn(text)[0], shown([[self.RED] * 160 + [self.BLUE] * 160] * 200, 1, 2))
-        self.assertIn("mode 0D: 2x1 stretched to 320x200, 2 colours; ", said)
-
-    def test_between_bars(self) -> None:
-        # A screen is four wide and three high: eight by three take half its height, one by one three quarters of its width.
-        black = (0, 0, 0)
-        for dots, told, words, rows in (
-            ([[self.RED, self.BLUE] * 4] * 3, "8x3 stretched to 320x100, with bars of 000000 to 320x200", (),
-             [[black] * 320] * 50 + [[*[self.RED] * 40, *[self.BLUE] * 40] * 4] * 100 + [[black] * 320] * 50),
-            ([[self.RED, self.RED, self.BLUE]] * 2, "3x2 stretched to 320x177, with bars of 000000 to 320x200", (),
-             [[black] * 320] * 11 + [[self.RED] * 213 + [self.BLUE] * 107] * 177 + [[black] * 320] * 12),
-            ([[self.RED], [self.BLUE]], "1x2 stretched to 120x200, with bars of 8000FF to 320x200", ("--bars", "#8000fF"),
-             [[(32, 0, 63)] * 100 + [self.RED] * 120 + [(32, 0, 63)] * 100] * 100
-             + [[(32, 0, 63)] * 100 + [self.BLUE] * 120 + [(32, 0, 63)] * 100] * 100),
-        ):
-            with self.subTest(told):
-                for image in (png_of(dots), ppm_of(dots)):
-                    said, text = made_of(image, "--mode", "13", "--fit", *words)
-                    self.assertIn(f"mode 13: {told}, 3 colours; ", said)
-                    self.assertEqual(drawn(text)[0], shown(rows, 2, 2))
-
-    def test_a_dot_is_the_one_under_its_middle(self) -> None:
-        few = [[(at // 60, 0, 0) for at in range(960)]] * 2
-        self.assertEqual(drawn(script(png_of(few), "--mode", "13", "--scale"))[0], shown([few[0][1::3]] * 200, 2, 2))
 
 
 class Examples(unittest.TestCase):

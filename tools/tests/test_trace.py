@@ -220,8 +220,6 @@ class Passing(unittest.TestCase):
             told = ["1 cycles have no time, and come without a pause"]
             self.assertEqual(warned(BEGIN + b"- r p 3DA 0 1\n", **wanted), told)
 
-
-class Frames(unittest.TestCase):
     def test_a_frame_before_each_change_of_the_start_address(self) -> None:
         high, low, draw = Step(OUTW, 0x3D4, 0x400C), Step(OUTW, 0x3D4, 0x200D), Step(PUT, 0xA0000, 1)
         zero, other = Step(OUTW, 0x3D4, 0x000C), Step(OUTW, 0x3D4, 0x400E)
