@@ -84,9 +84,8 @@ class Pages(Fake):
         self.assertEqual((status, output.split()[-1]), (0, self.made.as_uri() + "#step=2"))
 
     def test_bytes_of_a_text_that_are_no_text(self) -> None:
-        path = self.write("s", b"frame ; \xff\n\0\n")
-        self.assertEqual(self.ran(path, "--debug", str(self.made))[0], 0)
-        self.assertEqual(self.opened(self.made.read_text("utf-8"))["text"], "frame ; \ufffd\n\0\n")
+        status, page, _ = self.ran(self.write("s", b"frame ; \xff\n\0\n"), "--debug", "-")
+        self.assertEqual((status, self.opened(page)["text"]), (0, "frame ; \ufffd\n\0\n"))
 
     def test_a_page_that_is_not_there_or_another(self) -> None:
         built = str(self.built)
