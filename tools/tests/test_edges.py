@@ -125,8 +125,8 @@ class Words(Program):
         hold(self, self.ran, ((*words, (0, (HELP / f"{name}.txt").read_bytes(), "")) for name, *words in (
             *(("vga", flag) for flag in ("--help", "-h")),
             *((name, name, flag) for name in ("asm", "dis", "run", "go") for flag in ("--help", "-h")),
-            # Help is given beside other words.
-            ("run", "run", "x", "-h"),
+            # It is a command too, and it is given beside other words.
+            ("help", "help", "help"), ("run", "run", "x", "-h"),
         )))
 
 

@@ -324,23 +324,16 @@ class Whole(unittest.TestCase):
         self.assertGreater(len(self.pages), 30)
 
     def test_each_link_leads_to_what_is_there(self) -> None:
-        dead = [
-            f"{page}: {link}" for page, text in self.pages.items()
-            for link in re.findall(r"\]\((?!https?:|#)([^()\s#]+)", re.sub(r"^```.*?^```$", "", text, flags=re.M | re.S))
-            if posixpath.normpath(posixpath.join(posixpath.dirname(page), link)) not in self.places
-        ]
-        self.assertEqual(dead, [])
-
-    def test_each_anchor_is_in_the_page_that_its_link_leads_to(self) -> None:
         found = {page: anchors(text) for page, text in self.pages.items()}
         links = [
             (page, posixpath.normpath(posixpath.join(posixpath.dirname(page), place)) if place else page, anchor)
             for page, text in self.pages.items()
-            for place, anchor in re.findall(r"\]\((?!https?:)([^()\s#]*)#([^()\s]+)\)", "\n".join(prose(text)))
+            for place, anchor in re.findall(r"\]\((?!https?:)([^()\s#]*)(?:#([^()\s]+))?\)", "\n".join(prose(text)))
         ]
         self.assertIn((FRONT, "docs/LIBRARY.md", "a-release"), links)
         self.assertIn(("docs/LIBRARY.md", f"docs/{FRONT}", "build-it"), links)
-        self.assertEqual([link for link in links if link[2] not in found.get(link[1], ())], [])
+        self.assertEqual([link for link in links if link[1] not in self.places], [])
+        self.assertEqual([link for link in links if link[2] and link[2] not in found.get(link[1], ())], [])
 
     def test_each_command_is_there_or_told_to_be_elsewhere(self) -> None:
         elsewhere = re.findall(r"`([^`]+)`", self.pages[FRONT].partition("These prove, build or test")[2].partition("\n\n")[0])

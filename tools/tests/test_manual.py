@@ -11,12 +11,11 @@ from vga_manual.command import PLACES, manual_files
 from vga_manual.helps import Entry, Help, read_help
 from vga_manual.page import literal, prose
 from vga_report.processes import MEBIBYTE, Limits
-from vga_report.program import PROGRAM
 from vga_report.trouble import TROUBLE
 from vga_report.version import version
 
 from .test_edges import HELP
-from .tools import Folder, call, ended, refused, want_program
+from .tools import Folder, call, ended, refused
 
 PAGE, BASH, ZSH, FISH = PLACES
 HEADINGS = ("Commands:", "Arguments:", "Options:", "Examples:")
@@ -255,13 +254,6 @@ class Completions(Fakes):
         self.assertNotIn("'__vga_command help' -F", made[FISH])
         self.assertNotIn(IN_ZSH[0], self.made(kept_helps())[ZSH])
 
-    def test_shells_that_are_here_read_them(self) -> None:
-        made = self.made(more_helps())
-        for shell, place in (("bash", BASH), ("zsh", ZSH), ("fish", FISH)):
-            if shutil.which(shell):
-                done = ended(shell, "-n", self.write("completion", made[place]))
-                self.assertEqual((done[0], done[2]), (0, ""), shell)
-
 
 FORM = "it does not have the form of"
 # Of which help what is otherwise, and what is told of it.
@@ -332,8 +324,3 @@ class Made(Fakes):
             done = call(command.main, "make", new)
         self.assertEqual(done, (TROUBLE, "", f"vga-manual: {command.NO_PROGRAM}\n"))
         self.assertFalse(new.exists())
-
-    def test_its_files_are_those_of_the_kept_helps(self) -> None:
-        want_program()
-        kept = manual_files(self.printing(kept_helps()))
-        self.assertEqual(manual_files(str(PROGRAM)), kept)
