@@ -103,6 +103,16 @@ class Interpreting(unittest.TestCase):
         record = b"noise\r\n" + b"".join(booted.record)
         self.assertEqual(b"".join(report_lines(read_record(record, "record"), "record")), REPORT)
 
+    def test_the_bytes_of_the_table(self) -> None:
+        steps = table_for({"ab": script_of(SCRIPT, "script")})[16:].partition(reset_steps())[2]
+        self.assertEqual(
+            steps.hex(" "),
+            "0f 03 02 61 62 02 c4 03 02 0f 03 cc 03 05 00 a0 00 00 5a 08 ff af 0f 00 0d 03 00 04 ce 03 0a 01 00 0e 0b da 03 00 "
+            "09 00 03 02 01 00 00 00 00 00 00 00 00 00 09 17 10 fe 00 02 00 77 00 04 06 00 00 00 "
+            "09 02 13 0f 00 03 00 01 01 02 00 00 03 00 41 42 43 0a 01 00 0a 01 00 0a 01 00 0a 01 00 0a 01 00 "
+            "07 00 a0 00 00 00",
+        )
+
     def test_what_the_adapter_sees(self) -> None:
         self.assertEqual(cycles(SCRIPT), [
             ("out", 0x3C4, 0x02), ("out", 0x3C5, 0x0F), ("in", 0x3CC), ("put", 0xA0000, 0x5A),
