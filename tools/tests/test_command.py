@@ -95,10 +95,11 @@ class Reports(Folder):
 
     def test_compared(self) -> None:
         first = b"step 2 differs\n  read:2: E1 (read)\n  refused:2: E1 NotDecoded (refused)\n"
-        both, agree = first + b"step 3 differs\n  read:3: 00\n  refused:3: 01\n", b"red and red agree: 2 steps, 1 picture\n"
+        both, agree = first + b"step 3 differs\n  read:3: 00\n  refused:3: 01\n", b"red and standard input agree: "
         none = "vga-report: no pictures differ, so m.png isn't written\n"
         hold(self, self.done, (
-            ("compare red red", (0, agree, "")), ("compare read refused", (1, first, "")),
+            ("compare red -", report("ok", PICTURE), (0, agree + b"2 steps, 1 picture\n", "")),
+            ("compare read refused", (1, first, "")),
             ("compare read refused --all", (1, both, "")), ("compare read refused --picture m.png", (1, first, none)),
         ))
         self.assertFalse((self.folder / "m.png").exists())

@@ -218,8 +218,8 @@ class Listings(Fake):
         other = whole.replace(";| b", ";| c")
         status, output, _ = self.run_text(other, "--quiet")
         self.assertEqual((status, output.split("6c: ")[1].splitlines()[0]), (1, "'b', not 'c'"))
-        self.assertIn("\n-;| c\n+;| b\n", self.run_text(other, "--diff")[1])
-        self.assertEqual(self.blessed(other)[2], whole)
+        counts = [self.run_text(other, word)[1].count("\n-;| c\n+;| b\n") for word in ("--diff", "--bless")]
+        self.assertEqual((counts, (self.folder / "t.vga").read_text()), ([1, 0], whole))
 
     def test_refusals_are_told_counted_and_expected(self) -> None:
         text, decoded = "in 60\nin 60\nin 61 ; = E1\n", "No part of the adapter decodes port"

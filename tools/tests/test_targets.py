@@ -99,6 +99,8 @@ class Making(Fakes):
                     TROUBLE, "", f"vga-library: {program}: it is not in the path: install the package {PACKAGES[program]}\n",
                 ))
             (self.folder / "away").rename(path)
+        done = call(command.main, "make", self.write("file", ""), "--target", "aarch64")
+        self.assertEqual(done, (TROUBLE, "", f"vga-library: {self.folder}/file: it is not a folder\n"))
         self.assertFalse(self.notes.exists())
 
     def test_what_fails_leaves_no_folder(self) -> None:
