@@ -39,21 +39,17 @@ class ComparePicture(Folder):
         return status, output.decode().replace(f"step 2 and {shot} ", "")
 
     def test_alike(self) -> None:
-        six = b"\x3f\0\0" * 4 + bytes(15)
-        eight = b"\xff\0\0" * 4 + bytes(15)
-        most = "eight bits a component, of which six count"
-        self.assertEqual(self.compared(PICTURE), (0, "agree: 9x1, six bits a component\n"))
-        self.assertEqual(self.compared(png(9, 1, b"\0" + six)), (0, "agree: 9x1, six bits a component\n"))
-        self.assertEqual(self.compared(png(9, 1, b"\0" + eight)), (0, f"agree: 9x1, {most}\n"))
-        self.assertEqual(self.compared(png(9, 1, b"\0" + eight.replace(b"\xff", b"\xfc"))), (0, f"agree: 9x1, {most}\n"))
-
-    def test_repeated_dots_and_lines(self) -> None:
-        wide = b"\0" + b"\xff\0\0" * 8 + bytes(30)
-        told = "the image has each dot twice, the image has each line three times"
-        self.assertEqual(self.compared(png(18, 3, wide * 3))[1], f"agree: 9x1, {told}, eight bits a component, of which six count\n")
-        doubled = ppm(4, 2, (RED * 2 + WHITE * 2) * 2)
-        told = "the picture has each dot of the image twice, the picture has each line of the image twice"
-        self.assertEqual(self.compared(ppm(2, 1, RED + WHITE), picture=doubled), (0, f"agree: 4x2, {told}, six bits a component\n"))
+        line, wide = b"\0" + b"\x3f\0\0" * 4 + bytes(15), b"\0" + b"\xff\0\0" * 8 + bytes(30)
+        six, eight = "six bits a component\n", "eight bits a component, of which six count\n"
+        larger = "the image has each dot twice, the image has each line three times"
+        smaller = "the picture has each dot of the image twice, the picture has each line of the image twice"
+        hold(self, lambda image, picture: self.compared(image, picture=picture), (
+            (PICTURE, PICTURE, (0, f"agree: 9x1, {six}")), (png(9, 1, line), PICTURE, (0, f"agree: 9x1, {six}")),
+            (png(9, 1, line.replace(b"\x3f", b"\xff")), PICTURE, (0, f"agree: 9x1, {eight}")),
+            (png(9, 1, line.replace(b"\x3f", b"\xfc")), PICTURE, (0, f"agree: 9x1, {eight}")),
+            (png(18, 3, wide * 3), PICTURE, (0, f"agree: 9x1, {larger}, {eight}")),
+            (ppm(2, 1, RED + WHITE), ppm(4, 2, (RED * 2 + WHITE * 2) * 2), (0, f"agree: 4x2, {smaller}, {six}")),
+        ))
 
     def test_differing_dots(self) -> None:
         marked = self.folder / "marked.png"

@@ -2,6 +2,7 @@
 
 import json
 import unittest
+from itertools import product
 from pathlib import Path
 from typing import Sequence
 
@@ -60,9 +61,8 @@ class Refusals(unittest.TestCase):
         self.assertEqual(state.why("in 3C1", 2), "")
 
     def test_steps_that_the_adapter_does_not_refuse_so(self) -> None:
-        for words in ("frame", "show regs", "advance 5", "int ax=3"):
-            for number in (1, 2):
-                self.assertEqual(why_refused(words, number, State()), "", words)
+        for words, number in product(("frame", "show regs", "advance 5", "int ax=3"), (1, 2)):
+            self.assertEqual(why_refused(words, number, State()), "", words)
 
     def test_the_program_refuses_each(self) -> None:
         ran = run_texts({case["text"]: case["text"].encode() + b"\n" for case in CASES})
@@ -72,7 +72,7 @@ class Refusals(unittest.TestCase):
 
 
 class Mistakes(unittest.TestCase):
-    def test_each_is_told_below_its_word(self) -> None:
+    def test_each_is_told_below_its_word_and_good_lines_have_none(self) -> None:
         for line, part, said in LINES:
             with self.subTest(line[:60]):
                 mistake = mistake_in(line)
@@ -82,11 +82,7 @@ class Mistakes(unittest.TestCase):
                     self.assertEqual(line[mistake.at:mistake.at + mistake.width], part)
                 else:
                     self.assertEqual(mistake.at, len(line.partition(";")[0].rstrip()))
-
-    def test_there_are_sixty(self) -> None:
         self.assertGreaterEqual(len(LINES), 60)
-
-    def test_in_good_lines_there_is_none(self) -> None:
         hold(self, mistake_in, ((line, None) for line in TABLE["good"]))
 
     def test_the_program_refuses_each(self) -> None:

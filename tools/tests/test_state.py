@@ -120,33 +120,30 @@ class Memory(unittest.TestCase):
         """The bytes of the four planes at an offset, behind the steps that set planar memory up and these."""
         return state_of([*PLANAR, *steps]).memory.words[at].to_bytes(4, "little").hex(" ").upper()
 
-    def modes(self, mode: int) -> str:
-        """A byte 81 with latches 0F, 33, 55, FF, set/reset 05, enable 03, rotation by 3 with XOR, and bit mask F0."""
+    def modes(self, mode: int) -> list[Step]:
+        """Those of a byte 81 with latches 0F, 33, 55, FF, set/reset 05, enable 03, rotation by 3 with XOR, bit mask F0."""
         loaded = [
             step for plane, byte in enumerate((0x0F, 0x33, 0x55, 0xFF))
             for step in (Step(OUTW, 0x3C4, 0x100 << plane | 2), Step(PUT, 0xA0000, byte))
         ]
         chosen = [Step(OUTW, 0x3CE, value) for value in (0x0500, 0x0301, 0x1B03, 0xF008, mode << 8 | 5)]
-        return self.planes(*loaded, Step(GET, 0xA0000), Step(OUTW, 0x3C4, 0x0F02), *chosen, Step(PUT, 0xA0001, 0x81), at=1)
+        return [*loaded, Step(GET, 0xA0000), Step(OUTW, 0x3C4, 0x0F02), *chosen, Step(PUT, 0xA0001, 0x81)]
 
-    def test_write_modes(self) -> None:
-        self.assertEqual([self.modes(mode) for mode in range(4)], ["FF 33 65 CF", "0F 33 55 FF", "FF 33 55 FF", "3F 33 65 FF"])
-
-    def test_write_mode_3_narrows_the_bit_mask(self) -> None:
-        chosen = [Step(OUTW, 0x3CE, value) for value in (0x0F00, 0x0303, 0x0F08, 0x0305)]
-        # Rotated by 3, 91 is 32, of which the bit mask leaves 02.
-        self.assertEqual(self.planes(*chosen, Step(PUT, 0xA0000, 0x91)), "02 02 02 02")
-
-    def test_functions(self) -> None:
-        for function, byte in ((0x00, "C3"), (0x08, "41"), (0x10, "D7"), (0x18, "96")):
-            steps = [Step(PUT, 0xA0000, 0x55), Step(GET, 0xA0000), Step(OUTW, 0x3CE, function << 8 | 3), Step(PUT, 0xA0000, 0xC3)]
-            self.assertEqual(self.planes(*steps), " ".join([byte] * 4))
-
-    def test_chain_4_and_odd_even(self) -> None:
+    def test_writes(self) -> None:
+        narrowed = [Step(OUTW, 0x3CE, value) for value in (0x0F00, 0x0303, 0x0F08, 0x0305)]
+        latched = [Step(PUT, 0xA0000, 0x55), Step(GET, 0xA0000)]
         chained = [Step(OUTW, 0x3C4, 0x0E04), Step(PUTW, 0xA0004, 0x2211), Step(PUTW, 0xA0006, 0x4433)]
-        self.assertEqual(self.planes(*chained, at=4), "11 22 33 44")
         text = [Step(OUTW, 0x3C4, 0x0204), Step(OUTW, 0x3CE, 0x0E06), Step(OUTW, 0x3C4, 0x0302), Step(PUTW, 0xB8002, 0x1F41)]
-        self.assertEqual(self.planes(*text, at=2), "41 1F 00 00")
+        hold(self, lambda steps, at: self.planes(*steps, at=at), (
+            (self.modes(0), 1, "FF 33 65 CF"), (self.modes(1), 1, "0F 33 55 FF"), (self.modes(2), 1, "FF 33 55 FF"),
+            (self.modes(3), 1, "3F 33 65 FF"),
+            # Rotated by 3, 91 is 32, of which the bit mask leaves 02.
+            ([*narrowed, Step(PUT, 0xA0000, 0x91)], 0, "02 02 02 02"),
+            *(([*latched, Step(OUTW, 0x3CE, function << 8 | 3), Step(PUT, 0xA0000, 0xC3)], 0, told)
+              for function, told in (
+                  (0x00, "C3 C3 C3 C3"), (0x08, "41 41 41 41"), (0x10, "D7 D7 D7 D7"), (0x18, "96 96 96 96"))),
+            (chained, 4, "11 22 33 44"), (text, 2, "41 1F 00 00"),
+        ))
 
     def test_reads(self) -> None:
         state = state_of([*PLANAR, Step(OUTW, 0x3C4, 0x0A02), Step(PUT, 0xA0000, 0x0F)])

@@ -28,8 +28,8 @@ FAKE = Path(__file__).with_name("noting.sh").read_text("ascii")
 TAKING = Path(__file__).with_name("taking.c")
 
 
-class Fakes(Folder):
-    """Programs of the cross compiler and of the toolchain that note how they are called."""
+class Making(Folder):
+    """The library is made by programs of the cross compiler and of the toolchain that note how they are called."""
 
     def setUp(self) -> None:
         super().setUp()
@@ -51,8 +51,6 @@ class Fakes(Folder):
         """The words of each program that was called."""
         return [line.split(" ") for line in self.notes.read_text("utf-8").splitlines()]
 
-
-class Making(Fakes):
     def test_what_is_run_and_what_is_laid(self) -> None:
         place = self.folder / "kit-for-arm"
         progress = mock.create_autospec(Progress, instance=True)
@@ -128,10 +126,8 @@ class Making(Fakes):
         text = gathering.made_of(gathering.Commit("0123", 0), "kit", entries).content.decode("ascii")
         self.assertRegex(text, r"(?m)^sha256 [0-9a-f]{64} aarch64/lib/libzaklimot\.a$")
 
-
-@unittest.skipUnless(shutil.which("cc"), "there is no C compiler")
-class Heap(Folder):
-    def test_what_it_answers(self) -> None:
+    @unittest.skipUnless(shutil.which("cc"), "there is no C compiler")
+    def test_what_the_heap_answers(self) -> None:
         program = self.folder / "taking"
         # A compiler that knows malloc would warn of so large a request.
         self.assertEqual(ended("cc", *HEAP_OPTIONS, "-fno-builtin", TAKING, HEAP, "-o", program), (0, "", ""))

@@ -129,12 +129,9 @@ class Words(unittest.TestCase):
                 self.assertTrue((TOP / page[1]).exists(), page[1])
                 self.assertIn(name, (TOP / page[1]).read_text("utf-8"))
 
-    def test_the_version_is_that_of_the_header(self) -> None:
+    def test_the_version_of_the_header_and_words_that_mean_nothing(self) -> None:
         for name in self.NAMES:
             self.assertEqual(call(main_of(name), "--version"), (0, f"{name} {version()}\n", ""))
-
-    def test_words_that_mean_nothing(self) -> None:
-        for name in self.NAMES:
             hold_undone(self, call(main_of(name), "--no-such-word"), f"{name}: error: ")
 
 
