@@ -217,8 +217,8 @@ class Suite(Folder):
         self.lines = ["fonts two.fnt"]
 
     def case(self, name: str, script: str, expected: str, line: str = "") -> None:
-        """Puts a case into the suite."""
-        self.write(name + ".vga", script)
+        """Puts a case into the suite: a script as text, or where its line says so as the digits of bytes."""
+        self.write(name + (".hex" if line.startswith("bytes ") else ".vga"), script)
         self.write(name + ".txt", expected)
         self.lines.append(line or name)
 
@@ -304,8 +304,7 @@ class Suite(Folder):
         self.write("front", "out 3C2 01\n")
         self.lines.append("front front")
         self.case("a/one", "frame\nframe\n", "1 ok\n", "a/one until 2")
-        self.write("b/two.hex", "56*2")
-        self.lines.append("bytes b/two")
+        self.case("b/two", "56*2", "F2 BadMagic\n", "bytes b/two")
         path, folder = self.write("list.txt", "\n".join(self.lines) + "\n"), self.folder / "scripts"
         names = f"{folder / 'a/one.vga'}\n{folder / 'b/two.bin'}\n{folder / 'list.txt'}\n".encode()
         self.assertEqual(run("scripts", folder, "--list", path), (0, names, ""))
@@ -316,9 +315,7 @@ class Suite(Folder):
         self.assertEqual((folder / "fonts/two.fnt").read_bytes(), b"12")
 
     def test_scripts_of_bytes_want_a_command_of_their_own(self) -> None:
-        self.write("a/one.hex", "69 6E 20 33 43 43 ; in 3CC\n")
-        self.write("a/one.txt", "1 02\n")
-        self.lines.append("bytes a/one")
+        self.case("a/one", "69 6E 20 33 43 43 ; in 3CC\n", "1 02\n", "bytes a/one")
         status, output, _ = self.run_suite()
         self.assertEqual((status, output.splitlines()[-1]), (1, "1 case: 1 skipped"))
         status, output, _ = self.run_suite("--bytes", ADAPTER + " {fonts}")
@@ -326,11 +323,8 @@ class Suite(Folder):
 
     def test_runs_that_are_stopped(self) -> None:
         dumps = "3 regs\n4 beam\n5 latches\n6 bda\n"
-        self.case("a/one", "get 0\nget 0\nget 0\n", "1-2 ok\n", "a/one until 2")
-        self.write("a/two.hex", "66 72 61 6D 65 0A 66 0A ; frame, f")
-        self.write("a/two.txt", "1 ragged\n")
-        self.lines.append("bytes a/two until 1")
-        self.write("a/one.txt", "1 FF\n2 FF\n" + dumps)
+        self.case("a/one", "get 0\nget 0\nget 0\n", "1 FF\n2 FF\n" + dumps, "a/one until 2")
+        self.case("a/two", "66 72 61 6D 65 0A 66 0A ; frame, f", "1 ragged\n", "bytes a/two until 1")
         output = self.run_suite("--bytes", ADAPTER)[1]
         self.assertIn("  agrees   a/one\n", output)
         self.assertIn("a/two: the command of --bytes has no {until}\n", output)

@@ -218,20 +218,6 @@ class Checks(unittest.TestCase):
         self.assertEqual((len(bars()), bars()[-3:].hex().upper()), (3 * 640 * 480, SIXTEEN[15]))
 
 
-class Laying(Folder):
-    def test_what_is_laid_is_told(self) -> None:
-        with mock.patch.object(making, "run", return_value=""):
-            laid = making.make_library(Path("a"), Path("b"), Place(str(self.folder)), making.MOVING)
-        self.assertIn(self.folder / "include" / "zaklimot.h", laid)
-        self.assertTrue((self.folder / "share" / "zaklimot" / "zaklimot.fnt").is_file())
-
-    def test_no_source_is_laid_over_itself(self) -> None:
-        header = Path(self.write("include/zaklimot.h", TEXT))
-        with mock.patch.multiple(making, HEADER=header, run=lambda *_: ""):
-            told = refused(making.make_library, Path("a"), Path("b"), Place(str(self.folder)), making.MOVING)
-        self.assertEqual((told, header.exists()), (f"{header}: it is read as {header}, so it isn't written", True))
-
-
 def packed(entries: dict[str, Entry]) -> bytes:
     stream = io.BytesIO()
     pack(stream, entries, COMMIT.time)
@@ -389,6 +375,18 @@ class Packed(Folder):
         archive, sums = map(Path, output.splitlines())
         number = hashlib.sha256(archive.read_bytes()).hexdigest()
         self.assertEqual((status, sums.read_text("ascii")), (0, f"{number}  {archive.name}\n"))
+
+    def test_what_is_laid_is_told(self) -> None:
+        with mock.patch.object(making, "run", return_value=""):
+            laid = making.make_library(Path("a"), Path("b"), Place(str(self.folder)), making.MOVING)
+        self.assertIn(self.folder / "include" / "zaklimot.h", laid)
+        self.assertTrue((self.folder / "share" / "zaklimot" / "zaklimot.fnt").is_file())
+
+    def test_no_source_is_laid_over_itself(self) -> None:
+        header = Path(self.write("include/zaklimot.h", TEXT))
+        with mock.patch.multiple(making, HEADER=header, run=lambda *_: ""):
+            told = refused(making.make_library, Path("a"), Path("b"), Place(str(self.folder)), making.MOVING)
+        self.assertEqual((told, header.exists()), (f"{header}: it is read as {header}, so it isn't written", True))
 
 
 class Installing(Folder):

@@ -121,7 +121,7 @@ class Memory(unittest.TestCase):
         return state_of([*PLANAR, *steps]).memory.words[at].to_bytes(4, "little").hex(" ").upper()
 
     def modes(self, mode: int) -> list[Step]:
-        """Those of a byte 81 with latches 0F, 33, 55, FF, set/reset 05, enable 03, rotation by 3 with XOR, bit mask F0."""
+        """Those of a byte 81 with latches 0F, 33, 55, FF, set/reset 05, enable 03, rotation 3 with XOR, bit mask F0."""
         loaded = [
             step for plane, byte in enumerate((0x0F, 0x33, 0x55, 0xFF))
             for step in (Step(OUTW, 0x3C4, 0x100 << plane | 2), Step(PUT, 0xA0000, byte))
@@ -180,13 +180,14 @@ class Registers(unittest.TestCase):
         return [answer for step, answer in zip(steps, answers(steps)) if step.opcode in READS]
 
     def test_kept_bits_and_refused_values(self) -> None:
-        for port, index, value, kept in (
-            (0x3C4, 1, 0xFF, 0x3D), (0x3CE, 3, 0xFF, 0x1F), (0x3CE, 5, 0x5B, 0x5B), (0x3CE, 5, 0x20, 0), (0x3B4, 0x14, 0x5F, 0x5F),
-            (0x3B4, 0x14, 0x20, 0), (0x3B4, 0x17, 0xE3, 0xE3), (0x3B4, 0x17, 0xA2, 3), (0x3B4, 0x17, 0xA7, 3), (0x3C4, 5, 1, None),
-        ):
-            with self.subTest(port=port, index=index, value=value):
-                steps = [Step(OUTW, port, value << 8 | index), Step(OUT, port, index), Step(IN, port + 1)]
-                self.assertEqual(self.read(*steps), [kept])
+        def kept(port: int, index: int, value: int) -> list[Optional[int]]:
+            return self.read(Step(OUTW, port, value << 8 | index), Step(OUT, port, index), Step(IN, port + 1))
+
+        hold(self, kept, (
+            (0x3C4, 1, 0xFF, [0x3D]), (0x3CE, 3, 0xFF, [0x1F]), (0x3CE, 5, 0x5B, [0x5B]), (0x3CE, 5, 0x20, [0]),
+            (0x3B4, 0x14, 0x5F, [0x5F]), (0x3B4, 0x14, 0x20, [0]), (0x3B4, 0x17, 0xE3, [0xE3]),
+            (0x3B4, 0x17, 0xA2, [3]), (0x3B4, 0x17, 0xA7, [3]), (0x3C4, 5, 1, [None]),
+        ))
 
     def test_what_reads_answer(self) -> None:
         def out(*values: int) -> list[Step]:

@@ -319,18 +319,15 @@ class Writing(Folder):
         self.assertFalse(stat.S_ISREG(os.stat(os.devnull).st_mode))
 
 
-class Terminal(io.StringIO):
-    """A terminal that keeps what is written on it."""
-
-    def isatty(self) -> bool:
-        return True
-
-
 class Lines(Folder):
     def setUp(self) -> None:
         super().setUp()
-        self.terminal, self.now = Terminal(), 100.0
-        self.patch(mock.patch("sys.stderr", self.terminal), mock.patch("time.monotonic", lambda: self.now))
+        # A terminal that keeps what is written on it.
+        self.terminal, self.now = io.StringIO(), 100.0
+        self.patch(
+            mock.patch.object(self.terminal, "isatty", return_value=True), mock.patch("sys.stderr", self.terminal),
+            mock.patch("time.monotonic", lambda: self.now),
+        )
 
     def test_short_work_shows_nothing(self) -> None:
         progress = Progress()
