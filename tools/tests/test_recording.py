@@ -333,10 +333,12 @@ class RealTime(Folder):
     # Dots of a frame, and its microseconds.
     DOTS, FRAME = 900 * 449, 900 * 449 / 28.322
 
-    def frames(self, *frames: float, longest: float = 1) -> tuple[list[tuple[int, int]], Clocked]:
-        """The frames and dots that pass where something is written at so many frames' times."""
-        steps = registers(0x67, 0)
-        steps[0] = steps[0]._replace(time=0)
+    def frames(
+        self, *frames: float, longest: float = 1, reads: tuple[float, ...] = ()
+    ) -> tuple[list[tuple[int, int]], Clocked]:
+        """The frames and dots that pass where something is read, and then written, at so many frames' times."""
+        steps = [step._replace(time=0) for step in registers(0x67, 0)]
+        steps += [Step(IN, 0x3DA, 0, round(at * self.FRAME)) for at in reads]
         steps += [Step(PUT, 0xA0000, 1, round(at * self.FRAME)) for at in frames]
         clocked = Clocked(longest)
         return [step[:2] for step in clocked.steps(steps) if step.opcode in (ADVANCE, FRAME)], clocked
@@ -356,10 +358,7 @@ class RealTime(Folder):
         self.assertEqual(count + dots // self.DOTS, 60)
 
     def test_reads_make_no_frame(self) -> None:
-        steps = [step._replace(time=0) for step in registers(0x67, 0)]
-        steps += [Step(IN, 0x3DA, 0, round(at * self.FRAME)) for at in (1.2, 2.5, 3.5)]
-        steps.append(Step(PUT, 0xA0000, 1, round(4.5 * self.FRAME)))
-        frames = [step[:2] for step in Clocked(1).steps(steps) if step.opcode in (ADVANCE, FRAME)]
+        frames, _ = self.frames(4.5, reads=(1.2, 2.5, 3.5))
         self.assertEqual(frames, [(FRAME, 0), (ADVANCE, 3 * self.DOTS)])
 
     def test_long_silences_are_cut_and_told(self) -> None:
