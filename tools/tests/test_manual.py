@@ -165,7 +165,7 @@ class Helps(unittest.TestCase):
         self.assertEqual((told.paragraphs[0], told.paragraphs[-1]), (about, files))
 
 
-class Pages(Fakes):
+class Files(Fakes):
     def test_each_line_of_the_helps_is_in_it(self) -> None:
         for helps in (kept_helps(), more_helps()):
             page = plain(self.made(helps)[PAGE]).lower()
@@ -227,8 +227,6 @@ class Pages(Fakes):
             if columns == 40:
                 self.assertNotRegex(shown, r"[\w-]-\n")
 
-
-class Completions(Fakes):
     def test_each_command_and_option_is_in_each(self) -> None:
         for helps in (kept_helps(), more_helps()):
             made = self.made(helps)

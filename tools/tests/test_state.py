@@ -115,7 +115,7 @@ def _dac_or_attribute(random: Random) -> str:
     return f"w p {port:X} {value:X} 1"
 
 
-class Memory(unittest.TestCase):
+class States(unittest.TestCase):
     def planes(self, *steps: Step, at: int = 0) -> str:
         """The bytes of the four planes at an offset, behind the steps that set planar memory up and these."""
         return state_of([*PLANAR, *steps]).memory.words[at].to_bytes(4, "little").hex(" ").upper()
@@ -173,8 +173,6 @@ class Memory(unittest.TestCase):
         state.take(Step(OUT, 0x3C2, 0x01))
         self.assertIsNone(state.take(Step(GET, 0xB8000)))
 
-
-class Registers(unittest.TestCase):
     def read(self, *steps: Step) -> list[Optional[int]]:
         """What the reads among steps answer."""
         return [answer for step, answer in zip(steps, answers(steps)) if step.opcode in READS]
