@@ -65,8 +65,7 @@ class Reports(unittest.TestCase):
         found = comparison.differences(iter(steps_of(steps)), iter(steps_of(others)))
         self.assertEqual([difference.number for difference in found], [1, 5])
         self.assertEqual(comparison.text(), "5 steps, 1 picture, 2 skipped")
-
-    def test_what_follows_the_shorter_report_is_one_difference(self) -> None:
+        # What follows the shorter report is one.
         steps, others = (iter(steps_of(report(*answers))) for answers in (("ok",), ("ok",) * 3))
         self.assertEqual([found.number for found in Comparison().differences(steps, others)], [2])
 

@@ -98,18 +98,15 @@ class Words(Program):
         for words in REFUSED:
             with self.subTest(words):
                 hold_undone(self, self.ran(*words.split()), ".")
-
-    def test_no_word_at_all(self) -> None:
-        self.assertEqual(ended("vga", executable=PROGRAM)[:2], (2, ""))
+        # No word at all, and one that is no text.
+        hold_undone(self, ended("vga", executable=PROGRAM), ".")
+        self.assertEqual(self.ran("dis", b"\xff"), (2, b"", "vga: Missing\n"))
 
     def test_the_number_behind_until_is_digits_alone(self) -> None:
         for words, number in product(JOBS, NO_NUMBERS):
             with self.subTest((*words, number)):
                 hold_undone(self, self.ran(*words, "--fonts", "fonts", "--until", number), ".")
         hold_undone(self, self.ran("run", "script", "--fonts", "fonts", "--until=+1"), "^error: the number behind '--until'")
-
-    def test_words_that_are_no_text(self) -> None:
-        self.assertEqual(self.ran("dis", b"\xff"), (2, b"", "vga: Missing\n"))
 
     def test_no_file_is_opened(self) -> None:
         # Whoever opens a pipe that nobody writes waits, and the test then fails by its time.

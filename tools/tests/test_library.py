@@ -120,15 +120,13 @@ class Made(Folder):
         folder = self.folder / "crates" / "vga_c" / "out" / "made"
         self.patch(mock.patch.multiple(making, TOP=self.folder, FOLDER=folder, below=lambda _: ["low"]))
 
-    def test_the_same_sources(self) -> None:
+    def test_the_same_sources_and_others(self) -> None:
         self.assertIsNone(making.kept("llvm", X86_64))
         kept = making.keep("llvm", X86_64, *self.parts)
         self.assertEqual([path.read_text() for path in kept], ["one.a", "two.a"])
         self.assertEqual(making.kept("llvm", X86_64), kept)
         self.assertIsNone(making.kept("rattle", X86_64))
-
-    def test_other_sources_or_archives(self) -> None:
-        kept = making.keep("llvm", X86_64, *self.parts)
+        # Other sources, and other archives.
         self.low.write_text("changed")
         self.assertIsNone(making.kept("llvm", X86_64))
         self.low.write_text("low")
