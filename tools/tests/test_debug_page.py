@@ -188,7 +188,7 @@ class Retargeting(unittest.TestCase):
 
     def test_what_is_not_known_is_refused(self) -> None:
         front = "^the module for x86-64"
-        hold_refused(self, retargeted, ((f"{NATIVE}{line}\n", f"{front}.*{reason}") for line, reason in (
+        hold_refused(self, lambda line: retargeted(f"{NATIVE}{line}\n"), ((line, f"{front}.*{told}") for line, told in (
             ("declare i32 @puts(ptr)", "it calls puts, and"),
             ("declare double @llvm.sqrt.f64(double)", "it calls llvm.sqrt.f64, and"),
             ('declare void @"a b"()', "it calls a b, and"),
@@ -198,7 +198,7 @@ class Retargeting(unittest.TestCase):
             ("  %r = call i32 %f(i32 1)", "it has a call by a pointer, and"),
             ('attributes #8 = { "x86" }', "x86 is still named"),
         )))
-        hold_refused(self, retargeted, ((NATIVE.replace(old, new, 1), f"{front}: ") for old, new in (
+        hold_refused(self, lambda old, new: retargeted(NATIVE.replace(old, new, 1)), ((*row, f"{front}: ") for row in (
             (LAYOUTS[0], "e"), (TRIPLES[0], "aarch64"),
             ("define noundef i32 @zak", "define i32 @zak"), ("%card,", "%card zz,"),
         )))

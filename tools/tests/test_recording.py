@@ -128,14 +128,14 @@ class Recorded(Folder):
         black, small, four = ppm(3, 2, BLACK * 6), ppm(5, 1, RED * 5), ppm(3, 4, whole + BLACK * 3)
         known_of_qemu = "  {} what is known of qemu: {}; docs/EMULATORS.md tells of it".format
         usual, line = (known_of_qemu("may be", f"{front}underline") for front in ("palette address source, ", ""))
-        last, within = known_of_qemu("is", "last row of text that isn't whole"), known_of_qemu("is", "split within a row")
+        last = known_of_qemu("is", "last row of text that isn't whole")
         all_dots, lacks = "6 of 6 dots differ, in columns 0 to 2 and rows 0 to 1", "it lacks the last 1 of 4 lines; "
         size = "another size: they have {} dots, and neither is the other with dots repeated".format
         for count, lines, picture, screen, *told in (
             (1, b"", ppm(3, 2, RED * 3 + WHITE + BLACK * 2), PICTURE,
              "2 of 6 dots differ, in columns 1 to 2 and rows 1 to 1", usual),
             (5, split, picture_of("aab aabbc").ppm, picture_of("aab abbcc").ppm,
-             "4 of 16 dots differ, in columns 0 to 1 and rows 4 to 6", within),
+             "4 of 16 dots differ, in columns 0 to 1 and rows 4 to 6", known_of_qemu("is", "split within a row")),
             (1, vbe, black, PICTURE, all_dots, "  VBE is on: what qemu shows is no VGA's"),
             (3, chained, black, PICTURE,
              all_dots, "  chain 4 is on, and no memory was recorded since: --chain-4 does so"),
@@ -178,12 +178,12 @@ class Recorded(Folder):
 
     def test_machines_that_are_given_up(self) -> None:
         front, usual = "qemu-system-x86_64: ", ("MOST_LINES", 1 << 20)
-        begins = f"{front}it doesn't begin: there is no such disc\n"
+        begins, first = f"{front}it doesn't begin: there is no such disc\n", "qmp_capabilities"
         for words, limit, told, last in (
             (("-ends",), usual, begins, ""), (("-ends", "-late"), usual, begins, ""),
-            (("-cdrom",), ("MOST_LINES", 100), f"{front}its trace has more than 100 bytes: end it sooner\n", "qmp_capabilities"),
+            (("-cdrom",), ("MOST_LINES", 100), f"{front}its trace has more than 100 bytes: end it sooner\n", first),
             (("-dies",), usual, "qemu: its monitor doesn't do send-key", "send-key ret"),
-            (("-refuses",), usual, "qemu: its monitor doesn't do qmp_capabilities: there is none\n", "qmp_capabilities"),
+            (("-refuses",), usual, f"qemu: its monitor doesn't do {first}: there is none\n", first),
             (("-stays",), ("ANSWERING", 2), f"{front}it doesn't end within 2 seconds\n", "quit"),
         ):
             with self.subTest(words), mock.patch.object(recording, *limit):

@@ -24,7 +24,9 @@ from vga_report.script import expected_in
 from zaklimot.format import Answer, count_in, steps_in
 
 from .test_command import run
-from .tools import BLACK, EXAMPLES, RED, TOP, Folder, begin, hold, hold_refused, ppm, refused, run_texts, run_tool, stream
+from .tools import (
+    BLACK, EXAMPLES, RED, TOP, Folder, begin, hold, hold_refused, ppm, refused, run_texts, run_tool, stream,
+)
 
 # A program that understands texts of a few steps: `asm` copies, `dis` prints in upper case, `go` answers by the name.
 FAKE = """import sys
@@ -246,8 +248,8 @@ class Listings(Fake):
 
     def test_what_differs_as_a_diff(self) -> None:
         text = "get 0 ; = 55 ; more\nin 3DA\n"
-        front, change = "--- t.vga\n+++ t.vga as answered\n@@ -1,3 +1,3 @@\n", "-get 0 ; = 55 ; more\n+get 0 ; = E6 ; more\n"
-        self.assertEqual(self.run_text(text, "--diff")[:2], (1, f"{front}{change} in 3DA\n \n"))
+        change = "@@ -1,3 +1,3 @@\n-get 0 ; = 55 ; more\n+get 0 ; = E6 ; more\n in 3DA\n \n"
+        self.assertEqual(self.run_text(text, "--diff")[:2], (1, f"--- t.vga\n+++ t.vga as answered\n{change}"))
         self.assertIn("\n+in 3DA ; = E1 NotDecoded\n", self.run_text(text, "--diff", "--strict")[1])
 
     def test_scripts_of_bytes(self) -> None:
