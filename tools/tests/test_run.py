@@ -1,5 +1,7 @@
 """Scripts beside their answers, and beside those that they expect; scripts of a folder."""
 
+from __future__ import annotations
+
 import io
 import json
 import os
