@@ -55,12 +55,6 @@ def prose(text: str) -> Iterator[str]:
             yield re.sub(r"`[^`]*`", lambda code: "`" + re.sub(r"[\[\]()]", "", code.group()) + "`", line)
 
 
-def anchor_of(heading: str) -> str:
-    """The anchor that a heading has: its letters in lower case, blanks as hyphens, and no other marks."""
-    plain = re.sub(r"\[([^\]]*)\]\([^)]*\)", r"\1", heading).replace("`", "").lower()
-    return re.sub(r"[^\w\- ]", "", plain).replace(" ", "-")
-
-
 def anchors(text: str) -> set[str]:
     """All anchors of a page: those of its headings, the second of a name with -1, and those that it names itself."""
     found: set[str] = set()
@@ -68,7 +62,9 @@ def anchors(text: str) -> set[str]:
         found.update(ANCHOR.findall(line))
         heading = HEADING.match(line)
         if heading:
-            name, more = anchor_of(heading.group(1)), 0
+            # The letters of the heading in lower case, blanks as hyphens, and no other marks.
+            plain = re.sub(r"\[([^\]]*)\]\([^)]*\)", r"\1", heading.group(1)).replace("`", "").lower()
+            name, more = re.sub(r"[^\w\- ]", "", plain).replace(" ", "-"), 0
             while name + (f"-{more}" if more else "") in found:
                 more += 1
             found.add(name + (f"-{more}" if more else ""))

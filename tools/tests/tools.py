@@ -291,13 +291,7 @@ def png_rows(data: bytes) -> tuple[int, int, list[bytes]]:
     assert chunks[0][0] == b"IHDR" and chunks[-1] == (b"IEND", b"")
     width, height, *form = struct.unpack(">IIBBBBB", chunks[0][1])
     assert form == [8, 2, 0, 0, 0]
-    return width, height, list(_rows(width, height, b"".join(body for kind, body in chunks if kind == b"IDAT")))
-
-
-def _rows(width: int, height: int, packed: bytes) -> Iterable[bytes]:
-    lines = zlib.decompress(packed)
-    length = 3 * width + 1
+    lines, length = zlib.decompress(b"".join(body for kind, body in chunks if kind == b"IDAT")), 3 * width + 1
     assert len(lines) == length * height
-    for at in range(0, len(lines), length):
-        assert lines[at] == 0, "a row with a filter"
-        yield lines[at + 1:at + length]
+    assert not any(lines[::length]), "a row with a filter"
+    return width, height, [lines[at + 1:at + length] for at in range(0, len(lines), length)]
