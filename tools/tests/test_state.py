@@ -328,5 +328,5 @@ class Cuts(unittest.TestCase):
 
     def test_empty_memory_takes_no_steps(self) -> None:
         self.assertEqual(sum(step.opcode == PUTW for step in rebuilt(state_of(PLANAR))), 0)
-        filled = [step for at in range(0, 1024, 2) for step in (Step(PUTW, 0xA0000 + at, 0x5555),)]
+        filled = [Step(PUTW, 0xA0000 + at, 0x5555) for at in range(0, 1024, 2)]
         self.assertEqual([step for step in rebuilt(state_of([*PLANAR, *filled])) if step.opcode == PUTW], filled)
