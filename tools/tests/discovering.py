@@ -22,7 +22,7 @@ from vga_report.output import counted
 from vga_report.processes import captured, in_parallel
 from vga_report.trouble import Trouble
 
-from .program import UNBUILT
+from .tools import UNBUILT
 
 HERE = Path(__file__).resolve().parent
 TOOL = HERE.parent / "tests-of-tools"
@@ -82,15 +82,14 @@ def _compiled_once() -> Iterator[None]:
 
 def _units(folder: Path, kept: Optional[Path]) -> list[list[str]]:
     """The names of the tests for each process: a module, or what is kept of it. The largest module is the first."""
-    modules = sorted(folder.glob("test*.py"), key=lambda path: path.stat().st_size, reverse=True)
-    units = {f"{folder.name}.{path.stem}": [f"{folder.name}.{path.stem}"] for path in modules}
-    if kept is not None:
-        names = kept.read_text("utf-8").split()
-        units = {module: [name for name in names if f"{name}.".startswith(f"{module}.")] for module in units}
-        lost = set(names).difference(*units.values())
-        if lost:
-            raise Trouble(f"there are no such tests: {', '.join(sorted(lost))}", str(kept))
-    return [unit for unit in units.values() if unit]
+    paths = sorted(folder.glob("test*.py"), key=lambda path: path.stat().st_size, reverse=True)
+    modules = [f"{folder.name}.{path.stem}" for path in paths]
+    names = modules if kept is None else kept.read_text("utf-8").split()
+    units = [[name for name in names if f"{name}.".startswith(f"{module}.")] for module in modules]
+    lost = set(names).difference(*units)
+    if lost:
+        raise Trouble(f"there are no such tests: {', '.join(sorted(lost))}", str(kept))
+    return [unit for unit in units if unit]
 
 
 def processors() -> int:
@@ -109,11 +108,10 @@ def _answer_of(folder: Path, names: Sequence[str], is_ended: Event) -> Answer:
         words = [sys.executable, TOOL, "--folder", folder, "--answer", path, *names]
         try:
             done = captured(words, heard=heed, seconds=MOST_SECONDS)
+            if done.status or not path.exists():
+                raise Trouble(f"its process ended with status {done.status}, and no answer\n{done.said()}")
         except Trouble as trouble:
             return Answer(0, [(f"ERROR: {' '.join(names)}", str(trouble))])
-        if done.status or not path.exists():
-            told = f"its process ended with status {done.status}, and no answer\n{done.said()}"
-            return Answer(0, [(f"ERROR: {' '.join(names)}", told)])
         return Answer(*json.loads(path.read_text("utf-8")))._replace(printed=done.said())
 
 

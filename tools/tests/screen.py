@@ -9,8 +9,6 @@ from typing import Iterator, NamedTuple
 
 from zaklimot.format import parse_text
 
-from .making import ppm
-
 # Where the font file has the glyphs of each height; and the palettes.
 FONTS_AT = {8: 0, 14: 256 * 8, 16: 256 * 22}
 LARGE, SMALL = [0, 1, 2, 3, 4, 5, 0x14, 7, *range(0x38, 0x40)], [*range(8), *range(0x10, 0x18)]
@@ -84,12 +82,15 @@ class Screen:
         rows = self.text_rows() if self.mode == 3 else self.pixel_rows()
         lines = [b"".join(bytes(self.dac[entry]) * shape.across for entry in row) * shape.down for row in rows]
         width = len(rows[0]) * shape.across
-        self.frames.append(ppm(width, len(rows) * shape.down, b"".join(lines)))
+        self.frames.append(b"P6\n%d %d\n63\n" % (width, len(lines) * shape.down) + b"".join(lines))
 
     def do_int(self, ax: int, bx: int, cx: int, dx: int, block: bytes) -> None:
         if ax >> 8 == 0:
             self.set_mode(ax)
-        elif ax in (0x1012, 0x1003, 0x1110, 0x1111, 0x1112, 0x1302) or ax >> 8 in (1, 6, 7):
+        elif ax == 0x0600:
+            # By no lines a window is blanked, up or down.
+            self.service_07(0, bx, cx, dx, block)
+        elif ax in (0x1012, 0x1003, 0x1110, 0x1111, 0x1112, 0x1302) or ax >> 8 in (1, 7):
             getattr(self, f"service_{ax >> 8:02X}")(ax & 0xFF, bx, cx, dx, block)
         else:
             raise AssertionError(hex(ax))
@@ -153,10 +154,6 @@ class Screen:
             self.lines_of_text = height
         # It sets the cursor's lines.
         self.has_cursor = True
-
-    def service_06(self, lines: int, bx: int, cx: int, dx: int, block: bytes) -> None:
-        assert lines == 0
-        self.service_07(lines, bx, cx, dx, block)
 
     def service_07(self, lines: int, bx: int, cx: int, dx: int, block: bytes) -> None:
         """Scrolls a window down, and blanks the rows that become free."""

@@ -20,24 +20,7 @@ from vga_report.version import version
 from .tools import call, ended
 
 
-class Words(unittest.TestCase):
-    def test_words_that_cannot_be_meant(self) -> None:
-        with mock.patch.object(command, "lacking", lambda: []):
-            for words in (["--proof", "folder"], ["--library", "no-such-folder"]):
-                status, _, said = call(command.main, *words)
-                self.assertEqual((status, said.partition(": ")[0]), (TROUBLE, "vga-bindings-tests"))
-            self.assertEqual(call(command.main, "--ready"), (0, "", ""))
-
-    def test_what_is_lacking_is_named_with_its_package(self) -> None:
-        with mock.patch.object(needs.shutil, "which", lambda name: None if "cargo" in name else name):
-            told = needs.lacking()
-            self.assertEqual(told[:2], ["cargo: install the package cargo", "cargo-clippy: install the package rust-clippy"])
-            status, _, said = call(command.main, "--ready")
-        self.assertEqual(status, TROUBLE)
-        self.assertIn("  cargo: install the package cargo\n", said)
-
-
-class Judging(unittest.TestCase):
+class Tests(unittest.TestCase):
     def assert_judged(self, check: Callable[[Path, Path], str], told: Optional[str]) -> None:
         """What a check tells first, or that it finds something wrong."""
         if told is None:
@@ -66,6 +49,21 @@ class Judging(unittest.TestCase):
 
     def test_the_page_has_its_programs(self) -> None:
         self.assertEqual(list(rust.programs_of_page()), ["src/main.rs", "src/bin/program_1.rs", "src/bin/program_2.rs"])
+
+    def test_words_that_cannot_be_meant(self) -> None:
+        with mock.patch.object(command, "lacking", lambda: []):
+            for words in (["--proof", "folder"], ["--library", "no-such-folder"]):
+                status, _, said = call(command.main, *words)
+                self.assertEqual((status, said.partition(": ")[0]), (TROUBLE, "vga-bindings-tests"))
+            self.assertEqual(call(command.main, "--ready"), (0, "", ""))
+
+    def test_what_is_lacking_is_named_with_its_package(self) -> None:
+        with mock.patch.object(needs.shutil, "which", lambda name: None if "cargo" in name else name):
+            told = needs.lacking()
+            self.assertEqual(told[:2], ["cargo: install the package cargo", "cargo-clippy: install the package rust-clippy"])
+            status, _, said = call(command.main, "--ready")
+        self.assertEqual(status, TROUBLE)
+        self.assertIn("  cargo: install the package cargo\n", said)
 
 
 @unittest.skipUnless(shutil.which("rustc"), "rustc isn't installed")

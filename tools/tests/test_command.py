@@ -15,8 +15,9 @@ from pathlib import Path
 from vga_report.cases import Case, read_cases
 from zaklimot.format import MOST_BYTES
 
-from .making import BLACK, RED, WHITE, png_rows, ppm, report
-from .tools import TOOLS, Folder, begin, ended, hold, hold_undone, refused, run_tool
+from .tools import (
+    BLACK, RED, TOOLS, WHITE, Folder, begin, ended, hold, hold_undone, png_rows, ppm, refused, report, run_tool,
+)
 
 PROGRAM = TOOLS / "vga-report"
 ADAPTER = shlex.join([sys.executable, str(TOOLS / "tests" / "adapter.py")]) + " {script}"
@@ -24,20 +25,47 @@ PICTURE = ppm(9, 1, RED * 4 + BLACK * 5)
 run = partial(run_tool, PROGRAM.name)
 
 
-class Text(Folder):
-    def test_a_file_and_standard_input(self) -> None:
-        # The frame at power-on; the sum is that of `md5sum` over its 37 bytes.
-        path = self.report("r", "ok", ppm(9, 1, 9 * BLACK))
-        text = b"1 ok\n2 picture 37 9x1 8f4a7758d19428aa7b8da8bb8fc0c974\n"
-        self.assertEqual(run("text", path), (0, text, ""))
-        self.assertEqual(run("text", "-", given=Path(path).read_bytes()), (0, text, ""))
+class Reports(Folder):
+    """Reports that are shown, cut into pictures and compared, in a folder that has some."""
 
-    def test_a_damaged_report_is_shown_up_to_the_damage(self) -> None:
-        message = "vga-report: standard input:2: step 2 is to come, and not '3 ok'\n"
-        self.assertEqual(run("text", "-", given=b"1 ok\n3 ok\n"), (2, b"1 ok\n", message))
+    REPORTS = {
+        "black": ("ok", ppm(9, 1, BLACK * 9)), "red": ("ok", PICTURE), "two": (PICTURE, "ok", ppm(1, 1, WHITE)),
+        "high": (ppm(100, 101, BLACK * 10100),), "wide": (ppm(5000, 1, BLACK * 5000),), "read": ("ok", "E1", "00"),
+        "refused": ("ok", "E1 NotDecoded", "01"), "three": ("ok", "ok", "55"), "many": ("ok",) * 50000,
+        "a": ("00", PICTURE), "b": ("01", ppm(9, 1, RED * 3 + BLACK * 6)),
+    }
+
+    def setUp(self) -> None:
+        super().setUp()
+        for name, answers in self.REPORTS.items():
+            self.report(name, *answers)
+
+    def done(self, words: str, given: bytes = b"") -> tuple[int, bytes, str]:
+        """Exit status, output and standard error of the command in the folder."""
+        return run(*words.split(), given=given, prepare=lambda: os.chdir(self.folder))
+
+    def rows(self, name: str) -> tuple[int, int, list[bytes]]:
+        """Width, height and rows of a PNG."""
+        return png_rows((self.folder / name).read_bytes())
+
+    def test_as_text(self) -> None:
+        # The frame at power-on; the sum is that of `md5sum` over its 37 bytes.
+        text, red = b"1 ok\n2 picture 37 9x1 8f4a7758d19428aa7b8da8bb8fc0c974\n", hashlib.md5(PICTURE).hexdigest()
+        front = "vga-report: standard input:2: "
+        lacking = f"{front}the picture is shown by its digest, and its dots are not in the file\n"
+        differs = f"step 2 differs\n  standard input:2: {text[7:-1].decode()}\n  red:2: picture 37 9x1 {red}\n".encode()
+        hold(self, self.done, (
+            ("text black", (0, text, "")), ("text -", report(*self.REPORTS["black"]), (0, text, "")),
+            # A text is as good as its report, but for the dots.
+            ("text -", text, (0, text, "")),
+            ("compare - black", text, (0, b"standard input and black agree: 2 steps, 1 picture\n", "")),
+            ("compare - red", text, (1, differs, "")), ("pictures - p", text, (2, b"", lacking)),
+            # A damaged report is shown up to the damage.
+            ("text -", b"1 ok\n3 ok\n", (2, b"1 ok\n", f"{front}step 2 is to come, and not '3 ok'\n")),
+        ))
 
     def test_a_closed_pipe_ends_it_silently(self) -> None:
-        process = begin(PROGRAM.name, "text", self.report("r", *("ok" for _ in range(50000))))
+        process = begin(PROGRAM.name, "text", self.folder / "many")
         assert process.stdout is not None and process.stderr is not None
         with process, process.stdout, process.stderr:
             self.assertEqual(process.stdout.readline(), b"1 ok\n")
@@ -45,91 +73,56 @@ class Text(Folder):
             self.assertEqual(process.stderr.read(), b"")
         self.assertEqual(process.returncode, 141)
 
+    def test_pictures(self) -> None:
+        cut = "vga-report: standard input:2: the picture of step 2 is cut off: of 37 bytes there are 35\n"
+        large = "vga-report: a picture of {} dots would get {}, and 100,000,000 dots are the most\n".format
+        hold(self, self.done, (
+            ("pictures two n/n", (0, b"n/n/0001.png\nn/n/0003.png\n", "")),
+            ("pictures two s --scale 2 --aspect", (0, b"s/0001.png\ns/0003.png\n", "")),
+            # The bytes as they are.
+            ("pictures two p --ppm", (0, b"p/0001.ppm\np/0003.ppm\n", "")),
+            ("pictures two - --ppm", (0, PICTURE + ppm(1, 1, WHITE), "")),
+            # Those before the damage are written.
+            ("pictures - d", report(PICTURE, PICTURE)[:-3], (2, b"d/0001.png\n", cut)),
+            ("pictures high h --scale 100", (2, b"", large("100x101", "10000x10100"))),
+            ("pictures wide h --scale 200 --aspect", (2, b"", large("5000x1", "1000000x750000"))),
+        ))
+        white = (1, 1, [b"\xff\xff\xff"])
+        self.assertEqual((self.rows("n/n/0003.png"), self.rows("s/0003.png")[:2]), (white, (3, 2)))
+        self.assertEqual(png_rows(self.done("pictures two - --step 3")[1]), white)
+        self.assertEqual((self.folder / "p/0001.ppm").read_bytes(), PICTURE)
+        self.assertEqual((self.rows("d/0001.png")[:2], list((self.folder / "h").iterdir())), ((9, 1), []))
 
-class Pictures(Folder):
-    def test_each_picture_is_a_file(self) -> None:
-        path, folder = self.report("r", PICTURE, "ok", ppm(1, 1, WHITE)), self.folder / "a" / "b"
-        names = f"{folder / '0001.png'}\n{folder / '0003.png'}\n".encode()
-        self.assertEqual(run("pictures", path, folder), (0, names, ""))
-        self.assertEqual(png_rows((folder / "0003.png").read_bytes()), (1, 1, [b"\xff\xff\xff"]))
-        self.assertEqual(run("pictures", path, folder, "--scale", "2", "--aspect")[0], 0)
-        self.assertEqual(png_rows((folder / "0003.png").read_bytes())[:2], (3, 2))
-        # The bytes as they are.
-        self.assertEqual(run("pictures", path, folder, "--ppm")[0], 0)
-        self.assertEqual((folder / "0001.ppm").read_bytes(), PICTURE)
-
-    def test_one_step_on_standard_output(self) -> None:
-        path = self.report("r", PICTURE, "ok", ppm(1, 1, WHITE))
-        status, picture, _ = run("pictures", path, "-", "--step", "3")
-        self.assertEqual((status, png_rows(picture)), (0, (1, 1, [b"\xff\xff\xff"])))
-        self.assertEqual(run("pictures", path, "-", "--ppm"), (0, PICTURE + ppm(1, 1, WHITE), ""))
-
-    def test_an_enlarged_picture_has_at_most_100_million_dots(self) -> None:
-        path, folder = self.report("r", ppm(100, 101, BLACK * 10100)), self.folder / "a"
-        message = "vga-report: a picture of 100x101 dots would get 10000x10100, and 100,000,000 dots are the most\n"
-        self.assertEqual(run("pictures", path, folder, "--scale", "100"), (2, b"", message))
-        self.assertEqual(list(folder.iterdir()), [])
-        path = self.report("r", ppm(5000, 1, BLACK * 5000))
-        self.assertIn("would get 1000000x750000,", run("pictures", path, folder, "--scale", "200", "--aspect")[2])
-
-    def test_pictures_before_the_damage_are_written(self) -> None:
-        status, _, message = run("pictures", "-", self.folder, given=report(PICTURE, PICTURE)[:-3])
-        self.assertEqual((status, (self.folder / "0001.png").exists()), (2, True))
-        self.assertIn("standard input:2: the picture of step 2 is cut off: of 37 bytes there are 35", message)
-
-
-class Compare(Folder):
-    def test_reports_that_agree(self) -> None:
-        path = self.report("a", "ok", PICTURE)
-        text = f"{path} and standard input agree: 2 steps, 1 picture\n".encode()
-        self.assertEqual(run("compare", path, "-", given=report("ok", PICTURE)), (0, text, ""))
-
-    def test_the_first_step_that_differs(self) -> None:
-        path, other = self.report("a", "ok", "E1", "00"), self.report("b", "ok", "E1 NotDecoded", "01")
-        text = f"step 2 differs\n  {path}:2: E1 (read)\n  {other}:2: E1 NotDecoded (refused)\n"
-        self.assertEqual(run("compare", path, other), (1, text.encode(), ""))
-        text += f"step 3 differs\n  {path}:3: 00\n  {other}:3: 01\n"
-        self.assertEqual(run("compare", path, other, "--all"), (1, text.encode(), ""))
+    def test_compared(self) -> None:
+        first = b"step 2 differs\n  read:2: E1 (read)\n  refused:2: E1 NotDecoded (refused)\n"
+        both, agree = first + b"step 3 differs\n  read:3: 00\n  refused:3: 01\n", b"red and standard input agree: "
+        none = "vga-report: no pictures differ, so m.png isn't written\n"
+        hold(self, self.done, (
+            ("compare red -", report("ok", PICTURE), (0, agree + b"2 steps, 1 picture\n", "")),
+            ("compare read refused", (1, first, "")),
+            ("compare read refused --all", (1, both, "")), ("compare read refused --picture m.png", (1, first, none)),
+        ))
+        self.assertFalse((self.folder / "m.png").exists())
 
     def test_a_picture_with_its_differing_dots_marked(self) -> None:
-        path, other = self.report("a", "00", PICTURE), self.report("b", "01", ppm(9, 1, RED * 3 + BLACK * 6))
-        marked = self.folder / "marked.png"
-        status, text, message = run("compare", path, other, "--all", "--picture", marked)
-        self.assertEqual((status, message), (1, ""))
+        status, text, said = self.done("compare a b --all --picture marked.png")
+        self.assertEqual((status, said), (1, ""))
         self.assertIn(b"\n  1 of 9 dots differ, the first is dot 3 of row 0: 3F0000, not 000000\n", text)
         red, mark = b"\x55\x00\x00", b"\xff\x20\x20"
-        self.assertEqual(png_rows(marked.read_bytes()), (9, 1, [red * 3 + mark + BLACK * 5]))
-
-    def test_a_marked_picture_on_standard_output(self) -> None:
-        path, other = self.report("a", PICTURE), self.report("b", ppm(9, 1, BLACK * 9))
-        status, picture, text = run("compare", path, other, "--picture", "-", "--scale", "2")
-        self.assertEqual((status, png_rows(picture)[:2]), (1, (18, 2)))
-        self.assertTrue(text.startswith("step 1 differs\n"), text)
-
-    def test_no_picture_differs(self) -> None:
-        path, other, marked = self.report("a", "00"), self.report("b", "01"), self.folder / "marked.png"
-        status, _, message = run("compare", path, other, "--picture", marked)
-        self.assertEqual((status, message), (1, f"vga-report: no pictures differ, so {marked} isn't written\n"))
-        self.assertFalse(marked.exists())
-
-    def test_a_report_as_text_shows_it(self) -> None:
-        path, other = self.report("a", "ok", PICTURE), self.report("b", "ok", ppm(9, 1, BLACK * 9))
-        shown = run("text", path)[1]
-        self.assertEqual(run("compare", "-", path, given=shown)[0], 0)
-        self.assertEqual(run("text", "-", given=shown), (0, shown, ""))
-        status, text, _ = run("compare", "-", other, given=shown)
-        self.assertEqual(status, 1)
-        self.assertIn(f"  standard input:2: picture 37 9x1 {hashlib.md5(PICTURE).hexdigest()}\n".encode(), text)
-        message = "vga-report: standard input:2: the picture is shown by its digest, and its dots are not in the file\n"
-        self.assertEqual(run("pictures", "-", self.folder / "p", given=shown), (2, b"", message))
+        self.assertEqual(self.rows("marked.png"), (9, 1, [red * 3 + mark + BLACK * 5]))
+        status, picture, said = self.done("compare a b --picture - --scale 2")
+        self.assertEqual((status, png_rows(picture)[:2], said.partition("\n")[0]), (1, (18, 2), "step 1 differs"))
 
     def test_as_expected_and_not(self) -> None:
-        path, expected = self.report("r", "ok", "ok", "55"), self.folder / "e"
-        hold(self, lambda text: run("check", path, self.write("e", text)), [
-            ("1-2 ok\n3 55\n", (0, f"{path} is as expected: 3 steps, 0 pictures\n".encode(), "")),
-            ("1-2 ok\n3 54\n", (1, f"{path}:3: step 3: 55, not 54 ({expected}:2)\n".encode(), "")),
-            ("1-2 ok\n", (1, f"{path}:3: step 3: 55, not the end ({expected})\n".encode(), "")),
-            ("1-4 ok\n", (1, f"{path}:3: step 3: 55 (read), not ok ({expected}:1)\n".encode(), "")),
+        def told(expected: str) -> tuple[int, bytes, str]:
+            self.write("e", expected)
+            return self.done("check three e")
+
+        hold(self, told, [
+            ("1-2 ok\n3 55\n", (0, b"three is as expected: 3 steps, 0 pictures\n", "")),
+            ("1-2 ok\n3 54\n", (1, b"three:3: step 3: 55, not 54 (e:2)\n", "")),
+            ("1-2 ok\n", (1, b"three:3: step 3: 55, not the end (e)\n", "")),
+            ("1-4 ok\n", (1, b"three:3: step 3: 55 (read), not ok (e:1)\n", "")),
         ])
 
 
@@ -160,7 +153,8 @@ class Streams(Folder):
     def test_each_is_told_or_not_wanted(self) -> None:
         path, long = self.report("r", "ok"), self.report("long", *("ok" for _ in range(50000)))
         told = "vga-report: standard {}put: {}\n".format
-        hold(self, lambda word, streams: ended("sh", "-c", f'"$@" {streams}', "sh", sys.executable, PROGRAM, "text", word), (
+        shell = partial(ended, "sh", "-c")
+        hold(self, lambda word, streams: shell(f'"$@" {streams}', "sh", sys.executable, PROGRAM, "text", word), (
             (path, ">&-", (2, "", told("out", "it is closed"))),
             ("-", "<&-", (2, "", told("in", "it is closed"))), (path, "<&-", (0, "1 ok\n", "")),
             # Nothing is said on standard output in the place of a closed error.
@@ -171,7 +165,7 @@ class Streams(Folder):
         self.assertEqual(Path(path).read_bytes(), b"1 ok\n")
 
 
-# Cases of a suite, each a script with the report that is expected of it; the words of the command;
+# Cases of a suite: scripts with the reports that are expected of them, and lines of the list; the command's words;
 # and what is told.
 NOTHING_ASKED = "all that it asks is a picture, a dump, a refusal or a fault of the script"
 ENDED = "the command ended with status 3, and said\n             first\n             no such part?"
@@ -179,7 +173,7 @@ REFUSING = (
     ("get A0000\nget A0000\n", "1 E1 NotDecoded\n2 FF\n"),
     ("get A0000\nget A0000\n", "1 E1 NotDecoded\n2 55\n"),
 )
-SUITES: list[tuple[tuple[tuple[str, str], ...], str, list[str]]] = [
+SUITES: list[tuple[tuple[tuple[str, ...], ...], str, list[str]]] = [
     # A skipped step, and damage behind a difference, hide none.
     ((("frame\nget A0000\n", "1 ragged\n2 55\n"),), "", ["c/0: step 2: FF, not 55 (`get A0000`, c/0.vga:2)\n"]),
     ((("get A0000\ncut\n", "1 55\n2 ok\n"),), "", ["c/0: step 1: FF, not 55 (`get A0000`, c/0.vga:1)\n"]),
@@ -209,6 +203,10 @@ SUITES: list[tuple[tuple[tuple[str, str], ...], str, list[str]]] = [
         "  failed   c/2\n           c/2: its report:1: the report ends within a line\n",
     ]),
     ((("wait\n", "1 FF\n"),), "--timeout 1", ["  failed   c/0\n           c/0: the command took too long\n"]),
+    # A step of a front is named where it stands.
+    ((("\nget 1\n", "1 FF\n2 55\n", "front front\nc/0"), ("get 1\n", "1 55\n2 FF\n")), "", [
+        "c/0: step 2: FF, not 55 (`get 1`, c/0.vga:2)\n", "c/1: step 1: FF, not 55 (`get 0`, front:2)\n",
+    ]),
 ]
 
 
@@ -219,8 +217,8 @@ class Suite(Folder):
         self.lines = ["fonts two.fnt"]
 
     def case(self, name: str, script: str, expected: str, line: str = "") -> None:
-        """Puts a case into the suite."""
-        self.write(name + ".vga", script)
+        """Puts a case into the suite: a script as text, or where its line says so as the digits of bytes."""
+        self.write(name + (".hex" if line.startswith("bytes ") else ".vga"), script)
         self.write(name + ".txt", expected)
         self.lines.append(line or name)
 
@@ -268,11 +266,12 @@ class Suite(Folder):
         })
 
     def test_what_is_told_of_cases(self) -> None:
+        self.write("front", "; A front.\nget 0\n")
         for cases, words, wanted in SUITES:
             with self.subTest(cases, words=words):
                 self.lines = ["fonts two.fnt"]
-                for number, (script, expected) in enumerate(cases):
-                    self.case(f"c/{number}", script, expected)
+                for number, case in enumerate(cases):
+                    self.case(f"c/{number}", *case)
                 status, output, _ = self.run_suite(*words.split())
                 self.assertEqual(status, 1)
                 for text in wanted:
@@ -305,8 +304,7 @@ class Suite(Folder):
         self.write("front", "out 3C2 01\n")
         self.lines.append("front front")
         self.case("a/one", "frame\nframe\n", "1 ok\n", "a/one until 2")
-        self.write("b/two.hex", "56*2")
-        self.lines.append("bytes b/two")
+        self.case("b/two", "56*2", "F2 BadMagic\n", "bytes b/two")
         path, folder = self.write("list.txt", "\n".join(self.lines) + "\n"), self.folder / "scripts"
         names = f"{folder / 'a/one.vga'}\n{folder / 'b/two.bin'}\n{folder / 'list.txt'}\n".encode()
         self.assertEqual(run("scripts", folder, "--list", path), (0, names, ""))
@@ -317,9 +315,7 @@ class Suite(Folder):
         self.assertEqual((folder / "fonts/two.fnt").read_bytes(), b"12")
 
     def test_scripts_of_bytes_want_a_command_of_their_own(self) -> None:
-        self.write("a/one.hex", "69 6E 20 33 43 43 ; in 3CC\n")
-        self.write("a/one.txt", "1 02\n")
-        self.lines.append("bytes a/one")
+        self.case("a/one", "69 6E 20 33 43 43 ; in 3CC\n", "1 02\n", "bytes a/one")
         status, output, _ = self.run_suite()
         self.assertEqual((status, output.splitlines()[-1]), (1, "1 case: 1 skipped"))
         status, output, _ = self.run_suite("--bytes", ADAPTER + " {fonts}")
@@ -327,11 +323,8 @@ class Suite(Folder):
 
     def test_runs_that_are_stopped(self) -> None:
         dumps = "3 regs\n4 beam\n5 latches\n6 bda\n"
-        self.case("a/one", "get 0\nget 0\nget 0\n", "1-2 ok\n", "a/one until 2")
-        self.write("a/two.hex", "66 72 61 6D 65 0A 66 0A ; frame, f")
-        self.write("a/two.txt", "1 ragged\n")
-        self.lines.append("bytes a/two until 1")
-        self.write("a/one.txt", "1 FF\n2 FF\n" + dumps)
+        self.case("a/one", "get 0\nget 0\nget 0\n", "1 FF\n2 FF\n" + dumps, "a/one until 2")
+        self.case("a/two", "66 72 61 6D 65 0A 66 0A ; frame, f", "1 ragged\n", "bytes a/two until 1")
         output = self.run_suite("--bytes", ADAPTER)[1]
         self.assertIn("  agrees   a/one\n", output)
         self.assertIn("a/two: the command of --bytes has no {until}\n", output)
@@ -360,15 +353,6 @@ class Suite(Folder):
         self.assertEqual(self.run_suite(), (2, "", message))
         self.assertEqual(self.run_suite("--only", "x")[0], 2)
         self.assertEqual(self.run_suite("--bytes", ""), empty)
-
-    def test_a_step_of_a_front_is_named_where_it_stands(self) -> None:
-        self.write("front", "; A front.\nget 0\n")
-        self.lines.append("front front")
-        self.case("a/one", "\nget 1\n", "1 FF\n2 55\n")
-        self.case("a/two", "get 1\n", "1 55\n2 FF\n")
-        output = self.run_suite()[1]
-        self.assertIn("a/one: step 2: FF, not 55 (`get 1`, a/one.vga:2)\n", output)
-        self.assertIn("a/two: step 1: FF, not 55 (`get 0`, front:2)\n", output)
 
     def test_all_that_a_harness_says_is_shown(self) -> None:
         self.case("a/one", "frame\n", "1 ok\n")
@@ -413,13 +397,6 @@ class Suite(Folder):
                 self.assertIn(f"\n{cases}: ", self.run_suite(*words)[1])
         message = f"vga-report: {self.folder / 'list.txt'}: no case has a name as --only and --except want it\n"
         self.assertEqual(self.run_suite("--only", "a/", "--except", "a"), (2, "", message))
-
-    def test_scripts_go_into_no_folder_that_has_files(self) -> None:
-        self.case("a/one", "frame\n", "1 ok\n")
-        path, mine = self.write("list.txt", "\n".join(self.lines) + "\n"), Path(self.write("mine/a/one.vga", "mine"))
-        done = run("scripts", self.folder / "mine", "--list", path)
-        hold_undone(self, done, "the folder has files, and none of them is to be lost")
-        self.assertEqual(mine.read_text(), "mine")
 
     def test_a_font_has_a_limit(self) -> None:
         self.write("one.vga", "frame\n")

@@ -11,9 +11,8 @@ from urllib.parse import unquote
 from vga_report.debugging import data_element, page_data
 from vga_report.program import FONTS
 
-from .test_page import Alone
 from .test_run import Fake
-from .tools import TOOLS, Folder, ended
+from .tools import TOOLS, ended, hold_undone
 
 TEXT = "; A script.\nint ax=3 ; = ax=0003\nframe ; <!-- </script> \u00e9\n"
 OTHER_FONTS = bytes(9728)
@@ -22,13 +21,13 @@ OTHER_FONTS = bytes(9728)
 def small_page() -> str:
     """A page that runs scripts, as far as the tool looks at it."""
     fonts = base64.b64encode(FONTS.read_bytes()).decode("ascii")
-    data = {"module": "AA==", "fonts": fonts, "examples": [], "pages": "../docs/", "open": None}
-    element = data_element(data)
-    return f"<!DOCTYPE html>\n<title>page</title>\n{element}\n<script>\n'zaklimot-data'\n</script>\n"
+    data = data_element({"module": "AA==", "fonts": fonts, "examples": [], "pages": "../docs/", "open": None})
+    return f"<!DOCTYPE html>\n<title>page</title>\n{data}\n<script>\n'zaklimot-data'\n</script>\n"
 
 
-class Release(Folder):
-    """A folder that has the tool, the fonts and the page."""
+@unittest.skipIf(sys.platform == "win32", "a script is a program on POSIX")
+class Pages(Fake):
+    """Pages in a folder that has the tool, the fonts, the page as built, and a program."""
 
     def setUp(self) -> None:
         super().setUp()
@@ -59,8 +58,6 @@ class Release(Folder):
         self.assertEqual(page, small_page().replace(data_element(built), data_element(data)))
         return found
 
-
-class Pages(Release):
     def test_a_text(self) -> None:
         status, output, said = self.ran(self.script, "--debug", str(self.made))
         self.assertEqual((status, said), (0, ""))
@@ -87,72 +84,34 @@ class Pages(Release):
         self.assertEqual((status, output.split()[-1]), (0, self.made.as_uri() + "#step=2"))
 
     def test_bytes_of_a_text_that_are_no_text(self) -> None:
-        path = self.folder / "s"
-        path.write_bytes(b"frame ; \xff\n\0\n")
-        self.assertEqual(self.ran(str(path), "--debug", str(self.made))[0], 0)
-        self.assertEqual(self.opened(self.made.read_text("utf-8"))["text"], "frame ; \ufffd\n\0\n")
+        status, page, _ = self.ran(self.write("s", b"frame ; \xff\n\0\n"), "--debug", "-")
+        self.assertEqual((status, self.opened(page)["text"]), (0, "frame ; \ufffd\n\0\n"))
 
-    def test_a_file_that_is_read_is_not_written(self) -> None:
-        for path in (self.script, str(self.fonts), str(self.built)):
-            with self.subTest(path):
-                before = Path(path).read_bytes()
-                status, output, said = self.ran(self.script, "--debug", path)
-                self.assertEqual((status, output), (2, ""))
-                self.assertTrue(said.startswith(f"vga-report: {path}: it is read as "), said)
-                self.assertTrue(said.endswith(", so it isn't written\n"), said)
-                self.assertEqual(Path(path).read_bytes(), before)
-        link = self.folder / "link"
-        link.symlink_to(self.script)
-        self.assertIn("so it isn't written", self.ran(self.script, "--debug", str(link))[2])
-        self.assertEqual(self.names(), ["a release", "fonts", "link", "script.vga"])
-
-    def test_what_can_not_be_done(self) -> None:
-        def said(*words: str, given: bytes = b"") -> str:
-            status, output, told = self.ran(*words, given=given)
-            self.assertEqual((status, output), (2, ""))
-            self.assertFalse(self.made.exists())
-            return told.removeprefix("vga-report: ")
-
-        debug = ["--debug", str(self.made)]
-        self.assertEqual(said("none", *debug), "none: No such file or directory\n")
-        self.assertEqual(said("-", *debug, given=bytes(16_777_217)), "standard input: F6 TooLong: a script has at most 16,777,216 bytes\n")
-        nothing, page = "^--debug runs nothing here: ", "^--debug writes a page that runs the script: "
-        for words, told in (
-            (["--only", "1"], nothing), (["--try"], nothing), (["--vga", "x"], nothing),
-            (["--bless"], page), (["--show"], page), (["--pictures", "p"], page),
-            (["--html", "-"], "both want files"), (["--html", str(self.made)], "want two files"),
-        ):
-            self.assertRegex(said(self.script, *debug, *words), told, words)
-        self.fonts.write_bytes(bytes(9727))
-        told = f"{self.fonts}: the font file has 9,727 bytes, and 9,728 are right\n"
-        self.assertEqual(said(self.script, *debug), told)
-        self.fonts.write_bytes(OTHER_FONTS)
+    def test_a_page_that_is_not_there_or_another(self) -> None:
+        built = str(self.built)
+        hold_undone(self, self.ran(self.script, "--debug", built), f"^vga-report: {built}: it is read as ")
         self.built.write_text("<!DOCTYPE html>\n")
-        self.assertEqual(said(self.script, *debug), "zaklimot.html: it is not the page that runs scripts\n")
+        told = "^vga-report: zaklimot.html: it is not the page that runs scripts\n$"
+        hold_undone(self, self.ran(self.script, "--debug", str(self.made)), told)
         self.built.unlink()
         told = "the page is not built: `tools/vga-page make page/zaklimot.html` builds it"
-        self.assertIn(told, said(self.script, *debug))
+        hold_undone(self, self.ran(self.script, "--debug", str(self.made)), told)
+        self.assertEqual(self.names(), ["a release", "fonts", "s.vga", "script.vga", "vga"])
 
-
-@unittest.skipIf(sys.platform == "win32", "a script is a program on POSIX")
-class WithListing(Release, Fake, Alone):
     def test_the_listing_links_to_it(self) -> None:
         (self.folder / "x y").mkdir()
         html, made = self.folder / "page.html", self.folder / "x y" / "debug.html"
-        for path, given in ((self.path, b""), ("-", Path(self.path).read_bytes())):
+        for path in (self.path, "-"):
             with self.subTest(path):
-                words = ["--vga", str(self.vga), "--html", str(html), "--debug", str(made)]
-                status, output, said = self.ran(path, *words, given=given)
+                words = (path, "--vga", str(self.vga), "--html", str(html), "--debug", str(made))
+                status, output, said = self.ran(*words, given=Path(self.path).read_bytes())
                 self.assertEqual((status, said), (0, ""))
                 self.assertTrue(output.endswith("\n6 steps, 1 refused, 1 picture, 4 of 4 answers as expected\n"))
                 self.assertIn('<a href="x%20y/debug.html">Run it step by step</a>', html.read_text("utf-8"))
                 self.assertEqual(self.opened(made.read_text("utf-8"))["text"], Path(self.path).read_text())
 
     def test_the_page_of_a_script_with_a_mistake(self) -> None:
-        path = self.write("bad.vga", "frame\nmove 1\n")
-        html = str(self.folder / "page.html")
-        words = ["--vga", str(self.vga), "--html", html, "--debug", str(self.made)]
-        status, _, said = self.ran(path, *words)
-        self.assertEqual(status, 2)
-        self.assertIn("F7 BadLine(2)", said)
+        words = (self.write("bad.vga", "frame\nmove 1\n"), "--vga", str(self.vga), "--debug", str(self.made))
+        status, _, said = self.ran(*words, "--html", "page.html")
+        self.assertEqual((status, "F7 BadLine(2)" in said), (2, True), said)
         self.assertEqual(self.opened(self.made.read_text("utf-8"))["text"], "frame\nmove 1\n")

@@ -14,7 +14,6 @@ from unittest import mock
 from page_tests import built, node, scripts, suite
 from page_tests import command as tests_command
 from vga_report.version import HEADER, calls_of
-from vga_report.processes import Failed, run
 from vga_page import command, page, wasm
 from vga_page.bundling import joined
 from vga_page.page import DATA, SCRIPT, STYLE, Sources, about, data_of, examples, make_page, packed, page_text
@@ -23,7 +22,7 @@ from vga_page.wasm import check_module, exports_of, kit_of, with_kit
 from vga_report.trouble import TROUBLE, Wrong
 from vga_report.debugging import page_data
 
-from .tools import Folder, call, hold, refused
+from .tools import Folder, call, hold, hold_refused, refused
 
 FRAME = f"<!DOCTYPE html>\n{STYLE}\n{DATA}\n{SCRIPT}\n"
 
@@ -53,22 +52,20 @@ class Bundling(unittest.TestCase):
             main = f'import {{ z }} from "./z.js";\nz();\n{first}\n'
             return {"main.js": main, "z.js": f"export const z = 1;\n{second}\n"}
 
-        for first, second in (
-            ("let a = 1;", "const a = 2;"),
-            ("function a() {}", "let b, a;"),
-            ("class a {}", "async function a() {}"),
-            ("const b = 1, a = 2;", "function* a() {}"), ("const a = [];", "var a;"),
-        ):
-            with self.subTest((first, second)):
-                told = refused(joined, with_names(first, second))
-                self.assertEqual(told, "main.js:3: a is a name at the top level of z.js too")
+        hold(self, partial(refused, joined), (
+            *((with_names(first, second), "main.js:3: a is a name at the top level of z.js too") for first, second in (
+                ("let a = 1;", "const a = 2;"), ("function a() {}", "let b, a;"),
+                ("class a {}", "async function a() {}"),
+                ("const b = 1, a = 2;", "function* a() {}"), ("const a = [];", "var a;"),
+            )),
+            ({"main.js": "let a;\nfunction a() {}\n"}, "main.js:2: a is declared in line 1 too"),
+        ))
         # Names that are not at the top level may be the same.
         joined(with_names("function b() {\n  const a = 1;\n}", "function d() {\n  const a = 2;\n}"))
-        told = refused(joined, {"main.js": "let a;\nfunction a() {}\n"})
-        self.assertEqual(told, "main.js:2: a is declared in line 1 too")
 
     def test_what_is_not_as_a_module_is_to_be(self) -> None:
-        for line, reason in (
+        others = {"a.js": "export const a = 1;\n"}
+        hold_refused(self, joined, (({"main.js": f"\n{line}\n", **others}, f"^main.js:2: .*{told}") for line, told in (
             ('import a from "./a.js";', "an import is a line"),
             ('import * as a from "./a.js";', "an import is a line"),
             ('import { a as b } from "./a.js";', "an import is a line"),
@@ -79,10 +76,7 @@ class Bundling(unittest.TestCase):
             ('  await import("./a.js");', "by a line at the top alone"),
             ("const { a } = b;", "is declared by itself"), ("export const [a] = b;", "is declared by itself"),
             ('const a = "</script>";', "the end of a script"), ("// <!-- a", "the end of a script"),
-        ):
-            with self.subTest(line):
-                told = refused(joined, {"main.js": f"\n{line}\n", "a.js": "export const a = 1;\n"})
-                self.assertTrue(told.startswith("main.js:2: ") and reason in told, told)
+        )))
 
     def test_what_does_not_fit_together(self) -> None:
         one = 'import { a } from "./a.js";\n'
@@ -114,12 +108,11 @@ class Pages(unittest.TestCase):
         self.assertEqual(page_data(text), data)
 
     def test_a_frame_that_lacks_a_place(self) -> None:
-        for frame in (FRAME.replace(STYLE, ""), FRAME + DATA, FRAME.replace(SCRIPT, "")):
-            with self.subTest(frame):
-                told = refused(page_text, Sources(frame, "", {"main.js": ""}), {})
-                self.assertIn("index.html: <!-- zaklimot:", told)
-        told = refused(page_text, small_sources(style="a::after { content: '</Style>' }"), {})
-        self.assertIn("style.css: ", told)
+        frames = (FRAME.replace(STYLE, ""), FRAME + DATA, FRAME.replace(SCRIPT, ""))
+        hold_refused(self, lambda sources: page_text(sources, {}), (
+            *((Sources(frame, "", {"main.js": ""}), "index.html: <!-- zaklimot:") for frame in frames),
+            (small_sources(style="a::after { content: '</Style>' }"), "style.css: "),
+        ))
 
     def test_it_is_the_same_each_time(self) -> None:
         pages = {make_page(b"module", small_sources()) for _ in range(2)}
@@ -194,7 +187,8 @@ class Retargeting(unittest.TestCase):
         self.assertNotIn('"wasm-export-name"="inside"', text)
 
     def test_what_is_not_known_is_refused(self) -> None:
-        for line, reason in (
+        front = "^the module for x86-64"
+        hold_refused(self, lambda line: retargeted(f"{NATIVE}{line}\n"), ((line, f"{front}.*{told}") for line, told in (
             ("declare i32 @puts(ptr)", "it calls puts, and"),
             ("declare double @llvm.sqrt.f64(double)", "it calls llvm.sqrt.f64, and"),
             ('declare void @"a b"()', "it calls a b, and"),
@@ -203,17 +197,11 @@ class Retargeting(unittest.TestCase):
             ("  %p = load ptr addrspace(10), ptr %q", "it has an address space, and"),
             ("  %r = call i32 %f(i32 1)", "it has a call by a pointer, and"),
             ('attributes #8 = { "x86" }', "x86 is still named"),
-        ):
-            with self.subTest(line):
-                told = refused(retargeted, f"{NATIVE}{line}\n")
-                self.assertTrue(told.startswith("the module for x86-64") and reason in told, told)
-        for old, new in (
+        )))
+        hold_refused(self, lambda old, new: retargeted(NATIVE.replace(old, new, 1)), ((*row, f"{front}: ") for row in (
             (LAYOUTS[0], "e"), (TRIPLES[0], "aarch64"),
             ("define noundef i32 @zak", "define i32 @zak"), ("%card,", "%card zz,"),
-        ):
-            with self.subTest(old):
-                told = refused(retargeted, NATIVE.replace(old, new, 1))
-                self.assertTrue(told.startswith("the module for x86-64: "))
+        )))
 
 
 def leb(value: int) -> bytes:
@@ -240,7 +228,7 @@ class Modules(unittest.TestCase):
         self.assertEqual(names, [*self.right, "memory", "__heap_base"])
 
     def test_what_is_otherwise(self) -> None:
-        for module, reason in (
+        hold_refused(self, check_module, (
             (module_of(self.right, (2, b"\0")), "it has imports"),
             (module_of(self.right, (4, b"\0")), "it has a table"),
             (module_of(self.right, (9, b"\0")), "it has elements of a table"),
@@ -249,9 +237,7 @@ class Modules(unittest.TestCase):
             (module_of(self.calls), "it lacks page_give, page_take"),
             (module_of([*self.right, "zak_more"]), "it exports what is not in zaklimot.h: zak_more"),
             (module_of(self.right)[:-1], "it is cut off"), (b"\x7fELF", "it is no WebAssembly module"),
-        ):
-            with self.subTest(reason):
-                self.assertIn(reason, refused(check_module, module))
+        ))
 
     def test_the_kit_that_made_it(self) -> None:
         module = module_of(self.right)
@@ -261,38 +247,8 @@ class Modules(unittest.TestCase):
         self.assertEqual(told[0], told[1])
 
 
-class Running(unittest.TestCase):
-    def test_what_ends_badly_is_told(self) -> None:
-        hold(self, partial(refused, run), (
-            (["sh", "-c", "echo a >&2; exit 3"], "sh: it ended with status 3\n  sh -c echo a >&2; exit 3\na\n"),
-            (["no-such-program"], "no-such-program: it is not in the path"),
-        ))
-        with self.assertRaises(Failed) as raised:
-            run(["sleep", "60"], seconds=0.1)
-        self.assertEqual(str(raised.exception), "sleep: it had not ended after 0 seconds")
-
-    def test_lines_are_heard_and_output_is_answered(self) -> None:
-        heard: list[str] = []
-        said = run(["sh", "-c", "echo one; echo two >&2; echo three"], heard=heard.append)
-        self.assertEqual(said, "one\nthree\n")
-        self.assertTrue(heard[-1] in ("two", "three"))
-        self.assertEqual(run(["sh", "-c", 'printf "$ONE"'], environment={"ONE": "1"}), "1")
-
-
-class Commands(Folder):
-    def said(self, *words: str | Path) -> str:
-        status, output, said = call(command.main, *words)
-        self.assertEqual((status, output), (TROUBLE, ""))
-        return said
-
-    def test_words_that_cannot_be_meant(self) -> None:
-        for words, reason in (
-            (["make", "x", "--proof", "p"], "--proof keeps a proof of --gated"),
-            (["make", "x", "--module", "m", "--gated"], "--module takes a module as it is"),
-            (["module", "x", "--proof", "p"], "--proof keeps a proof of --gated"),
-        ):
-            with self.subTest(words):
-                self.assertTrue(self.said(*words).startswith(f"vga-page: {reason}"))
+class Tests(Folder):
+    """That a page is made around a module, and that the page's tests can fail."""
 
     def test_a_module_that_was_made_already(self) -> None:
         self.patch(mock.patch.object(command, "read_sources", small_sources))
@@ -300,13 +256,6 @@ class Commands(Folder):
         status, output, _ = call(command.main, "make", made, "--module", module)
         self.assertEqual((status, built.module_in(made.read_bytes())), (0, module.read_bytes()))
         self.assertIn(f"{made}: {made.stat().st_size:,} bytes; its module has", output)
-        self.assertIn("so it isn't written", self.said("make", module, "--module", module))
-        module.write_bytes(b"no module")
-        self.assertIn("it is no WebAssembly module", self.said("make", made, "--module", module))
-
-
-class Tests(Folder):
-    """That the page's tests can fail."""
 
     def test_a_page_of_other_sources(self) -> None:
         module, other = (with_kit(module_of(Modules.right), kit) for kit in ("one", "other"))

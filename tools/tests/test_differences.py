@@ -2,7 +2,7 @@
 
 import hashlib
 import unittest
-from typing import Iterator, Optional
+from typing import Iterable, Optional
 
 from vga_report.differences import Comparison
 from vga_report.dumps import NAMES, differing
@@ -12,8 +12,7 @@ from vga_report.trouble import Trouble
 from zaklimot.format import Answer, Picture
 from zaklimot.format.answers import GROUPS
 
-from .making import BLACK, RED, WHITE, ppm, report, stream
-from .tools import hold, refused
+from .tools import BLACK, RED, WHITE, hold, ppm, refused, report, stream
 
 DUMP = "misc 00\nseq 00: 00"
 PICTURE = ppm(3, 2, RED * 2 + BLACK * 4)
@@ -21,9 +20,14 @@ CRTC = "crtc 00: " + " ".join(["00"] * 25)
 REGISTERS = "misc 00\nseq 00: 00\ncrtc 00: 00\ngfx 00: 00\nattr 00 i: 00\ndac 00 r FF 00 00"
 
 
-def first(data: bytes, others: Iterator[Answer]) -> Optional[str]:
+def steps_of(data: bytes) -> list[Answer]:
+    """The steps of a report."""
+    return list(Report(stream(data), "r").steps())
+
+
+def first(data: bytes, others: Iterable[Answer]) -> Optional[str]:
     """How a report differs from other answers first."""
-    difference = next(Comparison().differences(Report(stream(data), "a").steps(), others), None)
+    difference = next(Comparison().differences(iter(steps_of(data)), iter(others)), None)
     return difference and difference.told().text
 
 
@@ -33,12 +37,10 @@ def against(data: bytes, expected: str) -> Optional[str]:
 
 
 class Reports(unittest.TestCase):
-    def test_alike(self) -> None:
-        for data in (b"", report("ok", "55", DUMP, PICTURE, "E1 NotDecoded"), b"F2 BadMagic\n"):
-            self.assertIsNone(first(data, Report(stream(data), "b").steps()))
-
     def test_the_first_difference(self) -> None:
-        hold(self, lambda data, other: first(data, Report(stream(other), "b").steps()), [
+        alike = (b"", report("ok", "55", DUMP, PICTURE, "E1 NotDecoded"), b"F2 BadMagic\n")
+        hold(self, lambda data, other: first(data, steps_of(other)), [
+            *((data, data, None) for data in alike),
             (report("ok", "55", "55"), report("ok", "54", "54"), "step 2: 55, not 54"),
             (report("E1"), report("E1 NotDecoded"), "step 1: E1 (read), not E1 NotDecoded (refused)"),
             (report("ok"), report("E2 NotInProfile"), "step 1: ok, not E2 NotInProfile (refused)"),
@@ -59,18 +61,15 @@ class Reports(unittest.TestCase):
 
     def test_all_differences_and_what_was_skipped(self) -> None:
         comparison = Comparison()
-        steps = Report(stream(report("00", "skipped", "02", PICTURE, "04")), "a").steps()
-        others = Report(stream(report("01", "01", "02", "skipped", "05")), "b").steps()
-        self.assertEqual([difference.number for difference in comparison.differences(steps, others)], [1, 5])
+        steps, others = report("00", "skipped", "02", PICTURE, "04"), report("01", "01", "02", "skipped", "05")
+        found = comparison.differences(iter(steps_of(steps)), iter(steps_of(others)))
+        self.assertEqual([difference.number for difference in found], [1, 5])
         self.assertEqual(comparison.text(), "5 steps, 1 picture, 2 skipped")
-
-    def test_what_follows_the_shorter_report_is_one_difference(self) -> None:
-        steps, others = Report(stream(report("ok")), "a").steps(), Report(stream(report("ok", "ok", "ok")), "b").steps()
+        # What follows the shorter report is one.
+        steps, others = (iter(steps_of(report(*answers))) for answers in (("ok",), ("ok",) * 3))
         self.assertEqual([found.number for found in Comparison().differences(steps, others)], [2])
 
-
-class ExpectedReports(unittest.TestCase):
-    def test_alike(self) -> None:
+    def test_as_expected(self) -> None:
         digest = hashlib.md5(PICTURE).hexdigest()
         hold(self, lambda answers, expected: against(report(*answers), expected), ((*row, None) for row in [
             ((), ""),
@@ -84,7 +83,7 @@ class ExpectedReports(unittest.TestCase):
         ]))
         self.assertIsNone(against(b"F7 BadLine(3)\n", "F7 BadLine(3)\n"))
 
-    def test_differing(self) -> None:
+    def test_otherwise_than_expected(self) -> None:
         other = 32 * "0"
         sum_of_picture = hashlib.md5(PICTURE).hexdigest()
         hold(self, lambda answers, expected: against(report(*answers), expected), [
@@ -101,7 +100,7 @@ class ExpectedReports(unittest.TestCase):
             (("ok",), "F2 BadMagic\n", "step 1: ok, not F2 BadMagic (fault)"),
         ])
 
-    def test_mistakes_in_the_file(self) -> None:
+    def test_mistakes_in_what_is_expected(self) -> None:
         def told(expected: str) -> str:
             return refused(lambda: list(Expected(stream(expected.encode()), "e").steps()))
 
@@ -147,24 +146,26 @@ class Differing(unittest.TestCase):
         self.assertEqual({group: len(names) for group, names in NAMES.items()}, GROUPS)
 
 
-def steps_of(data: bytes) -> list[Answer]:
-    return list(Report(stream(data), "r").steps())
-
-
 class Answers(unittest.TestCase):
+    def seen(self, data: bytes) -> list[tuple[object, ...]]:
+        """The number, the line, the kind and the lines of each step of a report, which are all of it."""
+        steps = steps_of(data)
+        self.assertEqual("".join(step.text() for step in steps).encode(), data)
+        return [(step.number, step.line, step.kind, *step.lines) for step in steps]
+
     def test_each_answer_is_a_step(self) -> None:
-        answers = ["ok", "9F", "1E41", "ragged", "E1 NotDecoded", "latches 00 55 00 00", "ax=0003 bx=0000", "skipped"]
-        self.assertEqual(steps_of(report(*answers)), [Answer(at, at, answer) for at, answer in enumerate(answers, 1)])
-        self.assertEqual(steps_of(b""), [])
-
-    def test_a_dump_has_all_its_lines(self) -> None:
-        registers, after = steps_of(report(REGISTERS, "ok"))
-        self.assertEqual(registers.lines, tuple(REGISTERS.split("\n")))
-        self.assertEqual((after.number, after.line), (2, 7))
-
-    def test_a_refusal_is_no_byte_that_was_read(self) -> None:
-        kinds = [step.kind for step in steps_of(report("E1 NotDecoded", "E1", "E12 TooFar", "E123", "ok"))]
-        self.assertEqual(kinds, ["refused", "read", "refused", "read", ""])
+        kinds = {
+            "ok": "", "9F": "read", "1E41": "read", "ragged": "", "latches 00 55 00 00": "", "ax=0003 bx=0000": "",
+            # A refusal is no byte that was read.
+            "E1 NotDecoded": "refused", "E1": "read", "E12 TooFar": "refused", "E123": "read", "skipped": "",
+        }
+        longest = "ax=1017 bx=0000 cx=0100 dx=0000 block " + 65535 * "0F"
+        hold(self, self.seen, (
+            (b"", []), (report(*kinds), [(at, at, kind, one) for at, (one, kind) in enumerate(kinds.items(), 1)]),
+            (report(REGISTERS, "ok"), [(1, 1, "", *REGISTERS.split("\n")), (2, 7, "", "ok")]),
+            # A fault stands in the place of a report.
+            (b"F4 BadStep(9)\n", [(0, 1, "fault", "F4 BadStep(9)")]), (report(longest), [(1, 1, "", longest)]),
+        ))
 
     def test_a_picture_may_hold_any_bytes(self) -> None:
         dots = b"\n2 55\n3 44\n4"
@@ -172,18 +173,6 @@ class Answers(unittest.TestCase):
         assert isinstance(picture.picture, Picture)
         self.assertEqual(picture.picture.row(0), dots)
         self.assertEqual((after.number, after.line), (2, 2))
-
-    def test_a_fault_stands_in_the_place_of_a_report(self) -> None:
-        (fault,) = steps_of(b"F4 BadStep(9)\n")
-        self.assertEqual((fault.number, fault.answer, fault.kind), (0, "F4 BadStep(9)", "fault"))
-
-    def test_a_block_of_the_greatest_length_is_read(self) -> None:
-        (step,) = steps_of(report("ax=1017 bx=0000 cx=0100 dx=0000 block " + 65535 * "0F"))
-        self.assertEqual(len(step.answer), 38 + 131070)
-
-    def test_all_lines_stay_but_pictures(self) -> None:
-        for data in (report("ok", REGISTERS, "55", "E1", "E1 NotDecoded", "ragged"), b"F2 BadMagic\n", b""):
-            self.assertEqual("".join(step.text() for step in steps_of(data)).encode(), data)
 
 
 class Damage(unittest.TestCase):

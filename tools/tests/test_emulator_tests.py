@@ -2,19 +2,14 @@
 
 from __future__ import annotations
 
-import socket
 import struct
 import sys
-import threading
 import unittest
 from pathlib import Path
 
 from emulator_tests.media import UNFIT, wrong
 from emulator_tests.software import MOST_SECTORS, NO_CALL, SECTOR, SOFTWARE, Call, archive_file, caller, screen
 from emulator_tests.traces import Replayed
-
-from vga_floppy.running import monitor_at
-from vga_report.trouble import Trouble
 
 from .test_floppy import machine
 from .tools import Folder, ended, hold, hold_undone
@@ -84,37 +79,6 @@ class Discs(Folder):
         fields = [int(packed[at:at + 8], 16) for at in range(6, 110, 8)]
         self.assertEqual((fields[1], fields[6], fields[11]), (0o100755, 3, 5))
         self.assertEqual(packed[110:115] + packed[116:119], b"init\0#!x")
-
-
-class Monitors(Folder):
-    def test_commands_and_what_is_refused(self) -> None:
-        """A fake of qemu's monitor, with an event before each answer."""
-        asked: list[str] = []
-        path = self.folder / "monitor"
-        with socket.socket(socket.AF_UNIX) as server:
-            server.bind(str(path))
-            server.listen()
-
-            def serve() -> None:
-                connection, _ = server.accept()
-                with connection, connection.makefile("rw") as lines:
-                    lines.write("{}\n")
-                    lines.flush()
-                    for line in lines:
-                        asked.append(line)
-                        answer = '{"error": {"desc": "there is none"}}' if "no_such" in line else '{"return": {}}'
-                        lines.write('{"event": "STOP"}\n' + answer + "\n")
-                        lines.flush()
-
-            serving = threading.Thread(target=serve)
-            serving.start()
-            with self.assertRaisesRegex(Trouble, "^qemu: its monitor doesn't do no_such: there is none$"):
-                with monitor_at(path) as do:
-                    do("screendump", filename="a")
-                    do("no_such")
-            serving.join(10)
-        self.assertEqual(asked[1], '{"execute": "screendump", "arguments": {"filename": "a"}}\n')
-        self.assertEqual(len(asked), 3)
 
 
 class Traces(unittest.TestCase):

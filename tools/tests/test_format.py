@@ -8,7 +8,6 @@ from unittest import mock
 
 from vga_report.cases import read_cases
 from vga_report.program import TOP
-from vga_report.script import script_of
 from vga_report.words import SUITE
 from zaklimot import format
 from zaklimot.format import (
@@ -18,8 +17,7 @@ from zaklimot.format import (
 )
 from zaklimot.format.table import CODES
 
-from .making import stream
-from .tools import ended, hold, refused
+from .tools import ended, hold, stream
 
 DOCS, CRATES = TOP / "docs", TOP / "crates"
 
@@ -225,14 +223,6 @@ class Scripts(unittest.TestCase):
                     self.assertEqual(read(encode(read(script))), read(script))
                 seen += expected is not None
         self.assertGreater(seen, 100)
-
-    def test_why_a_script_is_none(self) -> None:
-        for data, told in (
-            (b"frame\nmove 3C4\n", "it:2: F7 BadLine(2): there is no step 'move'"),
-            (b"version 2\nend\n", "it:2: F7 BadLine(2): no repeat is open here"),
-            (b"VGAS\1\1", "it: F5 Truncated(5): the step out at offset 5 is cut off: the file ends after 1 of its bytes"),
-        ):
-            self.assertEqual(refused(script_of, data, "it")[:len(told)], told)
 
     def test_its_own_examples(self) -> None:
         self.assertEqual(doctest.testmod(format).failed, 0)

@@ -59,7 +59,11 @@ SHORT = LIMITS._replace(seconds=0.2)
 SCRIPT, TEXT = Input(False, b"VGAS\x01\x03\xda\x03", "script"), Input(True, b"in 3DA\n", "text")
 
 
-class Fuzzed(Folder):
+class Fuzzing(Folder):
+    def setUp(self) -> None:
+        super().setUp()
+        self.patch(mock.patch.object(command, "TEXTS", (Path(self.write("texts/one.vga", TEXT.data)).parent,)))
+
     def program_that(self, wrong: str = "") -> str:
         """A program that is good, or does something wrong when it runs a script or a text."""
         answer = 'sys.stdout.buffer.write(b"1 55\\n")'
@@ -69,8 +73,6 @@ class Fuzzed(Folder):
     def fed(self, given: Input, path: str, limits: Limits = LIMITS) -> Fed:
         return Program(path, "fonts", self.folder, limits).feed(given)
 
-
-class Judging(Fuzzed):
     def test_nothing_is_wrong_with_a_good_program(self) -> None:
         for given in (SCRIPT, TEXT):
             self.assertEqual(self.fed(given, self.program_that()), Fed("done"))
@@ -123,41 +125,10 @@ class Judging(Fuzzed):
             outcome = Outcome(1, written, b"vga: F10 OutOfMemory\n", False)
             self.assertEqual(trouble_of(outcome, Script((Step("in", (0x3DA,)),))), trouble)
 
-
-class Making(unittest.TestCase):
-    def test_an_input_is_made_again_from_its_seed(self) -> None:
-        texts, scripts = [b"in 3DA ; status\nframe\n"], [MAGIC + b"\x01\x0b"]
-        made = [make(Random(f"7:{number}"), texts, scripts) for number in range(300)]
-        self.assertEqual(made, [make(Random(f"7:{number}"), texts, scripts) for number in range(300)])
-        self.assertEqual(len({given.made for given in made}), 8)
-        self.assertGreater(len({given.data for given in made}), 250)
-
-    def test_each_step_and_too_many_of_them_are_made(self) -> None:
-        steps = [step(Random(number)) for number in range(4000)]
-        self.assertEqual({one.name for one in steps}, set(FORMS))
-        for one in steps:
-            self.assertEqual(parse_text(spelled(one, Random(1))).items, (one,))
-        blocks = [HEADERS[2] + encoded(block(Random(number))) for number in range(300)]
-        self.assertIn("F11 TooMany(5)", {meant_by(decode, data)[0] for data in blocks})
-        texts = {make(Random(f"5:{number}"), [b"frame\n"], [HEADERS[1]]).data[:9] for number in range(100)}
-        self.assertIn(b"version 2", texts)
-
-    def test_what_a_text_and_bytes_are_to_answer(self) -> None:
-        many = print_text(Script((Block(MOST_COUNT, (Step("frame"),) * 257),), 2)).encode()
-        self.assertEqual(meant_by(parse_text, many), ("F7 BadLine(2)", Script()))
-        self.assertEqual(meant_by(decode, b"frame\n"), ("F2 BadMagic", Script()))
-        self.assertEqual(meant_by(parse_text, HEADERS[1]), ("F7 BadLine(1)", Script()))
-
-
-class Command(Fuzzed):
     def run_command(self, *words: str) -> tuple[int, list[str], str]:
         """Exit status, lines and what is said of the command."""
         status, output, said = call(command.main, *words, "--seed", "3", "--inputs", "4")
         return status, output.split("\n"), said
-
-    def setUp(self) -> None:
-        super().setUp()
-        self.patch(mock.patch.object(command, "TEXTS", (Path(self.write("texts/one.vga", TEXT.data)).parent,)))
 
     def test_figures_where_nothing_is_wrong(self) -> None:
         with mock.patch.object(Program, "feed", return_value=Fed("done")):
@@ -196,3 +167,28 @@ class Command(Fuzzed):
                 break
         self.assertEqual((process.returncode, said), (130, ""))
         self.assertRegex(output, r"(?s)^(?:input .*)?seed 1: [0-9,]+ inputs? in .*[0-9]+ with something wrong\n$")
+
+
+class Making(unittest.TestCase):
+    def test_an_input_is_made_again_from_its_seed(self) -> None:
+        texts, scripts = [b"in 3DA ; status\nframe\n"], [MAGIC + b"\x01\x0b"]
+        made = [make(Random(f"7:{number}"), texts, scripts) for number in range(300)]
+        self.assertEqual(made, [make(Random(f"7:{number}"), texts, scripts) for number in range(300)])
+        self.assertEqual(len({given.made for given in made}), 8)
+        self.assertGreater(len({given.data for given in made}), 250)
+
+    def test_each_step_and_too_many_of_them_are_made(self) -> None:
+        steps = [step(Random(number)) for number in range(4000)]
+        self.assertEqual({one.name for one in steps}, set(FORMS))
+        for one in steps:
+            self.assertEqual(parse_text(spelled(one, Random(1))).items, (one,))
+        blocks = [HEADERS[2] + encoded(block(Random(number))) for number in range(300)]
+        self.assertIn("F11 TooMany(5)", {meant_by(decode, data)[0] for data in blocks})
+        texts = {make(Random(f"5:{number}"), [b"frame\n"], [HEADERS[1]]).data[:9] for number in range(100)}
+        self.assertIn(b"version 2", texts)
+
+    def test_what_a_text_and_bytes_are_to_answer(self) -> None:
+        many = print_text(Script((Block(MOST_COUNT, (Step("frame"),) * 257),), 2)).encode()
+        self.assertEqual(meant_by(parse_text, many), ("F7 BadLine(2)", Script()))
+        self.assertEqual(meant_by(decode, b"frame\n"), ("F2 BadMagic", Script()))
+        self.assertEqual(meant_by(parse_text, HEADERS[1]), ("F7 BadLine(1)", Script()))

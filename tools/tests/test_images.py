@@ -13,9 +13,8 @@ from vga_report.png import MARK, Shape, write_png
 from vga_report.timing import USUAL, Timing
 from zaklimot.format import Picture, parse_text
 
-from .making import BLACK, RED, WHITE, png_chunks, png_rows, ppm
 from .test_command import PICTURE, run
-from .tools import Folder, hold
+from .tools import BLACK, RED, WHITE, Folder, hold, png_chunks, png_rows, ppm
 
 GREY = b"\x15\x15\x15"
 
@@ -31,27 +30,6 @@ def png(width: int, height: int, lines: bytes, depth: int = 8, colour: int = 2, 
     return b"\x89PNG\r\n\x1a\n" + b"".join(parts) + chunk(b"IEND", b"")
 
 
-class Images(unittest.TestCase):
-    def test_forms_of_png(self) -> None:
-        red, white = b"\xff\x00\x00", b"\xff\xff\xff"
-        hold(self, lambda data: list(image_of(data, "i").rows), [
-            (png(2, 1, b"\0" + red + white), [red + white]),
-            (png(2, 1, b"\0" + red + b"\x01" + white + b"\x80", colour=6), [red + white]),
-            (png(2, 1, b"\0\xff\0\xff\0\0\0" + b"\xff\0" * 3, depth=16), [b"\xff\xff\0" + white]),
-            (png(2, 1, b"\0\x80\xff", colour=0), [b"\x80" * 3 + white]),
-            (png(2, 1, b"\0\x80\0\xff\0", colour=4), [b"\x80" * 3 + white]),
-            (png(3, 1, b"\0\xa0", depth=1, colour=0), [white + b"\0\0\0" + white]),
-            (png(3, 1, b"\0\x10\x10", depth=4, colour=3, palette=red + white), [white + red + white]),
-            (png(2, 2, b"\x01" + red + b"\0\xff\xff" + b"\x02" + b"\0" * 6), [red + white] * 2),
-            (png(2, 2, b"\0" + red + white + b"\x03" + b"\x80\x00\x00\x00\x80\x80"), [red + white] * 2),
-            (png(2, 2, b"\0" + red + white + b"\x04" + b"\0" * 3 + b"\0" * 3), [red + white] * 2),
-        ])
-
-    def test_ppm(self) -> None:
-        self.assertEqual(image_of(b"P6 # a\n1\t1\n255\n\x01\x02\x03", "i").rows, (b"\x01\x02\x03",))
-        self.assertEqual(image_of(ppm(1, 1, RED), "i").most, 63)
-
-
 class ComparePicture(Folder):
     def compared(self, image: bytes, *words: str, picture: bytes = PICTURE) -> tuple[int, str]:
         """The status, and what is said of an image beside a picture, without the names."""
@@ -61,21 +39,17 @@ class ComparePicture(Folder):
         return status, output.decode().replace(f"step 2 and {shot} ", "")
 
     def test_alike(self) -> None:
-        six = b"\x3f\0\0" * 4 + bytes(15)
-        eight = b"\xff\0\0" * 4 + bytes(15)
-        most = "eight bits a component, of which six count"
-        self.assertEqual(self.compared(PICTURE), (0, "agree: 9x1, six bits a component\n"))
-        self.assertEqual(self.compared(png(9, 1, b"\0" + six)), (0, "agree: 9x1, six bits a component\n"))
-        self.assertEqual(self.compared(png(9, 1, b"\0" + eight)), (0, f"agree: 9x1, {most}\n"))
-        self.assertEqual(self.compared(png(9, 1, b"\0" + eight.replace(b"\xff", b"\xfc"))), (0, f"agree: 9x1, {most}\n"))
-
-    def test_repeated_dots_and_lines(self) -> None:
-        wide = b"\0" + b"\xff\0\0" * 8 + bytes(30)
-        told = "the image has each dot twice, the image has each line three times"
-        self.assertEqual(self.compared(png(18, 3, wide * 3))[1], f"agree: 9x1, {told}, eight bits a component, of which six count\n")
-        doubled = ppm(4, 2, (RED * 2 + WHITE * 2) * 2)
-        told = "the picture has each dot of the image twice, the picture has each line of the image twice"
-        self.assertEqual(self.compared(ppm(2, 1, RED + WHITE), picture=doubled), (0, f"agree: 4x2, {told}, six bits a component\n"))
+        line, wide = b"\0" + b"\x3f\0\0" * 4 + bytes(15), b"\0" + b"\xff\0\0" * 8 + bytes(30)
+        six, eight = "six bits a component\n", "eight bits a component, of which six count\n"
+        larger = "the image has each dot twice, the image has each line three times"
+        smaller = "the picture has each dot of the image twice, the picture has each line of the image twice"
+        hold(self, lambda image, picture: self.compared(image, picture=picture), (
+            (PICTURE, PICTURE, (0, f"agree: 9x1, {six}")), (png(9, 1, line), PICTURE, (0, f"agree: 9x1, {six}")),
+            (png(9, 1, line.replace(b"\x3f", b"\xff")), PICTURE, (0, f"agree: 9x1, {eight}")),
+            (png(9, 1, line.replace(b"\x3f", b"\xfc")), PICTURE, (0, f"agree: 9x1, {eight}")),
+            (png(18, 3, wide * 3), PICTURE, (0, f"agree: 9x1, {larger}, {eight}")),
+            (ppm(2, 1, RED + WHITE), ppm(4, 2, (RED * 2 + WHITE * 2) * 2), (0, f"agree: 4x2, {smaller}, {six}")),
+        ))
 
     def test_differing_dots(self) -> None:
         marked = self.folder / "marked.png"
@@ -113,37 +87,24 @@ class Animations(Folder):
             done = run("pictures", path, "--apng", moving, "--script", script)
             self.assertEqual(done, (0, f"{moving}: 2 frames, {seconds:.3f} seconds\n".encode(), ""))
 
-    def test_what_is_no_script_of_the_report(self) -> None:
-        path, moving = self.report("r", "ok", PICTURE), self.folder / "m.png"
-        for script, told in (
-            (self.write("i.png", png(1, 1, bytes(4))), "F7 BadLine(1): "), ("/dev/zero", "F6 TooLong: "),
-            ("/dev/null", "it is not the report's script: step 2 has a picture, and is no frame of it"),
-            (self.write("s.vga", "frame\nframe ax\n"), "F7 BadLine(2): "),
-        ):
-            with self.subTest(script):
-                status, output, message = run("pictures", path, "--apng", str(moving), "--script", script)
-                self.assertEqual((status, output, moving.exists()), (2, b"", False))
-                self.assertTrue(message.startswith(f"vga-report: {script}:"), message)
-                self.assertIn(told, message)
-
-    def test_sizes_and_words_that_can_not_be_meant(self) -> None:
+    def test_one_step_of_those_that_differ_in_size(self) -> None:
         path, moving = self.report("r", PICTURE, ppm(1, 1, RED)), str(self.folder / "m.png")
-        message = "vga-report: step 2 has a picture of another size than step 1: --step picks those of one size\n"
-        self.assertEqual(run("pictures", path, "--apng", moving), (2, b"", message))
         self.assertEqual(run("pictures", path, "--apng", moving, "--step", "2")[0], 0)
 
     def test_times_by_registers(self) -> None:
-        for steps, seconds in [
-            ("", USUAL), ("out 3C2 67", USUAL), ("int ax=83", 404_100 / 28_322_000), ("int ax=d", 359_200 / 25_175_000),
-            ("out 3C2 63;outw 3C4 0101;outw 3D4 5F00;outw 3D4 BF06;outw 3D4 1F07", 359_200 / 25_175_000),
-            ("out 3C2 67;out 3D4 0;out 3D5 5F;outw 3D4 BF06;outw 3D4 1F07;outw 3D4 8E11;outw 3D4 0000", 404_100 / 28_322_000),
-            ("int ax=3;out 3C2 6F", USUAL),
+        text, wide, narrow = (404_100, 28_322_000), (359_200, 25_175_000), (179_600, 12_587_500)
+        for steps, speed in [
+            ("", None), ("out 3C2 67", None), ("int ax=83", text), ("int ax=13", wide), ("int ax=13;int ax=d", narrow),
+            ("out 3C2 63;outw 3C4 0101;outw 3D4 5F00;outw 3D4 BF06;outw 3D4 1F07", wide),
+            ("out 3C2 67;out 3D4 0;out 3D5 5F;outw 3D4 BF06;outw 3D4 1F07;outw 3D4 8E11;outw 3D4 0000", text),
+            ("int ax=3;out 3C2 6F", None),
         ]:
             with self.subTest(steps):
                 timing = Timing()
                 for step in parse_text(steps.replace(";", "\n")).steps():
                     timing.take(step)
-                self.assertAlmostEqual(timing.frame(), seconds)
+                self.assertEqual(timing.speed(), speed)
+                self.assertAlmostEqual(timing.frame(), speed[0] / speed[1] if speed else USUAL)
 
 
 def shown(picture: Picture, shape: Shape = Shape(), other: Optional[Picture] = None) -> tuple[int, int, list[bytes]]:
@@ -152,7 +113,7 @@ def shown(picture: Picture, shape: Shape = Shape(), other: Optional[Picture] = N
     return png_rows(stream.getvalue())
 
 
-class Written(unittest.TestCase):
+class Images(unittest.TestCase):
     def test_six_bits_become_eight(self) -> None:
         dots = bytes(range(0, 63, 3)) + b"\x3f" + bytes([1, 2])
         (row,) = shown(Picture.of_dots(8, 1, dots))[2]
@@ -205,3 +166,22 @@ class Written(unittest.TestCase):
         expected = (2, 2, [BLACK + MARK, MARK * 2])
         self.assertEqual(shown(picture, other=other), expected)
         self.assertEqual(shown(other, other=picture), expected)
+
+    def test_forms_of_png(self) -> None:
+        red, white = b"\xff\x00\x00", b"\xff\xff\xff"
+        hold(self, lambda data: list(image_of(data, "i").rows), [
+            (png(2, 1, b"\0" + red + white), [red + white]),
+            (png(2, 1, b"\0" + red + b"\x01" + white + b"\x80", colour=6), [red + white]),
+            (png(2, 1, b"\0\xff\0\xff\0\0\0" + b"\xff\0" * 3, depth=16), [b"\xff\xff\0" + white]),
+            (png(2, 1, b"\0\x80\xff", colour=0), [b"\x80" * 3 + white]),
+            (png(2, 1, b"\0\x80\0\xff\0", colour=4), [b"\x80" * 3 + white]),
+            (png(3, 1, b"\0\xa0", depth=1, colour=0), [white + b"\0\0\0" + white]),
+            (png(3, 1, b"\0\x10\x10", depth=4, colour=3, palette=red + white), [white + red + white]),
+            (png(2, 2, b"\x01" + red + b"\0\xff\xff" + b"\x02" + b"\0" * 6), [red + white] * 2),
+            (png(2, 2, b"\0" + red + white + b"\x03" + b"\x80\x00\x00\x00\x80\x80"), [red + white] * 2),
+            (png(2, 2, b"\0" + red + white + b"\x04" + b"\0" * 3 + b"\0" * 3), [red + white] * 2),
+        ])
+
+    def test_ppm(self) -> None:
+        self.assertEqual(image_of(b"P6 # a\n1\t1\n255\n\x01\x02\x03", "i").rows, (b"\x01\x02\x03",))
+        self.assertEqual(image_of(ppm(1, 1, RED), "i").most, 63)

@@ -1,8 +1,19 @@
-"""The library for C: what its header says, where its files lie, what a release holds, and that its tests can fail."""
+"""The library for C: what its header says, where its files lie, what a release holds, and that its tests can fail.
 
+A release has the same bytes whatever the order and the time, from a commit alone.
+"""
+
+import hashlib
+import io
+import os
+import posixpath
 import re
+import shutil
+import tarfile
 import unittest
+import zipfile
 from pathlib import Path
+from typing import Iterator
 from unittest import mock
 
 from library_tests import compilers
@@ -12,20 +23,28 @@ from library_tests.header import LAYOUT, OBJECTS, names_in
 from library_tests.programs import expect
 from library_tests.suite import judged
 from vga_library import making, toolchain
-from vga_library.targets import X86_64
-from vga_release import gathering
-from vga_report import TOP, crates
-from vga_report.version import HEADER, Version, calls_of, version_of, without_comments
 from vga_library.making import MOVING, Place, cmake_text, cmake_version_text, package_text
+from vga_library.targets import X86_64
+from vga_release import command, gathering
+from vga_release.gathering import FRONT, INSTALL, LINKS, MADE_OF, PATHS, Pages, made_of, settled, wheel_of
+from vga_release.packing import Commit, Entry, File, pack
+from vga_report import TOP, crates
+from vga_report.processes import Done
 from vga_report.trouble import Trouble, Wrong
+from vga_report.version import HEADER, Version, calls_of, version, version_of, without_comments
 
-from .tools import Folder, refused
+from .test_pages import anchors, prose
+from .tools import Folder, call, ended, hold, hold_undone, refused
 
 TEXT = HEADER.read_text("ascii")
 PAGE = TOP / "docs" / "LIBRARY.md"
 STATUS = re.compile(r"^ +(ZAK_\w+) = (\d+)", re.M)
 STRUCT = re.compile(r"^typedef struct (zak_\w+) \{", re.M)
 REFUSAL = re.compile(r"^\| `E(\d+) \w+` \|", re.M)
+ENTRIES: dict[str, Entry] = {
+    "z/lib/b.so.1": File(b"library"), "z/lib/b.so": "b.so.1", "z/bin/vga": File(b"program", True), "z/a": File(b""),
+}
+COMMIT = Commit("0123abcd", 1_700_000_000)
 
 
 class Header(unittest.TestCase):
@@ -53,7 +72,7 @@ class Header(unittest.TestCase):
         self.assertEqual(asserted, {*STRUCT.findall(TEXT), "zak_status"})
 
 
-class Places(unittest.TestCase):
+class Making(unittest.TestCase):
     def test_where_files_are_laid(self) -> None:
         self.assertEqual(Place("/usr", stage="stage").folder("lib"), Path("stage/usr/lib"))
         self.assertEqual(Place("/usr").folder("lib"), Path("/usr/lib"))
@@ -76,6 +95,18 @@ class Places(unittest.TestCase):
         for whole in (text, told):
             self.assertNotIn("@", whole)
 
+    def test_crates_below_stand_lowest_first(self) -> None:
+        below = crates.below("vga_c")
+        self.assertEqual(below[0], "vga_bits")
+        self.assertEqual(len(below), len(set(below)))
+        for place, name in enumerate(below):
+            self.assertLessEqual(set(crates.below(name)), set(below[:place]), name)
+
+    def test_what_the_gate_has_not_left(self) -> None:
+        told = r"^nowhere/crates/vga_bits/out/rlib/vga_bits\.rlib: it is not there: run rt ci first.* crates/\*/out"
+        with mock.patch.object(toolchain, "TOP", Path("nowhere")), self.assertRaisesRegex(Trouble, told):
+            toolchain.rlib("vga_bits")
+
 
 class Made(Folder):
     """What `install` takes of what `make` has made."""
@@ -89,15 +120,13 @@ class Made(Folder):
         folder = self.folder / "crates" / "vga_c" / "out" / "made"
         self.patch(mock.patch.multiple(making, TOP=self.folder, FOLDER=folder, below=lambda _: ["low"]))
 
-    def test_the_same_sources(self) -> None:
+    def test_the_same_sources_and_others(self) -> None:
         self.assertIsNone(making.kept("llvm", X86_64))
         kept = making.keep("llvm", X86_64, *self.parts)
         self.assertEqual([path.read_text() for path in kept], ["one.a", "two.a"])
         self.assertEqual(making.kept("llvm", X86_64), kept)
         self.assertIsNone(making.kept("rattle", X86_64))
-
-    def test_other_sources_or_archives(self) -> None:
-        kept = making.keep("llvm", X86_64, *self.parts)
+        # Other sources, and other archives.
         self.low.write_text("changed")
         self.assertIsNone(making.kept("llvm", X86_64))
         self.low.write_text("low")
@@ -111,20 +140,6 @@ class Made(Folder):
         self.assertIsNotNone(making.kept("llvm", X86_64))
         self.low.with_name("more.rt").write_text("")
         self.assertIsNone(making.kept("llvm", X86_64))
-
-
-class Gated(unittest.TestCase):
-    def test_crates_below_stand_lowest_first(self) -> None:
-        below = crates.below("vga_c")
-        self.assertEqual(below[0], "vga_bits")
-        self.assertEqual(len(below), len(set(below)))
-        for place, name in enumerate(below):
-            self.assertLessEqual(set(crates.below(name)), set(below[:place]), name)
-
-    def test_what_the_gate_has_not_left(self) -> None:
-        told = r"^nowhere/crates/vga_bits/out/rlib/vga_bits\.rlib: it is not there: run rt ci first.* crates/\*/out"
-        with mock.patch.object(toolchain, "TOP", Path("nowhere")), self.assertRaisesRegex(Trouble, told):
-            toolchain.rlib("vga_bits")
 
 
 class Page(unittest.TestCase):
@@ -201,7 +216,164 @@ class Checks(unittest.TestCase):
         self.assertEqual((len(bars()), bars()[-3:].hex().upper()), (3 * 640 * 480, SIXTEEN[15]))
 
 
-class Laying(Folder):
+def packed(entries: dict[str, Entry]) -> bytes:
+    stream = io.BytesIO()
+    pack(stream, entries, COMMIT.time)
+    return stream.getvalue()
+
+
+class Parts(unittest.TestCase):
+    """The archive, and what goes into it."""
+
+    def test_a_change_is_seen_and_the_order_of_files_is_not(self) -> None:
+        self.assertEqual(packed(ENTRIES), packed(dict(reversed(ENTRIES.items()))))
+        self.assertNotEqual(packed(ENTRIES), packed({**ENTRIES, "z/a": File(b"x")}))
+
+    def test_what_the_archive_tells(self) -> None:
+        with tarfile.open(fileobj=io.BytesIO(packed(ENTRIES))) as archive:
+            members = archive.getmembers()
+            content = archive.extractfile("z/bin/vga")
+            assert content is not None
+            self.assertEqual(content.read(), b"program")
+        names = [member.name for member in members]
+        self.assertEqual(names, ["z", "z/a", "z/bin", "z/bin/vga", "z/lib", "z/lib/b.so", "z/lib/b.so.1"])
+        owners = {(member.uid, member.gid, member.uname, member.gname, member.mtime) for member in members}
+        self.assertEqual(owners, {(0, 0, "", "", COMMIT.time)})
+        self.assertEqual([oct(member.mode) for member in members if member.isfile()], ["0o644", "0o755", "0o644"])
+        self.assertEqual([member.linkname for member in members if member.issym()], ["b.so.1"])
+
+    def test_what_it_is_made_of(self) -> None:
+        text = made_of(COMMIT, "kit", ENTRIES).content.decode("ascii")
+        self.assertTrue(text.startswith("commit 0123abcd\ntoolchain kit\nsha256 "))
+        self.assertEqual(re.findall(r"^sha256 [0-9a-f]{64} (\S+)$", text, re.M), ["z/a", "z/bin/vga", "z/lib/b.so.1"])
+
+    def test_its_page_tells_all_of_it(self) -> None:
+        page = (TOP / gathering.PAGE).read_text("utf-8")
+        self.assertIn(f"zaklimot-{version()}-x86_64-linux.tar.gz", page)
+        self.assertIn(f"zaklimot-{version()}-py3-none-linux_x86_64.whl", page)
+        self.assertIn(f"## {version()}\n", (TOP / "CHANGELOG.md").read_text("utf-8"))
+        self.assertEqual([path for path in PATHS if not (TOP / path).exists()], [])
+        self.assertEqual(command.release_name(), f"zaklimot-{version()}-x86_64-linux")
+
+    def test_the_links_of_pages(self) -> None:
+        pages = Pages(["docs/A.md", "README.md", "src/low/x.rs"], {"docs/B.md": "README.md"})
+        hold(self, lambda page, text: pages.settled(text, page), (
+            ("docs/C.md", "[a](A.md#c) ![b](../src/low)", "[a](A.md#c) ![b](../src/low)"),
+            # Links to what is not there are words.
+            ("docs/C.md", "[of\ntwo](../src/high/) and `x`", "of\ntwo and `x`"),
+            # Pages may lie elsewhere.
+            ("docs/C.md", "[b](B.md#d)", "[b](../README.md#d)"),
+            ("docs/B.md", "[a](A.md) [c](#e) [f](https://g.h/)", "[a](docs/A.md) [c](#e) [f](https://g.h/)"),
+            # What stands between fences stays.
+            ("docs/C.md", "```\n[a](Z.md)\n```\n[b](Z.md)\n```\n[c](Z.md)\n```\n",
+             "```\n[a](Z.md)\n```\nb\n```\n[c](Z.md)\n```\n"),
+        ))
+
+    def test_what_is_changed_is_no_release(self) -> None:
+        with mock.patch("vga_report.processes.captured", return_value=Done(0, b" M README.md\n", b"")):
+            told = "^vga-release: a release is made from a commit, and this is changed: M README.md\n$"
+            hold_undone(self, call(command.main, "release"), told)
+
+
+def sources() -> dict[str, Entry]:
+    """What goes into a release of the files as they lie here, with nothing in the place of what is built."""
+    entries: dict[str, Entry] = {
+        name: File(b"") for name in ("bin/vga", INSTALL, MADE_OF, "lib/libzaklimot.a", "share/zaklimot/zaklimot.fnt", "scripts/list.txt")
+    }
+    for name in PATHS:
+        below = [TOP / name] if (TOP / name).is_file() else sorted((TOP / name).rglob("*"))
+        for path in below:
+            place = path.relative_to(TOP)
+            if path.is_file() and not {"out", "target", "__pycache__"} & set(place.parts):
+                entries[str(place)] = File(path.read_bytes(), os.access(path, os.X_OK))
+    return {**entries, **LINKS}
+
+
+class Whole(unittest.TestCase):
+    """All pages of a release, as who has unpacked it reads them."""
+
+    @classmethod
+    def setUpClass(cls) -> None:
+        cls.entries = settled(sources())
+        cls.places = {"."} | {str(path) for place in cls.entries for path in (Path(place), *Path(place).parents)}
+        cls.pages = {
+            place: entry.content.decode("utf-8")
+            for place, entry in cls.entries.items() if place.endswith(".md") and isinstance(entry, File)
+        }
+
+    def test_the_front_page(self) -> None:
+        self.assertTrue(self.pages[FRONT].startswith("# Zaklimot: a release\n"))
+        self.assertTrue(self.pages[f"docs/{FRONT}"].startswith("# Zaklimot\n"))
+        self.assertNotIn(gathering.PAGE, self.pages)
+        self.assertGreater(len(self.pages), 30)
+
+    def test_each_link_leads_to_what_is_there(self) -> None:
+        found = {page: anchors(text) for page, text in self.pages.items()}
+        links = [
+            (page, posixpath.normpath(posixpath.join(posixpath.dirname(page), place)) if place else page, anchor)
+            for page, text in self.pages.items()
+            for place, anchor in re.findall(r"\]\((?!https?:)([^()\s#]*)(?:#([^()\s]+))?\)", "\n".join(prose(text)))
+        ]
+        self.assertIn((FRONT, "docs/LIBRARY.md", "a-release"), links)
+        self.assertIn(("docs/LIBRARY.md", f"docs/{FRONT}", "build-it"), links)
+        self.assertEqual([link for link in links if link[1] not in self.places], [])
+        self.assertEqual([link for link in links if link[2] and link[2] not in found.get(link[1], ())], [])
+
+    def test_each_command_is_there_or_told_to_be_elsewhere(self) -> None:
+        elsewhere = re.findall(r"`([^`]+)`", self.pages[FRONT].partition("These prove, build or test")[2].partition("\n\n")[0])
+        self.assertIn("tools/vga-library", elsewhere)
+        for page, text in self.pages.items():
+            # What a page's own commands make is there then.
+            made = {Path(name).name for name in re.findall(r" -o (\S+)", text)}
+            for name in commands_of(text):
+                with self.subTest(page=page, command=name):
+                    is_there = name in self.places or Path(name).name in made
+                    self.assertTrue(is_there or any(name.startswith(told) for told in elsewhere))
+        # What is told to be elsewhere is not here.
+        for name in (name for name in elsewhere if name.startswith("tools/")):
+            self.assertNotIn(name, self.places)
+            self.assertTrue((TOP / name).exists(), name)
+
+
+# What may stand before a program of the repository, or before the folder of its tests.
+STARTING = r"(?:(?:\S*/)?python3? |python3 -m unittest discover --start-directory |node (?:--\S+ )*)?"
+
+
+def commands_of(text: str) -> Iterator[str]:
+    """The programs of the repository that a page's commands name, by their place."""
+    for line in re.findall(r"^(?: {4,}|\s*\$ )(?:\$ )?(.+)$", text, re.M):
+        found = re.match(STARTING + r"((?:tools|crates|bin|bench|\.ci|examples|fonts|page|bindings)/[\w./-]+)( |$)", line)
+        if found:
+            yield found[1]
+        elif re.match(r"\(cd crates/|rt ", line):
+            yield line.strip("(")
+
+
+class Packed(Folder):
+    def test_the_wheel_has_the_library(self) -> None:
+        files = {place: entry for place, entry in sources().items() if isinstance(entry, File)}
+        for place in ("lib/libzaklimot.so", "share/zaklimot/zaklimot.fnt"):
+            self.write(f"library/{place}", place)
+        made = []
+        for number in "12":
+            (self.folder / number).mkdir()
+            made.append(wheel_of(files, self.folder / "library", self.folder / number, X86_64))
+        self.assertEqual(made[0].read_bytes(), made[1].read_bytes())
+        self.assertEqual(made[0].name, f"zaklimot-{version()}-py3-none-linux_x86_64.whl")
+        with zipfile.ZipFile(made[0]) as wheel:
+            self.assertEqual(wheel.read("zaklimot/carried/libzaklimot.so"), b"lib/libzaklimot.so")
+            self.assertIn("zaklimot/format/table.py", wheel.namelist())
+
+    def test_the_archive_and_its_checksum(self) -> None:
+        given = self.write("given", "built")
+        made = {"clean_commit": lambda: COMMIT, "release_entries": lambda *_: ENTRIES, "check_program": lambda _: None}
+        self.patch(mock.patch.multiple(command, **made))
+        words = ["--program", given, "--archive", given, "--archive-aarch64", given]
+        status, output, _ = call(command.main, self.folder, *words)
+        archive, sums = map(Path, output.splitlines())
+        number = hashlib.sha256(archive.read_bytes()).hexdigest()
+        self.assertEqual((status, sums.read_text("ascii")), (0, f"{number}  {archive.name}\n"))
+
     def test_what_is_laid_is_told(self) -> None:
         with mock.patch.object(making, "run", return_value=""):
             laid = making.make_library(Path("a"), Path("b"), Place(str(self.folder)), making.MOVING)
@@ -213,3 +385,46 @@ class Laying(Folder):
         with mock.patch.multiple(making, HEADER=header, run=lambda *_: ""):
             told = refused(making.make_library, Path("a"), Path("b"), Place(str(self.folder)), making.MOVING)
         self.assertEqual((told, header.exists()), (f"{header}: it is read as {header}, so it isn't written", True))
+
+
+class Installing(Folder):
+    """The command that lays a release below a prefix."""
+
+    def setUp(self) -> None:
+        super().setUp()
+        self.release = self.folder / "a release"
+        self.program("a release/bin/vga", "#!program")
+        for place, text in (("include/z.h", "header"), ("lib/z.so.1", "library"), ("share/z/f.fnt", "font")):
+            self.write(f"a release/{place}", text)
+        (self.release / "lib/z.so").symlink_to("z.so.1")
+        shutil.copy(TOP / "tools" / "vga_release" / INSTALL, self.release / INSTALL)
+
+    def install(self, *words: str) -> tuple[int, str, str]:
+        return ended("sh", self.release / INSTALL, *words, cwd=self.folder)
+
+    def test_all_is_laid_and_told(self) -> None:
+        prefix = self.folder / "in here"
+        laid = [f"{prefix}/{place}\n" for place in ("bin/vga", "include/z.h", "lib/z.so", "lib/z.so.1", "share/z/f.fnt")]
+        for _ in "12":
+            self.assertEqual(self.install("--prefix", str(prefix)), (0, "".join(laid), ""))
+        self.assertTrue(os.access(prefix / "bin/vga", os.X_OK))
+        self.assertEqual(os.readlink(prefix / "lib/z.so"), "z.so.1")
+        self.assertEqual((prefix / "share/z/f.fnt").read_text(), "font")
+
+    def test_a_stage_stands_before_the_prefix(self) -> None:
+        self.assertEqual(self.install("--destdir=stage", "--prefix=/usr")[0], 0)
+        self.assertEqual((self.folder / "stage/usr/bin/vga").read_text(), "#!program")
+
+    def test_what_it_refuses(self) -> None:
+        (self.folder / "full" / "bin" / "vga").mkdir(parents=True)
+        (self.release / "kit").mkdir()
+        (self.release / "kit" / "bin").symlink_to("../bin")
+        wanted = {
+            ("--prefix", "here"): "begins with a slash", ("--prefix",): "wants a folder", ("--other",): "there is no option",
+            ("--prefix", str(self.release)): "the release's own", ("--prefix", str(self.release / "kit")): "the release's own",
+            ("--prefix", str(self.folder / "full")): "is a folder", ("--prefix", "/proc/none"): "there can be no folder",
+        }
+        for words, told in wanted.items():
+            with self.subTest(words=words):
+                hold_undone(self, self.install(*words), rf"{told}.*\n\Z")
+        self.assertEqual((self.release / "bin/vga").read_text(), "#!program")

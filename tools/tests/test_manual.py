@@ -3,7 +3,6 @@
 import re
 import shutil
 import unittest
-from pathlib import Path
 from typing import Mapping
 from unittest import mock
 
@@ -12,12 +11,10 @@ from vga_manual.command import PLACES, manual_files
 from vga_manual.helps import Entry, Help, read_help
 from vga_manual.page import literal, prose
 from vga_report.processes import MEBIBYTE, Limits
-from vga_report.program import PROGRAM
 from vga_report.trouble import TROUBLE
 from vga_report.version import version
 
-from .program import want_program
-from .test_words import HELP
+from .test_edges import HELP
 from .tools import Folder, call, ended, refused
 
 PAGE, BASH, ZSH, FISH = PLACES
@@ -28,10 +25,8 @@ FAKE = '''\
 case "$*" in --help) name=vga ;; "help --help") exit 2 ;; *) name=$1 ;; esac
 exec cat "${0%/*}/$name.txt"
 '''
-# Completes the last of the words after the file's name; and the help of a command more, with
-# letters that shells and roff don't take as they are.
-COMPLETING = HELP.with_name("manual") / "completing.bash"
-TRY = COMPLETING.with_name("try.txt").read_text("utf-8")
+# The help of a command more, with letters that shells and roff don't take as they are.
+TRY = (HELP.with_name("manual") / "try.txt").read_text("utf-8")
 # What else is added to the kept helps: the command in the list, an option, and an argument.
 ADDED = (
     ("vga", "  help  Print", "  try   Tries it, doesn't it?\n  help  Print"),
@@ -125,12 +120,6 @@ class Fakes(Folder):
             self.write(f"{name}.txt", text)
         return self.program("fake", FAKE)
 
-    def lay_files(self) -> Path:
-        """A folder with files, in which a shell completes."""
-        for name in (*BARS, "one two.vga", "zaklimot.fnt", "fonts/other.fnt"):
-            self.write(f"files/{name}", "")
-        return self.folder / "files"
-
     def made(self, helps: Mapping[str, str]) -> dict[str, str]:
         files = manual_files(self.printing(helps))
         return {place: data.decode("utf-8") for place, data in files.items()}
@@ -176,7 +165,7 @@ class Helps(unittest.TestCase):
         self.assertEqual((told.paragraphs[0], told.paragraphs[-1]), (about, files))
 
 
-class Pages(Fakes):
+class Files(Fakes):
     def test_each_line_of_the_helps_is_in_it(self) -> None:
         for helps in (kept_helps(), more_helps()):
             page = plain(self.made(helps)[PAGE]).lower()
@@ -238,8 +227,6 @@ class Pages(Fakes):
             if columns == 40:
                 self.assertNotRegex(shown, r"[\w-]-\n")
 
-
-class Completions(Fakes):
     def test_each_command_and_option_is_in_each(self) -> None:
         for helps in (kept_helps(), more_helps()):
             made = self.made(helps)
@@ -264,54 +251,6 @@ class Completions(Fakes):
                 self.assertIn(text, made[place])
         self.assertNotIn("'__vga_command help' -F", made[FISH])
         self.assertNotIn(IN_ZSH[0], self.made(kept_helps())[ZSH])
-
-    def test_shells_that_are_here_read_them(self) -> None:
-        made = self.made(more_helps())
-        for shell, place in (("bash", BASH), ("zsh", ZSH), ("fish", FISH)):
-            if shutil.which(shell):
-                done = ended(shell, "-n", self.write("completion", made[place]))
-                self.assertEqual((done[0], done[2]), (0, ""), shell)
-
-
-FILES = ["bars.bin", "bars.vga", "fonts", "one two.vga", "zaklimot.fnt"]
-COMMANDS, BARS, FONTS = ["asm", "dis", "go", "help", "run"], FILES[:2], ["fonts", "zaklimot.fnt"]
-# Words between blanks, and what bash offers for the last of them, by the kept helps and by more.
-# Bash breaks a word at the sign of equality.
-OFFERED = (
-    (kept_helps, {
-        "": COMMANDS, "g": ["go"], "help ": COMMANDS, "play ": [],
-        "asm ": FILES, "asm b": BARS, "asm o": ["one two.vga"], "asm x ": FILES,
-        "asm x y ": ["--help", "-h"], "dis x ": ["--help", "-h"], "dis -- ": FILES,
-        "dis -- -": [], "dis -- x ": [], "run ": FILES, "run --until 5 b": BARS,
-        "-": ["--help", "-h"], "--h": ["--help"], "dis -h --": [],
-        "run -": ["--fonts", "--help", "--until", "-h"], "run x --fonts ": FONTS,
-        "run x --fonts b": BARS, "run x --fonts fonts/": ["fonts/other.fnt"],
-        "run --fonts =": FONTS, "run --fonts = z": ["zaklimot.fnt"],
-        "run --fonts = z ": FILES, "run --fonts z x ": ["--help", "--until", "-h"],
-        "go --until ": [], "go --until b": [], "go --until = b": [], "go x --until -": [],
-    }),
-    (more_helps, {
-        "t": ["try"], "help t": ["try"], "run --s": ["--sound"], "dis a z": FONTS[1:],
-        "try -": ["--help", "--quiet", "--sound", "-h", "-q", "-s"],
-        "try -s x --": ["--help", "--quiet"], "try -s z": FONTS[1:], "try a b c z": FONTS[1:],
-    }),
-)
-
-
-@unittest.skipUnless(shutil.which("bash"), "bash isn't installed")
-class Bash(Fakes):
-    """What bash offers by the completion, in a folder with files."""
-
-    def test_what_is_offered(self) -> None:
-        files = self.lay_files()
-        for helps, offered in OFFERED:
-            completion = self.write("completion", self.made(helps())[BASH])
-            bash = ["bash", "--norc", "--noprofile", COMPLETING, completion, "vga"]
-            for words, wanted in offered.items():
-                with self.subTest(words, helps=helps.__name__):
-                    status, output, said = ended(*bash, *words.split(" "), cwd=files)
-                    self.assertEqual((status, said), (0, ""))
-                    self.assertEqual(sorted(filter(None, output.split("\n"))), wanted)
 
 
 FORM = "it does not have the form of"
@@ -383,8 +322,3 @@ class Made(Fakes):
             done = call(command.main, "make", new)
         self.assertEqual(done, (TROUBLE, "", f"vga-manual: {command.NO_PROGRAM}\n"))
         self.assertFalse(new.exists())
-
-    def test_its_files_are_those_of_the_kept_helps(self) -> None:
-        want_program()
-        kept = manual_files(self.printing(kept_helps()))
-        self.assertEqual(manual_files(str(PROGRAM)), kept)

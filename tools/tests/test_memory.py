@@ -9,6 +9,8 @@ from vga_memory.command import (
 )
 from vga_memory.trying import Answer, answers_of, growing
 
+from .tools import hold_refused
+
 EARLY = Answer(1, b"", "Error: memory allocation failed\n")
 FRONTS = [b"", b"1 ok\n"]
 WHOLE = Answer(0, b"1 ok\n2 ok\n", "")
@@ -49,9 +51,23 @@ class Trying(unittest.TestCase):
         self.assertTrue(changed.startswith(source[:source.index("    ExitCode::from(")]))
 
     def test_another_main_is_not_changed(self) -> None:
-        for source in ("fn main() {}\n", 2 * "    ExitCode::from(status_of_job(&rt))\n"):
-            with self.subTest(source), self.assertRaisesRegex(Wrong, "^main.rt has [02] lines "):
-                growing(source)
+        twice = 2 * "    ExitCode::from(status_of_job(&rt))\n"
+        hold_refused(self, growing, (("fn main() {}\n", "^main.rt has 0 lines "), (twice, "^main.rt has 2 lines ")))
+
+    def test_what_each_job_answers(self) -> None:
+        go, asm, refused = jobs().values()
+        self.assertEqual(go.prefixes, (b"", b"".join(go.whole.written.splitlines(keepends=True)[:6])))
+        self.assertTrue(go.prefixes[1].endswith(b"\n6 ax=1015 bx=0000 cx=0203 dx=0100\n"))
+        self.assertEqual((asm.whole.written[:4], len(asm.whole.written)), (b"VGAS", 44 + len(ENDING)))
+        self.assertEqual((refused.whole.status, refused.prefixes), (2, (b"",)))
+        for job in jobs().values():
+            self.assertTrue(set(job.words) & set(FILES), "a job of files that are there")
+
+    def test_the_allocation_that_is_refused_becomes_the_first(self) -> None:
+        job = jobs()["asm"]
+        cases = cases_of(1, job)
+        self.assertEqual([case for case in cases], sorted(cases))
+        self.assertEqual({len(case.given) for case in cases.values()}, set(range(job.first, ALLOCATION)))
 
 
 class Calls(unittest.TestCase):
@@ -77,23 +93,6 @@ class Calls(unittest.TestCase):
         for name, answers in wrongs.items():
             with self.subTest(name), self.assertRaises(Wrong):
                 judge_calls(answers)
-
-
-class Jobs(unittest.TestCase):
-    def test_what_each_job_answers(self) -> None:
-        go, asm, refused = jobs().values()
-        self.assertEqual(go.prefixes, (b"", b"".join(go.whole.written.splitlines(keepends=True)[:6])))
-        self.assertTrue(go.prefixes[1].endswith(b"\n6 ax=1015 bx=0000 cx=0203 dx=0100\n"))
-        self.assertEqual((asm.whole.written[:4], len(asm.whole.written)), (b"VGAS", 44 + len(ENDING)))
-        self.assertEqual((refused.whole.status, refused.prefixes), (2, (b"",)))
-        for job in jobs().values():
-            self.assertTrue(set(job.words) & set(FILES), "a job of files that are there")
-
-    def test_the_allocation_that_is_refused_becomes_the_first(self) -> None:
-        job = jobs()["asm"]
-        cases = cases_of(1, job)
-        self.assertEqual([case for case in cases], sorted(cases))
-        self.assertEqual({len(case.given) for case in cases.values()}, set(range(job.first, ALLOCATION)))
 
 
 class Program(unittest.TestCase):

@@ -6,10 +6,9 @@ import re
 from html.parser import HTMLParser
 from typing import Optional
 
-from .making import BLACK, RED, png_rows, ppm
 from .test_command import PICTURE, run
 from .test_run import Fake
-from .tools import Folder
+from .tools import BLACK, RED, png_rows, ppm
 
 # Elements that have no end.
 VOID = {"meta", "input", "img", "br"}
@@ -43,20 +42,14 @@ class Reader(HTMLParser):
             self.texts[self.open[-1]] = self.texts.get(self.open[-1], "") + data
 
 
-def read(page: str) -> Reader:
-    """A page that was read to its end."""
-    reader = Reader()
-    reader.feed(page)
-    reader.close()
-    return reader
-
-
-class Alone(Folder):
-    """A test of pages that stand alone."""
+class Pages(Fake):
+    """Pages that stand alone."""
 
     def assert_stands_alone(self, page: str) -> Reader:
         """That a page is well formed, names each element once, and refers to nothing outside."""
-        reader = read(page)
+        reader = Reader()
+        reader.feed(page)
+        reader.close()
         self.assertEqual((reader.wrong, reader.open), ([], []))
         self.assertTrue(page.startswith("<!DOCTYPE html>\n<html lang=\"en\">\n"))
         names = [attributes["id"] for _, attributes in reader.elements if "id" in attributes]
@@ -78,13 +71,11 @@ class Alone(Folder):
         frames: list[dict[str, object]] = json.loads(found[1])
         return frames
 
-
-class Runs(Alone, Fake):
     def test_a_run(self) -> None:
-        page = self.folder / "page.html"
-        status, output, said = self.run_script("--html", str(page))
-        self.assertEqual((status, output, said), (0, "6 steps, 1 refused, 1 picture, 4 of 4 answers as expected\n", ""))
+        page, told = self.folder / "page.html", "6 steps, 1 refused, 1 picture, 4 of 4 answers as expected\n"
+        self.assertEqual(self.run_script("--html", str(page)), (0, told, ""))
         text = page.read_text(encoding="utf-8")
+        self.assertEqual(self.run_script("--html", "-"), (0, text, told))
         self.assertEqual(self.frames(text), [{"step": 4, "title": "step 4, 9x1", "images": ["p1"]}])
         images = [attributes for tag, attributes in self.assert_stands_alone(text).elements if tag == "img"]
         self.assertEqual([image["id"] for image in images], ["p1"])
@@ -94,20 +85,12 @@ class Runs(Alone, Fake):
 
     def test_what_a_script_says_is_no_part_of_the_page(self) -> None:
         path = self.write("<b>&.vga", "get <script>alert(1)</script> ; = <i>\"&\n")
-        page = self.folder / "page.html"
-        self.assertEqual(self.run_script("--html", str(page), path=path)[0], 1)
-        text = page.read_text(encoding="utf-8")
+        status, text, _ = self.run_script("--html", "-", path=path)
+        self.assertEqual(status, 1)
         self.assert_stands_alone(text)
         self.assertIn("GET &lt;SCRIPT&gt;", text)
         self.assertIn('<tr class="differs">', text)
 
-    def test_on_standard_output(self) -> None:
-        status, output, said = self.run_script("--html", "-")
-        self.assertEqual((status, said), (0, "6 steps, 1 refused, 1 picture, 4 of 4 answers as expected\n"))
-        self.assert_stands_alone(output)
-
-
-class Comparisons(Alone):
     def test_two_reports(self) -> None:
         path, other = self.report("a", "00", PICTURE), self.report("b", "01", ppm(9, 1, RED * 3 + BLACK * 6))
         page = self.folder / "page.html"

@@ -1,12 +1,23 @@
-"""The links of the pages: each leads to a file that is there, and to a heading or an anchor in it."""
+"""The links of the pages: each leads to a file that is there, and to a heading or an anchor in it; and the tutorial."""
 
+from __future__ import annotations
+
+import os
 import re
 import subprocess
+import sys
 import unittest
+import zlib
 from pathlib import Path
 from typing import Iterator
+from unittest import mock
 
-from .tools import TOP as ROOT
+from page_tests import scripts
+from vga_page.page import examples
+from vga_report.program import FONTS
+from zaklimot import Script, format
+
+from .tools import EXAMPLES, TOP, Folder, ended, png_chunks, run_program, run_tool, want_program
 
 # A link or a picture: what stands between its round brackets, without a title.
 LINK = re.compile(r"\]\(([^()\s]+)\)")
@@ -15,6 +26,23 @@ FENCE = re.compile(r"^ *(```|~~~)")
 OUTSIDE = ("http:", "https:", "mailto:")
 # How a command of the repository begins. In prose its path stands between back quotes.
 COMMAND = re.compile(r"(?:\$ )?(?:tools|crates|bench|examples|page|\.ci)/\S+( |$)")
+TUTORIAL = TOP / "docs" / "TUTORIAL.md"
+TEXT = TUTORIAL.read_text("utf-8")
+SCRIPTS = EXAMPLES / "tutorial"
+CIRCLE = EXAMPLES / "python" / "circle.py"
+# What the page has whole, in its order. The circle's script is too long for it.
+WHOLE = [
+    SCRIPTS / "hello.vga", SCRIPTS / "eight-pixels.vga", CIRCLE, SCRIPTS / "going-round.vga",
+    SCRIPTS / "three-bands.vga",
+]
+BLOCK = re.compile(r"^```\w*\n(.*?)^```$", re.M | re.S)
+# The commands of examples/README.md that make pictures: script, stop, words of `pictures`, file.
+MAKING = re.compile(
+    r"vga go (examples/tutorial/\S+)( --until \d+)? --fonts fonts/zaklimot\.fnt \|\n"
+    r" +tools/vga-report pictures (.*?) ?>? (docs/pictures/\S+)$", re.M,
+)
+# The page stays small.
+MOST_BYTES, MOST_MOVING_BYTES, MOST_LINES, MOST_COLUMNS = 40_000, 100_000, 250, 100
 
 
 def prose(text: str) -> Iterator[str]:
@@ -27,12 +55,6 @@ def prose(text: str) -> Iterator[str]:
             yield re.sub(r"`[^`]*`", lambda code: "`" + re.sub(r"[\[\]()]", "", code.group()) + "`", line)
 
 
-def anchor_of(heading: str) -> str:
-    """The anchor that a heading has: its letters in lower case, blanks as hyphens, and no other marks."""
-    plain = re.sub(r"\[([^\]]*)\]\([^)]*\)", r"\1", heading).replace("`", "").lower()
-    return re.sub(r"[^\w\- ]", "", plain).replace(" ", "-")
-
-
 def anchors(text: str) -> set[str]:
     """All anchors of a page: those of its headings, the second of a name with -1, and those that it names itself."""
     found: set[str] = set()
@@ -40,7 +62,9 @@ def anchors(text: str) -> set[str]:
         found.update(ANCHOR.findall(line))
         heading = HEADING.match(line)
         if heading:
-            name, more = anchor_of(heading.group(1)), 0
+            # The letters of the heading in lower case, blanks as hyphens, and no other marks.
+            plain = re.sub(r"\[([^\]]*)\]\([^)]*\)", r"\1", heading.group(1)).replace("`", "").lower()
+            name, more = re.sub(r"[^\w\- ]", "", plain).replace(" ", "-"), 0
             while name + (f"-{more}" if more else "") in found:
                 more += 1
             found.add(name + (f"-{more}" if more else ""))
@@ -70,13 +94,13 @@ def commands_in_prose(text: str) -> list[str]:
 def files(*patterns: str) -> list[str]:
     """The files of the repository whose paths fit a pattern, or all of them."""
     words = ["git", "ls-files", "-z", "--cached", "--others", "--exclude-standard", "--", *patterns]
-    listed = subprocess.run(words, cwd=ROOT, capture_output=True, check=True).stdout
-    return [name for name in sorted(set(listed.decode().split("\0"))) if name and (ROOT / name).exists()]
+    listed = subprocess.run(words, cwd=TOP, capture_output=True, check=True).stdout
+    return [name for name in sorted(set(listed.decode().split("\0"))) if name and (TOP / name).exists()]
 
 
 def pages() -> list[Path]:
     """The pages of the repository."""
-    return [ROOT / name for name in files("*.md")]
+    return [TOP / name for name in files("*.md")]
 
 
 def named_files(text: str) -> Iterator[tuple[str, str]]:
@@ -85,7 +109,7 @@ def named_files(text: str) -> Iterator[tuple[str, str]]:
         folder = ""
         for name, colon in re.findall(r"`([^` ]+)`(:?)", line):
             if colon:
-                folder = f"crates/{name}/" if (ROOT / "crates" / name).is_dir() else name
+                folder = f"crates/{name}/" if (TOP / "crates" / name).is_dir() else name
             elif "/" in name or "." in name:
                 yield folder, name.rstrip("/")
 
@@ -97,12 +121,12 @@ class Links(unittest.TestCase):
         listed = pages()
         self.assertGreater(len(listed), 20)
         for page in listed:
-            with self.subTest(page.relative_to(ROOT)):
+            with self.subTest(page.relative_to(TOP)):
                 self.assertEqual(broken(page, page.read_text("utf-8")), [])
 
     def test_a_broken_link_is_found(self) -> None:
         text = "# One\n\n## Two `and` more\n\n[a](#two-and-more) [b](#none) [c](none.md) [d](README.md#none)\n\n    [e](none.md)\n"
-        self.assertEqual(broken(ROOT / "page.md", text), ["#none", "none.md", "README.md#none"])
+        self.assertEqual(broken(TOP / "page.md", text), ["#none", "none.md", "README.md#none"])
 
     def test_headings_of_one_name(self) -> None:
         self.assertEqual(anchors('# A b\n\n# A b\n\n<a id="x.y"></a>\n```\n# no\n```\n'), {"a-b", "a-b-1", "x.y"})
@@ -112,7 +136,7 @@ class Touched(unittest.TestCase):
     """Each file that a change goes through, as CONTRIBUTING tells them, is there."""
 
     def test_each_is_there(self) -> None:
-        text = (ROOT / "CONTRIBUTING.md").read_text("utf-8").partition("\n## What a change touches\n")[2].partition("\n## ")[0]
+        text = (TOP / "CONTRIBUTING.md").read_text("utf-8").partition("\n## What a change touches\n")[2].partition("\n## ")[0]
         named, listed = set(named_files(text)), files()
         self.assertGreater(len(named), 100)
         for folder, name in sorted(named):
@@ -127,7 +151,7 @@ class Commands(unittest.TestCase):
 
     def test_each_is_indented_or_fenced(self) -> None:
         for page in pages():
-            with self.subTest(page.relative_to(ROOT)):
+            with self.subTest(page.relative_to(TOP)):
                 self.assertEqual(commands_in_prose(page.read_text("utf-8")), [])
 
     def test_one_that_lost_its_indentation_is_found(self) -> None:
@@ -142,15 +166,15 @@ class Front(unittest.TestCase):
     MOST_LINES, MOST_COLUMNS = 110, 100
 
     def test_it_has_few_lines_and_none_is_long(self) -> None:
-        lines = (ROOT / "README.md").read_text("utf-8").splitlines()
+        lines = (TOP / "README.md").read_text("utf-8").splitlines()
         self.assertLessEqual(len(lines), self.MOST_LINES)
         # A row of a table and a picture are one line each, however long.
         wrapped = [line for line in lines if not line.startswith(("|", "!["))]
         self.assertEqual([line for line in wrapped if len(line) > self.MOST_COLUMNS], [])
 
     def test_the_page_that_runs_scripts_has_the_size_that_is_told(self) -> None:
-        size = (ROOT / "page" / "zaklimot.html").stat().st_size
-        self.assertIn(f"The page has {size:,} bytes.", (ROOT / "docs" / "PAGE.md").read_text("utf-8"))
+        size = (TOP / "page" / "zaklimot.html").stat().st_size
+        self.assertIn(f"The page has {size:,} bytes.", (TOP / "docs" / "PAGE.md").read_text("utf-8"))
 
 
 # The reference pages, and their sections that are examples and no rules.
@@ -166,17 +190,130 @@ class References(unittest.TestCase):
     """Each rule of the reference pages names what defines it and which cases show it."""
 
     def test_each_section_has_definitions_and_cases(self) -> None:
-        cases = set((ROOT / "crates/vga_suite/data/list.txt").read_text("utf-8").split())
-        for name, examples in REFERENCE.items():
-            sections = re.split(r"(?m)^## ", (ROOT / "docs" / f"{name}.md").read_text("utf-8"))[1:]
+        cases = set((TOP / "crates/vga_suite/data/list.txt").read_text("utf-8").split())
+        for name, apart in REFERENCE.items():
+            sections = re.split(r"(?m)^## ", (TOP / "docs" / f"{name}.md").read_text("utf-8"))[1:]
             for section in sections:
                 title, _, body = section.partition("\n")
-                if title in examples:
+                if title in apart:
                     continue
                 with self.subTest(page=name, section=title):
                     defined, shown = DEFINED.findall(body), SHOWN.findall(body)
                     self.assertTrue(defined and shown)
                     self.assertEqual([case for case in shown if case not in cases], [])
                     for word, file in defined:
-                        said = (ROOT / file).read_text("utf-8")
+                        said = (TOP / file).read_text("utf-8")
                         self.assertRegex(said, rf"(?m)^(\w+ )?pub (record |data )?{word}\b")
+
+
+def steps_of(text: str) -> str:
+    """A script's lines without its comments, and without those that have no word."""
+    lines = (line.partition(";")[0].rstrip() for line in text.splitlines())
+    return "".join(f"{line}\n" for line in lines if line)
+
+
+def printed(text: str | bytes) -> list[str]:
+    """A script's lines, as `vga dis` prints them."""
+    return format.print_text(format.parse_text(text)).splitlines()
+
+
+def unpacked(png: bytes) -> list[bytes]:
+    """The header of a PNG, and the dots of each of its frames, however they are packed."""
+    header, packed = b"", [b""]
+    for kind, data in png_chunks(png):
+        if kind == b"IHDR":
+            header = data
+        elif kind == b"fcTL" and packed[-1]:
+            packed.append(b"")
+        elif kind in (b"IDAT", b"fdAT"):
+            packed[-1] += data if kind == b"IDAT" else data[4:]
+    return [header, *map(zlib.decompress, packed)]
+
+
+class Tutorial(unittest.TestCase):
+    """The scripts, the program and the figures of the tutorial are those of the files."""
+
+    def test_each_block_is_a_file(self) -> None:
+        self.assertEqual(BLOCK.findall(TEXT), [path.read_text("utf-8") for path in WHOLE])
+
+    def test_each_script_has_its_command(self) -> None:
+        command = r"In a terminal: `tools/vga-report run (\S+) (?:--only pictures )?--show`\.$"
+        names = sorted(str(path.relative_to(TOP)) for path in SCRIPTS.iterdir())
+        self.assertEqual(sorted(re.findall(command, TEXT, re.M)), names)
+
+    def test_it_is_short(self) -> None:
+        lines = TEXT.splitlines()
+        self.assertLessEqual(len(lines), MOST_LINES)
+        self.assertEqual([line for line in lines if len(line) > MOST_COLUMNS], [])
+
+    def test_the_page_has_them_not_in_its_list(self) -> None:
+        listed = {one["name"] for one in examples()}
+        self.assertEqual({path.stem for path in SCRIPTS.iterdir()} & listed, set())
+
+    def test_the_check_in_a_browser_does_what_it_says(self) -> None:
+        fakes = {"run_node": lambda words, *_: f"{words[0].name}\n", "CHROMIUM": [sys.executable]}
+        with mock.patch.multiple(scripts, **fakes):
+            self.assertEqual(scripts.check_browser(), "browser.mjs; tutorial.mjs")
+
+    def test_the_program_writes_the_script(self) -> None:
+        environment = {**os.environ, "PYTHONPATH": str(TOP / "bindings" / "python" / "src")}
+        status, output, said = ended(sys.executable, "-B", CIRCLE, env=environment)
+        self.assertEqual((status, said), (0, ""))
+        self.assertTrue(output == steps_of((SCRIPTS / "circle.vga").read_text("ascii")), "another script")
+
+    def test_what_the_page_counts(self) -> None:
+        steps = steps_of((SCRIPTS / "circle.vga").read_text("ascii")).splitlines()
+        puts = sum(step.startswith("put ") for step in steps)
+        self.assertIn(f"There are {len(steps):,}, of which {puts:,} are `put`.", TEXT)
+
+
+class Words(unittest.TestCase):
+    """What stands beside a part in Python writes a step of the part's script."""
+
+    def lines(self) -> Iterator[str]:
+        colours = bytes.fromhex("00001010002A3F00303F20003F3F10")
+        known = {"zaklimot": sys.modules["zaklimot"], "colours": colours}
+        for words in re.findall(r"In Python: `script\.(.+)`", TEXT):
+            script = Script()
+            # They are the page's own, and write a step each.
+            exec(f"script.{words}", {"script": script, **known})
+            yield script.text().rstrip("\n")
+
+    def test_each_is_a_step_of_a_script(self) -> None:
+        steps = {step for path in SCRIPTS.iterdir() for step in printed(path.read_bytes())}
+        written = [step for line in self.lines() for step in printed(line)]
+        self.assertEqual(len(written), 4)
+        self.assertEqual([line for line in written if line not in steps], [])
+
+
+class Pictures(Folder):
+    """The pictures are what the commands of examples/README.md make."""
+
+    def test_they_are_small(self) -> None:
+        names = re.findall(r"\]\((pictures/\S+)\)", TEXT)
+        self.assertEqual(len(names), len(set(names)))
+        there = {f"pictures/{path.name}" for path in TUTORIAL.parent.glob("pictures/tutorial-*")}
+        self.assertEqual(there, set(names))
+        for name in names:
+            moves = name.endswith("going-round.png")
+            most = MOST_MOVING_BYTES if moves else MOST_BYTES
+            self.assertLess((TUTORIAL.parent / name).stat().st_size, most, name)
+
+    def test_each_is_its_scripts(self) -> None:
+        want_program()
+        commands = MAKING.findall((EXAMPLES / "README.md").read_text("utf-8"))
+        self.assertEqual(len(commands), 4)
+        for script, stop, words, picture in commands:
+            with self.subTest(picture):
+                ran = run_program("go", TOP / script, *stop.split(), "--fonts", FONTS)
+                self.assertEqual((ran.status, ran.said), (0, ""))
+                made, shown = self.made(words.split(), ran.report), (TOP / picture).read_bytes()
+                self.assertTrue(unpacked(made) == unpacked(shown), "another picture")
+
+    def made(self, words: list[str], report: bytes) -> bytes:
+        """What `vga-report pictures` makes of a report."""
+        moves, path = "--apng" in words, self.folder / "picture.png"
+        words = [*words, str(path)] if moves else words
+        status, output, said = run_tool("vga-report", "pictures", *words, given=report)
+        self.assertEqual(status, 0, said)
+        return path.read_bytes() if moves else output

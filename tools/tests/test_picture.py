@@ -23,10 +23,8 @@ from vga_report.png import write_png
 from vga_report.program import FONTS
 from zaklimot.format import Picture, encode, parse_text
 
-from .making import png_rows, ppm
-from .program import run_texts
 from .screen import FONTS_AT, Screen
-from .tools import EXAMPLES, Folder, call, ended, run_tool
+from .tools import EXAMPLES, Folder, call, ended, png_rows, ppm, run_texts, run_tool
 from .test_images import png
 
 run = partial(run_tool, "vga-picture")
@@ -98,6 +96,12 @@ def script(image: bytes, *words: str) -> bytes:
 SIZES = {"0D": (320, 200, 16, 1, 2), "10": (640, 350, 16, 1, 1), "12": (640, 480, 16, 1, 1), "13": (320, 200, 200, 2, 2)}
 
 
+def glyph_lines(font: bytes, height: int, character: int) -> list[list[int]]:
+    """The lines of nine bits of a character: the ninth is the eighth where lines are drawn, and else blank."""
+    lines = ([byte >> 7 - x & 1 for x in range(8)] for byte in font[height * character:][:height])
+    return [[*line, line[7] if 0xC0 <= character < 0xE0 else 0] for line in lines]
+
+
 def text_dots(seed: int = 3, height: int = 16, own: int = 0) -> Dots:
     """A page of cells at random, in sixteen colours, a third of it blank; as the font of so many lines shows them.
 
@@ -116,10 +120,8 @@ def text_dots(seed: int = 3, height: int = 16, own: int = 0) -> Dots:
         if (row, column) == (rows - 1, 79):
             # Behind the last cell a string would scroll.
             character, front, back = 0x41, 1, 2
-        for y in range(height):
-            bits = [font[height * character + y] >> 7 - x & 1 for x in range(8)]
-            bits.append(bits[7] if 0xC0 <= character < 0xE0 else 0)
-            dots[height * row + y] += [colours[front if bit else back] for bit in bits]
+        for y, line in enumerate(glyph_lines(font, height, character), height * row):
+            dots[y] += [colours[front if bit else back] for bit in line]
     return dots
 
 
@@ -158,12 +160,6 @@ class Drawing(Folder):
                 self.assertTrue(ran.report.endswith(made[name][1] + b"\n"), "another picture")
                 self.assertNotIn(b" E", ran.report[:ran.report.index(b"P6")])
 
-    def test_the_answer_that_the_frame_expects(self) -> None:
-        dots = some_dots(320, 200, 5)
-        text = script(ppm_of(dots), "--mode", "13")
-        picture = Picture.of_ppm(shown(dots, 2, 2))
-        self.assertTrue(text.endswith(f"\nframe ; = picture 640x400 {picture.sum}\n".encode()))
-
     def test_bytes_are_the_same_script(self) -> None:
         image = png_of(some_dots(320, 200, 16))
         for words in (["--mode", "0D", "--short"], ["--mode", "13"]):
@@ -199,6 +195,28 @@ class Drawing(Folder):
         width, height, rows = png_rows(path.read_bytes())
         self.assertEqual((width, height), (320, 400))
         self.assertEqual(rows[:2], [png_rows(png_of(dots))[2][0]] * 2)
+
+    def test_images_of_other_sizes(self) -> None:
+        red, blue, black, bar = (63, 0, 0), (0, 0, 63), (0, 0, 0), (32, 0, 63)
+        few = [[(at // 60, 0, 0) for at in range(960)]] * 2
+        # A screen is four wide and three high: eight by three take half its height, one by one three quarters of its width.
+        for mode, words, dots, told, rows in (
+            ("0D", ["--scale"], [[red, blue]], "2x1 stretched to 320x200, 2", [[red] * 160 + [blue] * 160] * 200),
+            # A dot is the one under its middle.
+            ("13", ["--scale"], few, "960x2 stretched to 320x200, 16", [few[0][1::3]] * 200),
+            ("13", ["--fit"], [[red, blue] * 4] * 3, "8x3 stretched to 320x100, with bars of 000000 to 320x200, 3",
+             [[black] * 320] * 50 + [[*[red] * 40, *[blue] * 40] * 4] * 100 + [[black] * 320] * 50),
+            ("13", ["--fit"], [[red, red, blue]] * 2, "3x2 stretched to 320x177, with bars of 000000 to 320x200, 3",
+             [[black] * 320] * 11 + [[red] * 213 + [blue] * 107] * 177 + [[black] * 320] * 12),
+            ("13", ["--fit", "--bars", "#8000fF"], [[red], [blue]],
+             "1x2 stretched to 120x200, with bars of 8000FF to 320x200, 3",
+             [[bar] * 100 + [dot] * 120 + [bar] * 100 for dot in (red, blue) for _ in range(100)]),
+        ):
+            with self.subTest(told):
+                for image in (png_of(dots), ppm_of(dots)):
+                    said, text = made_of(image, "--mode", mode, *words)
+                    self.assertIn(f"mode {mode}: {told} colours; ", said)
+                    self.assertEqual(drawn(text)[0], shown(rows, *SIZES[mode][3:]))
 
 
 def assembled(text: bytes) -> bytes:
@@ -428,17 +446,15 @@ class Text(unittest.TestCase):
         return Chooser(FONT[256 * 22:], MODES["3"], colours)
 
     def cell(self, character: int, front: int, back: int) -> bytes:
-        """The dots of a cell, in eight columns and the ninth as a letter has it."""
-        glyph = FONT[256 * 22 + 16 * character:][:16]
-        return b"".join(bytes(front if byte >> 7 - x & 1 else back for x in range(8)) + bytes([back]) for byte in glyph)
+        """The dots of a cell."""
+        return bytes(front if bit else back for line in glyph_lines(FONT[256 * 22:], 16, character) for bit in line)
 
     def test_a_letter_is_found(self) -> None:
         chooser = self.chooser((0, 0, 0), (63, 63, 63), (0, 0, 63))
         self.assertEqual(chooser.chosen(self.cell(0x41, 1, 2)), Chosen(0, 0x41, 0x21))
         self.assertEqual(chooser.chosen(bytes(144)), Chosen(0, 0x20, 0x07))
         self.assertEqual(chooser.chosen(bytes([2] * 144)), Chosen(0, 0x20, 0x20))
-
-    def test_a_letter_with_a_dot_too_many_is_found_with_its_error(self) -> None:
+        # One with a dot too many is found with its error.
         cell = bytearray(self.cell(0x41, 1, 0))
         self.assertEqual(cell[8], 0)
         cell[8] = 1
@@ -450,15 +466,8 @@ class Text(unittest.TestCase):
         found = self.chooser(*colours).chosen(cell)
 
         def error(character: int, front: int, back: int) -> int:
-            glyph = [FONT[256 * 22 + 16 * character + y] for y in range(16)]
-            bits = [[byte >> 7 - x & 1 for x in (*range(8), 7)] for byte in glyph]
-            if not 0xC0 <= character < 0xE0:
-                bits = [[*line[:8], 0] for line in bits]
-            shown_numbers = [front if bit else back for line in bits for bit in line]
-            return sum(
-                2 * (r - p) ** 2 + 4 * (g - q) ** 2 + (b - s) ** 2
-                for (r, g, b), (p, q, s) in ((colours[one], colours[other]) for one, other in zip(shown_numbers, cell))
-            )
+            dots = ((colours[one], colours[other]) for one, other in zip(self.cell(character, front, back), cell))
+            return sum(2 * (r - p) ** 2 + 4 * (g - q) ** 2 + (b - s) ** 2 for (r, g, b), (p, q, s) in dots)
 
         least = min(error(character, front, back) for character in range(256) for front in range(4) for back in range(4))
         self.assertEqual((found.error, error(found.character, found.attribute & 15, found.attribute >> 4)), (least, least))
@@ -508,37 +517,6 @@ class Text(unittest.TestCase):
         dots[0][1] = next(colour for colour in dots[5] if colour not in (dots[0][0], dots[0][1]))
         said = made_of(png_of(dots), "--mode", "3")[0]
         self.assertRegex(said, r"^mode 3: 720x400, 16 colours, 1,999 of 2,000 cells fit; ")
-
-
-class Sizes(unittest.TestCase):
-    RED, BLUE = (63, 0, 0), (0, 0, 63)
-
-    def test_stretched(self) -> None:
-        said, text = made_of(png_of([[self.RED, self.BLUE]]), "--mode", "0D", "--scale")
-        self.assertEqual(drawn(text)[0], shown([[self.RED] * 160 + [self.BLUE] * 160] * 200, 1, 2))
-        self.assertIn("mode 0D: 2x1 stretched to 320x200, 2 colours; ", said)
-
-    def test_between_bars(self) -> None:
-        # A screen is four wide and three high: eight by three take half its height, one by one three quarters of its width.
-        black = (0, 0, 0)
-        for dots, told, words, rows in (
-            ([[self.RED, self.BLUE] * 4] * 3, "8x3 stretched to 320x100, with bars of 000000 to 320x200", (),
-             [[black] * 320] * 50 + [[*[self.RED] * 40, *[self.BLUE] * 40] * 4] * 100 + [[black] * 320] * 50),
-            ([[self.RED, self.RED, self.BLUE]] * 2, "3x2 stretched to 320x177, with bars of 000000 to 320x200", (),
-             [[black] * 320] * 11 + [[self.RED] * 213 + [self.BLUE] * 107] * 177 + [[black] * 320] * 12),
-            ([[self.RED], [self.BLUE]], "1x2 stretched to 120x200, with bars of 8000FF to 320x200", ("--bars", "#8000fF"),
-             [[(32, 0, 63)] * 100 + [self.RED] * 120 + [(32, 0, 63)] * 100] * 100
-             + [[(32, 0, 63)] * 100 + [self.BLUE] * 120 + [(32, 0, 63)] * 100] * 100),
-        ):
-            with self.subTest(told):
-                for image in (png_of(dots), ppm_of(dots)):
-                    said, text = made_of(image, "--mode", "13", "--fit", *words)
-                    self.assertIn(f"mode 13: {told}, 3 colours; ", said)
-                    self.assertEqual(drawn(text)[0], shown(rows, 2, 2))
-
-    def test_a_dot_is_the_one_under_its_middle(self) -> None:
-        few = [[(at // 60, 0, 0) for at in range(960)]] * 2
-        self.assertEqual(drawn(script(png_of(few), "--mode", "13", "--scale"))[0], shown([few[0][1::3]] * 200, 2, 2))
 
 
 class Examples(unittest.TestCase):

@@ -49,8 +49,6 @@ class Specimens(Folder):
             self.assertEqual((status, output), (1, ""))
             self.assertIn(f"preview.py: specimen-8.png is not written: {why}\n", said)
 
-
-class Fonts(Folder):
     def test_the_art_is_no_output(self) -> None:
         fonts = self.folder / "fonts"
         shutil.copytree(PREVIEW.parent, fonts)

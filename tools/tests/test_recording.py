@@ -6,6 +6,7 @@ import gzip
 import os
 import re
 import struct
+import tempfile
 import unittest
 import zlib
 from functools import partial
@@ -14,7 +15,6 @@ from unittest import mock
 
 from vga_report.reports import Held
 from vga_trace import recording
-from vga_trace.command import main
 from vga_trace.known import ALLOWED, PAGE, SEEN, Names, Screen, known, whole_rows
 from vga_trace.passing import Clocked
 from vga_trace.recording import PHASES, Deed, Machine, Session
@@ -24,9 +24,8 @@ from vga_trace.step import ADVANCE, FRAME, IN, OUT, PUT, Step
 from vga_trace.trace import SCREEN
 from zaklimot.format import Picture
 
-from .making import BLACK, RED, WHITE, png_rows, ppm
 from .test_trace import BEGIN, listed, qemu, registers
-from .tools import TOP, Folder, call, hold, refused, run_tool
+from .tools import BLACK, RED, TOP, WHITE, Folder, hold, png_rows, ppm, run_tool
 
 run = partial(run_tool, "vga-trace")
 PICTURE = ppm(3, 2, RED * 3 + WHITE * 3)
@@ -67,7 +66,8 @@ with connection, connection.makefile("rw") as monitor:
             log.flush()
         if name == "send-key" and "-dies" in sys.argv:
             sys.exit()
-        monitor.write('{"return": {}}\\n')
+        answer = '{"error": {"desc": "there is none"}}' if "-refuses" in sys.argv else '{"return": {}}'
+        monitor.write('{"event": "STOP"}\\n' + answer + "\\n")
         monitor.flush()
         if name == "quit" and "-stays" in sys.argv:
             threading.Event().wait(60)
@@ -86,19 +86,22 @@ class Recorded(Folder):
         self.program("bin/qemu-system-x86_64", QEMU)
         path = f"{self.folder / 'bin'}:{os.environ['PATH']}"
         self.patch(mock.patch.dict(os.environ, PATH=path, FAKE=str(self.folder), TMPDIR=self.temporary()))
-        self.write("lines", LINES)
-        self.write("screen", PICTURE)
-        self.into = self.folder / "into"
 
     def record(
-        self, *options: str, screens: bool = True, words: tuple[str, ...] = ("-cdrom", "disc"),
-        picture: bytes = PICTURE, steps: tuple[int, ...] = (1,),
+        self, *options: str, words: tuple[str, ...] = ("-cdrom", "disc"), lines: bytes = b"", screen: bytes = PICTURE,
+        picture: bytes = PICTURE, steps: tuple[int, ...] = (1,), program: str = "",
     ) -> tuple[int, list[str], str]:
-        """Exit status, lines and what is said of a recording whose script has so many steps before each of its screens."""
-        answers = [answer for count in steps for answer in ["ok"] * count + [picture] * PHASES * bool(screens)]
-        program = self.answering(*answers, picture)
-        done = run("record", self.into, "--vga", program, "--quiet", "0.2", "--seconds", "20", *options, "--", *words)
-        return done[0], done[1].decode().splitlines(), done[2]
+        """Exit status, lines and what is said of a recording in a new folder.
+
+        The log of the machine has more lines. The program answers so many steps before each of its screens.
+        """
+        self.write("lines", LINES + lines)
+        self.write("screen", screen)
+        self.into = Path(tempfile.mkdtemp(dir=self.folder), "into")
+        answers = [answer for count in steps for answer in ["ok"] * count + [picture] * PHASES]
+        options = ("--vga", program or self.answering(*answers, picture), "--quiet", "0.2", "--seconds", "20", *options)
+        status, output, said = run("record", self.into, *options, "--", *words)
+        return status, output.decode().splitlines(), said
 
     def asked(self) -> list[str]:
         """What the machine was asked, but for the phases of screens."""
@@ -117,71 +120,41 @@ class Recorded(Folder):
         self.assertEqual(kept, qemu("write 3c2 67 1") + PHASES * (SCREEN + b"\n"))
         self.assertEqual(self.asked(), ["qmp_capabilities", "screen", "quit"])
 
-    def test_a_screen_that_differs_is_told_with_its_place(self) -> None:
-        other = ppm(3, 2, RED * 3 + WHITE + BLACK + BLACK)
-        status, lines, _ = self.record(picture=other)
-        self.assertEqual(status, 1)
-        self.assertTrue(lines[-2].endswith("after cycle 1: 2 of 6 dots differ, in columns 1 to 2 and rows 1 to 1"), lines)
-        self.assertIn("may be what is known of qemu: palette address source", lines[-1])
-        self.assertTrue((self.into / "differing-1.png").exists())
-
-    def test_a_screen_that_lacks_a_row_which_is_not_whole(self) -> None:
-        lines = LINES + qemu("write 3d4 209 2") + qemu("write 3c0 20 1")
-        whole, part = RED * 3 + WHITE * 3 + RED * 3, BLACK * 3
-        other = RED * 3 + WHITE * 3 + RED * 2 + WHITE
-        for number, (shown, told, names) in enumerate((
-            (whole, "it lacks the last 1 of 4 lines; the others are equal, 3x3, six bits a component", 1),
-            (other, "it lacks the last 1 of 4 lines; 1 of 9 dots differ, in columns 2 to 2 and rows 2 to 2", 2),
-        )):
-            self.write("lines", lines)
-            self.write("screen", ppm(3, 3, shown))
-            self.into = self.folder / f"into{number}"
-            status, said, _ = self.record(picture=ppm(3, 4, whole + part), steps=(3,))
-            self.assertEqual((status, said[2].partition(": ")[2]), (1, told), said)
-            known_of_qemu = "  is what is known of qemu: last row of text that isn't whole; docs/EMULATORS.md tells of it"
-            self.assertEqual((said[3], len(said)), (known_of_qemu, 3 + names))
-            self.assertEqual((self.into / "differing-1.png").exists(), names == 2)
+    def test_screens_that_differ_are_told_with_what_is_known(self) -> None:
+        split = b"".join(qemu(f"write {cycle} 2") for cycle in ("3ce 106", "3d4 107", "3d4 109", "3d4 218"))
+        vbe = qemu("write 1ce 4 2", "vbe") + qemu("write 1cf 41 2", "vbe")
+        chained, memory = qemu("write 3c4 f02 2") + qemu("write 3c4 e04 2"), qemu("write a0000 1 1", "vga-chain4")
+        rows, whole = qemu("write 3d4 209 2") + qemu("write 3c0 20 1"), RED * 3 + WHITE * 3 + RED * 3
+        black, small, four = ppm(3, 2, BLACK * 6), ppm(5, 1, RED * 5), ppm(3, 4, whole + BLACK * 3)
+        known_of_qemu = "  {} what is known of qemu: {}; docs/EMULATORS.md tells of it".format
+        usual, line = (known_of_qemu("may be", f"{front}underline") for front in ("palette address source, ", ""))
+        last = known_of_qemu("is", "last row of text that isn't whole")
+        all_dots, lacks = "6 of 6 dots differ, in columns 0 to 2 and rows 0 to 1", "it lacks the last 1 of 4 lines; "
+        size = "another size: they have {} dots, and neither is the other with dots repeated".format
+        for count, lines, picture, screen, *told in (
+            (1, b"", ppm(3, 2, RED * 3 + WHITE + BLACK * 2), PICTURE,
+             "2 of 6 dots differ, in columns 1 to 2 and rows 1 to 1", usual),
+            (5, split, picture_of("aab aabbc").ppm, picture_of("aab abbcc").ppm,
+             "4 of 16 dots differ, in columns 0 to 1 and rows 4 to 6", known_of_qemu("is", "split within a row")),
+            (1, vbe, black, PICTURE, all_dots, "  VBE is on: what qemu shows is no VGA's"),
+            (3, chained, black, PICTURE,
+             all_dots, "  chain 4 is on, and no memory was recorded since: --chain-4 does so"),
+            (4, chained + memory, black, PICTURE, all_dots, usual),
+            (1, b"", small, PICTURE, size("5x1 and 3x2"), usual), (3, rows, four, small, size("3x4 and 5x1"), line),
+            (3, rows, four, ppm(3, 3, whole), lacks + "the others are equal, 3x3, six bits a component", last),
+            (3, rows, four, ppm(3, 3, whole[:-3] + WHITE),
+             lacks + "1 of 9 dots differ, in columns 2 to 2 and rows 2 to 2", last, line),
+        ):
+            with self.subTest(told):
+                status, shown, said = self.record(lines=lines, screen=screen, picture=picture, steps=(count,))
+                self.assertEqual((status, [shown[2].partition(": ")[2], *shown[3:]]), (1, told))
+                self.assertEqual("cycle 3 turns VBE on" in said, lines == vbe)
+                self.assertEqual((self.into / "differing-1.png").exists(), "dots differ" in told[0])
         self.assertEqual(png_rows((self.into / "differing-1.png").read_bytes())[:2], (3, 3))
-        self.write("screen", ppm(5, 1, RED * 5))
-        self.into = self.folder / "other"
-        status, said, _ = self.record(picture=ppm(3, 4, whole + part), steps=(3,))
-        self.assertIn("another size: they have 3x4 and 5x1 dots", said[2])
-        self.assertNotIn("last row", said[3])
 
-    def test_a_screen_whose_split_begins_within_a_row(self) -> None:
-        graphics = [qemu(f"write {cycle} 2") for cycle in ("3ce 106", "3d4 107", "3d4 109", "3d4 218")]
-        self.write("lines", LINES + b"".join(graphics))
-        self.write("screen", picture_of("aab abbcc").ppm)
-        status, lines, _ = self.record(picture=picture_of("aab aabbc").ppm, steps=(5,))
-        self.assertTrue(lines[-2].endswith("4 of 16 dots differ, in columns 0 to 1 and rows 4 to 6"), lines)
-        told = "  is what is known of qemu: split within a row; docs/EMULATORS.md tells of it"
-        self.assertEqual((status, lines[-1]), (1, told))
-
-    def test_a_screen_of_another_size_and_a_frame_without_a_picture(self) -> None:
-        status, lines, _ = self.record(picture=ppm(5, 1, RED * 5))
-        self.assertEqual((status, "another size: they have 5x1 and 3x2 dots" in lines[-2]), (1, True))
-        self.into = self.folder / "again"
-        program = self.answering("ok", *["ragged"] * (PHASES + 1))
-        done = run("record", self.into, "--vga", program, "--quiet", "0.2", "--", "-cdrom", "disc")
-        self.assertEqual(done[0], 1)
-        self.assertTrue(done[1].endswith(b"here no frame has the shape of a picture\n"))
-
-    def test_a_screen_of_vbe(self) -> None:
-        self.write("lines", LINES + qemu("write 1ce 4 2", "vbe") + qemu("write 1cf 41 2", "vbe"))
-        status, lines, said = self.record(picture=ppm(3, 2, BLACK * 6))
-        self.assertEqual((status, lines[-1]), (1, "  VBE is on: what qemu shows is no VGA's"))
-        self.assertIn("cycle 3 turns VBE on", said)
-
-    def test_a_screen_of_chain_4_without_its_memory(self) -> None:
-        chained = qemu("write 3c4 f02 2") + qemu("write 3c4 e04 2")
-        for number, (memory, told) in enumerate((
-            (b"", "  chain 4 is on, and no memory was recorded since: --chain-4 does so"),
-            (qemu("write a0000 1 1", "vga-chain4"), "palette address source"),
-        )):
-            self.into = self.folder / f"into{number}"
-            self.write("lines", LINES + chained + memory)
-            status, lines, _ = self.record(picture=ppm(3, 2, BLACK * 6), steps=(3 + bool(memory),))
-            self.assertEqual((status, told in lines[-1]), (1, True), lines)
+    def test_a_frame_without_a_picture(self) -> None:
+        status, lines, _ = self.record(program=self.answering("ok", *["ragged"] * (PHASES + 1)))
+        self.assertEqual((status, lines[-1].rpartition(": ")[2]), (1, "here no frame has the shape of a picture"))
 
     def test_keys_and_screens_in_their_order_and_time(self) -> None:
         words = ("--screen", "quiet", "--key", "0.1:c,ctrl-l", "--screen", "0.2", "--key", "ret")
@@ -195,47 +168,37 @@ class Recorded(Folder):
     def test_a_machine_that_is_never_quiet_ends(self) -> None:
         status, _, said = self.record("--quiet", "50", "--seconds", "1")
         self.assertEqual((status, said), (0, "vga-trace: the software was still busy when its screen was taken\n"))
-        self.into = self.folder / "again"
-        status, _, said = self.record("--quiet", "50", "--seconds", "1", "--key", "ret")
+        said = self.record("--quiet", "50", "--seconds", "1", "--key", "ret")[2]
         self.assertIn("seconds were over before it was time for the keys ret", said)
 
     def test_a_machine_that_ends_by_itself(self) -> None:
-        status, lines, said = self.record("--key", "ret", words=("-dies",))
-        self.assertEqual(status, 2)
-        self.assertIn("qemu: its monitor doesn't do send-key", said)
-        self.assertFalse(self.into.exists())
-        status, lines, said = self.record("--screen", "10", words=("-leaves",), screens=False)
+        status, lines, said = self.record("--screen", "10", words=("-leaves",), program=self.answering("ok", PICTURE))
         self.assertRegex(said, r"^vga-trace: the machine ended by itself after \d\.\d seconds\n$")
         self.assertEqual((status, lines[1]), (1, "2 steps, 0 refused, 0 reads answered, 0 differ"))
 
-    def test_a_machine_that_does_not_begin(self) -> None:
-        told = "vga-trace: qemu-system-x86_64: it doesn't begin: there is no such disc\n"
-        for words in (("-ends",), ("-ends", "-late")):
-            status, _, said = self.record(words=words)
-            self.assertEqual((status, said, self.into.exists()), (2, told, False))
+    def test_machines_that_are_given_up(self) -> None:
+        front, usual = "qemu-system-x86_64: ", ("MOST_LINES", 1 << 20)
+        begins, first = f"{front}it doesn't begin: there is no such disc\n", "qmp_capabilities"
+        for words, limit, told, last in (
+            (("-ends",), usual, begins, ""), (("-ends", "-late"), usual, begins, ""),
+            (("-cdrom",), ("MOST_LINES", 100), f"{front}its trace has more than 100 bytes: end it sooner\n", first),
+            (("-dies",), usual, "qemu: its monitor doesn't do send-key", "send-key ret"),
+            (("-refuses",), usual, f"qemu: its monitor doesn't do {first}: there is none\n", first),
+            (("-stays",), ("ANSWERING", 2), f"{front}it doesn't end within 2 seconds\n", "quit"),
+        ):
+            with self.subTest(words), mock.patch.object(recording, *limit):
+                status, lines, said = self.record("--key", "ret", words=words, lines=LINES * 2)
+                self.assertEqual((status, lines, self.into.exists()), (2, [], False), said)
+                self.assertTrue(said.startswith(f"vga-trace: {told}"), said)
+                if last:
+                    self.assertEqual(self.asked()[-1], last)
+                    self.assert_ended(int((self.folder / "number").read_text()))
 
     def test_a_program_that_fails_leaves_the_trace(self) -> None:
         program = self.program("vga", "#!/bin/sh\necho oh >&2\nexit 3\n")
-        status, _, said = run("record", self.into, "--vga", program, "--quiet", "0.2", "--", "-cdrom", "disc")
+        status, _, said = self.record(program=program)
         self.assertEqual((status, said), (2, f"vga-trace: {program}: it ended with status 3: oh\n"))
         self.assertEqual(sorted(path.name for path in self.into.iterdir()), ["script.bin", "trace.gz"])
-
-    def refused(self, name: str, value: float, word: str) -> str:
-        """What is said of a machine that is given up, with a limit changed."""
-        self.patch(mock.patch.object(recording, name, value))
-        options = ("--vga", self.answering("ok"), "--quiet", "0.2")
-        status, _, said = call(main, "record", self.into, *options, "--", word)
-        self.assertEqual((status, self.into.exists()), (2, False))
-        self.assert_ended(int((self.folder / "number").read_text()))
-        return said
-
-    def test_more_lines_than_are_kept(self) -> None:
-        self.write("lines", LINES * 3)
-        self.assertIn("its trace has more than 100 bytes: end it sooner", self.refused("MOST_LINES", 100, "-cdrom"))
-        self.assertEqual(self.asked(), ["qmp_capabilities"])
-
-    def test_a_machine_that_does_not_end(self) -> None:
-        self.assertIn("qemu-system-x86_64: it doesn't end within 2 seconds", self.refused("ANSWERING", 2, "-stays"))
 
 
 class Parts(unittest.TestCase):
@@ -259,10 +222,6 @@ class Parts(unittest.TestCase):
         text += qemu("write b8001 1f 1", "vga-lowmem") + mark
         steps = ["frame", "out 3C2 67", "frame", "frame", "put B8000 41", "frame", "put B8001 1F", "frame", "frame"]
         self.assertEqual(listed(text, frames="screens"), steps)
-
-    def test_none_in_the_plain_form(self) -> None:
-        told = refused(partial(listed, BEGIN + SCREEN + b"\n", frames="screens"))
-        self.assertRegex(told, "^trace:2: it is no cycle")
 
     def test_the_dump_of_which_fewer_dots_differ(self) -> None:
         other, far, near = Held(None, ""), Held(5, ""), Held(3, "")
@@ -374,10 +333,12 @@ class RealTime(Folder):
     # Dots of a frame, and its microseconds.
     DOTS, FRAME = 900 * 449, 900 * 449 / 28.322
 
-    def frames(self, *frames: float, longest: float = 1) -> tuple[list[tuple[int, int]], Clocked]:
-        """The frames and dots that pass where something is written at so many frames' times."""
-        steps = registers(0x67, 0)
-        steps[0] = steps[0]._replace(time=0)
+    def frames(
+        self, *frames: float, longest: float = 1, reads: tuple[float, ...] = ()
+    ) -> tuple[list[tuple[int, int]], Clocked]:
+        """The frames and dots that pass where something is read, and then written, at so many frames' times."""
+        steps = [step._replace(time=0) for step in registers(0x67, 0)]
+        steps += [Step(IN, 0x3DA, 0, round(at * self.FRAME)) for at in reads]
         steps += [Step(PUT, 0xA0000, 1, round(at * self.FRAME)) for at in frames]
         clocked = Clocked(longest)
         return [step[:2] for step in clocked.steps(steps) if step.opcode in (ADVANCE, FRAME)], clocked
@@ -397,10 +358,7 @@ class RealTime(Folder):
         self.assertEqual(count + dots // self.DOTS, 60)
 
     def test_reads_make_no_frame(self) -> None:
-        steps = [step._replace(time=0) for step in registers(0x67, 0)]
-        steps += [Step(IN, 0x3DA, 0, round(at * self.FRAME)) for at in (1.2, 2.5, 3.5)]
-        steps.append(Step(PUT, 0xA0000, 1, round(4.5 * self.FRAME)))
-        frames = [step[:2] for step in Clocked(1).steps(steps) if step.opcode in (ADVANCE, FRAME)]
+        frames, _ = self.frames(4.5, reads=(1.2, 2.5, 3.5))
         self.assertEqual(frames, [(FRAME, 0), (ADVANCE, 3 * self.DOTS)])
 
     def test_long_silences_are_cut_and_told(self) -> None:
@@ -435,5 +393,3 @@ class RealTime(Folder):
         program = self.program("vga", "#!/bin/sh\nexit 3\n")
         status, _, said = run("pictures", trace, self.folder / "pictures", "--vga", program)
         self.assertEqual((status, said.startswith("vga-trace: ")), (2, True), said)
-        told = "vga-trace: the pictures want a folder, or --apng a file\n"
-        self.assertEqual(run("pictures", trace, "--vga", program)[2], told)

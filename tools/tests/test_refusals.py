@@ -1,17 +1,32 @@
-"""Why steps are refused: in the page's words, for the same cases."""
+"""Why steps are refused, why lines are no steps and texts no scripts: in the page's words, for the same cases."""
 
 import json
 import unittest
+from itertools import product
 from pathlib import Path
 from typing import Sequence
 
+from vga_report import TOP
+from vga_report.faults import Files, explained
+from vga_report.mistakes import mistake_in
 from vga_report.refusals import OF_CALLS, State, why_refused
 from zaklimot.format import REFUSALS, Answer
 
-from .program import run_texts
+from .tools import Folder, hold, run_texts
 
+HERE = Path(__file__).parent
 # Scripts whose last step is refused, the answer, and why; the page's tests read them too.
-CASES = json.loads(Path(__file__).with_name("refusals.json").read_text("utf-8"))
+CASES = json.loads((HERE / "refusals.json").read_text("utf-8"))
+# The bad lines and texts with their reasons, which the page's tests read too: so both tell the same.
+TABLE = json.loads((HERE / "mistakes.json").read_text("utf-8"))
+# A word of the table that stands for this many digits.
+LONG, DIGITS = "LONG", "0" * 131_072
+# A bad line, the part of it that is marked (nothing: the place behind it), and what is said.
+LINES = [
+    (row["line"].replace(LONG, DIGITS), row["part"].replace(LONG, DIGITS), row["reason"]) for row in TABLE["lines"]
+]
+# Whole texts whose first line shows what is wrong with all of it, and what is said.
+TEXTS = [(bytes.fromhex(row["hex"]), row["reason"]) for row in TABLE["texts"]]
 
 # What a step answers that was done.
 DONE = Answer(1, 1, "ok")
@@ -47,12 +62,73 @@ class Refusals(unittest.TestCase):
         self.assertEqual(state.why("in 3C1", 2), "")
 
     def test_steps_that_the_adapter_does_not_refuse_so(self) -> None:
-        for words in ("frame", "show regs", "advance 5", "int ax=3"):
-            for number in (1, 2):
-                self.assertEqual(why_refused(words, number, State()), "", words)
+        for words, number in product(("frame", "show regs", "advance 5", "int ax=3"), (1, 2)):
+            self.assertEqual(why_refused(words, number, State()), "", words)
 
     def test_the_program_refuses_each(self) -> None:
         ran = run_texts({case["text"]: case["text"].encode() + b"\n" for case in CASES})
         for case in CASES:
             answer = ran[case["text"]].report.decode("ascii").splitlines()[-1].partition(" ")[2]
             self.assertEqual(answer, case["answer"], case["text"])
+
+
+class Mistakes(unittest.TestCase):
+    def test_each_is_told_below_its_word_and_good_lines_have_none(self) -> None:
+        for line, part, said in LINES:
+            with self.subTest(line[:60]):
+                mistake = mistake_in(line)
+                assert mistake is not None
+                self.assertEqual(mistake.reason, said)
+                if part:
+                    self.assertEqual(line[mistake.at:mistake.at + mistake.width], part)
+                else:
+                    self.assertEqual(mistake.at, len(line.partition(";")[0].rstrip()))
+        self.assertGreaterEqual(len(LINES), 60)
+        hold(self, mistake_in, ((line, None) for line in TABLE["good"]))
+
+    def test_the_program_refuses_each(self) -> None:
+        texts = {f"line-{at}": line.encode() + b"\n" for at, (line, _, _) in enumerate(LINES)}
+        texts.update({f"text-{at}": text for at, (text, _) in enumerate(TEXTS)})
+        hold(self, run_texts(texts).get, ((name, (1, b"", "vga: F7 BadLine(1)\n")) for name in texts))
+
+
+class Faults(Folder):
+    def told(self, fault: str, data: bytes, fonts: bytes = bytes(9728)) -> str:
+        """What is told of a fault of these files."""
+        return explained("vga: " + fault, Files(self.write("s", data), self.write("f", fonts)))
+
+    def test_what_is_told(self) -> None:
+        length, most = "bytes, and 9,728 are right", "16,777,216 bytes are the most"
+        hold(self, self.told, ((fault, *files, f"{self.folder / name}: {fault}: {reason}") for fault, name, reason, *files in (
+            *(("F7 BadLine(1)", "s:1", reason, text) for text, reason in TEXTS),
+            ("F7 BadLine(1)", "s:1", "this is not a script, but a font file", (TOP / "fonts" / "zaklimot.fnt").read_bytes()),
+            # A mark stands below a line.
+            ("F7 BadLine(2)", "s:2", "numbers are hexadecimal digits alone: write 3C4\n  out 0x3C4 02\n      ^^^^^",
+             b"frame\nout 0x3C4 02\n"),
+            *((f"F7 BadLine({row['number']})", f"s:{row['number']}",
+               f"{row['reason']}\n  {row['text'].splitlines()[row['number'] - 1]}", row["text"].encode())
+              for row in TABLE["blocks"]),
+            *((row["fault"], "s", row["reason"], bytes.fromhex(row["hex"])) for row in TABLE["scripts"]),
+            # What is not known.
+            ("F7 BadLine(1)", "s:1", "refused, and I can't say why\n  frame", b"frame\n"),
+            ("F14 Strange(3)", "s", "refused, and I can't say why", b""),
+            # Fonts of another length.
+            ("F1 FontSize", "f", f"the font file has 3 {length}", b"", b"123"),
+            ("F1 FontSize", "f", f"the font file has 5 {length}; it is a script of bytes", b"", b"VGAS\x01"),
+            ("F1 FontSize", "f", f"the font file has 4,096 {length}; a font of 16 rows alone has so many, and a font "
+             "file has those of 8, 14 and 16 rows", b"", bytes(4096)),
+            # What is too long.
+            ("F6 TooLong", "s", f"the file has more bytes, and {most}", bytes(16_777_217)),
+            ("F6 TooLong", "s", f"the steps of the text have more bytes, and {most}", b"int\n"),
+        )))
+
+    def test_files_that_cannot_be_read(self) -> None:
+        script, fonts = str(self.folder / "s"), self.write("f", bytes(9728))
+        for make, path, reason in (
+            (lambda: None, script, "the script can't be read: there is no such file"),
+            (lambda: (self.folder / "s").mkdir(), script, "the script can't be read: it is a folder"),
+            (lambda: (self.folder / "f").unlink(), fonts, "the font file can't be read: there is no such file"),
+        ):
+            make()
+            with self.subTest(reason):
+                self.assertEqual(explained("vga: F8 ReadFault", Files(script, fonts)), f"{path}: F8 ReadFault: {reason}")

@@ -8,10 +8,9 @@ import sys
 import unittest
 from pathlib import Path
 
-from .making import BLACK, ppm, report
 from .test_floppy import machine
 from .test_images import png
-from .tools import TOP, Folder, run_tool
+from .tools import BLACK, TOP, Folder, ppm, report, run_tool
 
 # Each tool may take so much memory, in bytes.
 MEMORY = 1 << 30
@@ -31,7 +30,8 @@ for number in range(1, {PICTURES + 1} if sys.argv[1] == "go" else 1):
 FILES: dict[str, str | bytes] = {
     "r": report(PICTURE), "r2": report(OTHER), "i": PICTURE, "s.vga": "frame\n", "m": IMAGE,
     "t": "- w p 3C4 02 1\n", "empty/notes": "", "made/share": "", f"full/{FISH}/file": "",
-    "ok": report("ok", PICTURE), "none": report("ok"), "move.vga": "frame\nmove\n",
+    "ok": report("ok", PICTURE), "none": report("ok"), "move.vga": "frame\nmove\n", "font": bytes(9727),
+    "sizes": report(PICTURE, ppm(1, 1, BLACK)), "end.vga": "version 2\nend\n", "cut": b"VGAS\1\1",
 }
 NAMES = "out, outw, in, inw, put, putw, get, getw, advance, frame, int, show, version, repeat, end"
 MOVE = f"vga-floppy: {{move}}:2: F7 BadLine(2): there is no step 'move'; the steps are {NAMES}\n  move\n  ^^^^\n"
@@ -41,6 +41,7 @@ REFUSED = {
     "report run /dev/zero --vga /bin/true": "/dev/zero: F6 TooLong: a script has at most 16,777,216 bytes\n",
     "report run {s} --fonts /dev/zero --debug {o}": "/dev/zero: it has more than 16,777,216 bytes",
     "report text /dev/zero": "/dev/zero:1: the line is longer than any answer",
+    "report run /dev/zero --debug {o}": "/dev/zero: F6 TooLong: a script has at most 16,777,216 bytes\n",
     "report pictures {r} --apng {o} --script /dev/zero": "F6 TooLong: ",
     "report compare-picture {r} 1 /dev/zero": "/dev/zero: it has more than 67,108,864 bytes",
     "report check {r} /dev/zero": "/dev/zero:1: ",
@@ -67,6 +68,7 @@ REFUSED = {
     "report run {s} --pictures {r} --try": "r: it is not a folder",
     "report run {s} --pictures {s}": "it is not a folder",
     "report run {s} --html {s}/page --try": "there is no such folder",
+    "report scripts {d}/empty": "the folder has files, and none of them is to be lost",
     "report run {d}/empty": "it has no script: their names end with .vga or .bin",
     "report pictures {r} {r}": "vga-report: {r}: it is not a folder\n",
     "manual make {s} --vga {p}": "vga-manual: {s}: it is not a folder\n",
@@ -80,11 +82,16 @@ REFUSED = {
     # Files that are not there.
     "report text {o}": "vga-report: {o}: No such file or directory\n",
     "report run {s} --vga {o}": "vga-report: {o}: No such file or directory\n",
+    "report run {o} --debug {d}/page": "vga-report: {o}: No such file or directory\n",
     "trace kinds {o}": "vga-trace: {o}: No such file or directory\n",
+    "trace convert {t} {o}/script": "vga-trace: {o}/script: No such file or directory\n",
     "picture script {o} - --mode 13": "vga-picture: {o}: No such file or directory\n",
     "floppy make {o} {d}/image": "vga-floppy: {o}: No such file or directory\n",
     "floppy make {d} {o}": "vga-floppy: {d}: Is a directory\n",
     "floppy make {move} {o}": MOVE, "floppy make {move} {o}/image": MOVE, "floppy run --on dosbox {move}": MOVE,
+    "floppy make {end} {o}": "vga-floppy: {end}:2: F7 BadLine(2): no repeat is open here",
+    "floppy make {cut} {o}":
+        "vga-floppy: {cut}: F5 Truncated(5): the step out at offset 5 is cut off: the file ends after 1 of its bytes\n",
     "floppy read {t}": "vga-floppy: {t}: it is no image of vga-floppy\n",
     "floppy read --serial {t}": "vga-floppy: {t}: it holds no record of vga-floppy\n",
     "fuzz {o}": "it is no program",
@@ -107,6 +114,20 @@ REFUSED = {
     "report run - --vga {p} --watch": "--watch wants a file that changes",
     "report run - --vga {p} --junit {o}": "--junit wants a file or a folder",
     "report run {s} --html - --show": "--html writes a page that has the pictures",
+    **{f"report run {{s}} --debug {{o}} {words}": f"vga-report: --debug {told}: " for told, options in (
+        ("runs nothing here", ("--only 1", "--try", "--vga x")),
+        ("writes a page that runs the script", ("--bless", "--show", "--pictures p")),
+    ) for words in options},
+    "report run {s} --debug {o} --html -": "both want files",
+    "report run {s} --debug {o} --html {o}": "want two files",
+    "report run {s} --fonts {font} --debug {o}":
+        "vga-report: {font}: the font file has 9,727 bytes, and 9,728 are right\n",
+    "report pictures {sizes} --apng {o}":
+        "vga-report: step 2 has a picture of another size than step 1: --step picks those of one size\n",
+    "report pictures {ok} --apng {o} --script {i}": "vga-report: {i}:1: F7 BadLine(1): ",
+    "report pictures {ok} --apng {o} --script {move}": "vga-report: {move}:2: F7 BadLine(2): ",
+    "report pictures {ok} --apng {o} --script /dev/null": "vga-report: /dev/null: it is not the report's script: "
+        "step 2 has a picture, and is no frame of it\n",
     "report pictures {r}": "the pictures want a folder, or --apng a file",
     "report pictures {r} {o} --apng {o}": "--apng writes one file, with neither a folder nor --ppm",
     "report pictures {r} {o} --ppm --aspect": "--ppm gives the bytes as they are",
@@ -117,6 +138,7 @@ REFUSED = {
     "report scripts {s}": "vga-report: {s}: it is not a folder\n",
     "trace": "usage: vga-trace",
     "trace convert {t}": "usage: vga-trace",
+    "trace pictures {t}": "vga-trace: the pictures want a folder, or --apng a file\n",
     "trace convert {t} {o} --frames 0": "'0' is no number of seconds",
     "trace kinds {t} --to 0": "argument --to: '0' is no number",
     "trace kinds {t} --from 300 --to 100": "--from 300 is after --to 100: no cycle is both",
@@ -146,6 +168,11 @@ REFUSED = {
     "trace record {o} --screen soon": "'soon' is no number of seconds",
     "trace convert - - --time --frames clock":
         "vga-trace: frames by the clock have the time already: without --time\n",
+    "page make x --proof p": "vga-page: --proof keeps a proof of --gated",
+    "page module x --proof p": "vga-page: --proof keeps a proof of --gated",
+    "page make x --module m --gated": "vga-page: --module takes a module as it is",
+    "page make {o} --module {t}": "it is no WebAssembly module",
+    "library-tests --target aarch64 --only pc": "vga-library-tests: pc: there is no such check for aarch64\n",
     # Numbers have ranges.
     "report run {s} --until -1 --vga {p}": "'-1' is no number from 0 to 4294967295\n",
     **{
@@ -192,6 +219,8 @@ READ_AND_WRITTEN = [
     ("report run {s} --vga {in} --html {out}", PROGRAM, "out"),
     ("report run {s} --vga {in} --debug {out} --html {o}", PROGRAM, "out"),
     ("report run {in} --vga {p} --html {out}", "frame\n", "out"),
+    ("report run {in} --debug {out}", "frame\n", "out"),
+    ("report run {s} --fonts {in} --debug {out}", bytes(9728), "out"),
     ("report pictures {r} --apng {out} --script {in}", "frame\n", "out"),
     ("report pictures {in} --apng {out}", report(PICTURE), "out"),
     ("report pictures {in} {d} --ppm", report(PICTURE), "0001.ppm"),
@@ -219,9 +248,9 @@ class Refused(Folder):
         self.places = {name.removesuffix(".vga"): str(self.folder / name) for name in (*FILES, "o", "in")}
         self.places.update(p=self.program("p", PROGRAM), d=str(self.folder))
 
-    def files(self) -> list[Path]:
-        """All that is in the folder."""
-        return sorted(self.folder.rglob("*"))
+    def files(self) -> dict[Path, int]:
+        """All that is in the folder, with the times at which it was written."""
+        return {path: path.lstat().st_mtime_ns for path in self.folder.rglob("*")}
 
     def said(self, words: str) -> tuple[bytes, str]:
         """What a tool writes and says that is to do nothing, with little memory and no input."""

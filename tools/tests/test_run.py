@@ -1,5 +1,7 @@
 """Scripts beside their answers, and beside those that they expect; scripts of a folder."""
 
+from __future__ import annotations
+
 import io
 import json
 import os
@@ -21,13 +23,12 @@ from vga_report.program import Tried, build_program
 from vga_report.progress import Progress
 from vga_report.report import Report
 from vga_report.script import expected_in
-from vga_report.trouble import Trouble
 from zaklimot.format import Answer, count_in, steps_in
 
-from .making import BLACK, RED, ppm, stream
-from .program import run_texts
 from .test_command import run
-from .tools import EXAMPLES, TOP, Folder, begin, hold, refused, run_tool
+from .tools import (
+    BLACK, EXAMPLES, RED, TOP, Folder, begin, hold, hold_refused, ppm, refused, run_texts, run_tool, stream,
+)
 
 # A program that understands texts of a few steps: `asm` copies, `dis` prints in upper case, `go` answers by the name.
 FAKE = """import sys
@@ -67,15 +68,22 @@ class Fake(Folder):
         self.vga = Path(self.program("vga", FAKE.format(picture=ppm(9, 1, RED * 4 + BLACK * 5))))
         self.path = self.write("s.vga", TEXT)
 
-    def change_program(self, old: str, new: str, more: str = "") -> None:
-        """Puts something else into the program, and something behind it."""
+    def change_program(self, old: str, new: str) -> None:
+        """Puts something else into the program."""
         text = self.vga.read_text()
         self.assertIn(old, text)
-        self.vga.write_text(text.replace(old, new) + more)
+        self.vga.write_text(text.replace(old, new))
 
-    def run_script(self, *words: str, path: str = "", given: bytes = b"") -> tuple[int, str, str]:
-        status, output, said = run("run", path or self.path, "--vga", str(self.vga), *words, given=given)
+    def run_script(self, *words: str | bytes, path: str | bytes = "", given: bytes = b"") -> tuple[int, str, str]:
+        """Exit status, output and standard error of a run in the folder, of the script above or of another one."""
+        words = ("run", path or self.path, "--vga", str(self.vga), *words)
+        status, output, said = run(*words, given=given, prepare=lambda: os.chdir(self.folder))
         return status, output.decode(), said
+
+    def run_text(self, text: str | bytes, *words: str) -> tuple[int, str, str]:
+        """The same of the script `t.vga` with this text."""
+        self.write("t.vga", text)
+        return self.run_script(*words, path="t.vga")
 
 
 @unittest.skipIf(sys.platform == "win32", "a script is a program on POSIX")
@@ -93,7 +101,20 @@ class Listings(Fake):
             "                                   b\n"
             "6 steps, 1 refused, 1 picture, 4 of 4 answers as expected\n"
         ), ""))
-        self.assertEqual(self.run_script(path="-", given=TEXT.encode())[1], self.run_script()[1])
+
+    def test_scripts_and_fonts_of_any_name(self) -> None:
+        listed, pipe = self.run_script(), self.folder / "pipe"
+        os.mkfifo(pipe)
+        with ThreadPoolExecutor(1) as pool:
+            pool.submit(pipe.write_text, TEXT)
+            self.assertEqual(self.run_script(path="pipe"), listed)
+        for name, data in ((b"s\xff", TEXT), (b"f\xff", "font")):
+            Path(os.fsdecode(bytes(self.folder) + b"/" + name)).write_text(data)
+        # As the program does, which wants words of UTF-8.
+        self.change_program("words = sys.argv[1:]", "words = sys.argv[1:]; ' '.join(words).encode()")
+        hold(self, lambda path, *words: self.run_script(*words, path=path, given=TEXT.encode()), (
+            ("-", listed), ("/dev/stdin", listed), (b"s\xff", "--fonts", b"f\xff", listed),
+        ))
 
     def shown(self, *words: str) -> list[str]:
         """The numbers of the steps that are shown."""
@@ -115,40 +136,19 @@ class Listings(Fake):
             self.assertEqual(lines[4].partition(",")[0], f"{4 + steps} steps")
 
     def test_pictures_as_files_and_as_blocks(self) -> None:
-        folder = self.folder / "p"
-        output = self.run_script("--pictures", str(folder), "--show")[1]
-        self.assertTrue((folder / "0004.png").exists())
-        self.assertIn(f"  {folder}/0004.png\n\x1b[38;2;255;0;0;48;2;255;0;0m\u2580", output)
-        self.assertTrue((folder / "0004.png").read_bytes().startswith(b"\x89PNG"))
-
-    def test_pictures_as_files_where_no_step_is_listed(self) -> None:
-        self.run_script("--pictures", str(self.folder / "quiet"), "--quiet")
-        self.assertTrue((self.folder / "quiet" / "0004.png").exists())
+        shown = self.run_script("--pictures", "p", "--show")[1]
+        self.assertIn("  p/0004.png\n\x1b[38;2;255;0;0;48;2;255;0;0m\u2580", shown)
+        # They are also written where no step is listed.
+        self.run_script("--pictures", "quiet", "--quiet")
+        for name in ("p", "quiet"):
+            self.assertTrue((self.folder / name / "0004.png").read_bytes().startswith(b"\x89PNG"))
 
     def test_a_fault_with_its_reason(self) -> None:
-        path = self.write("bad.vga", "frame\nmove 1\n")
         names = "out, outw, in, inw, put, putw, get, getw, advance, frame, int, show, version, repeat, end"
-        message = f"{path}:2: F7 BadLine(2): there is no step 'move'; the steps are {names}\n  move 1\n  ^^^^\n"
-        self.assertEqual(self.run_script(path=path), (2, "", "vga-report: " + message))
+        message = f"t.vga:2: F7 BadLine(2): there is no step 'move'; the steps are {names}\n  move 1\n  ^^^^\n"
+        self.assertEqual(self.run_text("frame\nmove 1\n"), (2, "", "vga-report: " + message))
         status, _, said = self.run_script(path="-", given=b"move\n")
         self.assertEqual((status, said.partition(": there")[0]), (2, "vga-report: standard input:1: F7 BadLine(1)"))
-
-    def test_a_script_of_a_pipe(self) -> None:
-        pipe = self.folder / "pipe"
-        os.mkfifo(pipe)
-        with ThreadPoolExecutor(1) as pool:
-            pool.submit(pipe.write_text, TEXT)
-            self.assertEqual(self.run_script(path=str(pipe)), self.run_script())
-
-    @unittest.skipUnless(Path("/dev/stdin").exists(), "this system has no name for standard input")
-    def test_standard_input_by_its_name(self) -> None:
-        _, output, _ = run_tool("vga-report", "run", "/dev/stdin", "--vga", self.vga, given=TEXT.encode())
-        self.assertEqual(output.decode(), self.run_script()[1])
-
-    def test_scripts_that_can_not_be_read(self) -> None:
-        message = f"vga-report: {self.folder}: the script can't be read\n"
-        self.change_program("", "", "sys.exit('the script can\\'t be read')\n")
-        self.assertEqual(self.run_script(path=self.path)[2], message.replace(str(self.folder), self.path))
 
     def test_no_toolchain(self) -> None:
         told = (
@@ -163,34 +163,32 @@ class Listings(Fake):
         self.assertIn("## Build it\n", (TOP / "README.md").read_text("utf-8"))
 
     def test_a_release_has_no_sources(self) -> None:
-        with mock.patch("vga_report.program.CRATE", self.folder), mock.patch("vga_report.program.PROGRAM", self.folder / "none"):
+        with mock.patch.multiple(program, CRATE=self.folder, PROGRAM=self.folder / "none"):
             running = Tried().running(Path(self.path), self.path, None, False)
             for work, *words in ((running.__enter__,), (build_program, Progress())):
                 self.assertRegex(refused(work, *words), "^the program's sources in Rattle are not here")
 
-    def test_a_report_that_ends_before_its_script(self) -> None:
-        self.change_program("in enumerate(numbered[:stop], 1)", "in enumerate(numbered[:2], 1)")
-        status, output, said = self.run_script()
-        self.assertEqual((status, said), (2, f"vga-report: {self.path}: the report ends after 2 of 6 steps\n"))
+    def test_programs_that_do_not_do_it(self) -> None:
+        good = self.vga.read_text()
+        for text, told in (
+            (good + "sys.exit('the script can\\'t be read')\n", "the script can't be read"),
+            (good + "if words[0] == 'go': out.write(b'7 ok\\n')\n", "the report goes on after the last step, 6"),
+            ("#!/bin/true", "the report ends after 0 of 6 steps"),
+            (good.replace("[:stop], 1)", "[:2], 1)"), "the report ends after 2 of 6 steps"),
+        ):
+            self.vga.write_text(text)
+            status, output, said = self.run_script()
+            self.assertEqual((status, said), (2, f"vga-report: {self.path}: {told}\n"))
         self.assertIn("     4      2  GET A0000 ", output)
         self.assertEqual(self.run_script("--until", "2")[0], 0)
-        true = run("run", self.path, "--vga", "/bin/true")
-        self.assertEqual(true, (2, b"", f"vga-report: {self.path}: the report ends after 0 of 6 steps\n"))
-        self.assertEqual(run("run", self.write("none.vga", "; no step\n"), "--vga", "/bin/true")[0], 0)
+        self.assertEqual(self.run_text("; no step\n")[0], 0)
 
     def test_a_fault_in_the_place_of_a_report(self) -> None:
-        vga = self.program("faulty", "import sys\nif sys.argv[1] == 'go': print('F7 BadLine(2)')\n")
+        self.program("vga", "import sys\nif sys.argv[1] == 'go': print('F7 BadLine(2)')\n")
+        told = "vga-report: t.vga:2: F7 BadLine(2): "
         for text in ("frame\nmove\n", "; no step\n; no step\n"):
-            path = self.write("fault.vga", text)
-            told = f"vga-report: {path}:2: F7 BadLine(2): "
-            with self.subTest(text):
-                status, output, said = run("run", path, "--vga", vga)
-                self.assertEqual((status, output, said[:len(told)]), (2, b"", told))
-
-    def test_a_report_that_goes_on_behind_its_script(self) -> None:
-        self.change_program("", "", "if words[0] == 'go': out.write(b'7 ok\\n')\n")
-        status, _, said = self.run_script()
-        self.assertEqual((status, said), (2, f"vga-report: {self.path}: the report goes on after the last step, 6\n"))
+            status, output, said = self.run_text(text)
+            self.assertEqual((status, output, said[:len(told)]), (2, "", told), text)
 
     def test_long_scripts_take_no_longer_a_step(self) -> None:
         path = self.write("long.vga", "out 3c4 02\n" * 50_000)
@@ -198,115 +196,94 @@ class Listings(Fake):
         output = run("run", path, "--vga", self.vga, "--only", "50000", prepare=little)[1].decode()
         self.assertEqual(output.splitlines()[1:], [" 50000  50000  OUT 3C4 02          ok", "50000 steps, 0 pictures"])
 
-    def test_a_script_whose_name_is_no_text(self) -> None:
-        path, fonts = (os.fsencode(self.folder / name) + b"\xff" for name in ("s", "f"))
-        for name, data in ((path, TEXT.encode()), (fonts, b"font")):
-            with open(name, "wb") as stream:
-                stream.write(data)
-        # As the program does, which wants words of UTF-8.
-        self.change_program("words = sys.argv[1:]", "words = sys.argv[1:]; ' '.join(words).encode()")
-        _, output, _ = run("run", path, "--fonts", fonts, "--vga", self.vga)
-        self.assertEqual(output.decode(), self.run_script()[1])
-
     def test_answers_that_differ(self) -> None:
-        path = self.write("t.vga", "get 0 ; = 55\nget 1 ; = *\nframe ; = picture 9x2\n")
-        status, output, _ = self.run_script(path=path, *("--only", "differs"))
+        status, output, _ = self.run_text("get 0 ; = 55\nget 1 ; = *\nframe ; = picture 9x2\n", "--only", "differs")
         self.assertEqual(status, 1)
         self.assertIn("     1      1  GET 0               E6   not 55\n", output)
-        self.assertIn(f"{path}:1: step 1: GET 0 answers E6, not 55\n{path}:3: step 3: FRAME answers picture 9x1 ", output)
+        self.assertIn("t.vga:1: step 1: GET 0 answers E6, not 55\nt.vga:3: step 3: FRAME answers picture 9x1 ", output)
         self.assertTrue(output.endswith("3 steps, 1 picture, 1 of 3 answers as expected\n"))
 
+    def blessed(self, text: str, *words: str) -> tuple[int, str, str]:
+        """Exit status and output of a run that writes answers into a script, and the script then."""
+        status, output, _ = self.run_text(text, "--bless", *words)
+        return status, output, (self.folder / "t.vga").read_bytes().decode()
+
     def test_answers_are_written_in(self) -> None:
-        path = self.write("t.vga", "out 3C2 1\nget 0\r\nget 1 ; = 55 ; the byte\nget 2 ; = *\nint ax=3\nin 3DA  ; \u00e9\n")
-        before = (self.folder / "t.vga").read_bytes()
-        listed = f"{path}:2: nothing -> E6\n{path}:3: 55 -> E6\n{path}:6: nothing -> E1 NotDecoded\n{path}: 3 answers "
-        self.assertEqual(self.run_script("--bless", "--dry-run", path=path)[:2], (0, listed + "would be written\n"))
-        self.assertEqual((self.folder / "t.vga").read_bytes(), before)
-        self.assertEqual(self.run_script("--bless", path=path)[:2], (0, listed + "written\n"))
-        self.assertEqual((self.folder / "t.vga").read_bytes().decode(), (
+        text = "out 3C2 1\nget 0\r\nget 1 ; = 55 ; the byte\nget 2 ; = *\nint ax=3\nin 3DA  ; \u00e9\n"
+        whole = (
             "out 3C2 1\nget 0 ; = E6\r\nget 1 ; = E6 ; the byte\nget 2 ; = *\nint ax=3\n"
             "in 3DA  ; = E1 NotDecoded ; \u00e9\n"
+        )
+        # What is met stays as it is.
+        met = "frame ; = picture 9x1\nin 3DA ; = e1 notdecoded\nshow regs ; = 2 lines...\nint ; = ax=0003\n"
+        told = "t.vga:2: nothing -> E6\nt.vga:3: 55 -> E6\nt.vga:6: nothing -> E1 NotDecoded\nt.vga: 3 answers "
+        hold(self, self.blessed, (
+            (text, "--dry-run", (0, f"{told}would be written\n", text)), (text, (0, f"{told}written\n", whole)),
+            *((good, (0, "t.vga: 0 answers written\n", good)) for good in (whole, met)),
         ))
-        self.assertEqual(self.run_script("--bless", path=path)[:2], (0, f"{path}: 0 answers written\n"))
-
-    def test_expectations_that_are_met_stay_as_they_are(self) -> None:
-        path = self.write("t.vga", "frame ; = picture 9x1\nin 3DA ; = e1 notdecoded\nshow regs ; = 2 lines...\nint ; = ax=0003\n")
-        before = (self.folder / "t.vga").read_bytes()
-        self.assertEqual(self.run_script("--bless", path=path)[:2], (0, f"{path}: 0 answers written\n"))
-        self.assertEqual((self.folder / "t.vga").read_bytes(), before)
 
     def test_a_dump_that_stands_whole(self) -> None:
-        path = self.write("t.vga", "show regs ; more\n;| old\nget 0 ; = E6\n")
-        self.assertEqual(self.run_script("--bless", path=path)[0], 0)
-        blessed = "show regs ; = 2 lines dd8c6a395b5dd36c56d23275028f526c ; more\n;| a\n;| b\nget 0 ; = E6\n"
-        self.assertEqual((self.folder / "t.vga").read_text(), blessed)
-        self.assertEqual(self.run_script("--quiet", path=path)[:2], (0, f"{path}: 2 steps, 0 pictures, 2 of 2 answers as expected\n"))
-        self.write("t.vga", blessed.replace(";| b", ";| c"))
-        status, output, _ = self.run_script("--quiet", path=path)
+        whole = "show regs ; = 2 lines dd8c6a395b5dd36c56d23275028f526c ; more\n;| a\n;| b\nget 0 ; = E6\n"
+        self.assertEqual(self.blessed("show regs ; more\n;| old\nget 0 ; = E6\n")[::2], (0, whole))
+        good = (0, "t.vga: 2 steps, 0 pictures, 2 of 2 answers as expected\n", "")
+        self.assertEqual(self.run_text(whole, "--quiet"), good)
+        other = whole.replace(";| b", ";| c")
+        status, output, _ = self.run_text(other, "--quiet")
         self.assertEqual((status, output.split("6c: ")[1].splitlines()[0]), (1, "'b', not 'c'"))
-        counts = [self.run_script(word, path=path)[1].count("\n-;| c\n+;| b\n") for word in ("--diff", "--bless")]
-        self.assertEqual((counts, (self.folder / "t.vga").read_text()), ([1, 0], blessed))
+        counts = [self.run_text(other, word)[1].count("\n-;| c\n+;| b\n") for word in ("--diff", "--bless")]
+        self.assertEqual((counts, (self.folder / "t.vga").read_text()), ([1, 0], whole))
 
     def test_refusals_are_told_counted_and_expected(self) -> None:
-        path = self.write("t.vga", "in 60\nin 60\nin 61 ; = E1\n")
-        status, output, _ = self.run_script(path=path)
-        self.assertEqual((status, output.count("No part of the adapter decodes port 060."), output.count("port 061")), (1, 1, 1))
-        self.assertIn("IN 61 answers E1 NotDecoded, not E1: E1 is a byte that is read here; the refusal is written E1 NotDecoded\n", output)
+        text, decoded = "in 60\nin 60\nin 61 ; = E1\n", "No part of the adapter decodes port"
+        status, output, _ = self.run_text(text)
+        self.assertEqual((status, output.count(f"{decoded} 060."), output.count("port 061")), (1, 1, 1))
+        self.assertIn(" not E1: E1 is a byte that is read here; the refusal is written E1 NotDecoded\n", output)
         self.assertTrue(output.endswith("\n3 steps, 3 refused, 0 pictures, 0 of 1 answers as expected\n"))
-        self.assertEqual(self.run_script("--html", "-", path=path)[1].count("No part of the adapter decodes port"), 3)
-        path = self.write("t.vga", "in 60\nin 61 ; = E1 NotDecoded\n")
-        self.assertEqual(self.run_script("--quiet", path=path)[0], 0)
-        done = self.write("done.vga", "out 3C2 1 ; = ok\nout 3C2 1 ; = E1\nout 3C2 1\n")
-        status, output, _ = self.run_script(path=done)
+        self.assertEqual(self.run_text(text, "--html", "-")[1].count(decoded), 3)
+        text = "in 60\nin 61 ; = E1 NotDecoded\n"
+        self.assertEqual(self.run_text(text, "--quiet")[0], 0)
+        status, output, _ = self.run_text(text, "--quiet", "--strict")
+        strict = "t.vga:1: step 1: IN 60 answers E1 NotDecoded, and no refusal is expected"
+        self.assertEqual((status, output.splitlines()[0]), (1, strict))
+        status, output, _ = self.run_text("out 3C2 1 ; = ok\nout 3C2 1 ; = E1\nout 3C2 1\n")
         self.assertEqual((status, output.count("   ok   not E1\n")), (1, 1))
         self.assertIn("OUT 3C2 1 answers ok, not E1\n3 steps, 0 pictures, 1 of 2 answers as expected\n", output)
-        status, output, _ = self.run_script("--quiet", "--strict", path=path)
-        self.assertEqual((status, output.splitlines()[0]), (
-            1, f"{path}:1: step 1: IN 60 answers E1 NotDecoded, and no refusal is expected"
-        ))
 
     def test_an_answer_that_is_expected_of_no_step(self) -> None:
         for text, line in (("frame\n; = 55\n", 2), ("version 2 ; = 1\n", 1), ("frame ; = *\n\t; =ok\n", 2)):
-            path = self.write("t.vga", text)
-            status, _, said = self.run_script(path=path)
-            self.assertEqual(status, 2)
-            self.assertTrue(said.startswith(f"vga-report: {path}:{line}: no step stands on this line, so nothing answers "), said)
-        self.assertEqual(self.run_script(path=self.write("t.vga", "; ======\n; = =\nout 3C2 1\n"))[0], 0)
+            status, _, said = self.run_text(text)
+            told = f"vga-report: t.vga:{line}: no step stands on this line, so nothing answers "
+            self.assertEqual((status, said[:len(told)]), (2, told))
+        self.assertEqual(self.run_text("; ======\n; = =\nout 3C2 1\n")[0], 0)
 
     def test_what_differs_as_a_diff(self) -> None:
-        path = self.write("t.vga", "get 0 ; = 55 ; more\nin 3DA\n")
-        status, output, _ = self.run_script("--diff", path=path)
-        wanted = f"--- {path}\n+++ {path} as answered\n@@ -1,3 +1,3 @@\n-get 0 ; = 55 ; more\n+get 0 ; = E6 ; more\n in 3DA\n \n"
-        self.assertEqual((status, output), (1, wanted))
-        self.assertIn("\n+in 3DA ; = E1 NotDecoded\n", self.run_script("--diff", "--strict", path=path)[1])
-        script = self.folder / "s.bin"
-        script.write_bytes(b"VGAS\x01\x0b")
-        for word in ("--diff", "--bless"):
-            message = f"vga-report: {script}: a script of bytes has no comments for answers\n"
-            self.assertEqual(self.run_script(word, path=str(script)), (2, "", message))
+        text = "get 0 ; = 55 ; more\nin 3DA\n"
+        change = "@@ -1,3 +1,3 @@\n-get 0 ; = 55 ; more\n+get 0 ; = E6 ; more\n in 3DA\n \n"
+        self.assertEqual(self.run_text(text, "--diff")[:2], (1, f"--- t.vga\n+++ t.vga as answered\n{change}"))
+        self.assertIn("\n+in 3DA ; = E1 NotDecoded\n", self.run_text(text, "--diff", "--strict")[1])
 
-    def test_bytes_in_the_file_of_a_text(self) -> None:
-        said = {}
-        for name in ("lost.vga", "s.bin"):
-            (self.folder / name).write_bytes(b"VGAS\x01\x0b")
-            said[name] = self.run_script(path=str(self.folder / name))[2]
-        message = f"vga-report: {self.folder}/lost.vga: the file contains bytes, but has the name of a text. "
-        self.assertEqual(said, {
-            "lost.vga": message + "If you named it twice, `vga asm` has written over the text\n", "s.bin": "",
-        })
+    def test_scripts_of_bytes(self) -> None:
+        self.write("s.bin", b"VGAS\x01\x0b")
+        told = "vga-report: s.bin: a script of bytes has no comments for answers\n"
+        hold(self, partial(self.run_script, path="s.bin"), (("--diff", (2, "", told)), ("--bless", (2, "", told))))
+        self.assertEqual(self.run_script(path="s.bin")[2], "")
+        # The text is lost where its file has the bytes.
+        self.assertEqual(self.run_text(b"VGAS\x01\x0b")[2], (
+            "vga-report: t.vga: the file contains bytes, but has the name of a text. "
+            "If you named it twice, `vga asm` has written over the text\n"
+        ))
 
     def test_as_json(self) -> None:
-        path = self.write("t.vga", "get 0 ; = 55\nframe\nin 60\nshow regs\n")
-        status, output, said = self.run_script("--json", "-", path=path)
+        status, output, said = self.run_text("get 0 ; = 55\nframe\nin 60\nshow regs\n", "--json", "-")
         told = json.loads(output)
-        self.assertEqual((status, told["script"], told["steps"], told["refused"], told["wrong"]), (1, path, 4, 1, 1))
+        self.assertEqual((status, told["script"], told["steps"], told["refused"], told["wrong"]), (1, "t.vga", 4, 1, 1))
         get, frame, read, dump = told["answers"]
         self.assertEqual((get["answer"], get["expected"], get["met"]), ("E6", "55", False))
         self.assertEqual(frame["picture"], {"size": "9x1", "md5": "cc3cef99328e895f73a6088030faaab2"})
         self.assertEqual((read["refused"], read["why"]), ("E1 NotDecoded", "No part of the adapter decodes port 060."))
         self.assertEqual(dump["lines"], ["a", "b"])
         self.assertTrue(said.endswith("4 steps, 1 refused, 1 picture, 0 of 1 answers as expected\n"))
-        status, output, _ = self.run_script("--json", "-", path=self.write("t.vga", "move\n"))
+        status, output, _ = self.run_text("move\n", "--json", "-")
         told = json.loads(output)
         self.assertEqual((status, told["answers"], "F7 BadLine(1)" in told["trouble"]), (2, [], True))
 
@@ -359,9 +336,7 @@ class Expectations(unittest.TestCase):
 
     def test_choices(self) -> None:
         self.assertTrue(Choice(None).has(Row(Answer(1, 1, "ok"), "")))
-        for text in ("", "1-", "a-b", "1,,2", "0", "5-2", "0-3"):
-            with self.subTest(text), self.assertRaises(Trouble):
-                Choice(text)
+        hold_refused(self, Choice, ((text, "^--only ") for text in ("", "1-", "a-b", "1,,2", "0", "5-2", "0-3")))
 
 
 class Examples(unittest.TestCase):

@@ -3,6 +3,7 @@
 import unittest
 from functools import partial
 from itertools import product
+from random import Random
 from typing import Iterable, Iterator, Mapping, Optional
 
 from vga_report.report import Report
@@ -11,11 +12,8 @@ from vga_trace.converting import Listing, Wanted
 from vga_trace.rebuilding import rebuilt
 from vga_trace.step import ADVANCE, FRAME, GET, GETW, IN, INW, OUT, OUTW, PUT, PUTW, READS, WORDS, Step
 
-from .making import stream
-from .noise import noise
-from .program import run_texts
 from .test_trace import trace
-from .tools import hold, refused
+from .tools import hold, refused, run_texts, stream
 
 # Steps that enable memory, in planar order with all planes open and no bits masked.
 PLANAR = [Step(OUT, 0x3C2, 0x03), Step(OUTW, 0x3C4, 0x0604), Step(OUTW, 0x3C4, 0x0F02), Step(OUTW, 0x3CE, 0xFF08)]
@@ -23,6 +21,12 @@ PLANAR = [Step(OUT, 0x3C2, 0x03), Step(OUTW, 0x3C4, 0x0604), Step(OUTW, 0x3C4, 0
 REGISTERS = ("show regs", "show latches", "show beam", *(f"show dac {entry:02X}" for entry in range(256)))
 MEMORY = tuple(f"show plane {plane} {offset:04X} 256" for plane in range(4) for offset in range(0, 1 << 16, 256))
 SEEDS = range(4)
+# What cycles at random go to: such as software does, and such as none would.
+PORTS = (0x3C0, 0x3C1, 0x3C2, 0x3C3, 0x3C5, 0x3C6, 0x3C7, 0x3C8, 0x3C9, 0x3CA, 0x3CC, 0x3CF, 0x3B5, 0x3D5, 0x3D3, 0x3FF)
+INDEXES = {0x3C4: 8, 0x3CE: 12, 0x3D4: 0x1C, 0x3B4: 0x1C}
+STATUS = (0x3DA, 0x3BA)
+# Registers of the CRT controller that make frames large: of these the low bits alone are written.
+LARGE = {0x00: 0x0F, 0x01: 0x07, 0x06: 0x1F, 0x07: 0x1E, 0x12: 0x1F, 0x09: 0x9F}
 
 
 def state_of(steps: Iterable[Step]) -> State:
@@ -55,38 +59,91 @@ def run_whole(texts: Mapping[str, Iterable[Step]]) -> dict[str, list[tuple[objec
     }
 
 
-class Memory(unittest.TestCase):
+def _register(random: Random) -> str:
+    """A word for an index and its register."""
+    port = random.choice((0x3C4, 0x3C4, 0x3CE, 0x3CE, 0x3D4, 0x3B4))
+    index = random.randrange(INDEXES[port])
+    value = random.randrange(256)
+    if port in (0x3D4, 0x3B4):
+        value &= LARGE.get(index, 0xFF)
+        if index == 0x17 and random.random() < 0.8:
+            value = value & 0xF0 | 0x03
+    if port == 0x3C4 and index == 4:
+        value = random.choice((0x02, 0x06, 0x0E))
+    return f"w p {port:X} {value:02X}{index:02X} 2"
+
+
+def _port(random: Random) -> str:
+    """A byte or a word at any port."""
+    kind, port = random.choice("rw"), random.choice(PORTS)
+    value, size = random.randrange(256), random.choice((1, 1, 1, 2))
+    if kind == "w" and port in (0x3B5, 0x3D5):
+        value &= 0x07
+    if kind == "w" and port == 0x3C2:
+        value |= random.choice((0x02, 0x02, 0x02, 0))
+        size = 1
+    return f"{kind} p {port:X} {value:X} {size}"
+
+
+def _memory(random: Random) -> str:
+    """A cycle of memory, near the first addresses of the windows."""
+    address = random.choice((0xA0000, 0xA0000, 0xA0000, 0xAFFF0, 0xB0000, 0xB7FF0, 0xB8000, 0xBFFF0)) + random.randrange(24)
+    size = random.choice((1, 1, 2, 4))
+    return f"{random.choice('wwr')} m {address:X} {random.randrange(1 << 8 * size):X} {size}"
+
+
+def noise(seed: int, count: int) -> bytes:
+    """A trace of so many cycles."""
+    return "".join(_lines(Random(seed), count)).encode()
+
+
+def _lines(random: Random, count: int) -> Iterator[str]:
+    time = 0
+    yield f"{time} w p 3C2 {random.choice(('63', '66', '67')):s} 1\n"
+    for _ in range(count - 1):
+        time += random.choice((0, 1, 5, 20, 100, 3000))
+        words = random.choice((_register, _register, _port, _memory, _memory, _memory, _dac_or_attribute))(random)
+        yield f"{time} {words}\n"
+
+
+def _dac_or_attribute(random: Random) -> str:
+    """A byte of the DAC or of the attribute controller, or a read of input status 1."""
+    port = random.choice((0x3C0, 0x3C0, 0x3C8, 0x3C7, 0x3C9, 0x3C9, 0x3C9, *STATUS))
+    if port in STATUS or port == 0x3C9 and random.random() < 0.3:
+        return f"r p {port:X} 0 1"
+    value = random.randrange(0x40) if port == 0x3C0 and random.random() < 0.7 else random.randrange(256)
+    return f"w p {port:X} {value:X} 1"
+
+
+class States(unittest.TestCase):
     def planes(self, *steps: Step, at: int = 0) -> str:
         """The bytes of the four planes at an offset, behind the steps that set planar memory up and these."""
         return state_of([*PLANAR, *steps]).memory.words[at].to_bytes(4, "little").hex(" ").upper()
 
-    def modes(self, mode: int) -> str:
-        """A byte 81 with latches 0F, 33, 55, FF, set/reset 05, enable 03, rotation by 3 with XOR, and bit mask F0."""
+    def modes(self, mode: int) -> list[Step]:
+        """Those of a byte 81 with latches 0F, 33, 55, FF, set/reset 05, enable 03, rotation 3 with XOR, bit mask F0."""
         loaded = [
             step for plane, byte in enumerate((0x0F, 0x33, 0x55, 0xFF))
             for step in (Step(OUTW, 0x3C4, 0x100 << plane | 2), Step(PUT, 0xA0000, byte))
         ]
         chosen = [Step(OUTW, 0x3CE, value) for value in (0x0500, 0x0301, 0x1B03, 0xF008, mode << 8 | 5)]
-        return self.planes(*loaded, Step(GET, 0xA0000), Step(OUTW, 0x3C4, 0x0F02), *chosen, Step(PUT, 0xA0001, 0x81), at=1)
+        return [*loaded, Step(GET, 0xA0000), Step(OUTW, 0x3C4, 0x0F02), *chosen, Step(PUT, 0xA0001, 0x81)]
 
-    def test_write_modes(self) -> None:
-        self.assertEqual([self.modes(mode) for mode in range(4)], ["FF 33 65 CF", "0F 33 55 FF", "FF 33 55 FF", "3F 33 65 FF"])
-
-    def test_write_mode_3_narrows_the_bit_mask(self) -> None:
-        chosen = [Step(OUTW, 0x3CE, value) for value in (0x0F00, 0x0303, 0x0F08, 0x0305)]
-        # Rotated by 3, 91 is 32, of which the bit mask leaves 02.
-        self.assertEqual(self.planes(*chosen, Step(PUT, 0xA0000, 0x91)), "02 02 02 02")
-
-    def test_functions(self) -> None:
-        for function, byte in ((0x00, "C3"), (0x08, "41"), (0x10, "D7"), (0x18, "96")):
-            steps = [Step(PUT, 0xA0000, 0x55), Step(GET, 0xA0000), Step(OUTW, 0x3CE, function << 8 | 3), Step(PUT, 0xA0000, 0xC3)]
-            self.assertEqual(self.planes(*steps), " ".join([byte] * 4))
-
-    def test_chain_4_and_odd_even(self) -> None:
+    def test_writes(self) -> None:
+        narrowed = [Step(OUTW, 0x3CE, value) for value in (0x0F00, 0x0303, 0x0F08, 0x0305)]
+        latched = [Step(PUT, 0xA0000, 0x55), Step(GET, 0xA0000)]
         chained = [Step(OUTW, 0x3C4, 0x0E04), Step(PUTW, 0xA0004, 0x2211), Step(PUTW, 0xA0006, 0x4433)]
-        self.assertEqual(self.planes(*chained, at=4), "11 22 33 44")
         text = [Step(OUTW, 0x3C4, 0x0204), Step(OUTW, 0x3CE, 0x0E06), Step(OUTW, 0x3C4, 0x0302), Step(PUTW, 0xB8002, 0x1F41)]
-        self.assertEqual(self.planes(*text, at=2), "41 1F 00 00")
+        hold(self, lambda steps, at: self.planes(*steps, at=at), (
+            (self.modes(0), 1, "FF 33 65 CF"), (self.modes(1), 1, "0F 33 55 FF"), (self.modes(2), 1, "FF 33 55 FF"),
+            (self.modes(3), 1, "3F 33 65 FF"),
+            # Rotated by 3, 91 is 32, of which the bit mask leaves 02.
+            ([*narrowed, Step(PUT, 0xA0000, 0x91)], 0, "02 02 02 02"),
+            *(([*latched, Step(OUTW, 0x3CE, function << 8 | 3), Step(PUT, 0xA0000, 0xC3)], 0, told)
+              for function, told in (
+                  (0x00, "C3 C3 C3 C3"), (0x08, "41 41 41 41"), (0x10, "D7 D7 D7 D7"), (0x18, "96 96 96 96"))),
+            (chained, 4, "11 22 33 44"), (text, 2, "41 1F 00 00"),
+        ))
 
     def test_reads(self) -> None:
         state = state_of([*PLANAR, Step(OUTW, 0x3C4, 0x0A02), Step(PUT, 0xA0000, 0x0F)])
@@ -116,20 +173,19 @@ class Memory(unittest.TestCase):
         state.take(Step(OUT, 0x3C2, 0x01))
         self.assertIsNone(state.take(Step(GET, 0xB8000)))
 
-
-class Registers(unittest.TestCase):
     def read(self, *steps: Step) -> list[Optional[int]]:
         """What the reads among steps answer."""
         return [answer for step, answer in zip(steps, answers(steps)) if step.opcode in READS]
 
     def test_kept_bits_and_refused_values(self) -> None:
-        for port, index, value, kept in (
-            (0x3C4, 1, 0xFF, 0x3D), (0x3CE, 3, 0xFF, 0x1F), (0x3CE, 5, 0x5B, 0x5B), (0x3CE, 5, 0x20, 0), (0x3B4, 0x14, 0x5F, 0x5F),
-            (0x3B4, 0x14, 0x20, 0), (0x3B4, 0x17, 0xE3, 0xE3), (0x3B4, 0x17, 0xA2, 3), (0x3B4, 0x17, 0xA7, 3), (0x3C4, 5, 1, None),
-        ):
-            with self.subTest(port=port, index=index, value=value):
-                steps = [Step(OUTW, port, value << 8 | index), Step(OUT, port, index), Step(IN, port + 1)]
-                self.assertEqual(self.read(*steps), [kept])
+        def kept(port: int, index: int, value: int) -> list[Optional[int]]:
+            return self.read(Step(OUTW, port, value << 8 | index), Step(OUT, port, index), Step(IN, port + 1))
+
+        hold(self, kept, (
+            (0x3C4, 1, 0xFF, [0x3D]), (0x3CE, 3, 0xFF, [0x1F]), (0x3CE, 5, 0x5B, [0x5B]), (0x3CE, 5, 0x20, [0]),
+            (0x3B4, 0x14, 0x5F, [0x5F]), (0x3B4, 0x14, 0x20, [0]), (0x3B4, 0x17, 0xE3, [0xE3]),
+            (0x3B4, 0x17, 0xA2, [3]), (0x3B4, 0x17, 0xA7, [3]), (0x3C4, 5, 1, [None]),
+        ))
 
     def test_what_reads_answer(self) -> None:
         def out(*values: int) -> list[Step]:
@@ -272,5 +328,5 @@ class Cuts(unittest.TestCase):
 
     def test_empty_memory_takes_no_steps(self) -> None:
         self.assertEqual(sum(step.opcode == PUTW for step in rebuilt(state_of(PLANAR))), 0)
-        filled = [step for at in range(0, 1024, 2) for step in (Step(PUTW, 0xA0000 + at, 0x5555),)]
+        filled = [Step(PUTW, 0xA0000 + at, 0x5555) for at in range(0, 1024, 2)]
         self.assertEqual([step for step in rebuilt(state_of([*PLANAR, *filled])) if step.opcode == PUTW], filled)

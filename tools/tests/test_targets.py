@@ -8,7 +8,7 @@ import zipfile
 from pathlib import Path
 from unittest import mock
 
-from library_tests import command as tests, compilers, suite
+from library_tests import compilers, suite
 from library_tests.compilers import MACHINES, Built
 from vga_library import command, making, toolchain
 from vga_library.targets import AARCH64, TARGETS, X86_64
@@ -20,7 +20,7 @@ from vga_report.progress import Progress
 from vga_report.trouble import TROUBLE
 from vga_report.version import version
 
-from .test_release import sources
+from .test_library import sources
 from .tools import Folder, call, ended
 
 # A program that notes its words; and one that takes blocks of memory in each way.
@@ -28,8 +28,8 @@ FAKE = Path(__file__).with_name("noting.sh").read_text("ascii")
 TAKING = Path(__file__).with_name("taking.c")
 
 
-class Fakes(Folder):
-    """Programs of the cross compiler and of the toolchain that note how they are called."""
+class Making(Folder):
+    """The library is made by programs of the cross compiler and of the toolchain that note how they are called."""
 
     def setUp(self) -> None:
         super().setUp()
@@ -52,8 +52,6 @@ class Fakes(Folder):
         """The words of each program that was called."""
         return [line.split(" ") for line in self.notes.read_text("utf-8").splitlines()]
 
-
-class Making(Fakes):
     def test_what_is_run_and_what_is_laid(self) -> None:
         place = self.folder / "kit-for-arm"
         progress = mock.create_autospec(Progress, instance=True)
@@ -129,10 +127,8 @@ class Making(Fakes):
         text = gathering.made_of(gathering.Commit("0123", 0), "kit", entries).content.decode("ascii")
         self.assertRegex(text, r"(?m)^sha256 [0-9a-f]{64} aarch64/lib/libzaklimot\.a$")
 
-
-@unittest.skipUnless(shutil.which("cc"), "there is no C compiler")
-class Heap(Folder):
-    def test_what_it_answers(self) -> None:
+    @unittest.skipUnless(shutil.which("cc"), "there is no C compiler")
+    def test_what_the_heap_answers(self) -> None:
         program = self.folder / "taking"
         # A compiler that knows malloc would warn of so large a request.
         self.assertEqual(ended("cc", *HEAP_OPTIONS, "-fno-builtin", TAKING, HEAP, "-o", program), (0, "", ""))
@@ -169,8 +165,3 @@ class Testing(Folder):
         front = "env ASAN_OPTIONS=detect_leaks=0 qemu-aarch64 -L /usr/aarch64-linux-gnu made/harness-given "
         texts, scripts = (word for word in called[1] if "harness" in word)
         self.assertEqual((texts, scripts), (f"{front}{{script}} {{fonts}} {{until}}", f"{front}--bytes {{script}} {{fonts}}"))
-
-    def test_checks_of_this_machine_alone(self) -> None:
-        told = "vga-library-tests: pc: there is no such check for aarch64\n"
-        done = call(tests.main, "--target", "aarch64", "--only", "pc")
-        self.assertEqual(done, (TROUBLE, "", told))

@@ -1,24 +1,37 @@
-"""What all tools have in common: how they begin and end, and run others; and the gate."""
+"""What all tools have in common: how they begin, end, write and run others, of which nothing is left; and the gate."""
+
+from __future__ import annotations
 
 import ast
+import io
 import os
 import re
 import shutil
+import stat
 import sys
 import unittest
+from functools import partial
 from pathlib import Path
+from threading import Event
 from unittest import mock
 
+from vga_library.targets import AARCH64
 from vga_report import cli
-from vga_report.processes import started
+from vga_report.crates import Phases
+from vga_report.listing import _wait_for
+from vga_report.processes import MEBIBYTE, Failed, Limits, Outcome, run, run_command, started
+from vga_report.progress import DELAY, Progress
+from vga_report.streams import write_file, writing
 from vga_report.trouble import TROUBLE, Trouble
 from vga_report.version import version
 
-from .tools import PYTHON, TOOLS, TOP, Folder, call, ended, hold, hold_undone, main_of
+from .tools import (
+    PYTHON, SIGNALS, TOOLS, TOP, UNBUILT, Folder, begin, call, ended, hold, hold_undone, main_of, refused, run_tool,
+)
 
 NOTING = Path(__file__).with_name("noting.sh").read_text("ascii")
-# Starts programs, of which the first sends a signal amid its start; its status tells that the signal came.
-STARTING = """
+# Starts a program, and has a signal come amid its start; its status tells that the signal came.
+INTERRUPTED = """
 import os, signal, sys
 sys.path.insert(0, {tools!r})
 from vga_report.processes import started
@@ -31,6 +44,72 @@ try:
 except KeyboardInterrupt:
     sys.exit(7)
 """
+# Starts a child that sleeps, writes its number into a file, and then does what is wanted.
+PARENT = """
+import subprocess, sys, time
+child = subprocess.Popen([sys.executable, '-c', 'import time; time.sleep(600)'])
+open(sys.argv[1], 'w').write(f'{child.pid}\\n')
+"""
+# What stands in the place of the toolchain: it starts a child in a group of its own, leaves a
+# temporary file, and sleeps.
+RT = """import os, signal, subprocess, sys, tempfile, time
+if sys.argv[1] == 'doc': print('/none/doc'); sys.exit()
+tempfile.mkstemp()
+child = subprocess.Popen(['sleep', '600'], start_new_session=True)
+signal.signal(signal.SIGTERM, lambda *_: (child.kill(), child.wait(), sys.exit(1)))
+open(os.environ['CHILD'], 'w').write(f'{child.pid} {os.getpid()}\\n')
+time.sleep(600)
+"""
+# What stands in the place of `vga`, for the fuzzer.
+SLEEPING = """import os, time
+open(os.environ['CHILD'], 'w').write(f'{os.getpid()}\\n')
+time.sleep(600)
+"""
+# Tests, of which one does the same of a process in a group of its own, and leaves a temporary file too.
+TESTS = """
+import os, subprocess, tempfile, unittest
+from vga_report.processes import started
+class Sleeping(unittest.TestCase):
+    def test_one(self):
+        tempfile.mkstemp()
+        with started(["sleep", "600"]) as process:
+            open(os.environ["CHILD"], "w").write(f"{process.pid} {os.getpid()}\\n")
+            process.wait()
+"""
+# The words of tools that start programs.
+STARTING = (
+    "vga-report suite {harness} --list {list}", "vga-report run {script} --try", "vga-memory",
+    "vga-library make {made}", "vga-release {made}", "vga-page module {made}", "vga-fuzz {vga}",
+    "vga-floppy run --on dosbox {script} {made}", "tests-of-tools --folder {new}",
+    "vga-trace record {made} --vga {vga} --quiet 50 -- -cdrom disc",
+)
+# Tests of which some want a file in the place of the program.
+WANTING = f"""
+import os, unittest
+HAS = os.path.exists({{path!r}})
+class New(unittest.TestCase):
+    def test_one(self):
+        if not HAS: self.skipTest({UNBUILT!r})
+    @unittest.skip("another reason")
+    def test_two(self): pass
+    def test_three(self): open({{path!r}} + ".three", "a").write("3")
+class Whole(unittest.TestCase):
+    @classmethod
+    def setUpClass(cls):
+        if not HAS: raise unittest.SkipTest({UNBUILT!r})
+    def test_four(self): pass
+"""
+# What the only test of a module does, whether tests count as run then, and what is told.
+TEST = "import os, unittest\nclass One(unittest.TestCase):\n    def test_one(self):\n        {}\n"
+NO_ANSWER = "ERROR: new.test_{}\n" + 70 * "-" + "\nits process ended with status {}, and no answer"
+BAD = {
+    "fails": ("self.fail('oh')", 1, "FAIL: test_one (new.test_fails.One"),
+    "fails_in_part": ("with self.subTest('part'): self.fail('no')", 1, "AssertionError: no"),
+    "raises": ("no_such_name", 1, "NameError: name 'no_such_name'"),
+    "ends": ("os._exit(0)", 0, NO_ANSWER.format("ends", 0)),
+    "is_killed": ("os.kill(os.getpid(), 9)", 0, NO_ANSWER.format("is_killed", -9)),
+    "is_asked_to_end": ("os.kill(os.getpid(), 15)", 0, NO_ANSWER.format("is_asked_to_end", 143)),
+}
 
 
 class Words(unittest.TestCase):
@@ -50,12 +129,9 @@ class Words(unittest.TestCase):
                 self.assertTrue((TOP / page[1]).exists(), page[1])
                 self.assertIn(name, (TOP / page[1]).read_text("utf-8"))
 
-    def test_the_version_is_that_of_the_header(self) -> None:
+    def test_the_version_of_the_header_and_words_that_mean_nothing(self) -> None:
         for name in self.NAMES:
             self.assertEqual(call(main_of(name), "--version"), (0, f"{name} {version()}\n", ""))
-
-    def test_words_that_mean_nothing(self) -> None:
-        for name in self.NAMES:
             hold_undone(self, call(main_of(name), "--no-such-word"), f"{name}: error: ")
 
 
@@ -98,11 +174,9 @@ class Programs(unittest.TestCase):
                 self.fail("it is started")
 
     def test_no_signal_is_lost_while_one_is_started(self) -> None:
-        status, _, said = ended(sys.executable, "-c", STARTING.format(tools=str(TOOLS)))
+        status, _, said = ended(sys.executable, "-c", INTERRUPTED.format(tools=str(TOOLS)))
         self.assertEqual((status, said), (7, ""))
 
-
-class Sources(unittest.TestCase):
     def test_unions_of_types_are_not_evaluated(self) -> None:
         # Python 3.9, which the tools are content with, has no `|` between types.
         for path in TOOLS.glob("vga_*/*.py"):
@@ -113,6 +187,246 @@ class Sources(unittest.TestCase):
             with self.subTest(path.relative_to(TOOLS)):
                 is_late = any(isinstance(node, ast.ImportFrom) and node.module == "__future__" for node in nodes)
                 self.assertEqual([] if is_late else unions, [])
+
+    def test_what_ends_badly_is_told(self) -> None:
+        hold(self, partial(refused, run), (
+            (["sh", "-c", "echo a >&2; exit 3"], "sh: it ended with status 3\n  sh -c echo a >&2; exit 3\na\n"),
+            (["no-such-program"], "no-such-program: it is not in the path"),
+        ))
+        with self.assertRaises(Failed) as raised:
+            run(["sleep", "60"], seconds=0.1)
+        self.assertEqual(str(raised.exception), "sleep: it had not ended after 0 seconds")
+
+    def test_lines_are_heard_and_output_is_answered(self) -> None:
+        heard: list[str] = []
+        said = run(["sh", "-c", "echo one; echo two >&2; echo three"], heard=heard.append)
+        self.assertEqual(said, "one\nthree\n")
+        self.assertTrue(heard[-1] in ("two", "three"))
+        self.assertEqual(run(["sh", "-c", 'printf "$ONE"'], environment={"ONE": "1"}), "1")
+
+
+@unittest.skipUnless(Path("/proc/self/stat").exists(), "processes are looked at as Linux shows them")
+class Commands(Folder):
+    def run_python(self, program: str, limits: Limits = Limits(), is_ended: Event | None = None) -> Outcome:
+        words = [sys.executable, "-c", program, str(self.folder / "child")]
+        return run_command(words, self.folder / "out", self.folder / "said", limits, is_ended or Event())
+
+    def test_what_is_written_and_said(self) -> None:
+        outcome = self.run_python("import sys; print('written'); print('said', file=sys.stderr); sys.exit(3)")
+        self.assertEqual(outcome, Outcome(3))
+        self.assertEqual(((self.folder / "out").read_text(), (self.folder / "said").read_text()), ("written\n", "said\n"))
+
+    def test_children_end_with_their_command(self) -> None:
+        too_much = Outcome(None, "the command wrote more than 1 MiB")
+        for behind, limits, outcome in (
+            ("", Limits(), Outcome(0)),
+            ("time.sleep(600)", None, Outcome(None, "the command took too long")),
+            ("while True: sys.stdout.buffer.write(bytes(1 << 16))", Limits(60, MEBIBYTE), too_much),
+        ):
+            with self.subTest(behind):
+                child, text = self.folder / "child", PARENT + behind
+                child.unlink(missing_ok=True)
+                made = self.within(lambda seconds: self.run_python(text, limits or Limits(seconds)), child)
+                self.assertEqual(made, outcome)
+                self.assert_ended(int(self.wait_for(child)))
+        self.assertEqual((self.folder / "out").stat().st_size, MEBIBYTE)
+        # An output that is too long may be short.
+        self.assertEqual(self.run_python("print('x' * (1 << 20))", Limits(60, MEBIBYTE)), too_much)
+
+    def test_a_user_who_ends_it(self) -> None:
+        is_ended = Event()
+        is_ended.set()
+        self.assertEqual(self.run_python("import time; time.sleep(600)", Limits(), is_ended).status, None)
+
+    def test_signals_end_all_that_was_begun(self) -> None:
+        self.write("two.fnt", "12")
+        self.write("one.vga", "frame\n")
+        self.write("one.txt", "1 ok\n")
+        harness = self.write("harness.py", PARENT + "time.sleep(600)")
+        self.write("new/__init__.py", "")
+        self.program("bin/rt", RT)
+        self.program("bin/git", "#!/bin/sh\n[ $3 = status ] || echo 0123 0\n")
+        for name in ("qemu-system-x86_64", *AARCH64.programs()):
+            self.program(f"bin/{name}", SLEEPING)
+        self.program("bin/dosbox", f"#!/bin/sh\nexec {sys.executable} {TOOLS / 'tests' / 'floppy.py'} wait $CHILD\n")
+        places = {
+            "harness": f"{sys.executable} {harness} {self.folder}/child {{script}}",
+            "list": self.write("list.txt", "fonts two.fnt\none\n"), "script": str(self.folder / "one.vga"),
+            "vga": self.program("bin/vga", SLEEPING), "made": str(self.folder / "made"),
+            "new": str(Path(self.write("new/test_one.py", TESTS)).parent),
+        }
+        for line in STARTING:
+            tool, *words = (word.format(**places) for word in line.split())
+            for number, status in SIGNALS:
+                with self.subTest(line, number=number):
+                    self.end_tool(number, status, tool, *words)
+
+    def end_tool(self, number: int, status: int, *words: str) -> None:
+        """Sends a tool a signal while what it has started sleeps: nothing is left, nor said."""
+        child, temporary = self.folder / "child", self.folder / "tmp"
+        temporary.mkdir(exist_ok=True)
+        child.unlink(missing_ok=True)
+        path = f"{self.folder / 'bin'}:{os.environ['PATH']}"
+        with begin(*words, env={**os.environ, "TMPDIR": str(temporary), "PATH": path, "CHILD": str(child)}) as process:
+            numbers = [int(word) for word in self.wait_for(child, process).split()]
+            self.assertNotEqual(list(temporary.iterdir()), [])
+            process.send_signal(number)
+            output, said = process.communicate(timeout=120)
+        self.assertEqual((process.returncode, output, said), (status, b"", b""))
+        self.assert_ended(*numbers)
+        self.assertEqual(list(temporary.iterdir()), [])
+        self.assertFalse((self.folder / "made").exists())
+
+
+class Writing(Folder):
+    def test_a_file_is_new_and_whole_or_stays(self) -> None:
+        path = self.write("a", "old")
+        with self.assertRaises(KeyboardInterrupt):
+            with writing(path) as stream:
+                stream.write(b"half")
+                stream.flush()
+                self.assertEqual((self.folder / "a").read_text(), "old")
+                raise KeyboardInterrupt
+        self.assertEqual((self.names(), (self.folder / "a").read_text()), (["a"], "old"))
+        write_file(path, b"new")
+        self.assertEqual((self.names(), (self.folder / "a").read_text()), (["a"], "new"))
+
+    def test_a_reader_of_the_old_file_reads_on(self) -> None:
+        path = self.write("a", "old")
+        with open(path, encoding="ascii") as stream:
+            write_file(path, b"new")
+            self.assertEqual(stream.read(), "old")
+
+    def test_rights_stay_and_new_files_have_those_of_new_files(self) -> None:
+        path = self.write("a", "old")
+        os.chmod(path, 0o640)
+        write_file(path, b"new")
+        self.assertEqual(stat.S_IMODE(os.stat(path).st_mode), 0o640)
+        write_file(path + "b", b"new")
+        (self.folder / "c").touch()
+        self.assertEqual(os.stat(path + "b").st_mode, os.stat(self.folder / "c").st_mode)
+
+    def test_a_link_stays_a_link(self) -> None:
+        path, link = self.write("a", "old"), self.folder / "link"
+        link.symlink_to("a")
+        write_file(str(link), b"new")
+        self.assertTrue(link.is_symlink())
+        self.assertEqual((self.folder / "a").read_text(), "new")
+        self.assertEqual(path, str(self.folder / "a"))
+
+    def test_a_device_is_written_as_it_is(self) -> None:
+        write_file(os.devnull, b"new")
+        self.assertFalse(stat.S_ISREG(os.stat(os.devnull).st_mode))
+
+
+class Lines(Folder):
+    def setUp(self) -> None:
+        super().setUp()
+        # A terminal that keeps what is written on it.
+        self.terminal, self.now = io.StringIO(), 100.0
+        self.patch(
+            mock.patch.object(self.terminal, "isatty", return_value=True), mock.patch("sys.stderr", self.terminal),
+            mock.patch("time.monotonic", lambda: self.now),
+        )
+
+    def test_short_work_shows_nothing(self) -> None:
+        progress = Progress()
+        self.assertFalse(progress.is_due())
+        progress.clear()
+        self.assertEqual(self.terminal.getvalue(), "")
+
+    def test_long_work_shows_one_line_and_clears_it(self) -> None:
+        progress = Progress()
+        self.now += DELAY
+        self.assertTrue(progress.is_due())
+        progress.tell("r: 10 %")
+        self.assertFalse(progress.is_due())
+        self.now += DELAY
+        self.assertTrue(progress.is_due())
+        progress.tell("r: 9 %")
+        progress.clear()
+        progress.clear()
+        self.assertEqual(self.terminal.getvalue(), "\rr: 10 %\rr: 9 % \r      \r")
+
+    def test_a_line_is_no_longer_than_the_terminal(self) -> None:
+        with mock.patch.dict("os.environ", COLUMNS="10"):
+            Progress().tell("r: a long name")
+        self.assertEqual(self.terminal.getvalue(), "\rr: a long")
+
+    def test_phases_tell_the_crate_that_is_proved(self) -> None:
+        told: list[str] = []
+        progress = mock.create_autospec(Progress)
+        progress.tell.side_effect = told.append
+        hear = Phases(progress, ["low", "high"])("proving")
+        for line in (
+            "", "so far", "rt: low: begins with what is kept",
+            "crate high: modules loaded=1 checked=2", "linked",
+        ):
+            self.now += 61
+            hear(line)
+        self.assertEqual(told, [
+            "0:00 proving", "1:01 proving", "2:02 proving: so far",
+            "3:03 proving: low, crate 1 of 2", "4:04 proving: high, crate 2 of 2, is done",
+            "5:05 proving: high, crate 2 of 2, is done",
+        ])
+
+    def test_how_long_the_first_answer_takes_is_told(self) -> None:
+        reader, writer = os.pipe()
+        progress = mock.Mock(is_wanted=True, tell=mock.Mock(side_effect=lambda _: os.close(writer)))
+        with open(reader, "rb") as report:
+            _wait_for(report, "s.vga", progress)
+        progress.tell.assert_called_once_with("s.vga: no answer yet after 0 seconds")
+
+    def test_no_terminal(self) -> None:
+        with mock.patch("sys.stderr", io.StringIO()):
+            progress = Progress()
+            self.now += DELAY
+            self.assertFalse(progress.is_due())
+
+
+class Running(Folder):
+    def run_tests(self, *words: str) -> tuple[int, str]:
+        """Exit status and output of the tests in a folder."""
+        status, output, said = run_tool("tests-of-tools", "--folder", self.folder / "new", *words)
+        self.assertEqual(said, "")
+        return status, output.decode()
+
+    def lay(self, name: str, text: str) -> None:
+        """Puts a module of tests into the folder."""
+        self.write("new/__init__.py", "")
+        self.write(f"new/test_{name}.py", text)
+
+    def test_tests_that_were_skipped_run_and_may_not_be_skipped(self) -> None:
+        program, kept = self.folder / "program", str(self.folder / "kept")
+        self.lay("one", WANTING.format(path=str(program)))
+        status, said = self.run_tests("--keep", kept)
+        self.assertEqual((status, said.splitlines()[-1]), (0, "OK (skipped=3)"))
+        self.assertIn("Ran 3 tests", said)
+        status, said = self.run_tests("--again", kept)
+        self.assertEqual((status, said.splitlines()[-1]), (1, "FAILED (skipped=2)"))
+        self.assertIn("skipped, though the program is to be built: new.test_one.", said)
+        program.touch()
+        status, said = self.run_tests("--again", kept)
+        self.assertEqual((status, said.splitlines()[-1]), (0, "OK"))
+        self.assertIn("Ran 2 tests", said)
+        # What needs no program ran in the first run alone.
+        self.assertEqual((self.folder / "program.three").read_text(), "3")
+        Path(kept).write_text("new.test_gone.New")
+        said = f"tests-of-tools: {kept}: there are no such tests: new.test_gone.New\n"
+        self.assertEqual(run_tool("tests-of-tools", "--folder", self.folder / "new", "--again", kept), (2, b"", said))
+
+    def test_what_is_bad_is_told_beside_what_is_good(self) -> None:
+        self.lay("good", TEST.format("print('seen')"))
+        self.lay("lacking", "import no_such_module\n")
+        for name, (line, _, _) in BAD.items():
+            self.lay(name, TEST.format(line))
+        status, said = self.run_tests()
+        self.assertEqual((status, said.splitlines()[-1]), (1, f"FAILED (failed={len(BAD) + 1})"))
+        self.assertIn("passed  new.test_good, 1 test\nseen\n", said)
+        self.assertIn("No module named 'no_such_module'", said)
+        for name, (_, count, told) in BAD.items():
+            self.assertIn(f"failed  new.test_{name}, {count} test", said)
+            self.assertIn(told, said)
 
 
 @unittest.skipIf(sys.platform == "win32", "a script is a program on POSIX")

@@ -17,7 +17,6 @@ from random import Random
 from typing import Iterable
 from unittest import mock
 
-from vga_report.timing import Timing
 from vga_report.trouble import Trouble
 from vga_trace import converting
 from vga_trace.checking import count
@@ -26,13 +25,10 @@ from vga_trace.converting import Listing, Wanted
 from vga_trace.folding import Coded, Row, alone, folded
 from vga_trace.passing import Pauses, with_flips, with_frames_every
 from vga_trace.step import ADVANCE, FRAME, IN, NAMES, OUT, OUTW, PUT, Step, steps_of, without_polls
-from vga_trace.trace import MEMORY, PORT, VBE, Cycle, Trace
+from vga_trace.trace import MEMORY, PORT, SCREEN, VBE, Cycle, Trace
 from zaklimot.format import HEADERS, Block, decode, encoded
-from zaklimot.format import Step as ScriptStep
 
-from .making import ppm, report
-from .program import run_texts
-from .tools import EXAMPLES, SIGNALS, Folder, begin, call, hold, hold_undone, refused, run_tool
+from .tools import EXAMPLES, SIGNALS, Folder, begin, call, hold, hold_undone, ppm, refused, report, run_texts, run_tool
 
 run = partial(run_tool, "vga-trace")
 # What a trace from power-on begins with.
@@ -91,11 +87,6 @@ class Lines(unittest.TestCase):
                      Cycle(True, MEMORY, 0xB8000, 0x123456789ABCDEF, 8, 13)]),
         ))
 
-    def test_damaged_lines_of_qemu_are_counted(self) -> None:
-        read = trace(qemu("write 3c2 67 1") + b"x\n" + 2 * b"memory_region_ops_wri\n" + qemu("write 3c4 2 1")[:-9])
-        self.assertEqual(len(list(read.cycles())), 1)
-        self.assertEqual((read.damaged, read.first_damaged), (3, 3))
-
     def test_faults(self) -> None:
         none = "it has no cycle, neither of qemu's log nor of the plain form"
         bad = "0 w p 3C4 302/0 x p 3C4 2 1/0 w q 3C4 2 1/0.5 w p 3C4 2 1/0 w p 0x3C4 2 1/0 w p 3C4 2 1 2".split("/")
@@ -106,6 +97,7 @@ class Lines(unittest.TestCase):
             (BEGIN + b"0 w p 3C4 302 1\n", "2: the value 302 has more than 1 bytes"),
             (BEGIN + b"0 w p FFFF 302 2\n", "2: there is no port of address FFFF"),
             (BEGIN + b"0 w m FFFFFFFF 302 2\n", "2: there is no memory of address FFFFFFFF"),
+            (BEGIN + SCREEN + b"\n", no_cycle),
             (b";\n0 w p 3C2 67\n" + BEGIN, "2: a line before the first cycle is neither a cycle nor a comment"),
             (b"", f" {none}"), (b"; nothing\n", f" {none}"),
             # The line of a mistake, where no line has a cycle.
@@ -113,6 +105,30 @@ class Lines(unittest.TestCase):
             (b"0 x p 3C2 67 1", f"1: {none}; this line is the first that is no comment"),
             (b"; good\n\nhello\noh\n", f"3: {none}; this line is the first that is no comment"),
         )))
+
+    def test_what_a_trace_lacks(self) -> None:
+        def vbe(index: str, value: str) -> bytes:
+            return qemu("write 3c2 67 1") + qemu(f"write 1ce {index} 2", "vbe") + qemu(f"write 1cf {value} 2", "vbe")
+
+        begin = "cycle 2 writes first, and not port 3C2: the trace doesn't begin at power-on"
+        enabled = "cycle 3 turns VBE on: what follows is no VGA's, and its memory isn't traced"
+        silent = "chain 4 with map mask 0F has no cycle of memory, first from cycle 3 on: " \
+            "qemu traces none there without the plugin"
+        chained = BEGIN + b"- w p 3C4 0F02 2\n- w p 3C4 0E04 2\n"
+        hold(self, warned, (
+            (b"- r p 3CC 0 1\n" + BEGIN + b"- w m A0000 1 1\n", []),
+            (b"- r p 3CC 0 1\n- w m B8000 1 1\n" + BEGIN, [begin]),
+            (b"- r p 3CC 0 1\n- w p 3C4 1 1\n" + BEGIN, [begin]),
+            (vbe("4", "41"), [enabled]), (vbe("4", "0"), []), (vbe("3", "1"), []),
+            (chained, [silent]), (chained + b"- w p 3C4 0604 2\n- w m A0000 1 1\n", [silent]),
+            (BEGIN + b"- w p 3C4 4 1\n- w p 3C5 E 1\n- w p 3C4 0F02 2\n", [silent.replace("3 on", "4 on")]),
+            (chained + b"- w p 3C4 0E04 2\n- w m A0000 1 1\n- w p 3C4 0604 2\n", []),
+            (BEGIN + b"- w p 3C4 0702 2\n- w p 3C4 0E04 2\n", []),
+            (qemu("write 3c2 67 1") + b"x\n" + 2 * b"memory_region_ops_wri\n" + qemu("write 3c4 2 1")[:-9],
+             ["3 lines of cycles are damaged and left out, line 3 first"]),
+        ))
+        told = "the time runs back 1 times, which is no pause"
+        self.assertEqual(warned(b"2 w p 3C2 67 1\n1 r p 3DA 0 1\n", has_time=True), [told])
 
 
 class Steps(unittest.TestCase):
@@ -204,16 +220,6 @@ class Passing(unittest.TestCase):
             told = ["1 cycles have no time, and come without a pause"]
             self.assertEqual(warned(BEGIN + b"- r p 3DA 0 1\n", **wanted), told)
 
-    def test_speed_of_what_a_script_has_chosen(self) -> None:
-        timing = Timing()
-        self.assertIsNone(timing.speed())
-        timing.take(ScriptStep("int", (0x13, 0, 0, 0)))
-        self.assertEqual(timing.speed(), (359_200, 25_175_000.0))
-        timing.take(ScriptStep("int", (0x0D, 0, 0, 0)))
-        self.assertEqual(timing.speed(), (179_600, 12_587_500.0))
-
-
-class Frames(unittest.TestCase):
     def test_a_frame_before_each_change_of_the_start_address(self) -> None:
         high, low, draw = Step(OUTW, 0x3D4, 0x400C), Step(OUTW, 0x3D4, 0x200D), Step(PUT, 0xA0000, 1)
         zero, other = Step(OUTW, 0x3D4, 0x000C), Step(OUTW, 0x3D4, 0x400E)
@@ -239,54 +245,23 @@ class Frames(unittest.TestCase):
         self.assertEqual(listed(BEGIN + b"- w p 3D4 400C 2\n", frames="flip"), flipped)
 
 
-class Warnings(unittest.TestCase):
-    def test_what_a_trace_lacks(self) -> None:
-        def vbe(index: str, value: str) -> bytes:
-            return qemu("write 3c2 67 1") + qemu(f"write 1ce {index} 2", "vbe") + qemu(f"write 1cf {value} 2", "vbe")
-
-        begin = "cycle 2 writes first, and not port 3C2: the trace doesn't begin at power-on"
-        enabled = "cycle 3 turns VBE on: what follows is no VGA's, and its memory isn't traced"
-        silent = "chain 4 with map mask 0F has no cycle of memory, first from cycle 3 on: " \
-            "qemu traces none there without the plugin"
-        chained = BEGIN + b"- w p 3C4 0F02 2\n- w p 3C4 0E04 2\n"
-        hold(self, warned, (
-            (b"- r p 3CC 0 1\n" + BEGIN + b"- w m A0000 1 1\n", []),
-            (b"- r p 3CC 0 1\n- w m B8000 1 1\n" + BEGIN, [begin]),
-            (b"- r p 3CC 0 1\n- w p 3C4 1 1\n" + BEGIN, [begin]),
-            (vbe("4", "41"), [enabled]), (vbe("4", "0"), []), (vbe("3", "1"), []),
-            (chained, [silent]), (chained + b"- w p 3C4 0604 2\n- w m A0000 1 1\n", [silent]),
-            (BEGIN + b"- w p 3C4 4 1\n- w p 3C5 E 1\n- w p 3C4 0F02 2\n", [silent.replace("3 on", "4 on")]),
-            (chained + b"- w p 3C4 0E04 2\n- w m A0000 1 1\n- w p 3C4 0604 2\n", []),
-            (BEGIN + b"- w p 3C4 0702 2\n- w p 3C4 0E04 2\n", []),
-            (qemu("write 3c2 67 1") + b"memory_region_ops_\n",
-             ["1 lines of cycles are damaged and left out, line 2 first"]),
-        ))
-        told = "the time runs back 1 times, which is no pause"
-        self.assertEqual(warned(b"2 w p 3C2 67 1\n1 r p 3DA 0 1\n", has_time=True), [told])
-
-
 class Converting(Folder):
-    def test_a_script_as_bytes_and_as_text(self) -> None:
-        path, script = self.write("trace", BEGIN + b"5 r p 3CC 67 1\n"), self.folder / "script"
-        figures = b"2 cycles, 3 steps, 13 bytes: 1 out, 1 in, 1 frame\n"
-        self.assertEqual(run("convert", path, script), (0, figures, ""))
-        self.assertEqual(script.read_bytes(), b"VGAS\x01" + bytes.fromhex("01 C2 03 67 03 CC 03 0B"))
-        figures = "2 cycles, 3 steps, 31 bytes: 1 out, 1 in, 1 frame\n"
-        self.assertEqual(run("convert", path, "-", "--text"), (0, b"out 3C2 67\nin 3CC ; = 67\nframe\n", figures))
-
-    def test_gzip_and_standard_input(self) -> None:
-        for data in (BEGIN, gzip.compress(BEGIN)):
-            self.assertEqual(run("convert", "-", "-", "--text", given=data)[:2], (0, b"out 3C2 67\nframe\n"))
-            self.assertEqual(run("kinds", self.write("trace", data)), (0, b"           1 write port 3C2 size 1\n", ""))
-
-    def test_warnings_are_told(self) -> None:
-        said = "vga-trace: warning: standard input: cycle 1 writes first, and not port 3C2: the trace doesn't begin at power-on\n"
-        self.assertEqual(run("kinds", "-", given=b"- w p 3C4 1 1\n"), (0, b"           1 write port 3C4 size 1\n", said))
-
-    def test_faults_leave_what_was_there(self) -> None:
-        path, script = self.write("trace", BEGIN + b"oh\n"), Path(self.write("script", "old"))
-        hold_undone(self, run("convert", path, script), "trace:2: it is no cycle")
-        self.assertEqual((script.read_bytes(), self.names()), (b"old", ["script", "trace"]))
+    def test_traces_of_each_form(self) -> None:
+        data, lacking = BEGIN + b"5 r p 3CC 67 1\n", b"- w p 3C4 1 1\n"
+        script, text = b"VGAS\x01" + bytes.fromhex("01 C2 03 67 03 CC 03 0B"), b"out 3C2 67\nin 3CC ; = 67\nframe\n"
+        figures = "2 cycles, 3 steps, {} bytes: 1 out, 1 in, 1 frame\n".format
+        begins = "cycle 1 writes first, and not port 3C2: the trace doesn't begin at power-on\n"
+        kind = b"           1 %s port %s size 1\n"
+        kinds = kind % (b"write", b"3C2") + kind % (b"read", b"3CC")
+        hold(self, lambda given, *words: run(*words, given=given), (
+            *((form, "convert", "-", "-", (0, script, figures(13))) for form in (data, gzip.compress(data))),
+            *((form, "kinds", "-", (0, kinds, "")) for form in (data, gzip.compress(data))),
+            (data, "convert", "-", "-", "--text", (0, text, figures(31))),
+            (lacking, "kinds", "-", (0, kind % (b"write", b"3C4"), f"vga-trace: warning: standard input: {begins}")),
+        ))
+        path = self.folder / "script"
+        done = run("convert", self.write("trace", gzip.compress(data)), path)
+        self.assertEqual((done, path.read_bytes()), ((0, figures(13).encode(), ""), script))
 
     def test_too_long_is_told_with_a_number_of_cycles_that_fit(self) -> None:
         long = BEGIN + b"".join(b"- w p 3C4 %X 1\n" % at for at in range(50))
@@ -379,8 +354,7 @@ class Endings(Folder):
                 assert command.stdin is not None
                 command.stdin.write(BEGIN * 5000)
                 command.stdin.flush()
-                while len(list(self.folder.iterdir())) < 2:
-                    self.assertIsNone(command.poll())
+                self.wait_until(lambda: len(self.names()) == 2, command)
                 command.send_signal(number)
                 self.assertEqual(command.wait(60), status)
                 self.assertEqual((self.names(), script.read_bytes()), (["script"], b"old"))
@@ -407,11 +381,27 @@ class Checking(Folder):
         """The good answers, but of the steps `s1`, `s2` and so on."""
         return tuple(answers.get(f"s{number}", answer) for number, answer in enumerate(self.GOOD, 1))
 
-    def test_a_report_that_agrees(self) -> None:
-        reads = [f"  read            1 {kind}" for kind in
-                 ("in port 3C5 index 02", "in port 3DA", "get memory A0000", "getw memory A0000")]
-        self.assertEqual(self.check(*self.GOOD), (0, ["7 steps, 0 refused, 4 reads answered, 0 differ", *reads], ""))
-        self.assertEqual(self.check(*self.GOOD[:-1], "ragged")[0], 0)
+    def test_what_is_counted(self) -> None:
+        index, status, *memory = (f"  read            1 {kind}" for kind in
+                                  ("in port 3C5 index 02", "in port 3DA", "get memory A0000", "getw memory A0000"))
+        refusing = BEGIN + 2 * b"- w p 3B4 1 1\n- w p 3B5 2 1\n" + b"- r p 3C7 0 1\n"
+        hold(self, lambda given, *answers: self.check(*answers, given=given), (
+            *((self.TRACE, *self.GOOD[:-1], frame,
+               (0, ["7 steps, 0 refused, 4 reads answered, 0 differ", index, status, *memory], ""))
+              for frame in (PICTURE, "ragged")),
+            (self.TRACE, *self.changed(s5="skipped"),
+             (0, ["7 steps, 0 refused, 3 reads answered, 0 differ, 1 skipped", index, status, memory[1]], "")),
+            (refusing, "ok", *4 * ["E1 NotDecoded"], "E2 NotInProfile", PICTURE, (1, [
+                "7 steps, 5 refused, 0 reads answered, 0 differ",
+                "  refused         2 E1 NotDecoded: out port 3B4 (first at step 2)",
+                "  refused         2 E1 NotDecoded: out port 3B5 index 01 (first at step 3)",
+                "  refused         1 E2 NotInProfile: in port 3C7 (first at step 6)",
+            ], "")),
+            (BEGIN + b"- w p 3C0 10 1\n- r p 3C1 0 1\n", "ok", "ok", "01", PICTURE, (1, [
+                "4 steps, 0 refused, 1 reads answered, 1 differ", "  read            1 in port 3C1 index 10",
+                "  differ          1 in port 3C1 index 10 (first at step 3: traced 00, answered 01)",
+            ], "")),
+        ))
 
     def test_reads_that_differ(self) -> None:
         def told(step: str, answer: str) -> tuple[int, str, str]:
@@ -428,28 +418,10 @@ class Checking(Folder):
             *(("s4", answer, (0, "0 differ", "  read            1 getw memory A0000")) for answer in ("05", "0C", "0D")),
         ))
 
-    def test_refusals_by_kind(self) -> None:
-        given = BEGIN + 2 * b"- w p 3B4 1 1\n- w p 3B5 2 1\n" + b"- r p 3C7 0 1\n"
-        status, lines, _ = self.check("ok", *4 * ["E1 NotDecoded"], "E2 NotInProfile", PICTURE, given=given)
-        self.assertEqual((status, lines), (1, [
-            "7 steps, 5 refused, 0 reads answered, 0 differ",
-            "  refused         2 E1 NotDecoded: out port 3B4 (first at step 2)",
-            "  refused         2 E1 NotDecoded: out port 3B5 index 01 (first at step 3)",
-            "  refused         1 E2 NotInProfile: in port 3C7 (first at step 6)",
-        ]))
-
     def test_so_many_kinds_at_most(self) -> None:
         given = BEGIN + b"- r p 3C4 0 1\n- r p 3CE 0 1\n"
         _, lines, _ = self.check("ok", "01", "01", PICTURE, given=given, options=("--most", "1"))
         self.assertEqual([line.split()[0] for line in lines], ["4", "read", "differ"])
-
-    def test_the_index_of_the_attribute_controller(self) -> None:
-        given = BEGIN + b"- w p 3C0 10 1\n- r p 3C1 0 1\n"
-        self.assertIn("in port 3C1 index 10", self.check("ok", "ok", "01", PICTURE, given=given)[1][-1])
-
-    def test_steps_that_were_left_out(self) -> None:
-        status, lines, _ = self.check(*self.changed(s5="skipped"))
-        self.assertEqual((status, lines[0]), (0, "7 steps, 0 refused, 3 reads answered, 0 differ, 1 skipped"))
 
     def test_a_report_of_another_script(self) -> None:
         other = "vga-trace: standard input:{}: it is of another script\n".format
@@ -461,6 +433,8 @@ class Checking(Folder):
             (*self.changed(s3="000F"), (2, [], other("3: step 3 is `in`, and '000F' answers none"))),
             (*self.changed(s7="ok"), (2, [], other("7: step 7 is `frame`, and 'ok' answers none"))),
         ))
+        said = "vga-trace: standard input:2: step 2 is to come, and not '3 ok'\n"
+        self.assertEqual(run("check", self.write("trace", self.TRACE), "-", given=b"1 ok\n3 ok\n"), (2, b"", said))
 
     def test_with_the_options_of_the_script(self) -> None:
         given = BEGIN + 2 * b"0 r p 3DA 0 1\n"
@@ -470,10 +444,6 @@ class Checking(Folder):
             # A frame began amid the cycles, and a whole one stands at the end.
             (("--time",), "ok", "00", "00", PICTURE, 0),
         ))
-
-    def test_a_damaged_report(self) -> None:
-        said = "vga-trace: standard input:2: step 2 is to come, and not '3 ok'\n"
-        self.assertEqual(run("check", self.write("trace", self.TRACE), "-", given=b"1 ok\n3 ok\n"), (2, b"", said))
 
 
 class Example(Folder):
@@ -516,14 +486,17 @@ def lines(steps: Iterable[Step]) -> list[str]:
 
 
 class Folding(unittest.TestCase):
-    def test_rows_of_equal_steps(self) -> None:
-        self.assertEqual(lines([WRITE, *[POLL] * 100, WRITE]), ["out 3C0 20", "repeat 100", "in 3DA", "end", "out 3C0 20"])
-
-    def test_rows_of_equal_groups(self) -> None:
-        self.assertEqual(lines([POLL, WRITE] * 30 + [POLL]), ["repeat 30", "in 3DA", "out 3C0 20", "end", "in 3DA"])
-        group = [Step(PUT, 0xA0000 + at, at) for at in range(8)]
-        self.assertEqual(lines(group * 3), ["repeat 3", *(f"put A000{at} 0{at}" for at in range(8)), "end"])
-        self.assertEqual(len(lines([Step(PUT, 0xA0000 + at, at) for at in range(9)] * 3)), 27)
+    def test_rows_of_equal_steps_and_groups(self) -> None:
+        nine = [Step(PUT, 0xA0000 + at, at) for at in range(9)] * 3
+        group, other = nine[:8], [Step(IN, 0x3C9, value) for value in range(20)]
+        hold(self, lines, (
+            ([WRITE, *[POLL] * 100, WRITE], ["out 3C0 20", "repeat 100", "in 3DA", "end", "out 3C0 20"]),
+            ([POLL, WRITE] * 30 + [POLL], ["repeat 30", "in 3DA", "out 3C0 20", "end", "in 3DA"]),
+            (group * 3, ["repeat 3", *texts(*group), "end"]), (nine, texts(*nine)),
+            # Reads of other values are one row in bytes, and not in text.
+            (other, texts(*other)),
+        ))
+        self.assertEqual([row.steps for row in folded(coded(other))], [20])
 
     def test_short_rows_stay(self) -> None:
         # Five polls of three bytes are 15 bytes, and a block of them seven: less than half.
@@ -536,11 +509,6 @@ class Folding(unittest.TestCase):
         rows = list(folded(coded([POLL] * (2 * 65535 + 3))))
         self.assertEqual([row.steps for row in rows], [65535, 65535, 1, 1, 1])
         self.assertEqual(rows[0].data, bytes.fromhex("0D FFFF 03DA03 0E"))
-
-    def test_reads_of_other_values_are_one_row_in_bytes_and_not_in_text(self) -> None:
-        steps = [Step(IN, 0x3C9, value) for value in range(20)]
-        self.assertEqual([row.steps for row in folded(coded(steps))], [20])
-        self.assertEqual(lines(steps), [f"in 3C9 ; = {value:02X}" for value in range(20)])
 
     def test_the_steps_are_the_same_whatever_they_are(self) -> None:
         for seed in range(20):

@@ -1,4 +1,4 @@
-"""How tests run the tools: in folders of their own, with fake programs, and ended by signals."""
+"""How tests run the tools, in folders of their own, with fake programs, and ended by signals; and the built program."""
 
 from __future__ import annotations
 
@@ -9,23 +9,25 @@ import multiprocessing
 import os
 import re
 import signal
+import struct
 import subprocess
 import sys
 import tempfile
 import time
 import unittest
 import warnings
+import zlib
 from functools import partial
 from pathlib import Path
-from typing import Any, BinaryIO, Callable, Iterable, Optional, Sequence
+from typing import Any, BinaryIO, Callable, Iterable, Mapping, NamedTuple, Optional, Sequence
 
+from vga_report.program import FONTS, PROGRAM
 from vga_report.trouble import Trouble
-
-from .making import report
 
 TOOLS = Path(__file__).resolve().parents[1]
 TOP = TOOLS.parent
 EXAMPLES = TOP / "examples"
+RED, WHITE, BLACK = b"\x3f\x00\x00", b"\x3f\x3f\x3f", b"\x00\x00\x00"
 # How a tool's script names the module that has its `main`.
 MAIN = re.compile(r"^from ([\w.]+) import main$", re.M)
 # The tools want nothing but Python's own library, and start faster where nothing else is looked for.
@@ -37,6 +39,8 @@ MOST_SECONDS = 200
 SIGNALS = ((signal.SIGTERM, 143), (signal.SIGHUP, 129), (signal.SIGINT, 130))
 # A child that is to be there is waited for this many seconds.
 WAITING = 60
+# Why a test is skipped. The gate sees to it that none is, once the program is built.
+UNBUILT = "the program isn't built: (cd crates/vga && rt run -- --help) builds it"
 
 
 def main_of(name: str) -> Callable[[Sequence[str]], int]:
@@ -98,6 +102,33 @@ def ended(*words: str | bytes | Path, **options: Any) -> tuple[int, Any, Any]:
     return done.returncode, done.stdout, done.stderr
 
 
+def want_program() -> None:
+    """Skips a test where the program isn't built yet."""
+    if not os.access(PROGRAM, os.X_OK):
+        raise unittest.SkipTest(UNBUILT)
+
+
+class Ran(NamedTuple):
+    """How a run of the program ended: its status, its report, and what it said."""
+
+    status: int
+    report: bytes
+    said: str
+
+
+def run_program(*words: str | bytes | Path, given: bytes = b"", folder: Optional[Path] = None) -> Ran:
+    """How a run of the program with these words ends."""
+    status, report, said = ended(PROGRAM, *words, cwd=folder, input=given, text=False)
+    return Ran(status, report, said.decode())
+
+
+def run_texts(texts: Mapping[str, bytes]) -> dict[str, Ran]:
+    """What `vga go` answers to each of these texts. Without the program the test is skipped."""
+    want_program()
+    words = ("go", "/dev/stdin", "--fonts", FONTS)
+    return {name: run_program(*words, given=text) for name, text in texts.items()}
+
+
 def hold(test: unittest.TestCase, work: Callable[..., object], table: Iterable[tuple[Any, ...]]) -> None:
     """Holds what work makes of the front of each row of a table to the row's last."""
     for *given, wanted in table:
@@ -106,7 +137,7 @@ def hold(test: unittest.TestCase, work: Callable[..., object], table: Iterable[t
 
 
 def hold_undone(test: unittest.TestCase, done: Sequence[Any], told: Any) -> None:
-    """Holds what a call above has answered to work that can't be done: status 2, no output, and words with the pattern."""
+    """Holds what a call above has answered to work that can't be done: status 2, no output, words with the pattern."""
     status, output, said = done
     test.assertEqual((status, len(output)), (2, 0), said)
     test.assertRegex(said, told)
@@ -119,6 +150,13 @@ def refused(work: Callable[..., object], *words: object) -> str:
     except Trouble as trouble:
         return str(trouble)
     raise AssertionError("it is not refused")
+
+
+def hold_refused(test: unittest.TestCase, work: Callable[..., object], table: Iterable[tuple[Any, ...]]) -> None:
+    """Holds what is told of work that a Trouble ends, for the front of each row, to the row's last, a pattern."""
+    for *given, told in table:
+        with test.subTest(given):
+            test.assertRegex(refused(work, *given), told)
 
 
 def _heed_signals() -> None:
@@ -188,13 +226,17 @@ class Folder(unittest.TestCase):
             patch.start()
             self.addCleanup(patch.stop)
 
+    def wait_until(self, is_done: Callable[[], bool], process: Optional[subprocess.Popen[bytes]] = None) -> None:
+        """Waits until something is done, as long as a process runs."""
+        until = time.monotonic() + WAITING
+        while not is_done():
+            self.assertLess(time.monotonic(), until, "it is not done in time")
+            self.assertTrue(process is None or process.poll() is None, "the process has ended")
+            time.sleep(0.01)
+
     def wait_for(self, path: Path, process: Optional[subprocess.Popen[bytes]] = None) -> str:
         """Waits until a file has a whole line, as long as a process runs; what it has."""
-        until = time.monotonic() + WAITING
-        while not (path.exists() and path.read_text().endswith("\n")):
-            self.assertLess(time.monotonic(), until, f"{path} is not written")
-            self.assertTrue(process is None or process.poll() is None)
-            time.sleep(0.01)
+        self.wait_until(lambda: path.exists() and path.read_text().endswith("\n"), process)
         return path.read_text()
 
     def within(self, work: Callable[[int], Any], begun: Path) -> Any:
@@ -207,7 +249,49 @@ class Folder(unittest.TestCase):
 
     def assert_ended(self, *numbers: int) -> None:
         """That processes end soon."""
-        until = time.monotonic() + 10
-        while any(map(is_running, numbers)) and time.monotonic() < until:
-            time.sleep(0.01)
-        self.assertEqual([number for number in numbers if is_running(number)], [])
+        self.wait_until(lambda: not any(map(is_running, numbers)))
+
+
+# Reports, pictures and PNGs are made and read with none of the tools' own code.
+
+
+def ppm(width: int, height: int, dots: bytes) -> bytes:
+    """A picture's bytes."""
+    return b"P6\n%d %d\n63\n" % (width, height) + dots
+
+
+def report(*answers: str | bytes) -> bytes:
+    """A report of steps with these answers. Bytes are a picture."""
+    told = (b"picture %d\n" % len(one) + one if isinstance(one, bytes) else one.encode() for one in answers)
+    return b"".join(b"%d %b\n" % step for step in enumerate(told, 1))
+
+
+def stream(data: bytes) -> io.BufferedReader:
+    """A stream of bytes, as a file gives them."""
+    return io.BufferedReader(io.BytesIO(data))  # type: ignore[arg-type]
+
+
+def png_chunks(data: bytes) -> list[tuple[bytes, bytes]]:
+    """The chunks of a PNG, each of whose checks must hold: their kinds and data."""
+    assert data[:8] == b"\x89PNG\r\n\x1a\n"
+    at, chunks = 8, []
+    while at < len(data):
+        (length,) = struct.unpack_from(">I", data, at)
+        kind, body = data[at + 4:at + 8], data[at + 8:at + 8 + length]
+        (check,) = struct.unpack_from(">I", data, at + 8 + length)
+        assert check == zlib.crc32(kind + body)
+        chunks.append((kind, body))
+        at += 12 + length
+    return chunks
+
+
+def png_rows(data: bytes) -> tuple[int, int, list[bytes]]:
+    """Width, height and rows of a truecolour PNG of eight bits."""
+    chunks = png_chunks(data)
+    assert chunks[0][0] == b"IHDR" and chunks[-1] == (b"IEND", b"")
+    width, height, *form = struct.unpack(">IIBBBBB", chunks[0][1])
+    assert form == [8, 2, 0, 0, 0]
+    lines, length = zlib.decompress(b"".join(body for kind, body in chunks if kind == b"IDAT")), 3 * width + 1
+    assert len(lines) == length * height
+    assert not any(lines[::length]), "a row with a filter"
+    return width, height, [lines[at + 1:at + length] for at in range(0, len(lines), length)]
