@@ -5,9 +5,8 @@ import unittest
 from typing import Iterator, Optional
 
 from vga_report.differences import Comparison
-from vga_report.dumps import NAMES, differing
-from vga_report.expected import Expected
-from vga_report.report import Report
+from vga_report.expecting import NAMES, differing
+from vga_report.report import Expected, Report
 from vga_report.trouble import Trouble
 from zaklimot.format import Answer, Picture
 from zaklimot.format.answers import GROUPS

@@ -9,7 +9,7 @@ from typing import Iterator, NamedTuple, Optional, Sequence
 from zaklimot.format import FAULT, MOST_BYTES, STATE, Answer, lines_in, steps_in
 from zaklimot.format.report import REFUSAL, VALUE
 
-from .expected import Expected
+from .report import Expected
 from .streams import STANDARD, bytes_of, read_at_most, shown_name
 from .trouble import Trouble
 

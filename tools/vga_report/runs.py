@@ -11,7 +11,6 @@ from typing import BinaryIO, Iterator, Optional, Union, cast
 
 from zaklimot.format import Picture
 
-from .blessing import Blessing
 from .debugging import debug_page, link_to
 from .listing import Choice, Row, Script, heading, listed
 from .output import AGREED, DIFFERED, counted, name_of, write
@@ -22,7 +21,7 @@ from .progress import Progress
 from .script import read_script
 from .several import run_several, watched
 from .streams import STANDARD, check_file, check_folder, write_file, write_over, writing
-from .tally import Tally, Told
+from .tally import Blessing, Tally, Told
 from .trouble import Trouble
 
 # So many reasons of refusals are told once each, and then again.
