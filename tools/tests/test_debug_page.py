@@ -16,8 +16,9 @@ from page_tests import command as tests_command
 from vga_report.version import HEADER, calls_of
 from vga_report.processes import Failed, run
 from vga_page import command, page, wasm
-from vga_page.bundling import joined
-from vga_page.page import DATA, SCRIPT, STYLE, Sources, about, data_of, examples, make_page, packed, page_text
+from vga_page.page import (
+    DATA, SCRIPT, STYLE, Sources, about, data_of, examples, joined, make_page, packed, page_text,
+)
 from vga_page.retargeting import LAYOUTS, TRIPLES, retargeted
 from vga_page.wasm import check_module, exports_of, kit_of, with_kit
 from vga_report.trouble import TROUBLE, Wrong
@@ -236,8 +237,7 @@ class Modules(unittest.TestCase):
         module = module_of(self.right)
         told = f"{len(module):,} bytes, {len(self.calls)} calls, no imports, no table"
         self.assertEqual(check_module(module), told)
-        names = [export.name for export in exports_of(module)]
-        self.assertEqual(names, [*self.right, "memory", "__heap_base"])
+        self.assertEqual([*exports_of(module)], [*self.right, "memory", "__heap_base"])
 
     def test_what_is_otherwise(self) -> None:
         for module, reason in (

@@ -2,7 +2,7 @@
 
 from __future__ import annotations
 
-from typing import Iterable, Iterator, NamedTuple
+from typing import Iterator
 
 from vga_report.version import HEADER, calls_of
 from vga_report.trouble import Trouble
@@ -18,13 +18,6 @@ OWN = frozenset(("memory", "__heap_base", "page_take", "page_give"))
 # A memory of 64-bit addresses.
 IS_64 = 4
 MOST_MODULE = 16 << 20
-
-
-class Export(NamedTuple):
-    """A name that a module exports, and its kind: 0 is a function."""
-
-    name: str
-    kind: int
 
 
 class _Reader:
@@ -90,18 +83,15 @@ def kit_of(module: bytes) -> str:
     return found[-1][len(begin):].decode("ascii", "replace") if found else ""
 
 
-def exports_of(module: bytes) -> list[Export]:
-    """What a module exports, in its order."""
-    reader, found = _Reader(sections(module).get(EXPORTS, b"\0")), []
+def exports_of(module: bytes) -> dict[str, int]:
+    """The names that a module exports, in its order, each with its kind: 0 is a function."""
+    reader, found = _Reader(sections(module).get(EXPORTS, b"\0")), {}
     for _ in range(reader.number()):
-        found.append(Export(reader.name(), reader.byte()))
+        name = reader.name()
+        found[name] = reader.byte()
         # Its place among others of its kind.
         reader.number()
     return found
-
-
-def _listed(names: Iterable[str]) -> str:
-    return ", ".join(sorted(names))
 
 
 def check_module(module: bytes) -> str:
@@ -119,11 +109,10 @@ def check_module(module: bytes) -> str:
         raise Trouble("its memory is not one of 64-bit addresses", "the module")
     exports = exports_of(module)
     calls = set(calls_of(HEADER.read_text("ascii")))
-    names = {export.name for export in exports}
-    shown = {export.name for export in exports if export.kind == FUNCTION} - OWN
-    if calls - shown or OWN - names:
-        raise Trouble(f"it lacks {_listed((calls - shown) | (OWN - names))}", "the module")
-    if names - calls - OWN:
-        more = _listed(names - calls - OWN)
-        raise Trouble(f"it exports what is not in {HEADER.name}: {more}", "the module")
+    shown = {name for name, kind in exports.items() if kind == FUNCTION} - OWN
+    lacking, more = sorted((calls - shown) | (OWN - exports.keys())), sorted(exports.keys() - calls - OWN)
+    if lacking:
+        raise Trouble(f"it lacks {', '.join(lacking)}", "the module")
+    if more:
+        raise Trouble(f"it exports what is not in {HEADER.name}: {', '.join(more)}", "the module")
     return f"{len(module):,} bytes, {len(calls)} calls, no imports, no table"
