@@ -42,7 +42,7 @@ class Difference(NamedTuple):
         """Both answers, each as one line."""
         step, other = self
         if step is None or other is None:
-            return _first_line(step), _first_line(other)
+            return END if step is None else step.answer, END if other is None else other.answer
         if step.picture is not None and other.picture is not None:
             return _pictures(step, other)
         line, other_line = next(
@@ -84,10 +84,6 @@ def told_dots(picture: Picture, other: Picture) -> str:
     colours = f"{picture.dot(found.x, found.y)}, not {other.dot(found.x, found.y)}"
     count = picture.width * picture.height
     return f"{found.count} of {count} dots differ, the first is dot {found.x} of row {found.y}: {colours}"
-
-
-def _first_line(step: Optional[Answer]) -> str:
-    return END if step is None else step.answer
 
 
 def _with_kind(line: str, step: Answer) -> str:
@@ -160,8 +156,6 @@ def _are_alike(step: Answer, other: Answer) -> bool:
     if step.number != other.number or step.answer != other.answer or step.others != other.others:
         return False
     picture, other_picture = step.picture, other.picture
-    if isinstance(picture, Picture) and isinstance(other_picture, Picture):
-        return picture.ppm == other_picture.ppm
-    if picture is None or other_picture is None:
-        return picture is other_picture
+    if picture is None or other_picture is None or type(picture) is type(other_picture):
+        return picture == other_picture
     return (picture.size, picture.sum) == (other_picture.size, other_picture.sum)

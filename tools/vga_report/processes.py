@@ -88,12 +88,10 @@ def started(words: Words, asking: float = 0, **given: Any) -> Iterator[subproces
                     [str(word) for word in words],
                     **{"stdin": subprocess.DEVNULL, "start_new_session": IS_POSIX, **given},
                 )
-            except OSError as error:
-                raise Trouble(error.strerror or str(error), str(words[0])) from error
+            except (OSError, ValueError) as error:
+                raise Trouble(getattr(error, "strerror", None) or str(error), str(words[0])) from error
             except subprocess.SubprocessError as error:
                 raise Trouble("the system doesn't set these limits for it", str(words[0])) from error
-            except ValueError as error:
-                raise Trouble(str(error), str(words[0])) from error
         yield process
     finally:
         if process is not None:

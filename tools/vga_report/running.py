@@ -4,6 +4,7 @@ import io
 import re
 import shlex
 import tempfile
+from contextlib import suppress
 from pathlib import Path
 from threading import Event
 from typing import Iterator, NamedTuple, Optional
@@ -165,34 +166,28 @@ def keep_case(folder: Path, case: Case, script: Path, report: Path, messages: Pa
     stem.parent.mkdir(parents=True, exist_ok=True)
     for file, end in ((script, case.suffix), (report, ".report"), (messages, ".said")):
         write_file(f"{stem}{end}", file.read_bytes())
-    expected = {step.number: step.picture for step in expected_pictures(case)}
-    for step in _pictures_of(report):
-        assert isinstance(step.picture, Picture)
-        _write_pictures(f"{stem}-{step.number:04}", step.picture, expected.pop(step.number, None))
+    expected = dict(pictures_in(case.expected_steps()))
+    for number, picture in _pictures_of(report):
+        _write_pictures(f"{stem}-{number:04}", picture, expected.pop(number, None))
     for number, picture in expected.items():
-        assert isinstance(picture, Picture)
         _write_pictures(f"{stem}-{number:04}", None, picture)
 
 
-def _write_pictures(stem: str, picture: Optional[Picture], expected: object) -> None:
+def _write_pictures(stem: str, picture: Optional[Picture], expected: Optional[Picture]) -> None:
     """Writes a picture, the one that is expected, and where they differ."""
-    wanted = expected if isinstance(expected, Picture) else None
-    for some, end in ((picture, ".png"), (wanted, "-expected.png")):
+    for some, end in ((picture, ".png"), (expected, "-expected.png")):
         if some is not None:
             save_png(stem + end, some)
-    if picture is not None and wanted is not None and picture.ppm != wanted.ppm:
-        save_png(f"{stem}-differing.png", picture, other=wanted)
+    if picture is not None and expected is not None and picture.ppm != expected.ppm:
+        save_png(f"{stem}-differing.png", picture, other=expected)
 
 
-def _pictures_of(report: Path) -> Iterator[Answer]:
-    """The steps of a report that have a picture, up to its damage if it is damaged."""
-    with open(report, "rb") as stream:
-        try:
-            yield from (step for step in Report(stream, "").steps() if isinstance(step.picture, Picture))
-        except Trouble:
-            return
+def _pictures_of(report: Path) -> Iterator[tuple[int, Picture]]:
+    """The pictures of a report, up to its damage if it is damaged."""
+    with open(report, "rb") as stream, suppress(Trouble):
+        yield from pictures_in(Report(stream, "").steps())
 
 
-def expected_pictures(case: Case) -> Iterator[Answer]:
-    """The steps of a case whose expected picture stands in the suite with all its dots."""
-    return (step for step in case.expected_steps() if isinstance(step.picture, Picture))
+def pictures_in(steps: Iterator[Answer]) -> Iterator[tuple[int, Picture]]:
+    """The pictures of steps that have them with all their dots, each with its step's number."""
+    return ((step.number, step.picture) for step in steps if isinstance(step.picture, Picture))

@@ -20,8 +20,8 @@ from .program import Built, Tried, build_program, found_program
 from .progress import Progress
 from .script import read_script
 from .several import run_several, watched
-from .streams import STANDARD, check_file, check_folder, write_file, write_over, writing
-from .tally import Blessing, Tally, Told
+from .streams import STANDARD, check_file, check_folder, write_file, write_over
+from .tally import Blessing, Tally, Told, told_in
 from .trouble import Trouble
 
 # So many reasons of refusals are told once each, and then again.
@@ -54,11 +54,7 @@ def _script_file(path: str) -> Iterator[tuple[str, bytes]]:
 
 def _is_text(name: str) -> bool:
     """Whether a name is one that the program takes: it reads its words as UTF-8."""
-    try:
-        name.encode("utf-8")
-    except UnicodeEncodeError:
-        return False
-    return True
+    return not any("\ud800" <= letter <= "\udfff" for letter in name)
 
 
 @contextmanager
@@ -143,18 +139,8 @@ def _run_script(words: argparse.Namespace, progress: Progress) -> int:
     choice = Choice(words.only)
     program: Union[Built, Tried] = Tried() if words.try_ else Built(found_program(words.vga))
     tally = Tally(name_of(words.script))
-    with ExitStack() as stack:
-        told = None
-        if words.json is not None:
-            told = Told(stack.enter_context(writing(words.json)), tally.shown)
-        try:
-            return _run_by(words, progress, program, choice, tally, told)
-        except Trouble as trouble:
-            if told is not None:
-                # What is written is whole, also of a script that can't be run to its end.
-                told.end(tally, str(trouble))
-                stack.close()
-            raise
+    with told_in(words.json, tally) as told:
+        return _run_by(words, progress, program, choice, tally, told)
 
 
 def _run_by(
@@ -176,21 +162,19 @@ def _run_by(
             raise Trouble("a script of bytes has no comments for answers", words.script)
         blessing = Blessing(data) if words.bless or words.diff else None
         tells_why = shower.tells_why or told is not None
-        for row in script.rows(program, fonts, words.until, progress, words.strict, tells_why):
+        for row in script.rows(fonts, words.until, progress, words.strict, tells_why):
             if not tally.steps:
                 shower.begin(script)
             is_wrong = tally.count(row)
             if blessing is not None:
                 blessing.take(row)
             if told is not None:
-                told.add(row, row.why)
+                told.add(row)
             if choice.has_all or choice.has(row):
                 shower.show(row, is_wrong)
         progress.clear()
-        if words.bless:
+        if blessing is not None and words.bless:
             return _bless(words, blessing)
-    if told is not None:
-        told.end(tally)
     shower.end(script, tally)
     if blessing is not None and not words.bless:
         write(blessing.difference(tally.shown))
@@ -237,10 +221,8 @@ class _Shower:
         elif self._is_listed:
             if self._progress.is_wanted:
                 self._progress.clear()
-            why = row.why
-            if why and why in self._whys:
-                why = ""
-            elif why and len(self._whys) < MOST_WHYS:
+            why = "" if row.why in self._whys else row.why
+            if why and len(self._whys) < MOST_WHYS:
                 self._whys.add(why)
             write(listed(row, is_wrong, self._width, path and f"  {path}", why))
             if words.show and isinstance(picture, Picture):
@@ -265,10 +247,9 @@ def _saved_picture(row: Row, words: argparse.Namespace) -> str:
     return path
 
 
-def _bless(words: argparse.Namespace, blessing: Optional[Blessing]) -> int:
+def _bless(words: argparse.Namespace, blessing: Blessing) -> int:
     """Writes the answers into the script that are not as expected, each behind its step, and lists them."""
     path = words.script
-    assert blessing is not None
     changes = list(blessing.changes())
     for number, before, after in changes:
         write(f"{path}:{number}: {before or 'nothing'} -> {after}\n")

@@ -3,6 +3,7 @@
 import difflib
 import json
 import tempfile
+from contextlib import contextmanager
 from typing import Any, BinaryIO, Iterator, NamedTuple, Optional
 
 from zaklimot.format.table import OK
@@ -12,6 +13,8 @@ from .listing import Row
 from .mistakes import text_of
 from .output import counted
 from .script import MARK, expected_in
+from .streams import writing
+from .trouble import Trouble
 
 # So many bytes of answers that differ stay in memory.
 MOST_TOLD = 1 << 20
@@ -58,39 +61,50 @@ class Tally:
             parts.append(f"{self.met} of {self.expected} answers as expected")
         return ", ".join(parts)
 
-    def figures(self) -> dict[str, int]:
-        """The counts, for machines."""
-        return {name: getattr(self, name) for name in ("steps", "refused", "pictures", "expected", "met", "wrong")}
-
 
 class Told:
-    """A run as JSON, which is written as the steps come: one object, whose last members are the counts or the trouble."""
+    """A run as JSON, which is written as the steps come: one object, whose last members are the counts and the trouble."""
 
     def __init__(self, stream: BinaryIO, script: str) -> None:
         self._stream = stream
         self._between = b"\n"
-        self._write({"script": script}, b"", b', "answers": [')
+        stream.write(json.dumps({"script": script})[:-1].encode("ascii") + b', "answers": [')
 
-    def _write(self, told: dict[str, Any], front: bytes, end: bytes) -> None:
-        data = json.dumps(told).encode("ascii")
-        self._stream.write(front + (data[:-1] if end else data) + end)
-
-    def add(self, row: Row, why: str) -> None:
+    def add(self, row: Row) -> None:
         """Adds a step, with its picture's digest, and why it was refused."""
         step = row.step
         told: dict[str, Any] = {"step": step.number, "line": row.line, "words": row.words, "answer": answer_of(step)}
         told.update({"lines": list(step.lines)} if step.others else {})
         if step.picture is not None:
             told["picture"] = {"size": step.picture.size, "md5": step.picture.sum}
-        told.update({"refused": step.answer, "why": why} if row.is_refused else {})
+        told.update({"refused": step.answer, "why": row.why} if row.is_refused else {})
         if row.expected is not None or row.is_wrong:
             told.update({"expected": row.expected, "met": not row.is_wrong})
-        self._write(told, self._between, b"")
+        self._stream.write(self._between + json.dumps(told).encode("ascii"))
         self._between = b",\n"
 
     def end(self, tally: Tally, trouble: Optional[str] = None) -> None:
         """Ends the object: with the counts, and with what ended the run if it isn't whole."""
-        self._stream.write(b"\n], " + json.dumps({**tally.figures(), "trouble": trouble})[1:].encode("ascii") + b"\n")
+        counts = {name: getattr(tally, name) for name in ("steps", "refused", "pictures", "expected", "met", "wrong")}
+        self._stream.write(b"\n], " + json.dumps({**counts, "trouble": trouble})[1:].encode("ascii") + b"\n")
+
+
+@contextmanager
+def told_in(path: Optional[str], tally: Tally) -> Iterator[Optional[Told]]:
+    """A run's JSON in a file, where one is named. It is whole, also of a script that can't be run to its end."""
+    if path is None:
+        yield None
+        return
+    trouble: Optional[Trouble] = None
+    with writing(path) as stream:
+        told = Told(stream, tally.shown)
+        try:
+            yield told
+        except Trouble as raised:
+            trouble = raised
+        told.end(tally, None if trouble is None else str(trouble))
+    if trouble is not None:
+        raise trouble
 
 
 class Answered(NamedTuple):

@@ -17,8 +17,6 @@ SUITE = TOP / "crates" / "vga_suite" / "data" / "list.txt"
 # The largest numbers of options: enlargements, commands at a time, MiB, steps, and a day of seconds.
 MOST_SCALE, MOST_JOBS, MOST_OUTPUT, MOST_STEP, MOST_SECONDS = 1000, 256, 1 << 20, 4_294_967_295, 86_400
 
-Job = Callable[[argparse.Namespace, Progress], int]
-
 
 def number_to(most: int, least: int = 1) -> Callable[[str], int]:
     """Reads a number of decimal digits within these bounds."""
@@ -117,7 +115,7 @@ def parser() -> argparse.ArgumentParser:
     )
     commands = made.add_subparsers(required=True, metavar="COMMAND")
 
-    def adds(job: Job, *files: str) -> argparse.ArgumentParser:
+    def adds(job: Callable[[argparse.Namespace, Progress], int], *files: str) -> argparse.ArgumentParser:
         told = job.__doc__ or ""
         added = cli.command(commands, job.__name__.replace("_", "-"), job, told, description=told)
         for file in files:
