@@ -58,13 +58,6 @@ class Module(NamedTuple):
     names: Mapping[str, int]
 
 
-def _import_of(line: str, name: str, number: int) -> tuple[str, tuple[str, ...]]:
-    found = IMPORT.fullmatch(line)
-    if found is None:
-        raise Trouble('an import is a line such as: import { a, b } from "./other.js";', name, number)
-    return found[2], tuple(found[1].split(", "))
-
-
 def _names_of(line: str, name: str, number: int) -> list[str]:
     """The names that a line at the top level declares."""
     if TAKEN_APART.match(line):
@@ -90,8 +83,10 @@ def read_module(name: str, text: str) -> Module:
         if DYNAMIC.search(line):
             raise Trouble("a module is imported by a line at the top alone", name, number)
         if re.match(r"import\b", line):
-            other, wanted = _import_of(line, name, number)
-            imports[other] = imports.get(other, ()) + wanted
+            found = IMPORT.fullmatch(line)
+            if found is None:
+                raise Trouble('an import is a line such as: import { a, b } from "./other.js";', name, number)
+            imports[found[2]] = (*imports.get(found[2], ()), *found[1].split(", "))
             continue
         declared = _names_of(line, name, number)
         if re.match(r"export\b", line):
@@ -133,19 +128,14 @@ def ordered(modules: Mapping[str, Module]) -> list[Module]:
     return list(done.values())
 
 
-def _refuse_collisions(modules: list[Module]) -> None:
-    """Names at the top level of two modules must differ."""
+def joined(sources: Mapping[str, str]) -> str:
+    """One script of modules, which are given by their names. Names at the top level of two modules must differ."""
+    modules = ordered({name: read_module(name, text) for name, text in sources.items()})
     owners: dict[str, str] = {}
     for module in modules:
         for one, number in module.names.items():
             if owners.setdefault(one, module.name) != module.name:
                 raise Trouble(f"{one} is a name at the top level of {owners[one]} too", module.name, number)
-
-
-def joined(sources: Mapping[str, str]) -> str:
-    """One script of modules, which are given by their names."""
-    modules = ordered({name: read_module(name, text) for name, text in sources.items()})
-    _refuse_collisions(modules)
     return "\n".join(f"// {module.name}\n{module.text}" for module in modules)
 
 

@@ -14,7 +14,7 @@ from zaklimot.format import FAULT, Answer, Picture
 from .cases import Case, printable
 from .differences import Comparison, Told
 from .png import save_png
-from .processes import Limits, Outcome, run_command
+from .processes import Limits, run_command
 from .report import Report
 from .streams import write_file
 from .trouble import Trouble
@@ -47,17 +47,10 @@ class Result(NamedTuple):
         return self.difference.text + (f" ({place})" if place else "")
 
 
-class Kind(NamedTuple):
-    """What a command can't do: refuse a step; or, as a machine's, judge a script too."""
-
-    has_refusals: bool = True
-    is_machine: bool = False
-
-
 class Command:
-    """A command with places for a case's files."""
+    """A command with places for a case's files. One without refusals refuses no step; a machine judges no script either."""
 
-    def __init__(self, text: str, limits: Limits, kind: Kind, is_ended: Event) -> None:
+    def __init__(self, text: str, limits: Limits, has_refusals: bool, is_machine: bool) -> None:
         try:
             self._words = shlex.split(text)
         except ValueError as error:
@@ -66,10 +59,10 @@ class Command:
             raise Trouble("the command is empty")
         if not any("{script}" in word or "{name}" in word for word in self._words):
             raise Trouble(f"the command '{text}' has neither {{script}} nor {{name}}")
-        self.kind = kind
+        self.limits = limits
+        self.has_refusals = has_refusals
+        self.is_machine = is_machine
         self.can_stop = UNTIL in self._words
-        self._limits = limits
-        self._is_ended = is_ended
 
     def words(self, case: Case, script: Path) -> list[str]:
         """The command's words for a case."""
@@ -80,31 +73,28 @@ class Command:
         words = [stop if word == UNTIL else [PLACE.sub(lambda place: values[place[1]], word)] for word in self._words]
         return [word for some in words for word in some]
 
-    def run(self, case: Case, script: Path, report: Path, messages: Path) -> Outcome:
-        """How it ended. What it wrote and said stands in two files then."""
-        return run_command(self.words(case, script), report, messages, self._limits, self._is_ended)
 
-
-def run_case(case: Case, command: Optional[Command], keep: Optional[Path] = None) -> Result:
+def run_case(case: Case, command: Optional[Command], keep: Optional[str], is_ended: Event) -> Result:
     """Runs a case. Without a command it's left out. What doesn't agree is kept in a folder, where one is given."""
     rule = case.rule()
     if command is None:
         return Result(case, rule, SKIPPED, Comparison(), reason="the script is bytes, and --bytes has no command")
     if case.is_bytes and case.until is not None and not command.can_stop:
         return Result(case, rule, SKIPPED, Comparison(), reason=f"the command of --bytes has no {UNTIL}")
-    if command.kind.is_machine and not case.has_answers_of_machine():
+    if command.is_machine and not case.has_answers_of_machine():
         return Result(case, rule, SKIPPED, Comparison(), reason=NO_ANSWERS)
     with tempfile.TemporaryDirectory(prefix="vga-report-") as name:
         folder = Path(name)
         script, report, messages = folder / f"script{case.suffix}", folder / "report", folder / "messages"
-        script.write_bytes(case.handed(command.kind.is_machine, command.can_stop))
-        outcome = command.run(case, script, report, messages)
+        script.write_bytes(case.handed(command.is_machine, command.can_stop))
+        outcome = run_command(command.words(case, script), report, messages, command.limits, is_ended)
         if outcome.status is None:
             result = Result(case, rule, FAILED, Comparison(), reason=outcome.reason + said_text(messages))
         else:
-            result = _judged(case, rule, Comparison(*command.kind), outcome.status, report, messages)
+            comparison = Comparison(command.has_refusals, command.is_machine)
+            result = _judged(case, rule, comparison, outcome.status, report, messages)
         if keep is not None and result.answer in (DIFFERS, FAILED):
-            keep_case(keep, case, script, report, messages)
+            keep_case(Path(keep), case, script, report, messages)
     return result
 
 

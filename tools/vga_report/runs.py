@@ -13,7 +13,7 @@ from zaklimot.format import Picture
 
 from .debugging import debug_page, link_to
 from .listing import Choice, Row, Script, heading, listed
-from .output import AGREED, DIFFERED, counted, name_of, write
+from .output import AGREED, DIFFERED, counted, name_of, teller, write
 from .page import Page
 from .png import Shape, block_lines, save_png
 from .program import Built, Tried, build_program, found_program
@@ -184,8 +184,8 @@ def _run_by(
 
 
 def _tell_tally(tally: Tally, words: argparse.Namespace) -> None:
-    """Tells the answers that differ, and what was seen; on standard error where something else goes to standard output."""
-    tell = sys.stderr.write if STANDARD in (words.html, words.json) else write
+    """Tells the answers that differ, and what was seen."""
+    tell = teller(words.html, words.json)
     for line in tally.differing():
         tell(line)
     tell((f"{tally.shown}: " if words.quiet else "") + tally.text() + "\n")

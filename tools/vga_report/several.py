@@ -13,7 +13,7 @@ from xml.etree.ElementTree import Element, SubElement, indent, tostring
 
 from . import TOP
 from .cases import printable
-from .output import AGREED, DIFFERED, counted, name_of, write
+from .output import AGREED, DIFFERED, counted, name_of, teller, write
 from .processes import captured, in_parallel
 from .progress import Progress
 from .streams import STANDARD, refuse_input, to_read, write_file, writing
@@ -87,7 +87,7 @@ def run_several(words: argparse.Namespace, progress: Progress) -> int:
         to_read(str(path))
     for file in (words.json, words.junit):
         refuse_input(file or STANDARD)
-    tell = sys.stderr.write if STANDARD in (words.json, words.junit) else write
+    tell = teller(words.json, words.junit)
     ran = []
     with tempfile.TemporaryDirectory(prefix="vga-report-") as name:
         for one in _runs(words, paths, Path(name), progress):

@@ -13,7 +13,7 @@ from .output import AGREED, DIFFERED, counted, name_of, write, write_name
 from .png import save_png
 from .processes import MEBIBYTE, Limits, in_parallel
 from .progress import Progress
-from .running import AGREES, DIFFERS, FAILED, SKIPPED, Command, Kind, Result, pictures_in, run_case
+from .running import AGREES, DIFFERS, FAILED, SKIPPED, Command, Result, pictures_in, run_case
 from .streams import STANDARD, bytes_of, check_folder, write_file
 from .trouble import Trouble
 
@@ -66,12 +66,12 @@ def _results(words: argparse.Namespace, cases: list[Case], progress: Progress) -
     is_ended = Event()
     limits = Limits(words.timeout, words.output * MEBIBYTE)
     commands = [
-        None if given is None else Command(given, limits, Kind(words.refusals, words.machine), is_ended)
+        None if given is None else Command(given, limits, words.refusals, words.machine)
         for given in (words.command, words.bytes)
     ]
 
     def run_one(case: Case) -> Result:
-        return run_case(case, commands[case.is_bytes], None if words.keep is None else Path(words.keep))
+        return run_case(case, commands[case.is_bytes], words.keep, is_ended)
 
     results: list[Result] = []
     with in_parallel(run_one, cases, words.jobs, is_ended) as found:
