@@ -17,8 +17,9 @@ from vga_report.progress import Progress
 from vga_report.trouble import Wrong
 
 from .built import built_page, check_built, module_in
-from .node import node_words
-from .scripts import SMALL_MEMORY, Modules, check_browser, check_heap, check_own, check_scripts, check_syntax
+from .scripts import (
+    SMALL_MEMORY, Modules, check_browser, check_heap, check_own, check_scripts, check_syntax, node_words,
+)
 from .suite import check_suite
 
 MODULE, PAGE, SUITE, HEAP, SCRIPTS, OWN = CHECKS = ("module", "page", "suite", "heap", "scripts", "own")
