@@ -5,7 +5,7 @@ import os
 import stat
 from unittest import mock
 
-from vga_report.crates import Phases
+from vga_report.crates import phases
 from vga_report.listing import _wait_for
 from vga_report.progress import DELAY, Progress
 from vga_report.streams import reading, write_file, writing
@@ -106,7 +106,8 @@ class Lines(Folder):
         told: list[str] = []
         progress = mock.create_autospec(Progress)
         progress.tell.side_effect = told.append
-        hear = Phases(progress, ["low", "high"])("proving")
+        with mock.patch("vga_report.crates.below", return_value=["low"]):
+            hear = phases(progress, "high")("proving")
         for line in (
             "", "so far", "rt: low: begins with what is kept",
             "crate high: modules loaded=1 checked=2", "linked",

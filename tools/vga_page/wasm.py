@@ -2,6 +2,7 @@
 
 from __future__ import annotations
 
+import io
 from typing import Iterator
 
 from vga_report.version import HEADER, calls_of
@@ -20,24 +21,18 @@ IS_64 = 4
 MOST_MODULE = 16 << 20
 
 
-class _Reader:
+class _Reader(io.BytesIO):
     """Reads a module's numbers and names."""
 
-    def __init__(self, data: bytes) -> None:
-        self._data = data
-        self._at = 0
-
-    def is_done(self) -> bool:
-        return self._at == len(self._data)
-
     def byte(self) -> int:
-        return self.bytes(1)[0]
+        return self.taken(1)[0]
 
-    def bytes(self, count: int) -> bytes:
-        if count > len(self._data) - self._at:
+    def taken(self, count: int) -> bytes:
+        """The next bytes, so many."""
+        data = self.read(min(count, MOST_MODULE))
+        if len(data) < count:
             raise Trouble("it is cut off", "the module")
-        self._at += count
-        return self._data[self._at - count:self._at]
+        return data
 
     def number(self) -> int:
         """A number in LEB128."""
@@ -50,7 +45,7 @@ class _Reader:
                 return value
 
     def name(self) -> str:
-        return self.bytes(self.number()).decode("utf-8", "replace")
+        return self.taken(self.number()).decode("utf-8", "replace")
 
 
 def _all_sections(module: bytes) -> Iterator[tuple[int, bytes]]:
@@ -58,9 +53,8 @@ def _all_sections(module: bytes) -> Iterator[tuple[int, bytes]]:
     if not module.startswith(MAGIC):
         raise Trouble("it is no WebAssembly module", "the module")
     reader = _Reader(module[len(MAGIC):])
-    while not reader.is_done():
-        number = reader.byte()
-        yield number, reader.bytes(reader.number())
+    while number := reader.read(1):
+        yield number[0], reader.taken(reader.number())
 
 
 def sections(module: bytes) -> dict[int, bytes]:
