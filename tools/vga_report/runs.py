@@ -175,6 +175,8 @@ def _run_by(
         progress.clear()
         if blessing is not None and words.bless:
             return _bless(words, blessing)
+    if told is not None:
+        told.end(tally)
     shower.end(script, tally)
     if blessing is not None and not words.bless:
         write(blessing.difference(tally.shown))

@@ -91,7 +91,7 @@ class Told:
 
 @contextmanager
 def told_in(path: Optional[str], tally: Tally) -> Iterator[Optional[Told]]:
-    """A run's JSON in a file, where one is named. It is whole, also of a script that can't be run to its end."""
+    """A run's JSON in a file, where one is named; whoever gets it ends it, unless a trouble does."""
     if path is None:
         yield None
         return
@@ -101,8 +101,9 @@ def told_in(path: Optional[str], tally: Tally) -> Iterator[Optional[Told]]:
         try:
             yield told
         except Trouble as raised:
+            # What is written is whole, also of a script that can't be run to its end.
             trouble = raised
-        told.end(tally, None if trouble is None else str(trouble))
+            told.end(tally, str(trouble))
     if trouble is not None:
         raise trouble
 
