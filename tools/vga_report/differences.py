@@ -1,5 +1,6 @@
 """Where two reports differ, or a report and what is expected of it."""
 
+from dataclasses import dataclass
 from itertools import zip_longest
 from typing import Iterator, NamedTuple, Optional
 
@@ -100,6 +101,7 @@ def _pictures(step: Answer, other: Answer) -> tuple[str, str]:
     return f"{head} {step.picture.sum}", f"{other_head} {other.picture.sum}"
 
 
+@dataclass
 class Comparison:
     """Walks through two reports side by side, and counts what it has seen.
 
@@ -108,21 +110,20 @@ class Comparison:
     whether its report has it or not.
     """
 
-    def __init__(self, has_refusals: bool = True, is_machine: bool = False) -> None:
-        self._has_refusals = has_refusals
-        self._is_machine = is_machine
-        self.steps = 0
-        self.pictures = 0
-        self.skipped = 0
-        # The answers that were compared, but for `ok`, and the steps that differ.
-        self.answers = 0
-        self.differing = 0
+    has_refusals: bool = True
+    is_machine: bool = False
+    steps: int = 0
+    pictures: int = 0
+    skipped: int = 0
+    # The answers that were compared, but for `ok`, and the steps that differ.
+    answers: int = 0
+    differing: int = 0
 
     def differences(self, steps: Iterator[Answer], others: Iterator[Answer]) -> Iterator[Difference]:
         """The steps that differ, up to the end of the shorter report. A step that was left out differs from none."""
         is_left = False
         for step, other in zip_longest(steps, others):
-            is_left = is_left or (self._is_machine and other is not None and other.kind == REFUSAL)
+            is_left = is_left or (self.is_machine and other is not None and other.kind == REFUSAL)
             if is_left and step is None:
                 # A machine gets no step from there on.
                 self.steps += 1
@@ -136,7 +137,7 @@ class Comparison:
             self.pictures += step.picture is not None
             is_alike = _are_alike(step, other)
             # In the place of a refusal any answer will do to a bus that refuses nothing.
-            may_be_any = not self._has_refusals and other.kind == REFUSAL
+            may_be_any = not self.has_refusals and other.kind == REFUSAL
             if is_left or SKIPPED in (step.answer, other.answer) or may_be_any and not is_alike:
                 self.skipped += 1
                 continue

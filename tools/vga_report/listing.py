@@ -54,14 +54,9 @@ class Row(NamedTuple):
         """Whether another answer was expected."""
         step, expected = self.step, self.expected
         if expected is None:
-            return self.is_strict and self.is_refused
+            return self.is_strict and step.is_refused
         is_other = bool(self.dump) and expected != ANY and self.dump != step.lines
         return is_other or not is_as_expected(step, expected, self.words)
-
-    @property
-    def is_refused(self) -> bool:
-        """Whether the step was refused."""
-        return self.step.is_refused
 
     def mismatch(self) -> str:
         """What an answer is in the place of the one that was expected."""
@@ -75,10 +70,10 @@ class Row(NamedTuple):
 made_row = partial(tuple.__new__, Row)
 # What `--only` may call a step, and which steps it means.
 KINDS: dict[str, Callable[[Row], bool]] = {
-    "refused": lambda row: row.is_refused,
+    "refused": lambda row: row.step.is_refused,
     "read": lambda row: row.step.kind == VALUE,
     "pictures": lambda row: row.step.picture is not None or row.step.answer == "ragged",
-    "dumps": lambda row: row.name == "show" and not row.is_refused,
+    "dumps": lambda row: row.name == "show" and not row.step.is_refused,
     "differs": lambda row: row.is_wrong,
 }
 

@@ -69,7 +69,7 @@ class Page:
             self._frames.append({"step": row.step.number, "title": title, "images": [name]})
             text += image
         number = '<td class="number">{}</td>'.format
-        kind = "differs" if row.is_wrong else "refused" if row.is_refused else ""
+        kind = "differs" if row.is_wrong else "refused" if row.step.is_refused else ""
         line = "" if row.line is None else str(row.line)
         self._add([number(line), number(row.step.number), f"<td>{escape(row.words)}</td>", f"<td>{text}</td>"], kind)
 

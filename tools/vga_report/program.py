@@ -7,6 +7,7 @@ import shutil
 import subprocess
 import tempfile
 from contextlib import contextmanager
+from dataclasses import dataclass
 from itertools import islice
 from pathlib import Path
 from typing import Any, BinaryIO, ContextManager, Iterator, Optional, Sequence, cast
@@ -41,13 +42,13 @@ NO_PROGRAM = (
 )
 
 
+@dataclass
 class Outcome:
     """How a run ended: its status, known once the report was read, and what the program said."""
 
-    def __init__(self, report: BinaryIO) -> None:
-        self.report = report
-        self.status = 0
-        self.said = ""
+    report: BinaryIO
+    status: int = 0
+    said: str = ""
 
     @property
     def fault(self) -> str:
@@ -109,15 +110,15 @@ def build_program(progress: Progress) -> None:
         progress.clear()
 
 
+@dataclass
 class Built:
     """The program as it was built."""
 
-    def __init__(self, path: str) -> None:
-        self._path = path
+    path: str
 
     def running(self, script: Path, fonts: str, until: Optional[int], is_bytes: bool) -> ContextManager[Outcome]:
         """A run of a script, as text or as bytes."""
-        return _running([self._path, *_words(str(script), fonts, until, is_bytes)])
+        return _running([self.path, *_words(str(script), fonts, until, is_bytes)])
 
     def print_steps(self, script: Path, is_bytes: bool, printed: BinaryIO) -> None:
         """Prints the steps of a script as the program understands them; nothing where it has a fault."""
@@ -130,11 +131,11 @@ class Built:
     def _writes(self, words: Sequence[str], output: BinaryIO) -> bool:
         """Whether a command of the program ends well; what it writes goes into a file."""
         left = MOST_PRINTED
-        with _running([self._path, *words]) as outcome:
+        with _running([self.path, *words]) as outcome:
             while chunk := outcome.report.read(CHUNK):
                 left -= len(chunk)
                 if left < 0:
-                    raise Trouble(f"vga {words[0]} writes more than any script takes", self._path)
+                    raise Trouble(f"vga {words[0]} writes more than any script takes", self.path)
                 output.write(chunk)
         return outcome.status == 0
 

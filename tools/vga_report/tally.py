@@ -77,7 +77,7 @@ class Told:
         told.update({"lines": list(step.lines)} if step.others else {})
         if step.picture is not None:
             told["picture"] = {"size": step.picture.size, "md5": step.picture.sum}
-        told.update({"refused": step.answer, "why": row.why} if row.is_refused else {})
+        told.update({"refused": step.answer, "why": row.why} if step.is_refused else {})
         if row.expected is not None or row.is_wrong:
             told.update({"expected": row.expected, "met": not row.is_wrong})
         self._stream.write(self._between + json.dumps(told).encode("ascii"))
