@@ -9,10 +9,10 @@ from typing import Optional, Sequence
 
 from zaklimot.format import Picture
 
-from .differences import Difference
 from .expecting import answer_of
 from .listing import Row
 from .png import write_png
+from .report import Difference
 from .streams import filled
 from .trouble import Trouble
 

@@ -8,13 +8,12 @@ from typing import Callable, Iterator, NamedTuple, Optional, Sequence
 from zaklimot.format import MOST_ADVANCE, Answer, Digest, Picture
 from zaklimot.format.picture import DifferentDots, different_dots
 
-from .differences import Comparison, Difference, told_dots
 from .images import Image, image_bytes, image_of
 from .output import AGREED, DIFFERED, name_of, refuse_twice, teller, write, write_name
 from .page import Page
 from .png import Animation, Shape, save_png
 from .progress import Progress
-from .report import Expected, Report
+from .report import Comparison, Difference, Expected, Report, told_dots
 from .script import read_script, script_of
 from .streams import STANDARD, check_folder, reading, write_file, writing
 from .timing import USUAL, Timing

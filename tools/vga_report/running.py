@@ -12,10 +12,9 @@ from typing import Iterator, NamedTuple, Optional
 from zaklimot.format import FAULT, Answer, Picture
 
 from .cases import Case, printable
-from .differences import Comparison, Told
 from .png import save_png
 from .processes import Limits, run_command
-from .report import Report
+from .report import Comparison, Report, Told
 from .streams import write_file
 from .trouble import Trouble
 
