@@ -23,13 +23,6 @@ POLICY = "default-src 'none'; img-src data:; style-src 'unsafe-inline'; script-s
 SIZES = "".join(f'<option value="{size}">\u00d7{size}</option>' for size in (1, 2, 3, 4))
 
 
-def _data_of(picture: Picture, other: Optional[Picture] = None) -> str:
-    """A picture as an address that is the picture itself; with another one, its differing dots marked."""
-    stream = io.BytesIO()
-    write_png(stream, picture, other=other)
-    return "data:image/png;base64," + base64.b64encode(stream.getvalue()).decode("ascii")
-
-
 class Page:
     """A page that is filled row by row."""
 
@@ -42,12 +35,15 @@ class Page:
         self._images = 0
 
     def _image(self, picture: Picture, other: Optional[Picture] = None) -> tuple[str, str]:
-        """An image's name, and its element."""
+        """An image's name, and its element that has the picture in it; with another one, its differing dots marked."""
         self._images += 1
         if self._images > MOST_PICTURES:
             raise Trouble(f"the page would have more than {MOST_PICTURES} pictures: --only takes some steps")
-        name, frame = f"p{self._images}", len(self._frames)
-        return name, f'<img id="{name}" data-frame="{frame}" alt="{picture.size}" src="{_data_of(picture, other)}">'
+        stream = io.BytesIO()
+        write_png(stream, picture, other=other)
+        data = base64.b64encode(stream.getvalue()).decode("ascii")
+        name, place = f"p{self._images}", f'data-frame="{len(self._frames)}" alt="{picture.size}"'
+        return name, f'<img id="{name}" {place} src="data:image/png;base64,{data}">'
 
     def _add(self, cells: Sequence[str], kind: str) -> None:
         if len(self._rows) == MOST_ROWS:

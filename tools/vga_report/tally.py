@@ -4,11 +4,11 @@ import difflib
 import json
 import tempfile
 from contextlib import contextmanager
-from typing import Any, BinaryIO, Iterator, NamedTuple, Optional
+from typing import Any, BinaryIO, Iterator, Optional
 
 from zaklimot.format.table import OK
 
-from .expecting import DUMPED, answer_of, is_worth_telling
+from .expecting import ANY, DUMPED, answer_of, is_worth_telling
 from .listing import Row
 from .mistakes import text_of
 from .output import counted
@@ -108,19 +108,13 @@ def told_in(path: Optional[str], tally: Tally) -> Iterator[Optional[Told]]:
         raise trouble
 
 
-class Answered(NamedTuple):
-    """What a line's step answered: on one line, and the lines of a dump of several."""
-
-    answer: str
-    lines: tuple[str, ...] = ()
-
-
 class Blessing:
     """The expectations of a script that are not met, and the answers that have none: by the numbers of the lines."""
 
     def __init__(self, data: bytes) -> None:
         self._lines = text_of(data).split("\n")
-        self._answers: dict[int, Answered] = {}
+        # What each line's step answered: on one line, and the lines of a dump of several.
+        self._answers: dict[int, tuple[str, tuple[str, ...]]] = {}
         # The lines that answer otherwise than expected, and those beside them for which nothing is expected.
         self._wrong: set[int] = set()
         self._new: set[int] = set()
@@ -130,9 +124,9 @@ class Blessing:
         number = row.line
         if number is None or not (row.expected is not None or is_worth_telling(row.step, row.words)):
             return
-        answered = Answered(answer_of(row.step), row.step.lines if row.step.others else ())
+        answered = answer_of(row.step), row.step.lines if row.step.others else ()
         if self._answers.setdefault(number, answered) != answered:
-            self._answers[number] = Answered("*")
+            self._answers[number] = ANY, ()
         if row.is_wrong:
             self._wrong.add(number)
         elif row.expected is None:
@@ -140,10 +134,10 @@ class Blessing:
 
     def changes(self, is_all: bool = True) -> Iterator[tuple[int, str, str]]:
         """The lines that change: number, expectation before, and after; those alone that are wrong, if not all are wanted."""
-        for number, answered in self._answers.items():
+        for number, (answer, _) in self._answers.items():
             before = expected_in(self._lines[number - 1].partition(";")[2].encode("utf-8", "surrogateescape"))
             if number in self._wrong or is_all and number in self._new:
-                yield number, "" if before is None else before, answered.answer
+                yield number, before or "", answer
 
     def text(self, is_all: bool = True) -> str:
         """The script with the answers in it."""
@@ -154,9 +148,9 @@ class Blessing:
                 is_dropped = False
                 lines.append(line)
             if number in changed:
-                answered = self._answers[number]
-                lines[-1] = blessed_line(line, answered.answer)
-                lines += [f"{DUMPED} {part}" for part in answered.lines]
+                answer, dump = self._answers[number]
+                lines[-1] = blessed_line(line, answer)
+                lines += [f"{DUMPED} {part}" for part in dump]
                 is_dropped = True
         return "\n".join(lines)
 
