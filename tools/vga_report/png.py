@@ -158,7 +158,7 @@ class Animation:
         stream.write(chunk(b"IEND", b""))
 
 
-def _shrunk_row(picture: Picture, top: int, bottom: int, columns: int) -> list[tuple[int, int, int]]:
+def _shrunk_row(picture: Picture, top: int, bottom: int, columns: int) -> list[list[int]]:
     """The mean colours of a row of blocks, which cover these rows of dots."""
     rows = [picture.row(y).translate(WIDENED) for y in range(top, max(top + 1, bottom))]
     colours = []
@@ -166,8 +166,7 @@ def _shrunk_row(picture: Picture, top: int, bottom: int, columns: int) -> list[t
         left = column * picture.width // columns
         right = max(left + 1, (column + 1) * picture.width // columns)
         count = len(rows) * (right - left)
-        red, green, blue = (sum(sum(row[3 * left + part:3 * right:3]) for row in rows) // count for part in range(3))
-        colours.append((red, green, blue))
+        colours.append([sum(sum(row[3 * left + part:3 * right:3]) for row in rows) // count for part in range(3)])
     return colours
 
 

@@ -69,36 +69,31 @@ def _font_file(path: str) -> Iterator[str]:
         yield str(link)
 
 
-def _contradictions(words: argparse.Namespace) -> Iterator[tuple[object, str]]:
-    """What contradicts something else, and what is said then."""
-    is_folder, pictures = os.path.isdir(words.script), words.pictures or words.show
-    several = words.junit is not None or is_folder
-    yield words.bless and (words.script == STANDARD or words.until is not None), (
-        "--bless writes into the script, whole: it wants a file, and no --until"
-    )
-    yield words.dry_run and not words.bless, "--dry-run tells what --bless would write: it wants --bless"
-    yield words.html and (words.bless or pictures), (
-        "--html writes a page that has the pictures: without --bless, --pictures and --show"
-    )
-    yield several and (words.bless or pictures or words.html or words.debug or words.only), (
-        "a folder of scripts, and --junit, want none of --bless, --only, --pictures, --show, --html and --debug"
-    )
-    yield words.watch and words.script == STANDARD, "--watch wants a file that changes, and not standard input"
-    yield words.bless and (words.diff or words.json), "--bless lists its changes: without --diff and --json"
-    yield words.debug and (words.bless or pictures), (
-        "--debug writes a page that runs the script: without --bless, --pictures and --show"
-    )
-    yield words.debug and words.html is None and (words.only is not None or words.try_ or words.vga), (
-        "--debug runs nothing here: without --only, --try and --vga, unless --html is there too"
-    )
-    yield words.debug and words.html and STANDARD in (words.html, words.debug), (
-        "the page of --html links to that of --debug: both want files"
-    )
+def _contradictions(words: argparse.Namespace) -> dict[str, object]:
+    """What is said where words contradict one another, each with whether they do so."""
+    pictures, several = words.pictures or words.show, words.junit is not None or os.path.isdir(words.script)
+    return {
+        "--bless writes into the script, whole: it wants a file, and no --until":
+            words.bless and (words.script == STANDARD or words.until is not None),
+        "--dry-run tells what --bless would write: it wants --bless": words.dry_run and not words.bless,
+        "--html writes a page that has the pictures: without --bless, --pictures and --show":
+            words.html and (words.bless or pictures),
+        "a folder of scripts, and --junit, want none of --bless, --only, --pictures, --show, --html and --debug":
+            several and (words.bless or pictures or words.html or words.debug or words.only),
+        "--watch wants a file that changes, and not standard input": words.watch and words.script == STANDARD,
+        "--bless lists its changes: without --diff and --json": words.bless and (words.diff or words.json),
+        "--debug writes a page that runs the script: without --bless, --pictures and --show":
+            words.debug and (words.bless or pictures),
+        "--debug runs nothing here: without --only, --try and --vga, unless --html is there too":
+            words.debug and words.html is None and (words.only is not None or words.try_ or words.vga),
+        "the page of --html links to that of --debug: both want files":
+            words.debug and words.html and STANDARD in (words.html, words.debug),
+    }
 
 
 def _refuse_words(words: argparse.Namespace) -> None:
     """Ends the work where words contradict one another."""
-    for is_so, reason in _contradictions(words):
+    for reason, is_so in _contradictions(words).items():
         if is_so:
             raise Trouble(reason)
     if words.pictures is not None:
