@@ -3,6 +3,8 @@
 from __future__ import annotations
 
 import argparse
+import importlib.util
+import shutil
 import tempfile
 import time
 from pathlib import Path
@@ -16,15 +18,20 @@ from vga_report import cli
 from vga_report.progress import Progress
 from vga_report.trouble import Trouble
 
-from .needs import lacking
-from .python import check_python
-from .rust import check_lints, check_pages, check_rust, check_rust_examples
+from .checks import check_lints, check_pages, check_python, check_rust, check_rust_examples
 
 # Each check gets the folder of the library, and one for what it makes.
 CHECKS: dict[str, Callable[[Path, Path], str]] = {
     "python": check_python, "rust": check_rust, "rust-examples": check_rust_examples,
     "lints": check_lints, "pages": check_pages,
 }
+# What the tests need of this machine, each program with its package of Debian. Clippy is a program of cargo's.
+PROGRAMS = {
+    "python3": "python3", "cargo": "cargo", "rustc": "rustc", "rustdoc": "rustc", "cargo-clippy": "rust-clippy",
+    "ld": "binutils", "objcopy": "binutils", "ar": "binutils", "cc": "gcc",
+}
+# What makes an environment of Python's has this in it.
+VENV, VENV_PACKAGE = "ensurepip", "python3-venv"
 
 
 def _parser() -> argparse.ArgumentParser:
@@ -34,12 +41,18 @@ def _parser() -> argparse.ArgumentParser:
     )
     parser.set_defaults(job=_run)
     given = parser.add_mutually_exclusive_group()
-    given.add_argument(
-        "--library", type=Path, metavar="FOLDER", help="takes a folder of `vga-library make` (default: makes one)"
-    )
+    cli.add(given, "--library FOLDER", "takes a folder of `vga-library make` (default: makes one)", type=Path)
     cli.add_checks(parser, CHECKS, given)
-    parser.add_argument("--ready", action="store_true", help="tests nothing, and tells what this machine lacks")
+    cli.add(parser, "--ready", "tests nothing, and tells what this machine lacks")
     return parser
+
+
+def lacking() -> list[str]:
+    """What this machine lacks, each with the package to install."""
+    told = [f"{name}: install the package {package}" for name, package in PROGRAMS.items() if not shutil.which(name)]
+    if importlib.util.find_spec(VENV) is None:
+        told.append(f"Python's venv: install the package {VENV_PACKAGE}")
+    return told
 
 
 def _archive(words: argparse.Namespace, folder: Path, progress: Progress) -> Path:

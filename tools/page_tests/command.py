@@ -17,16 +17,12 @@ from vga_report.progress import Progress
 from vga_report.trouble import Wrong
 
 from .built import built_page, check_built, module_in
-from .node import node_words
 from .scripts import (
-    SMALL_MEMORY, Modules, check_browser, check_heap, check_own, check_scripts, check_syntax,
+    SMALL_MEMORY, Modules, check_browser, check_heap, check_own, check_scripts, check_syntax, node_words,
 )
 from .suite import check_suite
 
 MODULE, PAGE, SUITE, HEAP, SCRIPTS, OWN = CHECKS = ("module", "page", "suite", "heap", "scripts", "own")
-BROWSER = "browser"
-# A line of what was seen: the check, and what it tells.
-Told = Iterator[tuple[str, str]]
 
 
 def _parser() -> argparse.ArgumentParser:
@@ -34,17 +30,11 @@ def _parser() -> argparse.ArgumentParser:
         "vga-page-tests", "Tests the page that runs scripts in a browser, and its module.",
         "tools/vga-page-tests --only page", "tools/README.md", cli.JUDGES,
     )
-    parser.set_defaults(job=_test)
-    parser.add_argument(
-        "--module", metavar="FILE", help="takes this module (default: makes one)"
-    )
+    parser.set_defaults(job=_run)
+    cli.add(parser, "--module FILE", "takes this module (default: makes one)")
     cli.add_checks(parser, CHECKS)
-    parser.add_argument(
-        "--ready", action="store_true", help="tests nothing, and tells what this machine lacks"
-    )
-    parser.add_argument(
-        "--browser", action="store_true", help="tests only the page as built, in Chromium"
-    )
+    cli.add(parser, "--ready", "tests nothing, and tells what this machine lacks")
+    cli.add(parser, "--browser", "tests only the page as built, in Chromium")
     return parser
 
 
@@ -77,8 +67,8 @@ def _file(folder: Path, name: str, data: bytes) -> Path:
     return folder / name
 
 
-def _checks(words: argparse.Namespace, progress: Progress, folder: Path) -> Told:
-    """Makes each check that is wanted, and tells what came of it."""
+def _checks(words: argparse.Namespace, progress: Progress, folder: Path) -> Iterator[tuple[str, str]]:
+    """Makes each check that is wanted: its name, and what came of it."""
     wanted = words.only or CHECKS
     page = built_page() if {PAGE, SCRIPTS, OWN} & set(wanted) else None
     same, small = _made(words, progress, 1 if words.module else _times(page, wanted))
@@ -100,27 +90,18 @@ def _checks(words: argparse.Namespace, progress: Progress, folder: Path) -> Told
             yield name, check(modules)
 
 
-def _in_browser() -> Told:
-    """The check of the page in a browser."""
-    yield BROWSER, check_browser()
-
-
 def _run(words: argparse.Namespace, progress: Progress) -> None:
-    """Tells a line for each check."""
+    """Looks at the words and at node, and tells a line for each check."""
+    cli.refuse_to_check(words)
+    node_words()
+    if words.ready:
+        return
     with tempfile.TemporaryDirectory(prefix="vga-page-tests-") as name:
-        checks = _in_browser() if words.browser else _checks(words, progress, Path(name))
         begun = time.monotonic()
+        checks = [("browser", check_browser())] if words.browser else _checks(words, progress, Path(name))
         for check, told in checks:
             print(f"{check}: {told} ({time.monotonic() - begun:.0f} s)", flush=True)
             begun = time.monotonic()
-
-
-def _test(words: argparse.Namespace, progress: Progress) -> None:
-    """Looks at the words and at node, and makes the checks."""
-    cli.refuse_to_check(words)
-    node_words()
-    if not words.ready:
-        _run(words, progress)
 
 
 # Runs a command line, and answers its exit status.

@@ -1,4 +1,4 @@
-"""What the page's own scripts do: their tests, the check of the examples, and the page in a browser."""
+"""Node, and what the page's own scripts do in it: their tests, and the check of the examples; the page in a browser."""
 
 from __future__ import annotations
 
@@ -6,14 +6,20 @@ import json
 import re
 import shutil
 from pathlib import Path
-from typing import Any, NamedTuple, Optional
+from typing import Any, Mapping, NamedTuple, Optional, Sequence
 
 from vga_report.debugging import PAGE
-from vga_report.processes import MEBIBYTE
+from vga_report.processes import MEBIBYTE, captured, tested
 from vga_report.trouble import Trouble, Wrong
 
-from .node import run_node
-
+NODE, PACKAGE = "node", "nodejs"
+# The first version that has memories of 64-bit addresses, by a flag where they are an experiment.
+LEAST = 20
+FLAG = "--experimental-wasm-memory64"
+# A module that has such a memory, and nothing else.
+TRIED = "WebAssembly.validate(new Uint8Array([0,97,115,109,1,0,0,0,5,3,1,4,1]))"
+# Seconds that a test may take, where much else runs beside it, and those of the check in a browser.
+MOST_SECONDS, BROWSER_SECONDS = 300, 400
 TESTS = PAGE.parent / "tests"
 # What is done with the page in a browser: by each control of it, and as the tutorial says.
 BROWSER, TUTORIAL = (TESTS / f"{name}.mjs" for name in ("browser", "tutorial"))
@@ -24,8 +30,6 @@ SCRIPT = re.compile(r'<script type="module">\n(.*?)</script>', re.S)
 # What node tells of its tests, in the form whose end names those that fail.
 REPORTER = "spec"
 COUNT = re.compile(r"^(?:\x1b\[[0-9]+m)*ℹ (pass|fail|skipped|todo|cancelled) ([0-9]+)", re.M)
-# Seconds that the check in a browser may take.
-BROWSER_SECONDS = 400
 CHROMIUM = ("chromium", "chromium-browser", "google-chrome")
 # Where the tests find the module, the page as built, and a module whose memory doesn't grow.
 MODULE, BUILT, SMALL = "ZAKLIMOT_MODULE", "ZAKLIMOT_PAGE", "ZAKLIMOT_SMALL_MODULE"
@@ -38,6 +42,36 @@ class Modules(NamedTuple):
 
     module: Path
     small: Optional[Path] = None
+
+
+def _answer(words: Sequence[str]) -> str:
+    done = captured(words, seconds=MOST_SECONDS)
+    return done.output.decode("utf-8", "replace").strip() if done.status == 0 else ""
+
+
+def node_words() -> list[str]:
+    """The words that start node, with 64-bit memories; a Trouble names the package where it is lacking."""
+    path = shutil.which(NODE)
+    if path is None:
+        raise Trouble(f"it is not in the path: install the package {PACKAGE}", NODE)
+    version = _answer([path, "--version"])
+    found = re.match(r"v([0-9]+)\.", version)
+    if found is None or int(found[1]) < LEAST:
+        needed = f"and the tests need {LEAST} or newer: the package {PACKAGE}"
+        raise Trouble(f"it is {version or 'of no version'}, {needed}", NODE)
+    for words in ([path], [path, FLAG]):
+        if _answer([*words, "-p", TRIED]) == "true":
+            return words
+    raise Trouble(f"it is {version}, and takes no memory of 64-bit addresses", NODE)
+
+
+def run_node(
+    words: Sequence[str | Path], environment: Optional[Mapping[str, str]] = None,
+    seconds: int = MOST_SECONDS,
+) -> str:
+    """What a script writes that ends well within so many seconds; else a Wrong tells what it said."""
+    done = tested([*node_words(), *words], seconds=seconds, environment=environment)
+    return done.output.decode("utf-8", "replace")
 
 
 def check_syntax(page: bytes, folder: Path) -> str:

@@ -17,7 +17,7 @@ from vga_report.running import said_lines
 from vga_report.trouble import Trouble, Wrong
 from vga_report.words import SUITE
 
-from .node import run_node
+from .scripts import run_node
 
 DRIVER = Path(__file__).resolve().parent / "suite.mjs"
 LIMITS = Limits(60, 256 * MEBIBYTE)

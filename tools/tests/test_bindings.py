@@ -10,7 +10,7 @@ from pathlib import Path
 from typing import Callable, Optional
 from unittest import mock
 
-from bindings_tests import command, needs, python, rust
+from bindings_tests import checks, command
 from vga_library.making import package_text
 from vga_report import TOP
 from vga_report.processes import Done, tested
@@ -38,17 +38,17 @@ class Tests(unittest.TestCase):
             ("Ran 9 tests in 1s\n", True), ("a ... skipped 'numpy is not here'\nRan 9 tests in 1s\n", True),
             ("a ... skipped 'ZAKLIMOT_DIR is not set'\nRan 9 tests in 1s\n", False), ("", False),
         ):
-            with mock.patch.object(python, "tested", lambda *_, **__: Done(0, b"", said.encode())):
-                self.assert_judged(python.check_python, "9 tests" if is_right else None)
+            with mock.patch.object(checks, "tested", lambda *_, **__: Done(0, b"", said.encode())):
+                self.assert_judged(checks.check_python, "9 tests" if is_right else None)
 
     def test_too_few_tests_of_rust_are_wrong(self) -> None:
         line = "test result: ok. {} passed; 0 failed; 0 ignored\n"
         for counts, is_right in (((4, 1, 10, 0, 8), True), ((0, 0, 0, 0, 0), False), ((30,), False)):
-            with mock.patch.object(rust, "_cargo", lambda *_: "".join(line.format(count) for count in counts)):
-                self.assert_judged(rust.check_rust, "23 tests" if is_right else None)
+            with mock.patch.object(checks, "_cargo", lambda *_: "".join(line.format(count) for count in counts)):
+                self.assert_judged(checks.check_rust, "23 tests" if is_right else None)
 
     def test_the_page_has_its_programs(self) -> None:
-        self.assertEqual(list(rust.programs_of_page()), ["src/main.rs", "src/bin/program_1.rs", "src/bin/program_2.rs"])
+        self.assertEqual(list(checks.programs_of_page()), ["src/main.rs", "src/bin/program_1.rs", "src/bin/program_2.rs"])
 
     def test_words_that_cannot_be_meant(self) -> None:
         with mock.patch.object(command, "lacking", lambda: []):
@@ -58,8 +58,8 @@ class Tests(unittest.TestCase):
             self.assertEqual(call(command.main, "--ready"), (0, "", ""))
 
     def test_what_is_lacking_is_named_with_its_package(self) -> None:
-        with mock.patch.object(needs.shutil, "which", lambda name: None if "cargo" in name else name):
-            told = needs.lacking()
+        with mock.patch.object(command.shutil, "which", lambda name: None if "cargo" in name else name):
+            told = command.lacking()
             self.assertEqual(told[:2], ["cargo: install the package cargo", "cargo-clippy: install the package rust-clippy"])
             status, _, said = call(command.main, "--ready")
         self.assertEqual(status, TROUBLE)

@@ -11,12 +11,13 @@ from functools import partial
 from pathlib import Path
 from unittest import mock
 
-from page_tests import built, node, scripts, suite
+from page_tests import built, scripts, suite
 from page_tests import command as tests_command
 from vga_report.version import HEADER, calls_of
 from vga_page import command, page, wasm
-from vga_page.bundling import joined
-from vga_page.page import DATA, SCRIPT, STYLE, Sources, about, data_of, examples, make_page, packed, page_text
+from vga_page.page import (
+    DATA, SCRIPT, STYLE, Sources, about, data_of, examples, joined, make_page, packed, page_text,
+)
 from vga_page.retargeting import LAYOUTS, TRIPLES, retargeted
 from vga_page.wasm import check_module, exports_of, kit_of, with_kit
 from vga_report.trouble import TROUBLE, Wrong
@@ -224,8 +225,7 @@ class Modules(unittest.TestCase):
         module = module_of(self.right)
         told = f"{len(module):,} bytes, {len(self.calls)} calls, no imports, no table"
         self.assertEqual(check_module(module), told)
-        names = [export.name for export in exports_of(module)]
-        self.assertEqual(names, [*self.right, "memory", "__heap_base"])
+        self.assertEqual([*exports_of(module)], [*self.right, "memory", "__heap_base"])
 
     def test_what_is_otherwise(self) -> None:
         hold_refused(self, check_module, (
@@ -299,15 +299,15 @@ class Tests(Folder):
             with self.subTest(said), self.assertRaises(Wrong):
                 scripts.counted(said)
 
-    @unittest.skipIf(shutil.which(node.NAME) is None, "node is lacking")
+    @unittest.skipIf(shutil.which(scripts.NODE) is None, "node is lacking")
     def test_those_of_nodes_tests_that_fail_are_named(self) -> None:
         front = 'import test from "node:test";\n'
         others = "".join(f'test("other {number}", () => {{}});\n' for number in range(100))
         words = ["--test", "--test-reporter", scripts.REPORTER]
         with self.assertRaises(Wrong) as raised:
-            node.run_node([*words, self.write("one.mjs", f'{front}test("bad", () => {{ throw Error("why"); }});\n{others}')])
+            scripts.run_node([*words, self.write("one.mjs", f'{front}test("bad", () => {{ throw Error("why"); }});\n{others}')])
         self.assertRegex(str(raised.exception), r"(?s)failing tests:.*bad.*why")
-        told = scripts.counted(node.run_node([*words, self.write("one.mjs", front + others)]))
+        told = scripts.counted(scripts.run_node([*words, self.write("one.mjs", front + others)]))
         self.assertEqual(told, "100 tests of the page's scripts pass")
 
     def test_what_the_page_tells_of_its_examples(self) -> None:
@@ -320,11 +320,11 @@ class Tests(Folder):
 
     def test_node_that_is_lacking_or_too_old(self) -> None:
         with mock.patch("shutil.which", return_value=None):
-            told = refused(node.node_words)
+            told = refused(scripts.node_words)
         self.assertEqual(told, "node: it is not in the path: install the package nodejs")
-        old = mock.patch.object(node, "_answer", return_value="v18.19.0")
+        old = mock.patch.object(scripts, "_answer", return_value="v18.19.0")
         with mock.patch("shutil.which", return_value="node"), old:
-            told = refused(node.node_words)
+            told = refused(scripts.node_words)
         self.assertEqual(told, "node: it is v18.19.0, and the tests need 20 or newer: the package nodejs")
         with mock.patch("shutil.which", return_value=None):
             status, _, said = call(tests_command.main)

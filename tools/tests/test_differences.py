@@ -4,10 +4,8 @@ import hashlib
 import unittest
 from typing import Iterable, Optional
 
-from vga_report.differences import Comparison
-from vga_report.dumps import NAMES, differing
-from vga_report.expected import Expected
-from vga_report.report import Report
+from vga_report.expecting import NAMES, differing
+from vga_report.report import Comparison, Expected, Report
 from vga_report.trouble import Trouble
 from zaklimot.format import Answer, Picture
 from zaklimot.format.answers import GROUPS

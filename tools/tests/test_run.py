@@ -16,13 +16,13 @@ from unittest import mock
 from xml.etree import ElementTree
 
 from vga_report import program
-from vga_report.blessing import blessed_line
 from vga_report.expecting import answer_of, handed_in, is_as_expected, is_worth_telling
 from vga_report.listing import Choice, Row
 from vga_report.program import Tried, build_program
 from vga_report.progress import Progress
 from vga_report.report import Report
 from vga_report.script import expected_in
+from vga_report.tally import blessed_line
 from zaklimot.format import Answer, count_in, steps_in
 
 from .test_command import run

@@ -17,7 +17,7 @@ from unittest import mock
 
 from vga_library.targets import AARCH64
 from vga_report import cli
-from vga_report.crates import Phases
+from vga_report.crates import phases
 from vga_report.listing import _wait_for
 from vga_report.processes import MEBIBYTE, Failed, Limits, Outcome, run, run_command, started
 from vga_report.progress import DELAY, Progress
@@ -357,7 +357,8 @@ class Lines(Folder):
         told: list[str] = []
         progress = mock.create_autospec(Progress)
         progress.tell.side_effect = told.append
-        hear = Phases(progress, ["low", "high"])("proving")
+        with mock.patch("vga_report.crates.below", return_value=["low"]):
+            hear = phases(progress, "high")("proving")
         for line in (
             "", "so far", "rt: low: begins with what is kept",
             "crate high: modules loaded=1 checked=2", "linked",

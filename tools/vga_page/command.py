@@ -83,8 +83,7 @@ def _module(words: argparse.Namespace, progress: Progress) -> None:
 
 def _check_words(words: argparse.Namespace) -> None:
     """Ends the work where words contradict one another."""
-    if words.proof is not None and not words.gated:
-        raise Trouble("--proof keeps a proof of --gated")
+    cli.refuse_to_check(words)
     if words.module is not None and words.gated:
         raise Trouble("--module takes a module as it is, so --gated proves nothing")
     check_file(words.file)

@@ -1,4 +1,9 @@
-"""Puts the page together: one file of the sources in page/, of the module, the font and the examples."""
+"""Puts the page together: one file of the sources in page/, of the module, the font and the examples.
+
+Each of its JavaScript modules is an ES module, so that tests can import it as it stands. The joined script has all
+of them in one scope: a module stands after those that it imports, without its import lines and without the word
+`export`. So names at the top level of all modules differ, and an import renames nothing.
+"""
 
 from __future__ import annotations
 
@@ -8,7 +13,7 @@ import json
 import re
 from itertools import takewhile
 from pathlib import Path
-from typing import Any, NamedTuple
+from typing import Any, Mapping, NamedTuple
 
 from vga_report import TOP
 from vga_report.version import version
@@ -16,8 +21,6 @@ from vga_library.making import FONTS
 from vga_report.debugging import PAGE, data_element
 from vga_report.streams import to_read
 from vga_report.trouble import Trouble
-
-from .bundling import joined
 
 SOURCES = PAGE.parent
 EXAMPLES = TOP / "examples"
@@ -28,6 +31,112 @@ MOST_BYTES = 400_000
 PAGES = "../docs/"
 LEVEL = 9
 SENTENCE = re.compile(r"(.+?[.!?])(?: |$)")
+ENTRY = "main.js"
+IMPORT = re.compile(r'import \{ ?([\w$]+(?:, [\w$]+)*),? ?\} from "\./([\w.-]+\.js)";')
+EXPORT = re.compile(r"export (?=(?:async function|function|class|const)\b)")
+DECLARED = re.compile(r"(?:export )?(?:(?:async )?function\s*\*?\s*|class |const |let |var )([\w$]+)")
+# Several names without a bracket, a quote or a comment between them: `let first = 0, last;`
+SEVERAL = re.compile(r"(?:export )?(?:const|let|var) ([^()\[\]{}\"'`/]+);")
+# A name that is taken apart would not be seen here.
+TAKEN_APART = re.compile(r"(?:export )?(?:const|let|var) *[\[{]")
+# An import at any other place would look for a file.
+DYNAMIC = re.compile(r"\bimport\s*\(|\bimport\.meta\b")
+# What a browser takes for the end of a page's script, or for a comment that hides it.
+ENDING = re.compile(r"</script|<!--", re.I)
+
+
+class Module(NamedTuple):
+    """A module: its text without import lines and `export`, what it imports, and its top-level names.
+
+    What it imports are names by the module that exports them; a top-level name has the number of its line.
+    """
+
+    name: str
+    text: str
+    imports: Mapping[str, tuple[str, ...]]
+    exported: frozenset[str]
+    names: Mapping[str, int]
+
+
+def _names_of(line: str, name: str, number: int) -> list[str]:
+    """The names that a line at the top level declares."""
+    if TAKEN_APART.match(line):
+        reason = "a name at the top level is declared by itself, and not taken out of a value"
+        raise Trouble(reason, name, number)
+    several = SEVERAL.match(line)
+    if several is not None:
+        return [part.partition("=")[0].strip() for part in several[1].split(",")]
+    found = DECLARED.match(line)
+    return [] if found is None else [found[1]]
+
+
+def read_module(name: str, text: str) -> Module:
+    """Reads a module; a Trouble names the line that doesn't have the form above."""
+    lines: list[str] = []
+    imports: dict[str, tuple[str, ...]] = {}
+    names: dict[str, int] = {}
+    exported: set[str] = set()
+    for number, line in enumerate(text.split("\n"), 1):
+        if ENDING.search(line):
+            reason = "a page would take this for the end of a script: write <\\/script or <\\!--"
+            raise Trouble(reason, name, number)
+        if DYNAMIC.search(line):
+            raise Trouble("a module is imported by a line at the top alone", name, number)
+        if re.match(r"import\b", line):
+            found = IMPORT.fullmatch(line)
+            if found is None:
+                raise Trouble('an import is a line such as: import { a, b } from "./other.js";', name, number)
+            imports[found[2]] = (*imports.get(found[2], ()), *found[1].split(", "))
+            continue
+        declared = _names_of(line, name, number)
+        if re.match(r"export\b", line):
+            if not EXPORT.match(line) or not declared:
+                raise Trouble("`export` stands before function, class or const", name, number)
+            exported.update(declared)
+        for one in declared:
+            if names.setdefault(one, number) != number:
+                raise Trouble(f"{one} is declared in line {names[one]} too", name, number)
+        lines.append(EXPORT.sub("", line) if line.startswith("export ") else line)
+    return Module(name, "\n".join(lines).strip("\n") + "\n", imports, frozenset(exported), names)
+
+
+def ordered(modules: Mapping[str, Module]) -> list[Module]:
+    """The modules from the entry on, each after those that it imports."""
+    done: dict[str, Module] = {}
+    under_way: list[str] = []
+
+    def visit(name: str, importer: str) -> None:
+        if name in done:
+            return
+        if name in under_way:
+            circle = [*under_way[under_way.index(name):], name]
+            raise Trouble(f"it is imported in a circle: {' imports '.join(circle)}", name)
+        if name not in modules:
+            raise Trouble(f"there is no such module, and {importer} imports it", name)
+        under_way.append(name)
+        for other, wanted in modules[name].imports.items():
+            visit(other, name)
+            missing = sorted(set(wanted) - modules[other].exported)
+            if missing:
+                raise Trouble(f"it imports {', '.join(missing)}, which {other} doesn't export", name)
+        done[under_way.pop()] = modules[name]
+
+    visit(ENTRY, "the page")
+    unused = sorted(modules.keys() - done.keys())
+    if unused:
+        raise Trouble(f"no module that {ENTRY} leads to imports it", unused[0])
+    return list(done.values())
+
+
+def joined(sources: Mapping[str, str]) -> str:
+    """One script of modules, which are given by their names. Names at the top level of two modules must differ."""
+    modules = ordered({name: read_module(name, text) for name, text in sources.items()})
+    owners: dict[str, str] = {}
+    for module in modules:
+        for one, number in module.names.items():
+            if owners.setdefault(one, module.name) != module.name:
+                raise Trouble(f"{one} is a name at the top level of {owners[one]} too", module.name, number)
+    return "\n".join(f"// {module.name}\n{module.text}" for module in modules)
 
 
 class Sources(NamedTuple):

@@ -11,7 +11,6 @@ has no address, and an access traps.
 from __future__ import annotations
 
 import re
-from typing import NamedTuple
 
 from vga_report.trouble import Trouble
 
@@ -40,6 +39,7 @@ FOREIGN = {
     "a vector": re.compile(r"<\d+ x "),
     "a call by a pointer": re.compile(r"\bcall [^@\n]*?%[\w.]+\("),
 }
+# A function that the module shows: what it answers, its name, its parameters, and the number of its attributes.
 EXPORT = re.compile(r"^define noundef (\S+) @(\w+)\((.*)\) #(\d+) \{$", re.M)
 PARAMETER = re.compile(r"(\S+)(?: noundef| zeroext| signext)* (%\w+)")
 # Numbers of attributes that the module itself doesn't reach.
@@ -70,15 +70,6 @@ attributes #{FIRST_NUMBER - 1} = {{ {ATTRIBUTES} "wasm-export-name"="page_give" 
 """
 
 
-class Export(NamedTuple):
-    """A function that the module shows: its parts as LLVM writes them, and the number of its attributes."""
-
-    result: str
-    name: str
-    parameters: str
-    number: str
-
-
 def _refuse_unknown(text: str) -> None:
     """Ends the work where the module has something that is not known to mean the same on both targets."""
     unknown = sorted(set(DECLARED.findall(text)) - INTRINSICS - HEAP)
@@ -105,14 +96,14 @@ def _with_target(text: str) -> str:
     return text
 
 
-def _wrapper(export: Export, number: int) -> str:
+def _wrapper(result: str, name: str, parameters: str, number: int) -> str:
     """The function that is seen in place of an export, as Rattle's lowering for wasm64 writes it."""
-    read = [PARAMETER.fullmatch(parameter) for parameter in export.parameters.split(", ") if parameter]
+    read = [PARAMETER.fullmatch(parameter) for parameter in parameters.split(", ") if parameter]
     if None in read:
-        raise Trouble(f"the parameters of {export.name} are not read: {export.parameters}", NAME)
+        raise Trouble(f"the parameters of {name} are not read: {parameters}", NAME)
     arguments = ", ".join(f"{word[1]} {word[2]}" for word in read if word is not None)
     return f"""
-define noundef {export.result} @{export.name}({export.parameters}) #{number} {{
+define noundef {result} @{name}({parameters}) #{number} {{
 start:
   %was_inside = call i1 @__rattle_enter()
   br i1 %was_inside, label %spent, label %run
@@ -120,11 +111,11 @@ spent:
   call void @__rattle_trap()
   unreachable
 run:
-  %answer = call {export.result} @"rattle::export {export.name}"({arguments})
+  %answer = call {result} @"rattle::export {name}"({arguments})
   call void @__rattle_leave()
-  ret {export.result} %answer
+  ret {result} %answer
 }}
-attributes #{number} = {{ {ATTRIBUTES} "wasm-export-name"="{export.name}" }}
+attributes #{number} = {{ {ATTRIBUTES} "wasm-export-name"="{name}" }}
 """
 
 
@@ -132,9 +123,9 @@ def retargeted(text: str) -> str:
     """The module for wasm64, each export in a wrapper. It also shows `page_take` and `page_give`."""
     _refuse_unknown(text)
     text = _with_target(text)
-    exports = [Export(*found) for found in EXPORT.findall(text)]
+    exports = EXPORT.findall(text)
     if not exports:
         raise Trouble("it exports nothing", NAME)
     text = EXPORT.sub(r'define internal noundef \1 @"rattle::export \2"(\3) noinline #\4 {', text)
-    wrappers = (_wrapper(export, number) for number, export in enumerate(exports, FIRST_NUMBER))
+    wrappers = (_wrapper(*export[:3], number) for number, export in enumerate(exports, FIRST_NUMBER))
     return text + MEMORY + "".join(wrappers)

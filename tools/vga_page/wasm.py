@@ -2,7 +2,8 @@
 
 from __future__ import annotations
 
-from typing import Iterable, Iterator, NamedTuple
+import io
+from typing import Iterator
 
 from vga_report.version import HEADER, calls_of
 from vga_report.trouble import Trouble
@@ -20,31 +21,18 @@ IS_64 = 4
 MOST_MODULE = 16 << 20
 
 
-class Export(NamedTuple):
-    """A name that a module exports, and its kind: 0 is a function."""
-
-    name: str
-    kind: int
-
-
-class _Reader:
+class _Reader(io.BytesIO):
     """Reads a module's numbers and names."""
 
-    def __init__(self, data: bytes) -> None:
-        self._data = data
-        self._at = 0
-
-    def is_done(self) -> bool:
-        return self._at == len(self._data)
-
     def byte(self) -> int:
-        return self.bytes(1)[0]
+        return self.taken(1)[0]
 
-    def bytes(self, count: int) -> bytes:
-        if count > len(self._data) - self._at:
+    def taken(self, count: int) -> bytes:
+        """The next bytes, so many."""
+        data = self.read(min(count, MOST_MODULE))
+        if len(data) < count:
             raise Trouble("it is cut off", "the module")
-        self._at += count
-        return self._data[self._at - count:self._at]
+        return data
 
     def number(self) -> int:
         """A number in LEB128."""
@@ -57,7 +45,7 @@ class _Reader:
                 return value
 
     def name(self) -> str:
-        return self.bytes(self.number()).decode("utf-8", "replace")
+        return self.taken(self.number()).decode("utf-8", "replace")
 
 
 def _all_sections(module: bytes) -> Iterator[tuple[int, bytes]]:
@@ -65,9 +53,8 @@ def _all_sections(module: bytes) -> Iterator[tuple[int, bytes]]:
     if not module.startswith(MAGIC):
         raise Trouble("it is no WebAssembly module", "the module")
     reader = _Reader(module[len(MAGIC):])
-    while not reader.is_done():
-        number = reader.byte()
-        yield number, reader.bytes(reader.number())
+    while number := reader.read(1):
+        yield number[0], reader.taken(reader.number())
 
 
 def sections(module: bytes) -> dict[int, bytes]:
@@ -90,18 +77,15 @@ def kit_of(module: bytes) -> str:
     return found[-1][len(begin):].decode("ascii", "replace") if found else ""
 
 
-def exports_of(module: bytes) -> list[Export]:
-    """What a module exports, in its order."""
-    reader, found = _Reader(sections(module).get(EXPORTS, b"\0")), []
+def exports_of(module: bytes) -> dict[str, int]:
+    """The names that a module exports, in its order, each with its kind: 0 is a function."""
+    reader, found = _Reader(sections(module).get(EXPORTS, b"\0")), {}
     for _ in range(reader.number()):
-        found.append(Export(reader.name(), reader.byte()))
+        name = reader.name()
+        found[name] = reader.byte()
         # Its place among others of its kind.
         reader.number()
     return found
-
-
-def _listed(names: Iterable[str]) -> str:
-    return ", ".join(sorted(names))
 
 
 def check_module(module: bytes) -> str:
@@ -119,11 +103,10 @@ def check_module(module: bytes) -> str:
         raise Trouble("its memory is not one of 64-bit addresses", "the module")
     exports = exports_of(module)
     calls = set(calls_of(HEADER.read_text("ascii")))
-    names = {export.name for export in exports}
-    shown = {export.name for export in exports if export.kind == FUNCTION} - OWN
-    if calls - shown or OWN - names:
-        raise Trouble(f"it lacks {_listed((calls - shown) | (OWN - names))}", "the module")
-    if names - calls - OWN:
-        more = _listed(names - calls - OWN)
-        raise Trouble(f"it exports what is not in {HEADER.name}: {more}", "the module")
+    shown = {name for name, kind in exports.items() if kind == FUNCTION} - OWN
+    lacking, more = sorted((calls - shown) | (OWN - exports.keys())), sorted(exports.keys() - calls - OWN)
+    if lacking:
+        raise Trouble(f"it lacks {', '.join(lacking)}", "the module")
+    if more:
+        raise Trouble(f"it exports what is not in {HEADER.name}: {', '.join(more)}", "the module")
     return f"{len(module):,} bytes, {len(calls)} calls, no imports, no table"

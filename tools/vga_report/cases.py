@@ -9,7 +9,7 @@ from typing import Iterator, NamedTuple, Optional, Sequence
 from zaklimot.format import FAULT, MOST_BYTES, STATE, Answer, lines_in, steps_in
 from zaklimot.format.report import REFUSAL, VALUE
 
-from .expected import Expected
+from .report import Expected
 from .streams import STANDARD, bytes_of, read_at_most, shown_name
 from .trouble import Trouble
 
@@ -133,9 +133,9 @@ def _is_taken(step: Answer) -> bool:
     return step.kind != REFUSAL
 
 
-def printable(text: str) -> str:
-    """A text that no terminal takes for more than a text."""
-    return "".join(character if character.isprintable() else "?" for character in text)
+def printable(text: str, others: str = "") -> str:
+    """A text that no terminal takes for more than a text. Other characters may be kept."""
+    return "".join(character if character.isprintable() or character in others else "?" for character in text)
 
 
 def _bytes_of(source: bytes, path: Path) -> bytes:

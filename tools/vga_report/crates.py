@@ -3,6 +3,7 @@
 import re
 import time
 from functools import cache
+from typing import Callable
 
 from . import TOP
 from .processes import Hearer
@@ -29,33 +30,27 @@ def below(name: str) -> list[str]:
     return list(found)
 
 
-class Phases:
-    """Tells phase by phase what is done, and at which crate it is, or else what is said."""
+def phases(progress: Progress, crate: str = "vga_c") -> Callable[[str], Hearer]:
+    """What begins a phase of work on a crate, that of the library or another, and answers what hears its program.
 
-    def __init__(self, progress: Progress, crates: list[str]) -> None:
-        self._progress = progress
-        self._crates = crates
-        self._begun = time.monotonic()
-        self._place = ""
+    It tells what is done, and at which crate it is, of this one and those below it, or else what is said.
+    """
+    crates, begun = [*below(crate), crate], time.monotonic()
 
-    def __call__(self, phase: str) -> Hearer:
-        """Begins a phase, and answers what hears its program."""
-        self._place = ""
-        self._tell(phase, "")
-        return lambda line: self._tell(phase, line)
+    def begin(phase: str) -> Hearer:
+        place = ""
 
-    def _tell(self, phase: str, line: str) -> None:
-        named = [word for word in re.findall(r"\w+", line) if word in self._crates]
-        if named:
-            number = self._crates.index(named[-1]) + 1
-            done = ", is done" if DONE.match(line) else ""
-            self._place = f"{named[-1]}, crate {number} of {len(self._crates)}{done}"
-        if self._progress.is_due():
-            seconds = int(time.monotonic() - self._begun)
-            place = self._place or line
-            self._progress.tell(f"{seconds // 60}:{seconds % 60:02} {phase}{place and ': '}{place}")
+        def hear(line: str) -> None:
+            nonlocal place
+            named = [word for word in re.findall(r"\w+", line) if word in crates]
+            if named:
+                done = ", is done" if DONE.match(line) else ""
+                place = f"{named[-1]}, crate {crates.index(named[-1]) + 1} of {len(crates)}{done}"
+            if progress.is_due():
+                seconds, told = int(time.monotonic() - begun), place or line
+                progress.tell(f"{seconds // 60}:{seconds % 60:02} {phase}{told and ': '}{told}")
 
+        hear("")
+        return hear
 
-def phases(progress: Progress, crate: str = "vga_c") -> Phases:
-    """Tells of a crate, that of the library or another, and of those below it."""
-    return Phases(progress, [*below(crate), crate])
+    return begin

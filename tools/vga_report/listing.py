@@ -7,7 +7,7 @@ import time
 from functools import partial
 from itertools import chain, count, islice, repeat, zip_longest
 from pathlib import Path
-from typing import BinaryIO, Iterator, NamedTuple, Optional, Union
+from typing import BinaryIO, Callable, Iterator, NamedTuple, Optional, Union
 
 from zaklimot.format import STATE, Answer, count_in, is_bytes, places_in, steps_in, words_in
 from zaklimot.format.report import VALUE
@@ -30,7 +30,6 @@ EMPTY = 5
 # The widest column of steps; what is longer has its end cut off.
 MOST_WORDS = 47
 RANGE = re.compile(r"([0-9]{1,10})(?:-([0-9]{1,10}))?")
-KINDS = ("refused", "read", "pictures", "dumps", "differs")
 
 
 class Row(NamedTuple):
@@ -55,14 +54,9 @@ class Row(NamedTuple):
         """Whether another answer was expected."""
         step, expected = self.step, self.expected
         if expected is None:
-            return self.is_strict and self.is_refused
+            return self.is_strict and step.is_refused
         is_other = bool(self.dump) and expected != ANY and self.dump != step.lines
         return is_other or not is_as_expected(step, expected, self.words)
-
-    @property
-    def is_refused(self) -> bool:
-        """Whether the step was refused."""
-        return self.step.is_refused
 
     def mismatch(self) -> str:
         """What an answer is in the place of the one that was expected."""
@@ -71,22 +65,17 @@ class Row(NamedTuple):
         named = what_differs(self.step, self.expected, self.name, self.dump)
         return f"answers {answer_of(self.step)}, not {self.expected}" + (f": {'; '.join(named)}" if named else "")
 
-    @property
-    def kinds(self) -> set[str]:
-        """What `--only` may call it."""
-        step = self.step
-        has = {
-            "refused": self.is_refused,
-            "read": step.kind == VALUE,
-            "pictures": step.picture is not None or step.answer == "ragged",
-            "dumps": self.name == "show" and not self.is_refused,
-            "differs": self.is_wrong,
-        }
-        return {kind for kind, is_so in has.items() if is_so}
-
 
 # A row of all its parts, made in half the time that the class itself takes.
 made_row = partial(tuple.__new__, Row)
+# What `--only` may call a step, and which steps it means.
+KINDS: dict[str, Callable[[Row], bool]] = {
+    "refused": lambda row: row.step.is_refused,
+    "read": lambda row: row.step.kind == VALUE,
+    "pictures": lambda row: row.step.picture is not None or row.step.answer == "ragged",
+    "dumps": lambda row: row.name == "show" and not row.step.is_refused,
+    "differs": lambda row: row.is_wrong,
+}
 
 
 class Choice:
@@ -94,7 +83,7 @@ class Choice:
 
     def __init__(self, text: Optional[str]) -> None:
         self._ranges: list[tuple[int, int]] = []
-        self._kinds: set[str] = set()
+        self._kinds: list[Callable[[Row], bool]] = []
         self.has_all = text is None
         for word in () if text is None else text.split(","):
             found = RANGE.fullmatch(word)
@@ -105,13 +94,14 @@ class Choice:
                     raise Trouble(f"--only {word}: {reason}")
                 self._ranges.append((first, last))
             elif word in KINDS:
-                self._kinds.add(word)
+                self._kinds.append(KINDS[word])
             else:
                 raise Trouble(f"--only has numbers of steps, as 10-20, and {', '.join(KINDS)}, and not '{word}'")
 
     def has(self, row: Row) -> bool:
         """Whether a step is shown."""
-        return self.has_all or bool(self._kinds & row.kinds) or any(a <= row.step.number <= b for a, b in self._ranges)
+        has_number = any(first <= row.step.number <= last for first, last in self._ranges)
+        return self.has_all or has_number or any(is_meant(row) for is_meant in self._kinds)
 
 
 class Script:
@@ -126,6 +116,7 @@ class Script:
         self.is_bytes = is_bytes(data)
         self._text = None if self.is_bytes else io.BytesIO(data)
         self._dumps = {} if self.is_bytes else dumps_in(data, shown)
+        self._program = program
         program.print_steps(self.path, self.is_bytes, printed)
         understood = count_in(printed)
         meant = understood if self._text is None else count_in(self._text)
@@ -151,8 +142,7 @@ class Script:
         return zip(words_in(self._printed), places)
 
     def rows(
-        self, program: Union[Built, Tried], fonts: str, until: Optional[int], progress: Progress,
-        is_strict: bool = False, tells_why: bool = True,
+        self, fonts: str, until: Optional[int], progress: Progress, is_strict: bool, tells_why: bool
     ) -> Iterator[Row]:
         """The steps with their answers, as they come, and why each was refused, if that is wanted.
 
@@ -161,19 +151,18 @@ class Script:
         """
         given = progress, is_strict, tells_why
         try:
-            yield from self._rows(program, fonts, until, *given)
+            yield from self._rows(fonts, until, *given)
         except Limited as limited:
-            yield from islice(self._rows(program, fonts, limited.before, *given), limited.before)
+            yield from islice(self._rows(fonts, limited.before, *given), limited.before)
             raise
 
     def _rows(
-        self, program: Union[Built, Tried], fonts: str, until: Optional[int], progress: Progress, is_strict: bool,
-        tells_why: bool,
+        self, fonts: str, until: Optional[int], progress: Progress, is_strict: bool, tells_why: bool
     ) -> Iterator[Row]:
         dumps = () if until is None else STATE
         state = State() if tells_why else None
         is_told, taken = progress.is_wanted, 0
-        with program.running(self.path, fonts, until, self.is_bytes) as outcome:
+        with self._program.running(self.path, fonts, until, self.is_bytes) as outcome:
             _wait_for(outcome.report, self.shown, progress)
             report = Report(outcome.report, "the report", progress)  # type: ignore[arg-type]
             steps, dump_of = self._begun(report.steps(), fonts), self._dumps.get

@@ -4,6 +4,7 @@ from __future__ import annotations
 
 import os
 import sys
+from typing import Callable
 
 from .streams import STANDARD, shown_name
 from .trouble import Trouble
@@ -32,9 +33,9 @@ def counted(count: int, what: str) -> str:
     return f"{count} {what}{'s' * (count != 1)}"
 
 
-def say(text: str) -> None:
-    """Says something on standard error. What a terminal can't show of a file's name is escaped."""
-    sys.stderr.write(f"vga-report: {text}\n")
+def teller(*files: str | None) -> Callable[[str], object]:
+    """What writes text beside these files: on standard error where one of them goes to standard output."""
+    return sys.stderr.write if STANDARD in files else write
 
 
 def refuse_twice(*paths: str) -> None:

@@ -5,14 +5,14 @@ import io
 import json
 from html import escape
 from pathlib import Path
-from typing import NamedTuple, Optional, Sequence
+from typing import Optional, Sequence
 
 from zaklimot.format import Picture
 
-from .differences import Difference
 from .expecting import answer_of
 from .listing import Row
 from .png import write_png
+from .report import Difference
 from .streams import filled
 from .trouble import Trouble
 
@@ -23,21 +23,6 @@ POLICY = "default-src 'none'; img-src data:; style-src 'unsafe-inline'; script-s
 SIZES = "".join(f'<option value="{size}">\u00d7{size}</option>' for size in (1, 2, 3, 4))
 
 
-class Frame(NamedTuple):
-    """What the slider comes to: the step, how it is called, and the images by their names."""
-
-    step: int
-    title: str
-    images: Sequence[str]
-
-
-def _data_of(picture: Picture, other: Optional[Picture] = None) -> str:
-    """A picture as an address that is the picture itself; with another one, its differing dots marked."""
-    stream = io.BytesIO()
-    write_png(stream, picture, other=other)
-    return "data:image/png;base64," + base64.b64encode(stream.getvalue()).decode("ascii")
-
-
 class Page:
     """A page that is filled row by row."""
 
@@ -45,16 +30,20 @@ class Page:
         self._captions = captions
         self._columns = columns
         self._rows: list[str] = []
-        self._frames: list[Frame] = []
+        # What the slider comes to: the step, how it is called, and the images by their names.
+        self._frames: list[dict[str, object]] = []
         self._images = 0
 
     def _image(self, picture: Picture, other: Optional[Picture] = None) -> tuple[str, str]:
-        """An image's name, and its element."""
+        """An image's name, and its element that has the picture in it; with another one, its differing dots marked."""
         self._images += 1
         if self._images > MOST_PICTURES:
             raise Trouble(f"the page would have more than {MOST_PICTURES} pictures: --only takes some steps")
-        name, frame = f"p{self._images}", len(self._frames)
-        return name, f'<img id="{name}" data-frame="{frame}" alt="{picture.size}" src="{_data_of(picture, other)}">'
+        stream = io.BytesIO()
+        write_png(stream, picture, other=other)
+        data = base64.b64encode(stream.getvalue()).decode("ascii")
+        name, place = f"p{self._images}", f'data-frame="{len(self._frames)}" alt="{picture.size}"'
+        return name, f'<img id="{name}" {place} src="data:image/png;base64,{data}">'
 
     def _add(self, cells: Sequence[str], kind: str) -> None:
         if len(self._rows) == MOST_ROWS:
@@ -72,10 +61,11 @@ class Page:
             text += f"\n{escape(row.why)}"
         if isinstance(picture, Picture):
             name, image = self._image(picture)
-            self._frames.append(Frame(row.step.number, f"step {row.step.number}, {picture.size}", [name]))
+            title = f"step {row.step.number}, {picture.size}"
+            self._frames.append({"step": row.step.number, "title": title, "images": [name]})
             text += image
         number = '<td class="number">{}</td>'.format
-        kind = "differs" if row.is_wrong else "refused" if "refused" in row.kinds else ""
+        kind = "differs" if row.is_wrong else "refused" if row.step.is_refused else ""
         line = "" if row.line is None else str(row.line)
         self._add([number(line), number(row.step.number), f"<td>{escape(row.words)}</td>", f"<td>{text}</td>"], kind)
 
@@ -86,7 +76,8 @@ class Page:
         dots = escape(difference.dots())
         if pictures is not None:
             images = [self._image(pictures[0]), self._image(pictures[1]), self._image(*pictures)]
-            self._frames.append(Frame(difference.number, f"{difference.place}: {dots}", [name for name, _ in images]))
+            title, names = f"{difference.place}: {dots}", [name for name, _ in images]
+            self._frames.append({"step": difference.number, "title": title, "images": names})
             texts = [f"{text}{image}" for text, (_, image) in zip(texts, images)]
             dots += images[2][1]
         cells = [f'<td class="number">{difference.number}</td>', *(f"<td>{text}</td>" for text in (*texts, dots))]
@@ -94,7 +85,7 @@ class Page:
 
     def text(self, title: str, said: str, link: Optional[str] = None) -> str:
         """The whole page, with a link to the one that runs the script, where there is one."""
-        frames = json.dumps([frame._asdict() for frame in self._frames]).replace("<", "\\u003c")
+        frames = json.dumps(self._frames).replace("<", "\\u003c")
         captions = (f"<figcaption>{escape(caption)}</figcaption>" for caption in self._captions)
         figures = "".join(f"<figure><canvas></canvas>{caption}</figure>" for caption in captions)
         heads = "".join(f"<th>{escape(column)}</th>" for column in self._columns)

@@ -58,14 +58,21 @@ def _head(width: int, height: int) -> bytes:
 
 def _write(stream: BinaryIO, size: tuple[int, int], rows: Iterable[bytes], shape: Shape) -> None:
     """Writes rows of this size in a shape."""
-    new, packer = shape.size(*size), zlib.compressobj(COMPRESSION)
+    new = shape.size(*size)
     stream.write(_head(*new))
+    for part in _packed(rows, size, new):
+        stream.write(chunk(b"IDAT", part))
+    stream.write(chunk(b"IEND", b""))
+
+
+def _packed(rows: Iterable[bytes], size: tuple[int, int], new: tuple[int, int]) -> Iterator[bytes]:
+    """Rows of one size as a PNG of another has them packed, in parts."""
+    packer = zlib.compressobj(COMPRESSION)
     for row in rows if new == size else _stretched(rows, size, new):
         packed = packer.compress(b"\0" + row)
         if packed:
-            stream.write(chunk(b"IDAT", packed))
-    stream.write(chunk(b"IDAT", packer.flush()))
-    stream.write(chunk(b"IEND", b""))
+            yield packed
+    yield packer.flush()
 
 
 def _stretched(rows: Iterable[bytes], size: tuple[int, int], new: tuple[int, int]) -> Iterator[bytes]:
@@ -134,11 +141,9 @@ class Animation:
         if self.frames and size != self._size:
             raise Trouble(f"{name} has a picture of another size than {self._first}: --step picks those of one size")
         self._size, self._first = size, self._first or name
-        packer = zlib.compressobj(COMPRESSION)
-        rows = _rows(picture) if given == size else _stretched(_rows(picture), given, size)
-        packed = [packer.compress(b"\0" + row) for row in rows]
+        packed = b"".join(_packed(_rows(picture), given, size))
         part = SHORT if seconds < 1 else LONG
-        self.frames.append((b"".join(packed) + packer.flush(), min(MOST_NUMBER, round(seconds * part)), part))
+        self.frames.append((packed, min(MOST_NUMBER, round(seconds * part)), part))
         self.seconds += seconds
 
     def write(self, stream: BinaryIO) -> None:
@@ -153,7 +158,7 @@ class Animation:
         stream.write(chunk(b"IEND", b""))
 
 
-def _shrunk_row(picture: Picture, top: int, bottom: int, columns: int) -> list[tuple[int, int, int]]:
+def _shrunk_row(picture: Picture, top: int, bottom: int, columns: int) -> list[list[int]]:
     """The mean colours of a row of blocks, which cover these rows of dots."""
     rows = [picture.row(y).translate(WIDENED) for y in range(top, max(top + 1, bottom))]
     colours = []
@@ -161,8 +166,7 @@ def _shrunk_row(picture: Picture, top: int, bottom: int, columns: int) -> list[t
         left = column * picture.width // columns
         right = max(left + 1, (column + 1) * picture.width // columns)
         count = len(rows) * (right - left)
-        red, green, blue = (sum(sum(row[3 * left + part:3 * right:3]) for row in rows) // count for part in range(3))
-        colours.append((red, green, blue))
+        colours.append([sum(sum(row[3 * left + part:3 * right:3]) for row in rows) // count for part in range(3)])
     return colours
 
 

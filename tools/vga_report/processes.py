@@ -88,12 +88,10 @@ def started(words: Words, asking: float = 0, **given: Any) -> Iterator[subproces
                     [str(word) for word in words],
                     **{"stdin": subprocess.DEVNULL, "start_new_session": IS_POSIX, **given},
                 )
-            except OSError as error:
-                raise Trouble(error.strerror or str(error), str(words[0])) from error
+            except (OSError, ValueError) as error:
+                raise Trouble(getattr(error, "strerror", None) or str(error), str(words[0])) from error
             except subprocess.SubprocessError as error:
                 raise Trouble("the system doesn't set these limits for it", str(words[0])) from error
-            except ValueError as error:
-                raise Trouble(str(error), str(words[0])) from error
         yield process
     finally:
         if process is not None:
@@ -172,44 +170,37 @@ class _Front:
         self._left -= min(self._left, len(chunk))
 
 
-class _Drain(Thread):
+def _drain(source: BinaryIO, take: Callable[[bytes], None], troubles: list[OSError]) -> None:
     """Takes what a program writes, until all that could write it has ended."""
-
-    def __init__(self, source: BinaryIO, take: Callable[[bytes], None]) -> None:
-        super().__init__(daemon=True)
-        self._source = source
-        self._take = take
-        self.trouble: Optional[OSError] = None
-
-    def run(self) -> None:
-        try:
-            with self._source:
-                for chunk in iter(lambda: os.read(self._source.fileno(), CHUNK), b""):
-                    self._take(chunk)
-        except OSError as error:
-            self.trouble = error
+    try:
+        with source:
+            for chunk in iter(lambda: os.read(source.fileno(), CHUNK), b""):
+                take(chunk)
+    except OSError as error:
+        troubles.append(error)
 
 
 def _followed(
     words: Words, takes: Sequence[Callable[[bytes], None]], heed: Callable[[], str], asking: float = 0, **given: Any
 ) -> Outcome:
     """Runs a program to its end, or until `heed` tells why it is to end; what it writes and says is taken meanwhile."""
+    troubles: list[OSError] = []
     with started(words, asking, stdout=subprocess.PIPE, stderr=subprocess.PIPE, **given) as process:
         streams = process.stdout, process.stderr
         # They are the drains' to close: what is left in them is read once the group has ended.
         process.stdout = process.stderr = None
-        drains = [_Drain(stream, take) for stream, take in zip(streams, takes)]  # type: ignore[arg-type]
+        drains = [Thread(target=_drain, args=(*both, troubles), daemon=True) for both in zip(streams, takes)]
         for drain in drains:
             drain.start()
         reason, pause = "", FIRST_PAUSE
         while not (reason or _has_ended(process)):
             time.sleep(pause)
             pause = min(2 * pause, LONGEST_PAUSE)
-            reason = heed() or next((str(drain.trouble) for drain in drains if drain.trouble), "")
+            reason = heed() or "".join(map(str, troubles[:1]))
     for drain in drains:
         drain.join(DRAINING)
-        if drain.trouble:
-            raise Trouble(f"what it writes can't be kept: {drain.trouble}", str(words[0]))
+    if troubles:
+        raise Trouble(f"what it writes can't be kept: {troubles[0]}", str(words[0]))
     return Outcome(process.returncode, reason)
 
 

@@ -7,9 +7,10 @@ import shutil
 import subprocess
 import tempfile
 from contextlib import contextmanager
+from dataclasses import dataclass
 from itertools import islice
 from pathlib import Path
-from typing import Any, BinaryIO, Iterator, Optional, Sequence, cast
+from typing import Any, BinaryIO, ContextManager, Iterator, Optional, Sequence, cast
 
 from zaklimot.format import FAULT, MOST_BYTES
 
@@ -41,13 +42,13 @@ NO_PROGRAM = (
 )
 
 
+@dataclass
 class Outcome:
     """How a run ended: its status, known once the report was read, and what the program said."""
 
-    def __init__(self, report: BinaryIO) -> None:
-        self.report = report
-        self.status = 0
-        self.said = ""
+    report: BinaryIO
+    status: int = 0
+    said: str = ""
 
     @property
     def fault(self) -> str:
@@ -65,12 +66,10 @@ def found_program(named: Optional[str], lacking: str = NO_PROGRAM) -> str:
     if named is not None:
         # A name without a folder is looked for in the path.
         return to_read(shutil.which(named) or named)
-    if os.access(PROGRAM, os.X_OK):
-        return to_read(str(PROGRAM))
-    in_path = shutil.which("vga")
-    if in_path is None:
+    found = str(PROGRAM) if os.access(PROGRAM, os.X_OK) else shutil.which("vga")
+    if found is None:
         raise Trouble(lacking)
-    return to_read(in_path)
+    return to_read(found)
 
 
 @contextmanager
@@ -85,6 +84,12 @@ def _running(words: Sequence[str], asking: float = 0, **given: Any) -> Iterator[
             outcome.status = process.wait()
         said.seek(max(0, said.seek(0, io.SEEK_END) - MOST_SAID))
         outcome.said = said.read().decode("utf-8", "replace")
+
+
+def _words(script: str, fonts: str, until: Optional[int], is_bytes: bool) -> list[str]:
+    """The words by which the program runs a script, as text or as bytes."""
+    stop = [] if until is None else ["--until", str(until)]
+    return ["run" if is_bytes else "go", script, "--fonts", fonts, *stop]
 
 
 def _crate() -> Path:
@@ -105,18 +110,15 @@ def build_program(progress: Progress) -> None:
         progress.clear()
 
 
+@dataclass
 class Built:
     """The program as it was built."""
 
-    def __init__(self, path: str) -> None:
-        self._path = path
+    path: str
 
-    @contextmanager
-    def running(self, script: Path, fonts: str, until: Optional[int], is_bytes: bool) -> Iterator[Outcome]:
+    def running(self, script: Path, fonts: str, until: Optional[int], is_bytes: bool) -> ContextManager[Outcome]:
         """A run of a script, as text or as bytes."""
-        stop = [] if until is None else ["--until", str(until)]
-        with _running([self._path, "run" if is_bytes else "go", str(script), "--fonts", fonts, *stop]) as outcome:
-            yield outcome
+        return _running([self.path, *_words(str(script), fonts, until, is_bytes)])
 
     def print_steps(self, script: Path, is_bytes: bool, printed: BinaryIO) -> None:
         """Prints the steps of a script as the program understands them; nothing where it has a fault."""
@@ -129,11 +131,11 @@ class Built:
     def _writes(self, words: Sequence[str], output: BinaryIO) -> bool:
         """Whether a command of the program ends well; what it writes goes into a file."""
         left = MOST_PRINTED
-        with _running([self._path, *words]) as outcome:
+        with _running([self.path, *words]) as outcome:
             while chunk := outcome.report.read(CHUNK):
                 left -= len(chunk)
                 if left < 0:
-                    raise Trouble(f"vga {words[0]} writes more than any script takes", self._path)
+                    raise Trouble(f"vga {words[0]} writes more than any script takes", self.path)
                 output.write(chunk)
         return outcome.status == 0
 
@@ -162,9 +164,8 @@ class Tried:
     @contextmanager
     def running(self, script: Path, fonts: str, until: Optional[int], is_bytes: bool) -> Iterator[Outcome]:
         """A run of a script, as text or as bytes."""
-        stop = [] if until is None else ["--until", str(until)]
         files = ["--data", f"script={script.resolve()}", "--data", f"fonts={Path(fonts).resolve()}"]
-        words = ["rt", "try", *files, "--", "run" if is_bytes else "go", "script", "--fonts", "fonts", *stop]
+        words = ["rt", "try", *files, "--", *_words("script", "fonts", until, is_bytes)]
         # What it leaves when it is ended goes with this folder.
         with tempfile.TemporaryDirectory(prefix="vga-report-") as temporary:
             with _running(words, ENDING, cwd=_crate(), env={**os.environ, "TMPDIR": temporary}) as outcome:

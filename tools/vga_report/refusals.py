@@ -5,7 +5,7 @@ The state is what the steps that were done have left, as far as a script tells i
 """
 
 from functools import lru_cache, partial
-from typing import Callable, Collection, NamedTuple, Optional, Sequence
+from typing import Callable, Collection, Optional, Sequence
 
 from zaklimot.format import MOST_ADVANCE, REGISTERS, Answer, Step, parse_line
 
@@ -78,13 +78,6 @@ class State:
                 self._is_data = not self._is_data
             elif port == 0x3CF and self.indexes[GRAPHICS] == 6:
                 self.map = value >> 2 & 3
-
-
-class _Data(NamedTuple):
-    """A register that a data port is for."""
-
-    group: str
-    index: int
 
 
 def why_refused(words: str, number: int, state: State) -> str:
@@ -172,36 +165,30 @@ def _not_in_profile(step: Step, state: State) -> Optional[str]:
     return _port_not_in_profile(port, low, state) or _port_not_in_profile(port + 1, high, state, picked)
 
 
-def _data_port(port: int, state: State, picked: Optional[int]) -> Optional[_Data]:
-    """The register that a data port is for; None where the port is none."""
-    groups = {0x3C5: SEQUENCER, 0x3CF: GRAPHICS, state.base + 1: CRT, 0x3C0: ATTRIBUTES, 0x3C1: ATTRIBUTES}
-    if port not in groups:
-        return None
-    group = groups[port]
-    return _Data(group, state.indexes[group] if picked is None else picked & COUNTS[group][1])
-
-
 def _port_not_in_profile(port: int, value: Optional[int], state: State, picked: Optional[int] = None) -> Optional[str]:
     """Why a cycle of a port is out of the profile; None where it is not."""
     if value is not None and port & 0xF0F == 0x30A and port != 0x3CA:
         return "Feature control is left out of the adapter."
     if port in LEFT_OUT and (value is None or port == 0x3C3):
         return f"Port {port:03X} would be {LEFT_OUT[port]}, which is left out of the adapter."
-    data = _data_port(port, state, picked)
-    if data is None:
+    # The group of the registers that a data port is for.
+    groups = {0x3C5: SEQUENCER, 0x3CF: GRAPHICS, state.base + 1: CRT, 0x3C0: ATTRIBUTES, 0x3C1: ATTRIBUTES}
+    if port not in groups:
         return None
-    count = COUNTS[data.group][0]
-    if data.index >= count:
-        return f"The index of the {data.group} is {data.index:02X}, and its registers end at {count - 1:X}."
-    return None if value is None else _refused_value(data, value)
+    group = groups[port]
+    count, bits = COUNTS[group]
+    index = state.indexes[group] if picked is None else picked & bits
+    if index >= count:
+        return f"The index of the {group} is {index:02X}, and its registers end at {count - 1:X}."
+    return None if value is None else _refused_value((group, index), value)
 
 
-def _refused_value(data: _Data, value: int) -> Optional[str]:
-    if data == (GRAPHICS, 5) and value & 32:
+def _refused_value(register: tuple[str, int], value: int) -> Optional[str]:
+    if register == (GRAPHICS, 5) and value & 32:
         return "Bit 5 of graphics mode, shift register mode, is left out of the adapter, so it can't be 1."
-    if data == (CRT, 0x14) and value & 32:
+    if register == (CRT, 0x14) and value & 32:
         return "Bit 5 of underline location, count by four, is left out of the adapter, so it can't be 1."
-    if data == (CRT, 0x17):
+    if register == (CRT, 0x17):
         return "In mode control of the CRT controller bits 0 and 1 must be 1, and bits 2 and 3 must be 0."
     return None
 

@@ -1,18 +1,37 @@
-"""A report that a tool reads: its troubles name the file and the line, and a terminal shows how far it was read."""
+"""A report that a tool reads, the one that is expected of a case, as the suite writes it, and where two reports differ.
+
+The troubles of both name the file and the line.
+"""
 
 import io
-from typing import Iterator, Optional
+import re
+from dataclasses import dataclass
+from itertools import zip_longest
+from typing import BinaryIO, Iterator, NamedTuple, Optional
 
 from zaklimot import format
-from zaklimot.format import Answer, ReportError
+from zaklimot.format import FAULT, Answer, Digest, Picture, ReportError
+from zaklimot.format.picture import different_dots
+from zaklimot.format.report import MOST_LINE, REFUSAL, SKIPPED, TEXT
 
+from .output import counted
 from .progress import Progress
 from .streams import length_of
 from .trouble import Trouble
 
+OK_STEPS = re.compile(r"([1-9][0-9]*)-([1-9][0-9]*) ok")
+STEP = re.compile(r"([1-9][0-9]*) (.+)")
+PICTURE = re.compile(r"(picture ([0-9]+)) (([1-9][0-9]*)x([1-9][0-9]*))( ([0-9a-f]{32}))?")
+RUN = re.compile(r"([0-9A-F]{6})(\*([1-9][0-9]{0,6}))?")
+END = "the end"
+DONE = "ok"
+
 
 class Report:
-    """The answers of a report that is read from a stream. Lines are counted as `text` shows them, a picture as one."""
+    """The answers of a report that is read from a stream. A terminal shows how far it was read.
+
+    Lines are counted as `text` shows them, a picture as one.
+    """
 
     def __init__(self, stream: io.BufferedReader, name: str, progress: Optional[Progress] = None) -> None:
         self._stream = stream
@@ -40,3 +59,246 @@ class Report:
         if self._progress.is_due():
             share = f"{100 * self._stream.tell() // self._length} %" if self._length else f"{line} lines"
             self._progress.tell(f"{self._name}: {share}")
+
+
+class Expected:
+    """The steps of an expected report that is read from a stream."""
+
+    def __init__(self, stream: BinaryIO, name: str) -> None:
+        self._stream = stream
+        self._name = name
+        self._line = 0
+        self._number = 0
+        # The line that was read last and isn't used yet.
+        self._waiting: Optional[str] = None
+
+    def steps(self) -> Iterator[Answer]:
+        """The steps in their order."""
+        for text in iter(self._next_line, None):
+            alike = OK_STEPS.fullmatch(text)
+            if alike is not None:
+                yield from self._ok_steps(int(alike[1]), int(alike[2]))
+            else:
+                yield self._step(text)
+
+    def _ok_steps(self, first: int, last: int) -> Iterator[Answer]:
+        """The steps that a line such as `1-35 ok` stands for."""
+        if first > last:
+            raise self._trouble(f"no steps lead from {first} to {last}")
+        for number in range(first, last + 1):
+            yield Answer(self._counted(number), self._line, "ok")
+
+    def _step(self, text: str) -> Answer:
+        """The step that begins with a line."""
+        if self._number == 0 and FAULT.fullmatch(text):
+            return Answer(0, self._line, text)
+        found = STEP.fullmatch(text)
+        if found is None:
+            raise self._trouble(f"no step: '{text[:40]}'")
+        number, line = self._counted(int(found[1])), self._line
+        picture = PICTURE.fullmatch(found[2])
+        if picture is None:
+            return Answer(number, line, found[2], tuple(self._other_lines()))
+        length, size, width, height, digest = int(picture[2]), picture[3], int(picture[4]), int(picture[5]), picture[7]
+        if digest is not None:
+            return Answer(number, line, picture[1], (), Digest(length, size, digest))
+        return Answer(number, line, picture[1], (), self._picture(length, width, height))
+
+    def _counted(self, number: int) -> int:
+        """A step's number, which is to be one more than the last."""
+        if number != self._number + 1:
+            raise self._trouble(f"step {self._number + 1} is to come, and not step {number}")
+        self._number = number
+        return number
+
+    def _other_lines(self) -> Iterator[str]:
+        """The lines up to the next step's, as a dump has them."""
+        text = self._next_line()
+        while text is not None and not text[:1].isdigit():
+            yield text
+            text = self._next_line()
+        self._waiting = text
+
+    def _picture(self, length: int, width: int, height: int) -> Picture:
+        """The picture whose rows stand next, one a line."""
+        picture = Picture.of_dots(width, height, b"".join(self._row(width) for _ in range(height)))
+        if picture.length != length:
+            raise self._trouble(f"a picture of {picture.size} dots has {picture.length} bytes, and not {length}")
+        return picture
+
+    def _row(self, width: int) -> bytes:
+        """The dots of the next line: `3F0015*9` stands for nine that are alike."""
+        text = self._next_line()
+        runs = [RUN.fullmatch(word) for word in (text or "").split(" ")]
+        dots = b"".join(bytes.fromhex(run[1]) * int(run[3] or "1") for run in runs if run is not None)
+        if None in runs or len(dots) != 3 * width:
+            raise self._trouble(f"no row of {width} dots: '{(text or '')[:40]}'")
+        if max(dots) > 63:
+            raise self._trouble("a dot has a component above 3F")
+        return dots
+
+    def _next_line(self) -> Optional[str]:
+        """The next line without its newline; None at the end."""
+        if self._waiting is not None:
+            text, self._waiting = self._waiting, None
+            return text
+        line = self._stream.readline(MOST_LINE)
+        if not line:
+            return None
+        self._line += 1
+        if not line.endswith(b"\n"):
+            raise self._trouble("the line lacks its newline, or is too long")
+        if TEXT.fullmatch(line) is None:
+            raise self._trouble("the line is empty, or has bytes that no answer has")
+        return line[:-1].decode("ascii")
+
+    def _trouble(self, reason: str) -> Trouble:
+        return Trouble(reason, self._name, self._line)
+
+
+class Told(NamedTuple):
+    """What messages tell of a difference, which takes less memory than its pictures."""
+
+    number: int
+    answer: str
+    other: str
+    text: str
+
+
+class Difference(NamedTuple):
+    """A step with two answers. Where one of the reports has ended, it has no step."""
+
+    step: Optional[Answer]
+    other: Optional[Answer]
+
+    @property
+    def number(self) -> int:
+        """The number of the step that differs; 0 where a fault stands in the place of steps."""
+        return max(step.number for step in self if step is not None)
+
+    @property
+    def place(self) -> str:
+        """The step in messages."""
+        return f"step {self.number}" if self.number else "the run"
+
+    def answers(self) -> tuple[str, str]:
+        """Both answers, each as one line."""
+        step, other = self
+        if step is None or other is None:
+            return END if step is None else step.answer, END if other is None else other.answer
+        if step.picture is not None and other.picture is not None:
+            return _pictures(step, other)
+        line, other_line = next(
+            pair for pair in zip_longest(step.lines, other.lines, fillvalue=END) if pair[0] != pair[1]
+        )
+        if step.kind != other.kind:
+            return _with_kind(line, step), _with_kind(other_line, other)
+        return line, other_line
+
+    def pictures(self) -> Optional[tuple[Picture, Picture]]:
+        """Both pictures, if both answers are pictures whose dots are at hand."""
+        if self.step is None or self.other is None:
+            return None
+        picture, other = self.step.picture, self.other.picture
+        if isinstance(picture, Picture) and isinstance(other, Picture):
+            return picture, other
+        return None
+
+    def dots(self) -> str:
+        """How two pictures of one size differ; empty for all else."""
+        pictures = self.pictures()
+        return told_dots(*pictures) if pictures and pictures[0].size == pictures[1].size else ""
+
+    def told(self) -> Told:
+        """What messages tell of it: as a line, what the first report has in the place of what the other has."""
+        answer, other = self.answers()
+        text = self.dots() or f"{answer}, not {other}"
+        lines = ["" if step is None else step.answer for step in self]
+        if lines[0] != lines[1] == lines[0].upper():
+            text += ": digits are upper case in a report"
+        return Told(self.number, answer, other, f"{self.place}: {text}")
+
+
+def told_dots(picture: Picture, other: Picture) -> str:
+    """How two pictures of one size differ; empty where they don't."""
+    found = different_dots(picture, other)
+    if found is None:
+        return ""
+    colours = f"{picture.dot(found.x, found.y)}, not {other.dot(found.x, found.y)}"
+    count = picture.width * picture.height
+    return f"{found.count} of {count} dots differ, the first is dot {found.x} of row {found.y}: {colours}"
+
+
+def _with_kind(line: str, step: Answer) -> str:
+    """A line that tells a refusal from a byte that was read."""
+    return f"{line} ({step.kind})" if step.kind else line
+
+
+def _pictures(step: Answer, other: Answer) -> tuple[str, str]:
+    """Two pictures by what tells them apart: length and size, or else their sums."""
+    assert step.picture is not None and other.picture is not None
+    head, other_head = f"{step.answer} {step.picture.size}", f"{other.answer} {other.picture.size}"
+    if head != other_head:
+        return head, other_head
+    return f"{head} {step.picture.sum}", f"{other_head} {other.picture.sum}"
+
+
+@dataclass
+class Comparison:
+    """Walks through two reports side by side, and counts what it has seen.
+
+    Without refusals, the first report is that of a bus that refuses nothing: where the other has a refusal, any
+    answer counts as skipped. Of a machine, which would go on from a state of its own there, all behind it does too,
+    whether its report has it or not.
+    """
+
+    has_refusals: bool = True
+    is_machine: bool = False
+    steps: int = 0
+    pictures: int = 0
+    skipped: int = 0
+    # The answers that were compared, but for `ok`, and the steps that differ.
+    answers: int = 0
+    differing: int = 0
+
+    def differences(self, steps: Iterator[Answer], others: Iterator[Answer]) -> Iterator[Difference]:
+        """The steps that differ, up to the end of the shorter report. A step that was left out differs from none."""
+        is_left = False
+        for step, other in zip_longest(steps, others):
+            is_left = is_left or (self.is_machine and other is not None and other.kind == REFUSAL)
+            if is_left and step is None:
+                # A machine gets no step from there on.
+                self.steps += 1
+                self.skipped += 1
+                continue
+            if step is None or other is None:
+                self.differing += 1
+                yield Difference(step, other)
+                return
+            self.steps += 1
+            self.pictures += step.picture is not None
+            is_alike = _are_alike(step, other)
+            # In the place of a refusal any answer will do to a bus that refuses nothing.
+            may_be_any = not self.has_refusals and other.kind == REFUSAL
+            if is_left or SKIPPED in (step.answer, other.answer) or may_be_any and not is_alike:
+                self.skipped += 1
+                continue
+            self.answers += other.answer != DONE
+            if not is_alike:
+                self.differing += 1
+                yield Difference(step, other)
+
+    def text(self) -> str:
+        """What was seen."""
+        seen = [counted(self.steps, "step"), counted(self.pictures, "picture")]
+        return ", ".join(seen + ([f"{self.skipped} skipped"] if self.skipped else []))
+
+
+def _are_alike(step: Answer, other: Answer) -> bool:
+    """Whether two steps answer the same."""
+    if step.number != other.number or step.answer != other.answer or step.others != other.others:
+        return False
+    picture, other_picture = step.picture, other.picture
+    if picture is None or other_picture is None or type(picture) is type(other_picture):
+        return picture == other_picture
+    return (picture.size, picture.sum) == (other_picture.size, other_picture.sum)

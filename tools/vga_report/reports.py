@@ -8,14 +8,12 @@ from typing import Callable, Iterator, NamedTuple, Optional, Sequence
 from zaklimot.format import MOST_ADVANCE, Answer, Digest, Picture
 from zaklimot.format.picture import DifferentDots, different_dots
 
-from .differences import Comparison, Difference, told_dots
-from .expected import Expected
 from .images import Image, image_bytes, image_of
-from .output import AGREED, DIFFERED, name_of, refuse_twice, say, write, write_name
+from .output import AGREED, DIFFERED, name_of, refuse_twice, teller, write, write_name
 from .page import Page
 from .png import Animation, Shape, save_png
 from .progress import Progress
-from .report import Report
+from .report import Comparison, Difference, Expected, Report, told_dots
 from .script import read_script, script_of
 from .streams import STANDARD, check_folder, reading, write_file, writing
 from .timing import USUAL, Timing
@@ -65,15 +63,20 @@ def pictures(words: argparse.Namespace, progress: Progress) -> int:
     if words.folder != STANDARD:
         check_folder(words.folder)
         os.makedirs(words.folder, exist_ok=True)
-    count = 0
+    for number, picture in _pictures_of(words, progress):
+        _write_picture(words, f"{number:04}", picture, shape)
+    return AGREED
+
+
+def _pictures_of(words: argparse.Namespace, progress: Progress) -> Iterator[tuple[int, Picture]]:
+    """The pictures of the report that are wanted: one at least."""
+    name, count = name_of(words.report), 0
     with reading(words.report) as stream:
-        name = name_of(words.report)
-        for number, picture in wanted_pictures(Report(stream, name, progress).steps(), words.step, name):
+        for found in wanted_pictures(Report(stream, name, progress).steps(), words.step, name):
             count += 1
-            _write_picture(words, f"{number:04}", picture, shape)
+            yield found
     if not count:
         raise Trouble("no step has a picture", name)
-    return AGREED
 
 
 def _animate(words: argparse.Namespace, shape: Shape, progress: Progress) -> int:
@@ -82,12 +85,8 @@ def _animate(words: argparse.Namespace, shape: Shape, progress: Progress) -> int
         raise Trouble("--apng writes one file, with neither a folder nor --ppm")
     delays = delays_of(words.script)
     animation = Animation(shape)
-    with reading(words.report) as stream:
-        name = name_of(words.report)
-        for number, picture in wanted_pictures(Report(stream, name, progress).steps(), words.step, name):
-            animation.add(picture, delays(number), f"step {number}")
-    if not animation.frames:
-        raise Trouble("no step has a picture", name)
+    for number, picture in _pictures_of(words, progress):
+        animation.add(picture, delays(number), f"step {number}")
     with writing(words.apng) as output:
         animation.write(output)
     if words.apng != STANDARD:
@@ -145,7 +144,7 @@ def compare(words: argparse.Namespace, progress: Progress) -> int:
             write_file(words.html, page.text(f"{name} and {other_name}", said).encode("utf-8", "replace"))
     if not count:
         progress.clear()
-        _tell(f"{name} and {other_name} agree: {comparison.text()}\n", words)
+        teller(words.picture, words.html)(f"{name} and {other_name} agree: {comparison.text()}\n")
     return DIFFERED if count else AGREED
 
 
@@ -160,7 +159,7 @@ def _tell_differences(
         found = difference.pictures()
         if words.all or count == 1:
             progress.clear()
-            _tell(_difference_text(difference, names), words)
+            teller(words.picture, words.html)(_difference_text(difference, names))
         if wants_picture and found is not None:
             save_png(words.picture, found[0], Shape(words.scale, words.aspect), found[1])
             wants_picture = False
@@ -170,16 +169,8 @@ def _tell_differences(
             break
     if wants_picture:
         progress.clear()
-        say(f"no pictures differ, so {words.picture} isn't written")
+        sys.stderr.write(f"vga-report: no pictures differ, so {words.picture} isn't written\n")
     return count
-
-
-def _tell(text: str, words: argparse.Namespace) -> None:
-    """Writes text, on standard error where a picture goes to standard output."""
-    if STANDARD in (words.picture, words.html):
-        sys.stderr.write(text)
-    else:
-        write(text)
 
 
 def _difference_text(difference: Difference, names: tuple[str, str]) -> str:

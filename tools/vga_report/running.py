@@ -4,6 +4,7 @@ import io
 import re
 import shlex
 import tempfile
+from contextlib import suppress
 from pathlib import Path
 from threading import Event
 from typing import Iterator, NamedTuple, Optional
@@ -11,10 +12,9 @@ from typing import Iterator, NamedTuple, Optional
 from zaklimot.format import FAULT, Answer, Picture
 
 from .cases import Case, printable
-from .differences import Comparison, Told
 from .png import save_png
-from .processes import Limits, Outcome, run_command
-from .report import Report
+from .processes import Limits, run_command
+from .report import Comparison, Report, Told
 from .streams import write_file
 from .trouble import Trouble
 
@@ -46,17 +46,10 @@ class Result(NamedTuple):
         return self.difference.text + (f" ({place})" if place else "")
 
 
-class Kind(NamedTuple):
-    """What a command can't do: refuse a step; or, as a machine's, judge a script too."""
-
-    has_refusals: bool = True
-    is_machine: bool = False
-
-
 class Command:
-    """A command with places for a case's files."""
+    """A command with places for a case's files. One without refusals refuses no step; a machine judges no script either."""
 
-    def __init__(self, text: str, limits: Limits, kind: Kind, is_ended: Event) -> None:
+    def __init__(self, text: str, limits: Limits, has_refusals: bool, is_machine: bool) -> None:
         try:
             self._words = shlex.split(text)
         except ValueError as error:
@@ -65,10 +58,10 @@ class Command:
             raise Trouble("the command is empty")
         if not any("{script}" in word or "{name}" in word for word in self._words):
             raise Trouble(f"the command '{text}' has neither {{script}} nor {{name}}")
-        self.kind = kind
+        self.limits = limits
+        self.has_refusals = has_refusals
+        self.is_machine = is_machine
         self.can_stop = UNTIL in self._words
-        self._limits = limits
-        self._is_ended = is_ended
 
     def words(self, case: Case, script: Path) -> list[str]:
         """The command's words for a case."""
@@ -79,31 +72,28 @@ class Command:
         words = [stop if word == UNTIL else [PLACE.sub(lambda place: values[place[1]], word)] for word in self._words]
         return [word for some in words for word in some]
 
-    def run(self, case: Case, script: Path, report: Path, messages: Path) -> Outcome:
-        """How it ended. What it wrote and said stands in two files then."""
-        return run_command(self.words(case, script), report, messages, self._limits, self._is_ended)
 
-
-def run_case(case: Case, command: Optional[Command], keep: Optional[Path] = None) -> Result:
+def run_case(case: Case, command: Optional[Command], keep: Optional[str], is_ended: Event) -> Result:
     """Runs a case. Without a command it's left out. What doesn't agree is kept in a folder, where one is given."""
     rule = case.rule()
     if command is None:
         return Result(case, rule, SKIPPED, Comparison(), reason="the script is bytes, and --bytes has no command")
     if case.is_bytes and case.until is not None and not command.can_stop:
         return Result(case, rule, SKIPPED, Comparison(), reason=f"the command of --bytes has no {UNTIL}")
-    if command.kind.is_machine and not case.has_answers_of_machine():
+    if command.is_machine and not case.has_answers_of_machine():
         return Result(case, rule, SKIPPED, Comparison(), reason=NO_ANSWERS)
     with tempfile.TemporaryDirectory(prefix="vga-report-") as name:
         folder = Path(name)
         script, report, messages = folder / f"script{case.suffix}", folder / "report", folder / "messages"
-        script.write_bytes(case.handed(command.kind.is_machine, command.can_stop))
-        outcome = command.run(case, script, report, messages)
+        script.write_bytes(case.handed(command.is_machine, command.can_stop))
+        outcome = run_command(command.words(case, script), report, messages, command.limits, is_ended)
         if outcome.status is None:
             result = Result(case, rule, FAILED, Comparison(), reason=outcome.reason + said_text(messages))
         else:
-            result = _judged(case, rule, Comparison(*command.kind), outcome.status, report, messages)
+            comparison = Comparison(command.has_refusals, command.is_machine)
+            result = _judged(case, rule, comparison, outcome.status, report, messages)
         if keep is not None and result.answer in (DIFFERS, FAILED):
-            keep_case(keep, case, script, report, messages)
+            keep_case(Path(keep), case, script, report, messages)
     return result
 
 
@@ -165,34 +155,28 @@ def keep_case(folder: Path, case: Case, script: Path, report: Path, messages: Pa
     stem.parent.mkdir(parents=True, exist_ok=True)
     for file, end in ((script, case.suffix), (report, ".report"), (messages, ".said")):
         write_file(f"{stem}{end}", file.read_bytes())
-    expected = {step.number: step.picture for step in expected_pictures(case)}
-    for step in _pictures_of(report):
-        assert isinstance(step.picture, Picture)
-        _write_pictures(f"{stem}-{step.number:04}", step.picture, expected.pop(step.number, None))
+    expected = dict(pictures_in(case.expected_steps()))
+    for number, picture in _pictures_of(report):
+        _write_pictures(f"{stem}-{number:04}", picture, expected.pop(number, None))
     for number, picture in expected.items():
-        assert isinstance(picture, Picture)
         _write_pictures(f"{stem}-{number:04}", None, picture)
 
 
-def _write_pictures(stem: str, picture: Optional[Picture], expected: object) -> None:
+def _write_pictures(stem: str, picture: Optional[Picture], expected: Optional[Picture]) -> None:
     """Writes a picture, the one that is expected, and where they differ."""
-    wanted = expected if isinstance(expected, Picture) else None
-    for some, end in ((picture, ".png"), (wanted, "-expected.png")):
+    for some, end in ((picture, ".png"), (expected, "-expected.png")):
         if some is not None:
             save_png(stem + end, some)
-    if picture is not None and wanted is not None and picture.ppm != wanted.ppm:
-        save_png(f"{stem}-differing.png", picture, other=wanted)
+    if picture is not None and expected is not None and picture.ppm != expected.ppm:
+        save_png(f"{stem}-differing.png", picture, other=expected)
 
 
-def _pictures_of(report: Path) -> Iterator[Answer]:
-    """The steps of a report that have a picture, up to its damage if it is damaged."""
-    with open(report, "rb") as stream:
-        try:
-            yield from (step for step in Report(stream, "").steps() if isinstance(step.picture, Picture))
-        except Trouble:
-            return
+def _pictures_of(report: Path) -> Iterator[tuple[int, Picture]]:
+    """The pictures of a report, up to its damage if it is damaged."""
+    with open(report, "rb") as stream, suppress(Trouble):
+        yield from pictures_in(Report(stream, "").steps())
 
 
-def expected_pictures(case: Case) -> Iterator[Answer]:
-    """The steps of a case whose expected picture stands in the suite with all its dots."""
-    return (step for step in case.expected_steps() if isinstance(step.picture, Picture))
+def pictures_in(steps: Iterator[Answer]) -> Iterator[tuple[int, Picture]]:
+    """The pictures of steps that have them with all their dots, each with its step's number."""
+    return ((step.number, step.picture) for step in steps if isinstance(step.picture, Picture))

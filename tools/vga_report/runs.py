@@ -11,18 +11,17 @@ from typing import BinaryIO, Iterator, Optional, Union, cast
 
 from zaklimot.format import Picture
 
-from .blessing import Blessing
 from .debugging import debug_page, link_to
 from .listing import Choice, Row, Script, heading, listed
-from .output import AGREED, DIFFERED, counted, name_of, write
+from .output import AGREED, DIFFERED, counted, name_of, teller, write
 from .page import Page
 from .png import Shape, block_lines, save_png
 from .program import Built, Tried, build_program, found_program
 from .progress import Progress
 from .script import read_script
 from .several import run_several, watched
-from .streams import STANDARD, check_file, check_folder, write_file, write_over, writing
-from .tally import Tally, Told
+from .streams import STANDARD, check_file, check_folder, write_file, write_over
+from .tally import Blessing, Tally, Told, told_in
 from .trouble import Trouble
 
 # So many reasons of refusals are told once each, and then again.
@@ -55,11 +54,7 @@ def _script_file(path: str) -> Iterator[tuple[str, bytes]]:
 
 def _is_text(name: str) -> bool:
     """Whether a name is one that the program takes: it reads its words as UTF-8."""
-    try:
-        name.encode("utf-8")
-    except UnicodeEncodeError:
-        return False
-    return True
+    return not any("\ud800" <= letter <= "\udfff" for letter in name)
 
 
 @contextmanager
@@ -74,36 +69,31 @@ def _font_file(path: str) -> Iterator[str]:
         yield str(link)
 
 
-def _contradictions(words: argparse.Namespace) -> Iterator[tuple[object, str]]:
-    """What contradicts something else, and what is said then."""
-    is_folder, pictures = os.path.isdir(words.script), words.pictures or words.show
-    several = words.junit is not None or is_folder
-    yield words.bless and (words.script == STANDARD or words.until is not None), (
-        "--bless writes into the script, whole: it wants a file, and no --until"
-    )
-    yield words.dry_run and not words.bless, "--dry-run tells what --bless would write: it wants --bless"
-    yield words.html and (words.bless or pictures), (
-        "--html writes a page that has the pictures: without --bless, --pictures and --show"
-    )
-    yield several and (words.bless or pictures or words.html or words.debug or words.only), (
-        "a folder of scripts, and --junit, want none of --bless, --only, --pictures, --show, --html and --debug"
-    )
-    yield words.watch and words.script == STANDARD, "--watch wants a file that changes, and not standard input"
-    yield words.bless and (words.diff or words.json), "--bless lists its changes: without --diff and --json"
-    yield words.debug and (words.bless or pictures), (
-        "--debug writes a page that runs the script: without --bless, --pictures and --show"
-    )
-    yield words.debug and words.html is None and (words.only is not None or words.try_ or words.vga), (
-        "--debug runs nothing here: without --only, --try and --vga, unless --html is there too"
-    )
-    yield words.debug and words.html and STANDARD in (words.html, words.debug), (
-        "the page of --html links to that of --debug: both want files"
-    )
+def _contradictions(words: argparse.Namespace) -> dict[str, object]:
+    """What is said where words contradict one another, each with whether they do so."""
+    pictures, several = words.pictures or words.show, words.junit is not None or os.path.isdir(words.script)
+    return {
+        "--bless writes into the script, whole: it wants a file, and no --until":
+            words.bless and (words.script == STANDARD or words.until is not None),
+        "--dry-run tells what --bless would write: it wants --bless": words.dry_run and not words.bless,
+        "--html writes a page that has the pictures: without --bless, --pictures and --show":
+            words.html and (words.bless or pictures),
+        "a folder of scripts, and --junit, want none of --bless, --only, --pictures, --show, --html and --debug":
+            several and (words.bless or pictures or words.html or words.debug or words.only),
+        "--watch wants a file that changes, and not standard input": words.watch and words.script == STANDARD,
+        "--bless lists its changes: without --diff and --json": words.bless and (words.diff or words.json),
+        "--debug writes a page that runs the script: without --bless, --pictures and --show":
+            words.debug and (words.bless or pictures),
+        "--debug runs nothing here: without --only, --try and --vga, unless --html is there too":
+            words.debug and words.html is None and (words.only is not None or words.try_ or words.vga),
+        "the page of --html links to that of --debug: both want files":
+            words.debug and words.html and STANDARD in (words.html, words.debug),
+    }
 
 
 def _refuse_words(words: argparse.Namespace) -> None:
     """Ends the work where words contradict one another."""
-    for is_so, reason in _contradictions(words):
+    for reason, is_so in _contradictions(words).items():
         if is_so:
             raise Trouble(reason)
     if words.pictures is not None:
@@ -144,18 +134,8 @@ def _run_script(words: argparse.Namespace, progress: Progress) -> int:
     choice = Choice(words.only)
     program: Union[Built, Tried] = Tried() if words.try_ else Built(found_program(words.vga))
     tally = Tally(name_of(words.script))
-    with ExitStack() as stack:
-        told = None
-        if words.json is not None:
-            told = Told(stack.enter_context(writing(words.json)), tally.shown)
-        try:
-            return _run_by(words, progress, program, choice, tally, told)
-        except Trouble as trouble:
-            if told is not None:
-                # What is written is whole, also of a script that can't be run to its end.
-                told.end(tally, str(trouble))
-                stack.close()
-            raise
+    with told_in(words.json, tally) as told:
+        return _run_by(words, progress, program, choice, tally, told)
 
 
 def _run_by(
@@ -177,18 +157,18 @@ def _run_by(
             raise Trouble("a script of bytes has no comments for answers", words.script)
         blessing = Blessing(data) if words.bless or words.diff else None
         tells_why = shower.tells_why or told is not None
-        for row in script.rows(program, fonts, words.until, progress, words.strict, tells_why):
+        for row in script.rows(fonts, words.until, progress, words.strict, tells_why):
             if not tally.steps:
                 shower.begin(script)
             is_wrong = tally.count(row)
             if blessing is not None:
                 blessing.take(row)
             if told is not None:
-                told.add(row, row.why)
+                told.add(row)
             if choice.has_all or choice.has(row):
                 shower.show(row, is_wrong)
         progress.clear()
-        if words.bless:
+        if blessing is not None and words.bless:
             return _bless(words, blessing)
     if told is not None:
         told.end(tally)
@@ -201,8 +181,8 @@ def _run_by(
 
 
 def _tell_tally(tally: Tally, words: argparse.Namespace) -> None:
-    """Tells the answers that differ, and what was seen; on standard error where something else goes to standard output."""
-    tell = sys.stderr.write if STANDARD in (words.html, words.json) else write
+    """Tells the answers that differ, and what was seen."""
+    tell = teller(words.html, words.json)
     for line in tally.differing():
         tell(line)
     tell((f"{tally.shown}: " if words.quiet else "") + tally.text() + "\n")
@@ -238,10 +218,8 @@ class _Shower:
         elif self._is_listed:
             if self._progress.is_wanted:
                 self._progress.clear()
-            why = row.why
-            if why and why in self._whys:
-                why = ""
-            elif why and len(self._whys) < MOST_WHYS:
+            why = "" if row.why in self._whys else row.why
+            if why and len(self._whys) < MOST_WHYS:
                 self._whys.add(why)
             write(listed(row, is_wrong, self._width, path and f"  {path}", why))
             if words.show and isinstance(picture, Picture):
@@ -266,10 +244,9 @@ def _saved_picture(row: Row, words: argparse.Namespace) -> str:
     return path
 
 
-def _bless(words: argparse.Namespace, blessing: Optional[Blessing]) -> int:
+def _bless(words: argparse.Namespace, blessing: Blessing) -> int:
     """Writes the answers into the script that are not as expected, each behind its step, and lists them."""
     path = words.script
-    assert blessing is not None
     changes = list(blessing.changes())
     for number, before, after in changes:
         write(f"{path}:{number}: {before or 'nothing'} -> {after}\n")

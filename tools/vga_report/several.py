@@ -12,7 +12,8 @@ from typing import Callable, Iterator, NamedTuple, Optional
 from xml.etree.ElementTree import Element, SubElement, indent, tostring
 
 from . import TOP
-from .output import AGREED, DIFFERED, counted, name_of, write
+from .cases import printable
+from .output import AGREED, DIFFERED, counted, name_of, teller, write
 from .processes import captured, in_parallel
 from .progress import Progress
 from .streams import STANDARD, refuse_input, to_read, write_file, writing
@@ -86,7 +87,7 @@ def run_several(words: argparse.Namespace, progress: Progress) -> int:
         to_read(str(path))
     for file in (words.json, words.junit):
         refuse_input(file or STANDARD)
-    tell = sys.stderr.write if STANDARD in (words.json, words.junit) else write
+    tell = teller(words.json, words.junit)
     ran = []
     with tempfile.TemporaryDirectory(prefix="vga-report-") as name:
         for one in _runs(words, paths, Path(name), progress):
@@ -123,20 +124,16 @@ def junit_text(name: str, ran: list[Ran]) -> str:
     kinds = {DIFFERED: "failure", TROUBLE: "error"}
     counts = {f"{kind}s": str(sum(one.status == status for one in ran)) for status, kind in kinds.items()}
     time_of_all = f"{sum(one.seconds for one in ran):.3f}"
-    suite = Element("testsuite", name=_printable(name), tests=str(len(ran)), **counts, time=time_of_all)
+    suite = Element("testsuite", name=printable(name, "\n"), tests=str(len(ran)), **counts, time=time_of_all)
     for one in ran:
-        names = {"classname": _printable(name), "name": _printable(str(one.script)), "time": f"{one.seconds:.3f}"}
+        names = {"classname": printable(name, "\n"), "name": printable(str(one.script), "\n"), "time": f"{one.seconds:.3f}"}
         case = SubElement(suite, "testcase", names)
         if one.status in kinds:
-            text = _printable(one.output if one.status == DIFFERED else one.said)
+            # Characters that XML doesn't take are left out.
+            text = printable(one.output if one.status == DIFFERED else one.said, "\n")
             SubElement(case, kinds[one.status], message=text.split("\n")[0]).text = text
     indent(suite)
     return '<?xml version="1.0" encoding="UTF-8"?>\n' + tostring(suite, "unicode") + "\n"
-
-
-def _printable(text: str) -> str:
-    """A text without the characters that XML doesn't take."""
-    return "".join(character if character.isprintable() or character == "\n" else "?" for character in text)
 
 
 def watched(words: argparse.Namespace, work: Work, progress: Progress) -> int:

@@ -6,14 +6,14 @@ from pathlib import Path
 from threading import Event
 from typing import Iterator, NamedTuple, Optional
 
-from zaklimot.format import MOST_BYTES, Picture
+from zaklimot.format import MOST_BYTES
 
 from .cases import Case, chosen_cases, read_cases
 from .output import AGREED, DIFFERED, counted, name_of, write, write_name
 from .png import save_png
 from .processes import MEBIBYTE, Limits, in_parallel
 from .progress import Progress
-from .running import AGREES, DIFFERS, FAILED, SKIPPED, Command, Kind, Result, expected_pictures, run_case
+from .running import AGREES, DIFFERS, FAILED, SKIPPED, Command, Result, pictures_in, run_case
 from .streams import STANDARD, bytes_of, check_folder, write_file
 from .trouble import Trouble
 
@@ -45,11 +45,10 @@ def _write_expected(words: argparse.Namespace) -> int:
     """Writes each picture that the suite expects and has with all its dots."""
     folder = empty_folder(words.folder)
     for case in _chosen(words):
-        for step in expected_pictures(case):
-            assert isinstance(step.picture, Picture)
-            path = folder / f"{case.name}-{step.number:04}.png"
+        for number, picture in pictures_in(case.expected_steps()):
+            path = folder / f"{case.name}-{number:04}.png"
             path.parent.mkdir(parents=True, exist_ok=True)
-            save_png(str(path), step.picture)
+            save_png(str(path), picture)
             write_name(path)
     return AGREED
 
@@ -67,12 +66,12 @@ def _results(words: argparse.Namespace, cases: list[Case], progress: Progress) -
     is_ended = Event()
     limits = Limits(words.timeout, words.output * MEBIBYTE)
     commands = [
-        None if given is None else Command(given, limits, Kind(words.refusals, words.machine), is_ended)
+        None if given is None else Command(given, limits, words.refusals, words.machine)
         for given in (words.command, words.bytes)
     ]
 
     def run_one(case: Case) -> Result:
-        return run_case(case, commands[case.is_bytes], None if words.keep is None else Path(words.keep))
+        return run_case(case, commands[case.is_bytes], words.keep, is_ended)
 
     results: list[Result] = []
     with in_parallel(run_one, cases, words.jobs, is_ended) as found:
@@ -144,12 +143,11 @@ class Rule(NamedTuple):
 
 def rules_of(results: list[Result]) -> list[Rule]:
     """The rules in the order of the list, those of one folder together."""
-    rules: dict[tuple[str, str], Rule] = {}
+    groups: dict[str, dict[str, Rule]] = {}
     for result in results:
-        place = (result.case.group, result.rule)
-        rules.setdefault(place, Rule(result.rule, result.case.group, [])).results.append(result)
-    groups = list(dict.fromkeys(group for group, _ in rules))
-    return sorted(rules.values(), key=lambda rule: groups.index(rule.group))
+        rules = groups.setdefault(result.case.group, {})
+        rules.setdefault(result.rule, Rule(result.rule, result.case.group, [])).results.append(result)
+    return [rule for rules in groups.values() for rule in rules.values()]
 
 
 def counts_of(results: list[Result]) -> dict[str, int]:

@@ -1,14 +1,20 @@
-"""What was seen of a run: its steps counted, its answers that differ, and all of it for machines."""
+"""What was seen of a run: its steps counted, its answers that differ, all of it for machines, or written into its script."""
 
+import difflib
 import json
 import tempfile
+from contextlib import contextmanager
 from typing import Any, BinaryIO, Iterator, Optional
 
 from zaklimot.format.table import OK
 
-from .expecting import answer_of
+from .expecting import ANY, DUMPED, answer_of, is_worth_telling
 from .listing import Row
+from .mistakes import text_of
 from .output import counted
+from .script import MARK, expected_in
+from .streams import writing
+from .trouble import Trouble
 
 # So many bytes of answers that differ stay in memory.
 MOST_TOLD = 1 << 20
@@ -55,36 +61,113 @@ class Tally:
             parts.append(f"{self.met} of {self.expected} answers as expected")
         return ", ".join(parts)
 
-    def figures(self) -> dict[str, int]:
-        """The counts, for machines."""
-        return {name: getattr(self, name) for name in ("steps", "refused", "pictures", "expected", "met", "wrong")}
-
 
 class Told:
-    """A run as JSON, which is written as the steps come: one object, whose last members are the counts or the trouble."""
+    """A run as JSON, which is written as the steps come: one object, whose last members are the counts and the trouble."""
 
     def __init__(self, stream: BinaryIO, script: str) -> None:
         self._stream = stream
         self._between = b"\n"
-        self._write({"script": script}, b"", b', "answers": [')
+        stream.write(json.dumps({"script": script})[:-1].encode("ascii") + b', "answers": [')
 
-    def _write(self, told: dict[str, Any], front: bytes, end: bytes) -> None:
-        data = json.dumps(told).encode("ascii")
-        self._stream.write(front + (data[:-1] if end else data) + end)
-
-    def add(self, row: Row, why: str) -> None:
+    def add(self, row: Row) -> None:
         """Adds a step, with its picture's digest, and why it was refused."""
         step = row.step
         told: dict[str, Any] = {"step": step.number, "line": row.line, "words": row.words, "answer": answer_of(step)}
         told.update({"lines": list(step.lines)} if step.others else {})
         if step.picture is not None:
             told["picture"] = {"size": step.picture.size, "md5": step.picture.sum}
-        told.update({"refused": step.answer, "why": why} if row.is_refused else {})
+        told.update({"refused": step.answer, "why": row.why} if step.is_refused else {})
         if row.expected is not None or row.is_wrong:
             told.update({"expected": row.expected, "met": not row.is_wrong})
-        self._write(told, self._between, b"")
+        self._stream.write(self._between + json.dumps(told).encode("ascii"))
         self._between = b",\n"
 
     def end(self, tally: Tally, trouble: Optional[str] = None) -> None:
         """Ends the object: with the counts, and with what ended the run if it isn't whole."""
-        self._stream.write(b"\n], " + json.dumps({**tally.figures(), "trouble": trouble})[1:].encode("ascii") + b"\n")
+        counts = {name: getattr(tally, name) for name in ("steps", "refused", "pictures", "expected", "met", "wrong")}
+        self._stream.write(b"\n], " + json.dumps({**counts, "trouble": trouble})[1:].encode("ascii") + b"\n")
+
+
+@contextmanager
+def told_in(path: Optional[str], tally: Tally) -> Iterator[Optional[Told]]:
+    """A run's JSON in a file, where one is named; whoever gets it ends it, unless a trouble does."""
+    if path is None:
+        yield None
+        return
+    trouble: Optional[Trouble] = None
+    with writing(path) as stream:
+        told = Told(stream, tally.shown)
+        try:
+            yield told
+        except Trouble as raised:
+            # What is written is whole, also of a script that can't be run to its end.
+            trouble = raised
+            told.end(tally, str(trouble))
+    if trouble is not None:
+        raise trouble
+
+
+class Blessing:
+    """The expectations of a script that are not met, and the answers that have none: by the numbers of the lines."""
+
+    def __init__(self, data: bytes) -> None:
+        self._lines = text_of(data).split("\n")
+        # What each line's step answered: on one line, and the lines of a dump of several.
+        self._answers: dict[int, tuple[str, tuple[str, ...]]] = {}
+        # The lines that answer otherwise than expected, and those beside them for which nothing is expected.
+        self._wrong: set[int] = set()
+        self._new: set[int] = set()
+
+    def take(self, row: Row) -> None:
+        """Takes a step's answer. That of a block's step may be another each time: then any will do."""
+        number = row.line
+        if number is None or not (row.expected is not None or is_worth_telling(row.step, row.words)):
+            return
+        answered = answer_of(row.step), row.step.lines if row.step.others else ()
+        if self._answers.setdefault(number, answered) != answered:
+            self._answers[number] = ANY, ()
+        if row.is_wrong:
+            self._wrong.add(number)
+        elif row.expected is None:
+            self._new.add(number)
+
+    def changes(self, is_all: bool = True) -> Iterator[tuple[int, str, str]]:
+        """The lines that change: number, expectation before, and after; those alone that are wrong, if not all are wanted."""
+        for number, (answer, _) in self._answers.items():
+            before = expected_in(self._lines[number - 1].partition(";")[2].encode("utf-8", "surrogateescape"))
+            if number in self._wrong or is_all and number in self._new:
+                yield number, before or "", answer
+
+    def text(self, is_all: bool = True) -> str:
+        """The script with the answers in it."""
+        changed = {number for number, _, _ in self.changes(is_all)}
+        lines, is_dropped = [], False
+        for number, line in enumerate(self._lines, 1):
+            if not (is_dropped and line.strip().startswith(DUMPED)):
+                is_dropped = False
+                lines.append(line)
+            if number in changed:
+                answer, dump = self._answers[number]
+                lines[-1] = blessed_line(line, answer)
+                lines += [f"{DUMPED} {part}" for part in dump]
+                is_dropped = True
+        return "\n".join(lines)
+
+    def difference(self, name: str) -> str:
+        """What differs from the expectations, as a unified diff of the script."""
+        others = self.text(is_all=False).split("\n")
+        lines = difflib.unified_diff(self._lines, others, name, f"{name} as answered", lineterm="")
+        return "".join(f"{line}\n" for line in lines)
+
+
+def blessed_line(line: str, answer: str) -> str:
+    """A line with the answer that is expected written in, before the rest of its comment."""
+    ending = "\r" if line.endswith("\r") else ""
+    words, _, comment = line.rstrip("\r").partition(";")
+    rest = comment.strip()
+    if rest.startswith(MARK):
+        rest = rest.partition(";")[2].strip()
+    # Comments stand in the column where they stood.
+    front = words if words.endswith((" ", "\t")) else words + " "
+    return f"{front}; {MARK} {answer}" + (f" ; {rest}" if rest else "") + ending

@@ -17,8 +17,6 @@ SUITE = TOP / "crates" / "vga_suite" / "data" / "list.txt"
 # The largest numbers of options: enlargements, commands at a time, MiB, steps, and a day of seconds.
 MOST_SCALE, MOST_JOBS, MOST_OUTPUT, MOST_STEP, MOST_SECONDS = 1000, 256, 1 << 20, 4_294_967_295, 86_400
 
-Job = Callable[[argparse.Namespace, Progress], int]
-
 
 def number_to(most: int, least: int = 1) -> Callable[[str], int]:
     """Reads a number of decimal digits within these bounds."""
@@ -116,12 +114,14 @@ def parser() -> argparse.ArgumentParser:
         "tools/vga-report run examples/text-screen.vga", "tools/README.md", cli.DIFFERS,
     )
     commands = made.add_subparsers(required=True, metavar="COMMAND")
+    # Other words are files that are read.
+    types: dict[str, Callable[[str], object]] = {"folder": str, "command": str, "step": number_to(MOST_STEP)}
 
-    def adds(job: Job, *files: str) -> argparse.ArgumentParser:
+    def adds(job: Callable[[argparse.Namespace, Progress], int], *files: str) -> argparse.ArgumentParser:
         told = job.__doc__ or ""
         added = cli.command(commands, job.__name__.replace("_", "-"), job, told, description=told)
         for file in files:
-            added.add_argument(file.lower(), type=str if file == "folder" else to_read, metavar=file.upper())
+            added.add_argument(file, type=types.get(file, to_read), metavar=file.upper())
         return added
 
     _add_run(adds(run, "script"))
@@ -132,17 +132,12 @@ def parser() -> argparse.ArgumentParser:
     add(adding, "--picture FILE", "writes the first picture that differs as PNG, with its differing dots marked")
     add(adding, "--html FILE", "writes all steps that differ as one page")
     add_shape(adding)
-    adding = adds(compare_picture, "report")
-    adding.add_argument("step", type=number_to(MOST_STEP), metavar="STEP")
-    adding.add_argument("image", type=to_read, metavar="IMAGE")
+    adding = adds(compare_picture, "report", "step", "image")
     add(adding, "--picture FILE", "writes the picture as PNG, with its differing dots marked")
     add_shape(adding)
     adds(check, "report", "expected")
-    adding = adds(suite)
-    adding.add_argument("command", metavar="COMMAND")
-    _add_suite(adding)
-    adding = adds(scripts, "folder")
-    _add_cases(adding)
+    _add_suite(adds(suite, "command"))
+    _add_cases(adds(scripts, "folder"))
     return made
 
 

@@ -8,7 +8,7 @@ from typing import Optional, Sequence
 from .picture import Picture
 from .report import REFUSED, Answer
 from .script import Step
-from .table import ADVANCE, CALLED, DUMP, MOST_ADVANCE, OK, PICTURE, READ_BYTE, READ_WORD, REFUSALS
+from .table import ADVANCE, CALLED, DUMP, MOST_ADVANCE, OK, PICTURE, READ_BYTE, READ_WORD, refusal_of
 
 _BYTE, _WORD = "[0-9A-F]{2}", "[0-9A-F]{4}"
 _CALLED = re.compile(rf"ax={_WORD} bx={_WORD} cx={_WORD} dx={_WORD}(?: block ((?:{_BYTE})+))?")
@@ -78,23 +78,15 @@ def _is_call(step: Step, answer: str) -> bool:
     return len(found[1] or "") == 2 * length
 
 
-def _must_be_refused(step: Step) -> bool:
-    return step.name == ADVANCE and step.numbers[0] > MOST_ADVANCE
-
-
-def _is_refusal(step: Step, number: int, name: str) -> bool:
-    """Whether a step may be refused so."""
-    is_far = step.name != ADVANCE or _must_be_refused(step)
-    return is_far and number in step.form.refusals and REFUSALS[number] == name
-
-
 def is_answer_to(step: Step, answer: Answer) -> bool:
     """Whether an answer has a form that this step's may have, and a refusal a number and a name that it may have."""
-    has_more = bool(answer.others) or answer.picture is not None
-    refused, kind = REFUSED.fullmatch(answer.answer), step.form.answer
-    if refused is not None:
-        return not has_more and _is_refusal(step, int(refused[1]), refused[2])
-    if _must_be_refused(step):
+    has_more, kind = bool(answer.others) or answer.picture is not None, step.form.answer
+    # An advance is refused where it is too far, and nowhere else.
+    is_too_far = step.name == ADVANCE and step.numbers[0] > MOST_ADVANCE
+    if REFUSED.fullmatch(answer.answer):
+        may_be_refused = is_too_far or step.name != ADVANCE
+        return not has_more and may_be_refused and answer.answer in map(refusal_of, step.form.refusals)
+    if is_too_far:
         return False
     if kind == DUMP:
         return _is_dump(step, answer)

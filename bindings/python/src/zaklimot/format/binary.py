@@ -107,12 +107,9 @@ class _Reader:
             if self._at > len(data):
                 raise ScriptFault("Truncated", begin)
             return Step(form.name, numbers[:-1], data[end:self._at])
-        if form.name == DUMP_OF_PLANE and not self._is_dumped(numbers):
-            raise ScriptFault("BadStep", begin)
+        if form.name == DUMP_OF_PLANE:
+            # Those of a plane's dump are to be in range; all other fields take whatever their bytes hold.
+            plane, _, count = numbers
+            if plane > PLANE.most or not DUMPED.least <= count <= DUMPED.most or not is_in_plane(numbers):
+                raise ScriptFault("BadStep", begin)
         return Step(form.name, numbers)
-
-    @staticmethod
-    def _is_dumped(numbers: tuple[int, ...]) -> bool:
-        """Whether a plane's dump is in range; all other fields take whatever their bytes hold."""
-        plane, _, count = numbers
-        return plane <= PLANE.most and DUMPED.least <= count <= DUMPED.most and is_in_plane(numbers)

@@ -4,7 +4,7 @@ from __future__ import annotations
 
 import re
 from functools import partial
-from typing import Iterable, Iterator, Optional, Sequence, Union
+from typing import Iterable, Iterator, Sequence, Union
 
 from .script import Block, Item, Script, Step
 from .table import (
@@ -151,8 +151,8 @@ def print_text(script: Script) -> str:
     return "".join(f"{line}\n" for line in lines)
 
 
-def printed_item(item: Item, is_short: Optional[bool] = False) -> list[str]:
+def printed_item(item: Item, is_short: bool = False) -> list[str]:
     """The lines of a step or of a block."""
     if not isinstance(item, Block):
-        return [printed(item, bool(is_short))]
-    return [f"{REPEAT} {item.count}", *(printed(step, bool(is_short)) for step in item.steps), END]
+        return [printed(item, is_short)]
+    return [f"{REPEAT} {item.count}", *(printed(step, is_short) for step in item.steps), END]

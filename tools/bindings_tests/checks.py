@@ -1,4 +1,4 @@
-"""The crates for Rust: their tests, their examples, and what its own tools find in them."""
+"""The package for Python: its own tests. The crates for Rust: their tests and examples, and what Rust's tools find."""
 
 from __future__ import annotations
 
@@ -11,10 +11,13 @@ from vga_report import TOP
 from vga_report.processes import captured, tested
 from vga_report.trouble import Wrong
 
+PACKAGE = TOP / "bindings" / "python"
+# How unittest ends, and what a test may be skipped for.
+RAN, SKIPPED = re.compile(r"^Ran (\d+) tests", re.M), re.compile(r"skipped '(.*)'")
+MAY_BE_SKIPPED = "numpy is not here"
 CRATES = "bindings/rust"
 # The crates, and what they name outside.
 COPIED = (CRATES, "examples/rust", "include")
-PYTHON = TOP / "examples" / "python"
 DONE = re.compile(r"^test result: ok\. (\d+) passed; 0 failed; 0 ignored", re.M)
 # The programs of the page, and the project that they become.
 PROGRAM = re.compile(r"^```rust\n(.*?)^```$", re.M | re.S)
@@ -38,6 +41,17 @@ SLICES = ("1", "4", "6", "1000")
 # What is told of slices of no step, and within how many seconds.
 NO_STEP, SOON = "0: a slice has one step or more", 60
 BAD, BAD_LINE = "frame\n\nmove 3C4 02\n", "line 3 of the script is bad"
+
+
+def check_python(library: Path, _: Path) -> str:
+    """Each test passes, and none is skipped but for want of numpy."""
+    words = [sys.executable, "-B", "-m", "unittest", "discover", "--verbose", "--start-directory", PACKAGE / "tests"]
+    environment = {"ZAKLIMOT_DIR": str(library), "ZAKLIMOT_LIBRARY": "", "PYTHONPATH": str(PACKAGE / "src")}
+    said = tested(words, environment=environment).errors.decode("utf-8", "replace")
+    ran, skipped = RAN.search(said), SKIPPED.findall(said)
+    if ran is None or set(skipped) - {MAY_BE_SKIPPED}:
+        raise Wrong(f"tests were skipped: {', '.join(sorted(set(skipped)))}")
+    return f"{ran[1]} tests, the suite among them" + ("; numpy is not here" if skipped else "")
 
 
 def _environment(library: Path, folder: Path) -> dict[str, str]:
@@ -118,8 +132,8 @@ def _check_page(library: Path, folder: Path) -> None:
 def _python_picture(library: Path, folder: Path) -> bytes:
     """The picture that the first program in Python draws."""
     ppm = folder / "python.ppm"
-    environment = {"ZAKLIMOT_DIR": str(library), "PYTHONPATH": str(TOP / "bindings" / "python" / "src")}
-    tested([sys.executable, "-B", PYTHON / "picture.py", ppm], environment=environment)
+    environment = {"ZAKLIMOT_DIR": str(library), "PYTHONPATH": str(PACKAGE / "src")}
+    tested([sys.executable, "-B", TOP / "examples" / "python" / "picture.py", ppm], environment=environment)
     return ppm.read_bytes()
 
 
