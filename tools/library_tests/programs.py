@@ -14,7 +14,7 @@ SOURCES = Path(__file__).resolve().parent / "c"
 # A line of misuse.txt that tells a call's status; functions of misuse.c make some.
 CALL = re.compile(r"^(?:zak_\w+|restore_with|assemble|print|take)\(", re.M)
 WRAPPED = "-Wl,--wrap=malloc,--wrap=realloc,--wrap=free"
-# Programs that write how much they have compared: how they are built, how much they are to try, and what is told behind it.
+# Programs that write how much they have compared: how each is built, how much it is to try, and what is told behind it.
 COUNTED: dict[str, tuple[Sequence[str], Sequence[str], str]] = {
     # What is read of the state and of the screen says what the dumps say, so that structs are the proved side's.
     "state": (SANITIZED, (), "readings are those of dumps and screens"),

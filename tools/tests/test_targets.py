@@ -43,7 +43,8 @@ class Making(Folder):
         self.patch(
             mock.patch.dict(os.environ, {"PATH": path, "NOTES": str(self.notes), "KIT": str(kit)}),
             mock.patch.multiple(
-                toolchain, CRATE=self.crate, KEPT=self.crate / "out" / "incremental", rlib=lambda name: Path(f"{name}.rlib"),
+                toolchain, CRATE=self.crate, KEPT=self.crate / "out" / "incremental",
+                rlib=lambda name: Path(f"{name}.rlib"),
             ),
             mock.patch.object(making, "FOLDER", self.crate / "out" / "made"),
         )

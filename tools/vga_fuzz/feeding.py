@@ -1,4 +1,4 @@
-"""Feeds the program with one input, in each way that it takes one, within limits; and tells what is wrong with how it ends."""
+"""Feeds the program with one input, in each way that it takes one, within limits; and what is wrong with its end."""
 
 import io
 import resource

@@ -30,7 +30,7 @@ CALLS = (
 )
 RIGHT, REFUSED, REFUSED_IN_STEP = "as in its example", "out of memory", "out of memory in a step"
 FAULT = "vga: F10 OutOfMemory\n"
-# What is answered before the first call, where an allocation of the words is refused or one of those that are made first.
+# What is answered before the first call, where an allocation of the words is refused, or one that is made first.
 BEFORE_CALLS = Answer(1, b"", "Error: memory allocation failed\n")
 # The allocations that reading the words takes, at most. They are a run's first ones, so that the last runs meet them.
 IN_WORDS = 12

@@ -1,6 +1,6 @@
 """Screens of pixels: what their memory is to hold, and the steps that write it.
 
-A shorter script takes more cycles: the video BIOS draws areas of one colour, and rows of cells that are alike. The pixels
+A shorter script takes more cycles: the video BIOS draws areas of one colour, and rows of cells that are alike. Pixels
 are looked at in cells then, as the BIOS has them: eight columns for a character, and so many lines as it is high.
 """
 
@@ -84,7 +84,8 @@ class Areas:
         self.have = [bytearray(mode.width) for _ in want]
         # The cells row by row, each None once it is drawn. Those of colour 0 are as they are to be from the first.
         self._cells: list[list[Optional[Cell]]] = [
-            [tuple(line[x:x + CELL_WIDTH] for line in want[y:y + self._height]) for x in range(0, mode.width, CELL_WIDTH)]
+            [tuple(line[x:x + CELL_WIDTH] for line in want[y:y + self._height])
+             for x in range(0, mode.width, CELL_WIDTH)]
             for y in range(0, mode.height, self._height)
         ]
         self._blank = tuple([bytes(CELL_WIDTH)] * self._height)

@@ -1,4 +1,4 @@
-"""What a script that draws is made of: steps, services, blocks that are repeated; how it is written, and its figures."""
+"""What a script that draws is made of: steps, services, blocks that are repeated; how it is written; its figures."""
 
 from collections import Counter
 from dataclasses import dataclass

@@ -58,7 +58,7 @@ def _git(*words: str) -> bytes:
 
 
 def _member(name: str, entry: Optional[Entry], time: int) -> tarfile.TarInfo:
-    """What an archive tells of a file, a link, or a folder, which has no entry: no owner, and the time of the commit."""
+    """What an archive tells of a file, a link, or a folder, which has no entry: no owner, and the commit's time."""
     made = tarfile.TarInfo(name)
     made.mtime, made.mode = time, RUN
     if isinstance(entry, File):

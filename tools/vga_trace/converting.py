@@ -90,7 +90,8 @@ class Listing:
                 break
             state.take(step)
         else:
-            raise Trouble(f"it has {self.watch.count:,} cycles, and none from {self._wanted.first:,} on becomes a step", self.trace.name)
+            told = f"it has {self.watch.count:,} cycles, and none from {self._wanted.first:,} on becomes a step"
+            raise Trouble(told, self.trace.name)
         for rebuilding in rebuilt(state):
             self.rebuilding += 1
             yield rebuilding

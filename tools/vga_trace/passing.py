@@ -34,7 +34,7 @@ class Pauses:
             yield step
 
     def _dots(self, now: Optional[int]) -> int:
-        """The dots of the time since the last step that has one, a frame's at most; 0 of less than a line, kept for later."""
+        """The dots of the time that has passed until now, a frame's at most; 0 of less than a line, kept for later."""
         if now is not None:
             passed = 0 if self._last is None else now - self._last
             self._last = now
