@@ -96,11 +96,7 @@ def refuse_to_check(words: argparse.Namespace, lacking: Sequence[str] = ()) -> N
 
 
 class Ended(BaseException):
-    """A signal that asks the tool to end."""
-
-    def __init__(self, number: int) -> None:
-        super().__init__(number)
-        self.status = SIGNALLED + number
+    """A signal, by its number, that asks the tool to end."""
 
 
 def open_closed_streams() -> bool:
@@ -176,7 +172,7 @@ def run(name: str, work: Callable[[], int], progress: Optional[Progress] = None)
     except KeyboardInterrupt:
         status = INTERRUPTED
     except Ended as ended:
-        status = ended.status
+        status = SIGNALLED + ended.args[0]
     except OSError as error:
         sys.stderr.write(f"{name}: {_reason(error)}\n")
         status = TROUBLE

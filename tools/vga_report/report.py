@@ -27,32 +27,26 @@ END = "the end"
 DONE = "ok"
 
 
-class Report:
-    """The answers of a report that is read from a stream. A terminal shows how far it was read.
+class Report(format.Report):
+    """A report that is read from a stream. A terminal shows how far it was read.
 
     Lines are counted as `text` shows them, a picture as one.
     """
 
     def __init__(self, stream: io.BufferedReader, name: str, progress: Optional[Progress] = None) -> None:
-        self._stream = stream
+        super().__init__(stream, None if progress is None else self._tell)
         self._name = name
         self._progress = progress
         self._length = length_of(stream)
-        self._report = format.Report(stream, None if progress is None else self._tell)
-
-    @property
-    def count(self) -> int:
-        """How many steps were read so far."""
-        return self._report.count
 
     def steps(self) -> Iterator[Answer]:
         """The answers in their order; a Trouble where the report is damaged, behind those before that place."""
         try:
-            yield from self._report.answers()
+            yield from self.answers()
         except ReportError as error:
             raise Trouble(error.reason, self._name, error.line) from error
         except OSError as error:
-            raise Trouble(error.strerror or str(error), self._name, self._report.line) from error
+            raise Trouble(error.strerror or str(error), self._name, self.line) from error
 
     def _tell(self, line: int) -> None:
         assert self._progress is not None
