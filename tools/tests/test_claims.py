@@ -105,9 +105,9 @@ class Lines(unittest.TestCase):
     """A page tells how many lines of Python the tools have, and how many of them are for what."""
 
     # The figures of the page: all lines, those of tests, and those without the files of its table; and a row of the table.
-    TOLD = re.compile(r"(?s)They have some ([\d,]+), of\s+which ([\d,]+) are tests\..* some ([\d,]+) lines:\n")
+    TOLD = re.compile(r"(?s)They have some ([\d,]+), of\s+which ([\d,]+) are tests:.* some\s+([\d,]+) lines:\n")
     ROW = re.compile(r"(?m)^\|[^|]*\|([^|]*`[^|]*)\| ([\d,]+) \|$")
-    APART = ("library_tests/", "page_tests/", "bindings_tests/")
+    TESTS = ("tests/", "library_tests/", "page_tests/", "bindings_tests/")
 
     def count(self, lines: dict[str, int], *fronts: str) -> int:
         """The lines of files whose names begin so; there are some of each."""
@@ -117,12 +117,11 @@ class Lines(unittest.TestCase):
 
     def test_a_page_counts_them(self) -> None:
         lines = {path.relative_to(TOOLS).as_posix(): path.read_text("utf-8").count("\n") for path in TOOLS.rglob("*.py")}
-        lines = {name: count for name, count in lines.items() if not name.startswith(self.APART)}
         section = DECISIONS.read_text("utf-8").partition("\n### The tools are as large")[2].partition("\n### ")[0]
         rows = [(re.findall(r"`([\w/.]+)`", files), told) for files, told in self.ROW.findall(section)]
         later = [self.count(lines, *files) for files, _ in rows]
         everything = sum(lines.values())
-        counted = [everything, self.count(lines, "tests/"), everything - sum(later), *later]
+        counted = [everything, self.count(lines, *self.TESTS), everything - sum(later), *later]
         told = [*self.TOLD.findall(section)[0], *(told for _, told in rows)]
         self.assertEqual(len(told), 9)
         for words, count in zip(told, counted):
