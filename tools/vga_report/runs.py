@@ -218,8 +218,10 @@ class _Shower:
         elif self._is_listed:
             if self._progress.is_wanted:
                 self._progress.clear()
-            why = "" if row.why in self._whys else row.why
-            if why and len(self._whys) < MOST_WHYS:
+            why = row.why
+            if why and why in self._whys:
+                why = ""
+            elif why and len(self._whys) < MOST_WHYS:
                 self._whys.add(why)
             write(listed(row, is_wrong, self._width, path and f"  {path}", why))
             if words.show and isinstance(picture, Picture):
