@@ -312,6 +312,9 @@ class Left(Folder):
     def test_records_that_are_damaged(self) -> None:
         lines = self.record.split(b"\r\n")
         at = next(at for at, line in enumerate(lines) if line.startswith(b"A"))
+        # The last line with another sum of the answers, and the line's own as it is then.
+        *front, total, check = lines[-2].split(b" ")
+        other = b" ".join([*front, b"%04X" % (int(total, 16) ^ 1), b"%02X" % (int(check, 16) + (-1 if int(total, 16) & 1 else 1))])
         hold(self, partial(self.trouble, read_record), (
             (b"nothing\n", "it: it holds no record of vga-floppy"),
             (self.record.replace(b"\r\nA 000000 CC", b"\r\nA 000000 CD"), f"it:{at + 1}: the line's sum is wrong: bytes were lost on their way"),
@@ -319,6 +322,7 @@ class Left(Folder):
             (b"\r\n".join(lines[:at] + [b"A 0000"] + lines[at + 1:]), f"it:{at + 1}: no line of a record: 'A 0000'"),
             (b"\r\n".join(lines[:6]), "it: its table of steps is damaged"),
             (b"\r\n".join(lines[:at + 2] + lines[at + 3:]), "it: the end of the record tells of other answers"),
+            (b"\r\n".join([*lines[:-2], other, b""]), "it: the end of the record tells of other answers"),
         ))
 
     def test_the_last_of_two_records_counts(self) -> None:

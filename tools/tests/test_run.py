@@ -5,6 +5,7 @@ from __future__ import annotations
 import io
 import json
 import os
+import re
 import resource
 import signal
 import sys
@@ -118,12 +119,12 @@ class Listings(Fake):
 
     def shown(self, *words: str) -> list[str]:
         """The numbers of the steps that are shown."""
-        return [line.split()[1] for line in self.run_script(*words)[1].splitlines()[1:-1]]
+        return re.findall(r"(?m)^ +\d+ +(\d+)  ", self.run_script(*words)[1])
 
     def test_some_steps_alone(self) -> None:
         hold(self, partial(self.shown, "--only"), [
             ("1-2,5", ["1", "2", "5"]), ("refused", ["3"]), ("read", ["2"]), ("pictures", ["4"]), ("differs", []),
-            ("refused,1", ["1", "3"]),
+            ("dumps", ["6"]), ("refused,1", ["1", "3"]),
         ])
         message = "vga-report: --only has numbers of steps, as 10-20, and refused, read, pictures, dumps, differs, and not 'x'\n"
         self.assertEqual(self.run_script("--only", "x"), (2, "", message))
@@ -397,7 +398,9 @@ class Several(Fake):
         suite = ElementTree.parse(junit).getroot()
         self.assertEqual([suite.get(name) for name in ("tests", "failures", "errors")], ["3", "1", "1"])
         self.assertEqual([[part.tag for part in case] for case in suite], [[], ["error"], ["failure"]])
-        self.assertIn("GET 0 answers E6, not 55", suite[2][0].text or "")
+        told_first, _, others = (suite[2][0].text or "").partition("\n")
+        self.assertIn("GET 0 answers E6, not 55", told_first)
+        self.assertEqual((suite[2][0].get("message"), bool(others)), (told_first, True))
         scripts = json.loads(told.read_text())
         self.assertEqual([(one["steps"], one["wrong"], bool(one["trouble"])) for one in scripts], [(1, 0, False), (0, 0, True), (2, 1, False)])
 
