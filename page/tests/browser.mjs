@@ -3,9 +3,10 @@
 // node page/tests/browser.mjs [FOLDER]: screenshots are written into the folder. ZAKLIMOT_PAGE names
 // another page.
 import assert from "node:assert/strict";
-import { mkdirSync, mkdtempSync, readFileSync, rmSync, writeFileSync } from "node:fs";
+import { existsSync, mkdirSync, mkdtempSync, readFileSync, readlinkSync, rmSync, writeFileSync }
+  from "node:fs";
 import { tmpdir } from "node:os";
-import { resolve } from "node:path";
+import { dirname, resolve } from "node:path";
 import { pathToFileURL } from "node:url";
 import { gunzipSync, gzipSync } from "node:zlib";
 import { KEYS } from "../keys.js";
@@ -680,5 +681,7 @@ await check("screenshots, wide and narrow, light and dark", async () => {
   }
 });
 
+const socket = dirname(readlinkSync(`${browser.folder}/SingletonSocket`));
 await end();
+assert.ok(!existsSync(socket), `Chromium has left ${socket}`);
 console.log(`${seen.length} checks in Chromium: ${seen.join("; ")}; the console is empty`);

@@ -31,10 +31,13 @@ export class Browser {
       eventsEnabled: true });
   }
 
+  /** Has the browser close itself, since one that is killed leaves its socket's folder behind. */
   async stop() {
     const ended = new Promise(resolve => this.process.once("exit", resolve));
-    this.process.kill();
+    const late = setTimeout(() => this.process.kill("SIGKILL"), PATIENCE);
+    this.send("Browser.close").catch(() => this.process.kill());
     await ended;
+    clearTimeout(late);
     rmSync(this.folder, { recursive: true, force: true, maxRetries: 5 });
   }
 
