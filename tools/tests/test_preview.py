@@ -49,6 +49,13 @@ class Specimens(Folder):
             self.assertEqual((status, output), (1, ""))
             self.assertIn(f"preview.py: specimen-8.png is not written: {why}\n", said)
 
+    def test_a_folder_that_is_not_there(self) -> None:
+        away = self.folder / "away"
+        program = self.program("program", GOOD.format(wrong="False", frame='step == "frame"'))
+        told = f"preview.py: {away}: there is no such folder\n"
+        self.assertEqual(ended(sys.executable, PREVIEW, program, "--out", away), (2, "", told))
+        self.assertFalse(away.exists())
+
     def test_the_art_is_no_output(self) -> None:
         fonts = self.folder / "fonts"
         shutil.copytree(PREVIEW.parent, fonts)
