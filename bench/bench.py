@@ -262,6 +262,9 @@ def memory(command):
 
 def main():
     program = sys.argv[1] if len(sys.argv) > 1 else os.path.join(HERE, "..", "crates", "vga", "out", "vga")
+    if not shutil.which(program):
+        print(f"bench.py: {program}: there is no such program; README.md tells how to build it", file=sys.stderr)
+        sys.exit(2)
     with tempfile.TemporaryDirectory() as folder:
         for script in SCRIPTS:
             job, data, count, what = script()

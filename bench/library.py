@@ -84,6 +84,9 @@ def main() -> int:
         print(__doc__, file=sys.stderr)
         return 2
     library = Path(sys.argv[1])
+    if not (library / "lib" / "libzaklimot.a").is_file():
+        print(f"library.py: {library} has no library: tools/vga-library make {library}", file=sys.stderr)
+        return 2
     print("| Call | Mode | Instructions | ns |\n|---|---|---|---|")
     with tempfile.TemporaryDirectory(prefix="bench-library-") as name:
         folder = Path(name)

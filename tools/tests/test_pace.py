@@ -4,6 +4,7 @@ import contextlib
 import io
 import random
 import re
+import subprocess
 import sys
 import unittest
 import warnings
@@ -23,6 +24,7 @@ from zaklimot.format.report import _made_answer
 from zaklimot.format.text import _made_step
 
 from .test_run import Fake
+from .tools import TOP
 
 PIECES = [
     b"out 3C4 02", b"  in\t3da", b"FRAME", b"repeat 2", b" Repeat\t3 ", b"END", b"version 2", b"ret", b"\xff\xfe", b"\v",
@@ -157,3 +159,18 @@ class Calls(Fake):
             with self.subTest(line, calls=(many - few) / 500):
                 self.assertLess((many - few) / 500, MOST_CALLS)
                 self.assertGreater((many - few) / 500, 10)
+
+
+class Benchmarks(unittest.TestCase):
+    """The benchmarks say what they lack, before they begin."""
+
+    def test_what_is_missing_is_told(self) -> None:
+        bench, nothing = TOP / "bench", "/dev/null/none"
+        told = {
+            "bench.py": f"bench.py: {nothing}: there is no such program; README.md tells how to build it\n",
+            "library.py": f"library.py: {nothing} has no library: tools/vga-library make {nothing}\n",
+        }
+        for name, line in told.items():
+            done = subprocess.run([sys.executable, bench / name, nothing], capture_output=True, text=True, timeout=60)
+            with self.subTest(name):
+                self.assertEqual((done.returncode, done.stdout, done.stderr), (2, "", line))
