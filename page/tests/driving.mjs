@@ -5,6 +5,8 @@ import { tmpdir } from "node:os";
 
 const NAMES = ["chromium", "chromium-browser", "google-chrome"];
 const PATIENCE = 60000;
+// Signals that end a test, with their numbers.
+const ENDING = [["SIGHUP", 1], ["SIGINT", 2], ["SIGTERM", 15]];
 
 /** A browser with one page. */
 export class Browser {
@@ -21,6 +23,10 @@ export class Browser {
       "--no-first-run",
       `--user-data-dir=${this.folder}`, "--remote-debugging-pipe", "about:blank"],
         { stdio: ["ignore", "ignore", "ignore", "pipe", "pipe"] });
+    // A signal that ends the test ends the browser too.
+    for (const [signal, number] of ENDING) {
+      process.once(signal, () => this.stop().finally(() => process.exit(128 + number)));
+    }
     Object.assign(this, { number: 0, waiting: new Map(), said: [], rest: "", downloads: [] });
     this.process.stdio[4].setEncoding("utf-8").on("data", part => this.hear(part));
     const { targetInfos } = await this.send("Target.getTargets");
