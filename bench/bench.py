@@ -280,4 +280,9 @@ def main():
 if __name__ == "__main__":
     # So that the temporary folder goes.
     signal.signal(signal.SIGTERM, lambda number, _: sys.exit(128 + number))
-    main()
+    try:
+        main()
+    except BrokenPipeError:
+        # Nobody reads on. What is left can't be written, and would fail once more.
+        os.dup2(os.open(os.devnull, os.O_WRONLY), sys.stdout.fileno())
+        sys.exit(141)
