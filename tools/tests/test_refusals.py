@@ -61,6 +61,13 @@ class Refusals(unittest.TestCase):
             self.assertEqual(state.why_of(line, DONE), "")
         self.assertEqual(state.why("in 3C1", 2), "")
 
+    def test_what_changes_the_memory_map_and_the_mode(self) -> None:
+        for line in ("out 3CF 4", "outw 3CE 0406"):
+            state = state_behind(["int ax=3", "out 3CE 6", line])
+            self.assertIn("Memory map is 1 ", state.why("get B8000", 1), line)
+        # Function 01 sets no mode, whatever AL is.
+        self.assertEqual(state_behind(["int ax=3", "int ax=0112"]).mode, 3)
+
     def test_steps_that_the_adapter_does_not_refuse_so(self) -> None:
         for words, number in product(("frame", "show regs", "advance 5", "int ax=3"), (1, 2)):
             self.assertEqual(why_refused(words, number, State()), "", words)
