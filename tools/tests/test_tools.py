@@ -26,7 +26,7 @@ from vga_report.trouble import TROUBLE, Trouble
 from vga_report.version import version
 
 from .tools import (
-    PYTHON, SIGNALS, TOOLS, TOP, UNBUILT, Folder, begin, call, ended, hold, hold_undone, main_of, refused, run_tool,
+    PYTHON, SIGNALS, TOOLS, TOP, Folder, begin, call, ended, hold, hold_undone, main_of, refused, run_tool,
 )
 
 NOTING = Path(__file__).with_name("noting.sh").read_text("ascii")
@@ -80,35 +80,23 @@ class Sleeping(unittest.TestCase):
 STARTING = (
     "vga-report suite {harness} --list {list}", "vga-report run {script} --try", "vga-memory",
     "vga-library make {made}", "vga-release {made}", "vga-page module {made}", "vga-fuzz {vga}",
-    "vga-floppy run --on dosbox {script} {made}", "tests-of-tools --folder {new}",
+    "vga-floppy run --on dosbox {script} {made}", "tests-of-tools test_one",
     "vga-trace record {made} --vga {vga} --quiet 50 -- -cdrom disc",
 )
-# Tests of which some want a file in the place of the program.
-WANTING = f"""
-import os, unittest
-HAS = os.path.exists({{path!r}})
-class New(unittest.TestCase):
+# What the only test of a module does, and what is told of it.
+TEST = """import os, unittest
+from pathlib import Path
+from tests import tools
+class One(unittest.TestCase):
     def test_one(self):
-        if not HAS: self.skipTest({UNBUILT!r})
-    @unittest.skip("another reason")
-    def test_two(self): pass
-    def test_three(self): open({{path!r}} + ".three", "a").write("3")
-class Whole(unittest.TestCase):
-    @classmethod
-    def setUpClass(cls):
-        if not HAS: raise unittest.SkipTest({UNBUILT!r})
-    def test_four(self): pass
+        {}
 """
-# What the only test of a module does, whether tests count as run then, and what is told.
-TEST = "import os, unittest\nclass One(unittest.TestCase):\n    def test_one(self):\n        {}\n"
-NO_ANSWER = "ERROR: new.test_{}\n" + 70 * "-" + "\nits process ended with status {}, and no answer"
 BAD = {
-    "fails": ("self.fail('oh')", 1, "FAIL: test_one (new.test_fails.One"),
-    "fails_in_part": ("with self.subTest('part'): self.fail('no')", 1, "AssertionError: no"),
-    "raises": ("no_such_name", 1, "NameError: name 'no_such_name'"),
-    "ends": ("os._exit(0)", 0, NO_ANSWER.format("ends", 0)),
-    "is_killed": ("os.kill(os.getpid(), 9)", 0, NO_ANSWER.format("is_killed", -9)),
-    "is_asked_to_end": ("os.kill(os.getpid(), 15)", 0, NO_ANSWER.format("is_asked_to_end", 143)),
+    "fails": ("self.fail('oh')", "AssertionError: oh"), "raises": ("no_such_name", "NameError: name 'no_such_name'"),
+    "ends": ("os._exit(0)", "its process ended with status 0"),
+    "is_killed": ("os.kill(os.getpid(), 9)", "its process ended with status -9"),
+    "is_asked_to_end": ("os.kill(os.getpid(), 15)", "its process ended with status 143"),
+    "lacks": ("import no_such_module", "No module named 'no_such_module'"),
 }
 
 
@@ -243,7 +231,7 @@ class Commands(Folder):
         self.write("one.vga", "frame\n")
         self.write("one.txt", "1 ok\n")
         harness = self.write("harness.py", PARENT + "time.sleep(600)")
-        self.write("new/__init__.py", "")
+        self.write("test_one.py", TESTS)
         self.program("bin/rt", RT)
         self.program("bin/git", "#!/bin/sh\n[ $3 = status ] || echo 0123 0\n")
         for name in ("qemu-system-x86_64", *AARCH64.programs()):
@@ -253,7 +241,6 @@ class Commands(Folder):
             "harness": f"{sys.executable} {harness} {self.folder}/child {{script}}",
             "list": self.write("list.txt", "fonts two.fnt\none\n"), "script": str(self.folder / "one.vga"),
             "vga": self.program("bin/vga", SLEEPING), "made": str(self.folder / "made"),
-            "new": str(Path(self.write("new/test_one.py", TESTS)).parent),
         }
         for line in STARTING:
             tool, *words = (word.format(**places) for word in line.split())
@@ -266,8 +253,8 @@ class Commands(Folder):
         child, temporary = self.folder / "child", self.folder / "tmp"
         temporary.mkdir(exist_ok=True)
         child.unlink(missing_ok=True)
-        path = f"{self.folder / 'bin'}:{os.environ['PATH']}"
-        with begin(*words, env={**os.environ, "TMPDIR": str(temporary), "PATH": path, "CHILD": str(child)}) as process:
+        given = {"PATH": f"{self.folder / 'bin'}:{os.environ['PATH']}", "PYTHONPATH": str(self.folder)}
+        with begin(*words, env={**os.environ, **given, "TMPDIR": str(temporary), "CHILD": str(child)}) as process:
             numbers = [int(word) for word in self.wait_for(child, process).split()]
             self.assertNotEqual(list(temporary.iterdir()), [])
             process.send_signal(number)
@@ -386,48 +373,28 @@ class Lines(Folder):
 
 
 class Running(Folder):
-    def run_tests(self, *words: str) -> tuple[int, str]:
-        """Exit status and output of the tests in a folder."""
-        status, output, said = run_tool("tests-of-tools", "--folder", self.folder / "new", *words)
+    def run_tests(self, *words: str, **lines: str) -> tuple[int, str]:
+        """Exit status and output of tests, of which each module has one that does what a line says."""
+        for name, line in lines.items():
+            self.write(f"{name}.py", TEST.format(line))
+        prepare = partial(os.environ.update, PYTHONPATH=str(self.folder))
+        status, output, said = run_tool("tests-of-tools", *words, *lines, prepare=prepare)
         self.assertEqual(said, "")
         return status, output.decode()
 
-    def lay(self, name: str, text: str) -> None:
-        """Puts a module of tests into the folder."""
-        self.write("new/__init__.py", "")
-        self.write(f"new/test_{name}.py", text)
-
-    def test_tests_that_were_skipped_run_and_may_not_be_skipped(self) -> None:
-        program, kept = self.folder / "program", str(self.folder / "kept")
-        self.lay("one", WANTING.format(path=str(program)))
-        status, said = self.run_tests("--keep", kept)
-        self.assertEqual((status, said.splitlines()[-1]), (0, "OK (skipped=3)"))
-        self.assertIn("Ran 3 tests", said)
-        status, said = self.run_tests("--again", kept)
-        self.assertEqual((status, said.splitlines()[-1]), (1, "FAILED (skipped=2)"))
-        self.assertIn("skipped, though the program is to be built: new.test_one.", said)
-        program.touch()
-        status, said = self.run_tests("--again", kept)
-        self.assertEqual((status, said.splitlines()[-1]), (0, "OK"))
-        self.assertIn("Ran 2 tests", said)
-        # What needs no program ran in the first run alone.
-        self.assertEqual((self.folder / "program.three").read_text(), "3")
-        Path(kept).write_text("new.test_gone.New")
-        said = f"tests-of-tools: {kept}: there are no such tests: new.test_gone.New\n"
-        self.assertEqual(run_tool("tests-of-tools", "--folder", self.folder / "new", "--again", kept), (2, b"", said))
-
     def test_what_is_bad_is_told_beside_what_is_good(self) -> None:
-        self.lay("good", TEST.format("print('seen')"))
-        self.lay("lacking", "import no_such_module\n")
-        for name, (line, _, _) in BAD.items():
-            self.lay(name, TEST.format(line))
-        status, said = self.run_tests()
-        self.assertEqual((status, said.splitlines()[-1]), (1, f"FAILED (failed={len(BAD) + 1})"))
-        self.assertIn("passed  new.test_good, 1 test\nseen\n", said)
-        self.assertIn("No module named 'no_such_module'", said)
-        for name, (_, count, told) in BAD.items():
-            self.assertIn(f"failed  new.test_{name}, {count} test", said)
-            self.assertIn(told, said)
+        status, said = self.run_tests(good="print('seen')", **{name: line for name, (line, _) in BAD.items()})
+        self.assertEqual((status, said.splitlines()[-1]), (1, f"FAILED (failed={len(BAD)})"))
+        self.assertIn("passed  good\nseen\n", said)
+        for name, (_, told) in BAD.items():
+            self.assertRegex(said, rf"failed  {name}\n(?s:.*){told}")
+
+    def test_a_test_that_wants_the_program_is_skipped_or_fails(self) -> None:
+        line = "tools.PROGRAM = Path('none'); tools.want_program()"
+        status, said = self.run_tests(wants=line)
+        self.assertEqual((status, said.splitlines()[-1]), (0, "OK (skipped=1)"))
+        status, said = self.run_tests("--built", wants=line)
+        self.assertEqual((status, said.splitlines()[-1]), (1, "FAILED (failed=1)"))
 
 
 @unittest.skipIf(sys.platform == "win32", "a script is a program on POSIX")
@@ -449,7 +416,7 @@ class Gate(Folder):
         self.assertEqual(self.run_gate(failing, memory)[0], 1)
         self.assert_ended(int(number.read_text()))
 
-    def test_tests_that_were_skipped_run_once_the_program_is_built(self) -> None:
+    def test_all_tests_run_again_once_the_program_is_built(self) -> None:
         status, notes = self.run_gate(NOTING)
         self.assertEqual(status, 0)
-        self.assertRegex(notes, r"\ntests-of-tools --keep (\S+)\nrt ci\ntests-of-tools --again \1\n")
+        self.assertIn("\ntests-of-tools \nrt ci\ntests-of-tools --built\n", notes)

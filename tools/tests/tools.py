@@ -39,8 +39,9 @@ MOST_SECONDS = 200
 SIGNALS = ((signal.SIGTERM, 143), (signal.SIGHUP, 129), (signal.SIGINT, 130))
 # A child that is to be there is waited for this many seconds.
 WAITING = 60
-# Why a test is skipped. The gate sees to it that none is, once the program is built.
+# Why a test is skipped; with this variable, which the gate sets once the program is built, it fails.
 UNBUILT = "the program isn't built: (cd crates/vga && rt run -- --help) builds it"
+BUILT = "ZAKLIMOT_PROGRAM_IS_BUILT"
 
 
 def main_of(name: str) -> Callable[[Sequence[str]], int]:
@@ -103,9 +104,9 @@ def ended(*words: str | bytes | Path, **options: Any) -> tuple[int, Any, Any]:
 
 
 def want_program() -> None:
-    """Skips a test where the program isn't built yet."""
+    """Skips a test where the program isn't built yet, or has it fail where it is to be built."""
     if not os.access(PROGRAM, os.X_OK):
-        raise unittest.SkipTest(UNBUILT)
+        raise (AssertionError if os.environ.get(BUILT) else unittest.SkipTest)(UNBUILT)
 
 
 class Ran(NamedTuple):
