@@ -5,9 +5,9 @@ import os
 import tempfile
 import time
 from collections import Counter
+from contextlib import suppress
 from pathlib import Path
 from random import Random
-from typing import Any, Sequence
 
 from vga_report import TOP, cli
 from vga_report.processes import MEBIBYTE
@@ -17,7 +17,7 @@ from vga_report.streams import to_read, write_file
 from vga_report.suite import empty_folder
 from vga_report.trouble import Trouble
 from vga_report.words import number_to, seconds
-from zaklimot.format import HEADERS
+from zaklimot.format import ScriptFault, encode, parse_text
 
 from .feeding import Fed, Limits, Program, Wrong
 from .making import Input, make
@@ -26,9 +26,8 @@ from .making import Input, make
 TEXTS = (TOP / "examples", TOP / "crates" / "vga_suite" / "data")
 # Longer texts are left out: they are runs of many frames.
 MOST_TEXT = 1 << 14
-# One of the first texts is a script.
-FIRST_TEXTS = 3
-EMPTY = HEADERS[1]
+# What each program is asked first.
+FIRST_TEXT = b"in 3DA\n"
 # The largest numbers of options: MiB that a run may take, and inputs.
 MOST_MEBIBYTES, MOST_NUMBER = 1 << 16, 1 << 62
 NOTHING_WRONG, SOMETHING_WRONG = 0, 1
@@ -58,10 +57,24 @@ def _parser() -> argparse.ArgumentParser:
     return parser
 
 
-def _texts() -> list[bytes]:
-    """The texts of the examples and of the suite."""
-    files = sorted(file for folder in TEXTS for file in folder.rglob("*.vga"))
-    return [file.read_bytes() for file in files if file.stat().st_size <= MOST_TEXT]
+def _at_hand() -> tuple[list[bytes], list[bytes]]:
+    """The texts of the examples and of the suite; and as bytes the scripts of those that are any."""
+    files = sorted(file for folder in TEXTS for file in folder.rglob("*.vga") if file.stat().st_size <= MOST_TEXT)
+    texts, scripts = [file.read_bytes() for file in files], []
+    for text in texts:
+        with suppress(ScriptFault):
+            scripts.append(encode(parse_text(text)))
+    return texts, scripts
+
+
+def _check(program: Program) -> None:
+    """Ends the work where a program is none that assembles a text."""
+    try:
+        script = program.assembled(FIRST_TEXT)
+    except Wrong as wrong:
+        raise Trouble(f"it isn't vga, or can't work within these limits: {wrong}", program.path) from wrong
+    if script != encode(parse_text(FIRST_TEXT)):
+        raise Trouble(f"it isn't vga: it makes another script of `{FIRST_TEXT.decode().strip()}`", program.path)
 
 
 class Tally:
@@ -93,8 +106,8 @@ def _fuzz(words: argparse.Namespace, folder: Path) -> int:
     """Makes inputs and feeds the program with them, until the time or the inputs are used up, or the user ends it."""
     limits = Limits(words.timeout, words.memory * MEBIBYTE, words.output * MEBIBYTE)
     program = Program(words.program, str(FONTS), folder, limits)
-    texts = _texts()
-    scripts = Scripts(program, texts)
+    _check(program)
+    texts, scripts = _at_hand()
     tally, number, begin = Tally(), words.first, time.monotonic()
     try:
         while time.monotonic() - begin < words.seconds and number - words.first != (words.inputs or -1):
@@ -110,32 +123,6 @@ def _fuzz(words: argparse.Namespace, folder: Path) -> int:
         # The figures are told of a run that the user ends, too.
         print("\n".join(tally.lines(words.seed, time.monotonic() - begin)), flush=True)
     return SOMETHING_WRONG if tally.wrong else NOTHING_WRONG
-
-
-class Scripts(Sequence[bytes]):
-    """The scripts of the texts at hand, each made when it is asked for. One of a bad text has no step."""
-
-    def __init__(self, program: Program, texts: Sequence[bytes]) -> None:
-        self._program = program
-        self._texts = texts
-        self._made: dict[int, bytes] = {}
-        try:
-            is_program = any(program.assembled(text) is not None for text in texts[:FIRST_TEXTS])
-        except Wrong as wrong:
-            raise Trouble(f"it isn't vga, or can't work within these limits: {wrong}", program.path) from wrong
-        if not is_program:
-            raise Trouble("it isn't vga: it takes none of the texts of examples/ for one", program.path)
-
-    def __len__(self) -> int:
-        return len(self._texts)
-
-    def __getitem__(self, at: Any) -> Any:
-        if at not in self._made:
-            try:
-                self._made[at] = self._program.assembled(self._texts[at]) or EMPTY
-            except Wrong as wrong:
-                raise Trouble(f"a text at hand: {wrong}", self._program.path) from wrong
-        return self._made[at]
 
 
 def _run(words: argparse.Namespace, _: Progress) -> int:
