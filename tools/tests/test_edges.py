@@ -48,7 +48,6 @@ HEADER = b"VGAS\x01"
 # A call of the BIOS with no register named is eleven bytes, and its line four.
 LINE, STEP = b"int\n", b"\x09" + bytes(10)
 LINES = (MOST_BYTES - len(HEADER)) // len(STEP)
-PRINTED_LINE = b"int ax=0000 bx=0000 cx=0000 dx=0000\n"
 # What running may take beside the text and the bytes.
 ROOM = 8 * MEBIBYTE
 
@@ -270,18 +269,6 @@ class Longest(Folder):
         want_program()
         super().setUp()
         self.text = Path(self.write("text", LINE * LINES))
-        self.script = Path(self.write("script", HEADER + STEP * LINES))
-
-    def test_it_is_assembled(self) -> None:
-        made = self.script.with_suffix(".made")
-        self.assertEqual(run_program("asm", self.text, made), (0, b"", ""))
-        self.assertTrue(made.read_bytes() == HEADER + STEP * LINES)
-
-    def test_it_is_printed(self) -> None:
-        self.assertTrue(run_program("dis", self.script) == (0, PRINTED_LINE * LINES, ""))
-
-    def test_its_bytes_are_run(self) -> None:
-        self.assertTrue(run_program("run", self.script, "--fonts", FONTS) == (0, b"".join(answers()), ""))
 
     def test_its_text_is_run_in_little_memory(self) -> None:
         with subprocess.Popen([PROGRAM, "go", self.text, "--fonts", FONTS], stdout=subprocess.PIPE) as running:

@@ -2,7 +2,6 @@
 
 import doctest
 import re
-import sys
 import unittest
 from unittest import mock
 
@@ -17,7 +16,7 @@ from zaklimot.format import (
 )
 from zaklimot.format.table import CODES
 
-from .tools import ended, hold, stream
+from .tools import hold, stream
 
 DOCS, CRATES = TOP / "docs", TOP / "crates"
 
@@ -256,15 +255,3 @@ class Answers(unittest.TestCase):
         self.assertEqual(numbers(7), [7, 8, 9])
         for first in (1, 8):
             self.assertRaises(ReportError, numbers, first)
-
-
-class Importing(unittest.TestCase):
-    """The tools import the package of the bindings: they need no library for it, and start no slower for it."""
-
-    def test_the_tools_take_the_formats_alone(self) -> None:
-        program = f"import sys; sys.path.insert(0, {str(TOP / 'tools')!r}); import vga_report.cli\n"
-        program += "print(*sorted(name for name in sys.modules if name.startswith('zaklimot') and '.format' not in name))\n"
-        program += "print('zaklimot.format.table' in sys.modules, 'mmap' in sys.modules, 'fractions' in sys.modules)"
-        # A library that can't be found would be told where it is wanted.
-        done = ended(sys.executable, "-I", "-S", "-B", "-c", program, env={"ZAKLIMOT_LIBRARY": "/no-such-file"})
-        self.assertEqual(done, (0, "zaklimot\nTrue False False\n", ""))
