@@ -4,12 +4,13 @@ import contextlib
 import signal
 import subprocess
 import unittest
+from collections import Counter
 from pathlib import Path
 from random import Random
 from unittest import mock
 
 from vga_fuzz import command
-from vga_fuzz.feeding import Fed, Limits, Outcome, Program, meant_by, trouble_of
+from vga_fuzz.feeding import Limits, Outcome, Program, Wrong, meant_by, trouble_of
 from vga_fuzz.making import Input, block, make, spelled, step
 from zaklimot.format import (
     FORMS, HEADERS, MAGIC, MOST_COUNT, Block, Script, Step, decode, encode, encoded, parse_text, print_text,
@@ -70,27 +71,30 @@ class Fuzzing(Folder):
         self.assertIn(answer, GOOD)
         return self.program("program", GOOD.replace(answer, wrong or answer))
 
-    def fed(self, given: Input, path: str, limits: Limits = LIMITS) -> Fed:
-        return Program(path, "fonts", self.folder, limits).feed(given)
+    def fed(self, given: Input, path: str, limits: Limits = LIMITS) -> str:
+        """The answer to an input, or what is wrong with it."""
+        try:
+            return Program(path, "fonts", self.folder, limits).feed(given)
+        except Wrong as wrong:
+            return str(wrong)
 
     def test_nothing_is_wrong_with_a_good_program(self) -> None:
         for given in (SCRIPT, TEXT):
-            self.assertEqual(self.fed(given, self.program_that()), Fed("done"))
+            self.assertEqual(self.fed(given, self.program_that()), "done")
         many = encode(Script((Block(MOST_COUNT, (Step("frame"),) * 257),), 2))
         path = self.program("refusing", "import sys\nsys.exit('vga: F11 TooMany(5)')\n")
-        self.assertEqual(self.fed(Input(False, many, "script"), path), Fed("F11 TooMany(5)"))
+        self.assertEqual(self.fed(Input(False, many, "script"), path), "F11 TooMany(5)")
 
     def test_each_wrong_is_found(self) -> None:
         for wrong, said in WRONGS.items():
             for given, name in ((SCRIPT, "run"), (TEXT, "go")):
                 with self.subTest(wrong, command=name):
                     fed = self.fed(given, self.program_that(wrong), SHORT if "sleep" in wrong else LIMITS)
-                    self.assertEqual(fed.answer, "wrong")
-                    self.assertIn(fed.trouble, (f"vga {name}: {said}", f"vga {name} {said}"))
+                    self.assertIn(fed, (f"vga {name}: {said}", f"vga {name} {said}"))
 
     def test_commands_that_do_not_agree(self) -> None:
         bad = Input(True, b"move 1\n", "text")
-        hold(self, lambda given, wrong: self.fed(given, self.program_that(wrong)).trouble, (
+        hold(self, lambda given, wrong: self.fed(given, self.program_that(wrong)), (
             (SCRIPT, "sys.exit('vga: F7 BadLine(1)') if command == 'run' else None",
              "vga run answers F7 BadLine(1), and not done"),
             (bad, "", "vga go: step 1 is answered, and the script has none"),
@@ -103,14 +107,14 @@ class Fuzzing(Folder):
 
     def test_a_text_that_spells_another_script(self) -> None:
         path = self.program("program", GOOD.replace("buffer.write(data)", "buffer.write(data + b'x')"))
-        self.assertEqual(self.fed(SCRIPT, path).trouble, "vga asm: what vga dis prints spells another script")
+        self.assertEqual(self.fed(SCRIPT, path), "vga asm: what vga dis prints spells another script")
 
     def test_a_report_that_fills_its_room(self) -> None:
         full = "\n    try:\n        for n in range(1, 100000): sys.stdout.buffer.write(b'%d 55\\n' % n)\n"
         full += "        sys.stdout.flush()\n    except OSError: os.dup2(os.open('/dev/null', os.O_WRONLY), 1);"
         long = Input(False, b"VGAS\x02\x0d\xff\xff\x03\xda\x03\x0e", "script")
         path = self.program_that(full + " sys.exit('vga: F9 WriteFault')")
-        self.assertEqual(self.fed(long, path), Fed("F9 WriteFault"))
+        self.assertEqual(self.fed(long, path), "F9 WriteFault")
 
     def test_reports_that_change(self) -> None:
         seen = self.folder / "seen"
@@ -118,7 +122,7 @@ class Fuzzing(Folder):
         for given, name in ((SCRIPT, "run"), (TEXT, "go")):
             seen.unlink(missing_ok=True)
             trouble = f"vga {name} and vga {name} once more have reports that differ"
-            self.assertEqual(self.fed(given, self.program_that(wrong)).trouble, trouble)
+            self.assertEqual(self.fed(given, self.program_that(wrong)), trouble)
 
     def test_want_of_memory_behind_whole_lines(self) -> None:
         for written, trouble in ((b"", None), (b"1 55\n", None), (b"1 55", "report:1: the report ends within a line")):
@@ -131,17 +135,16 @@ class Fuzzing(Folder):
         return status, output.split("\n"), said
 
     def test_figures_where_nothing_is_wrong(self) -> None:
-        with mock.patch.object(Program, "feed", return_value=Fed("done")):
+        with mock.patch.object(Program, "feed", return_value="done"):
             status, lines, _ = self.run_command(self.program_that())
         self.assertEqual((status, lines[-2]), (0, "0 with something wrong"))
         self.assertTrue(lines[0].startswith("seed 3: 4 inputs in "))
         self.assertIn("        4 done", lines)
 
     def test_one_input(self) -> None:
-        self.assertTrue(command.Tally().lines(1, 2)[0].startswith("seed 1: 0 inputs in "))
-        tally = command.Tally()
-        tally.count(TEXT, Fed("done"))
-        self.assertEqual(tally.lines(1, 2), ["seed 1: 1 input in 2 seconds", f"        1 {TEXT.made}", "        1 done", "0 with something wrong"])
+        made, answers = Counter({TEXT.made: 1}), Counter({"done": 1})
+        figures = f"seed 1: 1 input in 2 seconds\n        1 {TEXT.made}\n        1 done\n0 with something wrong"
+        self.assertEqual(command._figures(made, answers, 1, 2), figures)
 
     def test_inputs_are_kept_with_which_something_is_wrong(self) -> None:
         keep = self.folder / "kept"

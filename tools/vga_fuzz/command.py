@@ -19,8 +19,8 @@ from vga_report.trouble import Trouble
 from vga_report.words import number_to, seconds
 from zaklimot.format import ScriptFault, encode, parse_text
 
-from .feeding import Fed, Limits, Program, Wrong
-from .making import Input, make
+from .feeding import Limits, Program, Wrong
+from .making import make
 
 # Where the texts are that are changed.
 TEXTS = (TOP / "examples", TOP / "crates" / "vga_suite" / "data")
@@ -31,6 +31,8 @@ FIRST_TEXT = b"in 3DA\n"
 # The largest numbers of options: MiB that a run may take, and inputs.
 MOST_MEBIBYTES, MOST_NUMBER = 1 << 16, 1 << 62
 NOTHING_WRONG, SOMETHING_WRONG = 0, 1
+# What stands for the answer of a run with which something is wrong.
+WRONG = "wrong"
 
 
 def _parser() -> argparse.ArgumentParser:
@@ -77,29 +79,14 @@ def _check(program: Program) -> None:
         raise Trouble(f"it isn't vga: it makes another script of `{FIRST_TEXT.decode().strip()}`", program.path)
 
 
-class Tally:
+def _figures(made: Counter[str], answers: Counter[str], seed: int, seconds: float) -> str:
     """How many inputs were made in each way and answered in each way, and with how many something was wrong."""
-
-    def __init__(self) -> None:
-        self.made: Counter[str] = Counter()
-        self.answers: Counter[str] = Counter()
-        self.wrong = 0
-
-    def count(self, given: Input, fed: Fed) -> None:
-        """Counts an input, its answer without the place."""
-        self.made[given.made] += 1
-        self.answers[fed.answer.partition("(")[0]] += 1
-        self.wrong += fed.trouble is not None
-
-    def lines(self, seed: int, seconds: float) -> list[str]:
-        """The figures."""
-        total = sum(self.made.values())
-        counts = [*sorted(self.made.items()), *sorted(self.answers.items())]
-        return [
-            f"seed {seed}: {total:,} input{'s' * (total != 1)} in {seconds:,.0f} seconds",
-            *(f"{count:9,} {name}" for name, count in counts),
-            f"{self.wrong:,} with something wrong",
-        ]
+    total = sum(made.values())
+    counts = [*sorted(made.items()), *sorted(answers.items())]
+    return "\n".join([
+        f"seed {seed}: {total:,} input{'s' * (total != 1)} in {seconds:,.0f} seconds",
+        *(f"{count:9,} {name}" for name, count in counts), f"{answers[WRONG]:,} with something wrong",
+    ])
 
 
 def _fuzz(words: argparse.Namespace, folder: Path) -> int:
@@ -108,21 +95,25 @@ def _fuzz(words: argparse.Namespace, folder: Path) -> int:
     program = Program(words.program, str(FONTS), folder, limits)
     _check(program)
     texts, scripts = _at_hand()
-    tally, number, begin = Tally(), words.first, time.monotonic()
+    made, answers, number, begin = Counter[str](), Counter[str](), words.first, time.monotonic()
     try:
         while time.monotonic() - begin < words.seconds and number - words.first != (words.inputs or -1):
             given = make(Random(f"{words.seed}:{number}"), texts, scripts)
-            fed = program.feed(given)
-            tally.count(given, fed)
-            if fed.trouble is not None:
-                print(f"input {number} ({given.made}): {fed.trouble}", flush=True)
+            try:
+                # An answer is counted without its place.
+                answer = program.feed(given).partition("(")[0]
+            except Wrong as wrong:
+                answer = WRONG
+                print(f"input {number} ({given.made}): {wrong}", flush=True)
                 if words.keep is not None:
                     write_file(str(Path(words.keep) / f"{number}{'.vga' if given.is_text else '.bin'}"), given.data)
+            made[given.made] += 1
+            answers[answer] += 1
             number += 1
     finally:
         # The figures are told of a run that the user ends, too.
-        print("\n".join(tally.lines(words.seed, time.monotonic() - begin)), flush=True)
-    return SOMETHING_WRONG if tally.wrong else NOTHING_WRONG
+        print(_figures(made, answers, words.seed, time.monotonic() - begin), flush=True)
+    return SOMETHING_WRONG if answers[WRONG] else NOTHING_WRONG
 
 
 def _run(words: argparse.Namespace, _: Progress) -> int:

@@ -124,13 +124,6 @@ def run(words: Sequence[str], folder: Path, limits: Limits) -> Outcome:
     return Outcome(status, data, message, len(data) >= limits.output)
 
 
-class Fed(NamedTuple):
-    """What came of an input: the answer of its run, and what was wrong, if anything was."""
-
-    answer: str
-    trouble: Optional[str] = None
-
-
 class Wrong(Exception):
     """Something was wrong with a run."""
 
@@ -144,15 +137,11 @@ class Program:
         self._folder = folder
         self._limits = limits
 
-    def feed(self, given: Input) -> Fed:
-        """Runs an input, and does what there is to do with it besides: `asm` with a text, `dis` with a script."""
+    def feed(self, given: Input) -> str:
+        """The answer of an input's run, with which all is done that there is to do besides; a Wrong if one is wrong."""
         file = self._folder / "input"
         file.write_bytes(given.data)
-        feed = self._feed_text if given.is_text else self._feed_script
-        try:
-            return Fed(feed(str(file), given.data))
-        except Wrong as wrong:
-            return Fed("wrong", str(wrong))
+        return (self._feed_text if given.is_text else self._feed_script)(str(file), given.data)
 
     def assembled(self, text: bytes) -> Optional[bytes]:
         """The script of a text, if it is one."""

@@ -4,7 +4,7 @@ Their steps have numbers at random, and those at the ends of what a step may hol
 """
 
 from random import Random
-from typing import Callable, NamedTuple, Optional, Sequence
+from typing import NamedTuple, Optional, Sequence
 
 from zaklimot.format import (
     END, FIRST_LINE, FORMS, MOST_COUNT, PLANE_BYTES, REGISTERS, REPEAT, SHOWN, Block, Field, Script,
@@ -53,56 +53,30 @@ class Input(NamedTuple):
     made: str
 
 
-def _flip(random: Random, data: bytearray) -> None:
-    """A bit of a byte turns."""
-    data[random.randrange(len(data))] ^= 1 << random.randrange(8)
+def _change(random: Random, data: bytearray, is_text: bool) -> None:
+    """Changes one place: a bit, a byte, some bytes that come in, go or come once more, the end, or a word of a text."""
+    at, kind = random.randrange(len(data)), random.randrange(8 if is_text else 6)
+    part = slice(at, at + random.choice((1, 2, 3, 5, 11, 100, 1000)))
+    behind = random.randint(0, len(data))
+    if kind == 0:
+        data[at] ^= 1 << random.randrange(8)
+    elif kind == 1:
+        data[at] = random.choice((random.choice(HOSTILE_BYTES), random.getrandbits(8)))
+    elif kind == 2:
+        data[behind:behind] = random.randbytes(random.choice((1, 1, 2, 5, 40)))
+    elif kind == 3:
+        del data[part]
+    elif kind == 4:
+        data[behind:behind] = data[part]
+    elif kind == 5:
+        del data[at:]
+    else:
+        words = data.split(b" ")
+        words[random.randrange(len(words))] = bytearray(random.choice(HOSTILE_WORDS))
+        data[:] = b" ".join(words)
 
 
-def _overwrite(random: Random, data: bytearray) -> None:
-    """A byte becomes another."""
-    data[random.randrange(len(data))] = random.choice((random.choice(HOSTILE_BYTES), random.getrandbits(8)))
-
-
-def _insert(random: Random, data: bytearray) -> None:
-    """Some bytes come in."""
-    at = random.randint(0, len(data))
-    data[at:at] = random.randbytes(random.choice((1, 1, 2, 5, 40)))
-
-
-def _span(random: Random, data: bytearray) -> slice:
-    at = random.randrange(len(data))
-    return slice(at, min(len(data), at + random.choice((1, 2, 3, 5, 11, 100, 1000))))
-
-
-def _delete(random: Random, data: bytearray) -> None:
-    """Some bytes go."""
-    del data[_span(random, data)]
-
-
-def _double(random: Random, data: bytearray) -> None:
-    """Some bytes stand at another place too."""
-    part = data[_span(random, data)]
-    at = random.randint(0, len(data))
-    data[at:at] = part
-
-
-def _cut(random: Random, data: bytearray) -> None:
-    """The end goes."""
-    del data[random.randrange(len(data)):]
-
-
-def _word(random: Random, data: bytearray) -> None:
-    """A word becomes another."""
-    words = data.split(b" ")
-    words[random.randrange(len(words))] = bytearray(random.choice(HOSTILE_WORDS))
-    data[:] = b" ".join(words)
-
-
-Change = Callable[[Random, bytearray], None]
-CHANGES: tuple[Change, ...] = (_flip, _overwrite, _insert, _delete, _double, _cut)
-
-
-def _changed(random: Random, data: bytes, others: Sequence[bytes], changes: Sequence[Change]) -> bytes:
+def _changed(random: Random, data: bytes, others: Sequence[bytes], is_text: bool) -> bytes:
     """A script or a text, changed here and there; perhaps with the end of another."""
     result = bytearray(data)
     if random.random() < 0.2:
@@ -110,7 +84,7 @@ def _changed(random: Random, data: bytes, others: Sequence[bytes], changes: Sequ
         result[random.randint(0, len(result)):] = other[random.randint(0, len(other)):]
     for _ in range(random.randint(1, MOST_CHANGES)):
         if result:
-            random.choice(changes)(random, result)
+            _change(random, result, is_text)
     return bytes(result)
 
 
@@ -139,14 +113,13 @@ def make(random: Random, texts: Sequence[bytes], scripts: Sequence[bytes]) -> In
     """An input, by a choice at random of the way in which it is made."""
     is_text = random.random() < 0.5
     at_hand = texts if is_text else scripts
-    changes = (*CHANGES, _word, _word) if is_text else CHANGES
     kind = random.random()
     if kind < 0.4:
         data, made = _new(random, is_text), "new"
     elif kind < 0.6:
-        data, made = _changed(random, _new(random, is_text), at_hand, changes), "new, changed"
+        data, made = _changed(random, _new(random, is_text), at_hand, is_text), "new, changed"
     elif kind < 0.97:
-        data, made = _changed(random, random.choice(at_hand), at_hand, changes), "changed"
+        data, made = _changed(random, random.choice(at_hand), at_hand, is_text), "changed"
     else:
         data, made = random.randbytes(random.choice((0, 1, 5, 100, 5000))), "random"
     return Input(is_text, data[:MOST_BYTES], f"{made} {'text' if is_text else 'script'}")
