@@ -4,16 +4,15 @@ import unittest
 from typing import Optional
 
 from vga_memory.command import (
-    ALLOCATION, CALLS, CRATES, ENDING, FAULT, FILES, IN_WORDS, REFUSED, REFUSED_IN_STEP, RIGHT, Wrong, cases_of, jobs,
-    judge_calls, judge_program,
+    CALLS, CRATES, ENDING, FAULT, FILES, IN_WORDS, REFUSED, REFUSED_IN_STEP, RIGHT, Answer, Job, Wrong, answers_of,
+    growing, jobs, judge_calls, judge_program,
 )
-from vga_memory.trying import Answer, answers_of, growing
 
 from .tools import hold_refused
 
 EARLY = Answer(1, b"", "Error: memory allocation failed\n")
-FRONTS = [b"", b"1 ok\n"]
 WHOLE = Answer(0, b"1 ok\n2 ok\n", "")
+JOB = Job((), 0, WHOLE, (b"", b"1 ok\n"))
 
 
 def told(refused: Optional[str] = None, ending: str = REFUSED) -> Answer:
@@ -41,18 +40,15 @@ class Trying(unittest.TestCase):
         )
         self.assertEqual(
             answers_of(output, errors),
-            {"000": Answer(0, b"a: b\n", ""), "001": Answer(1, b"", "Error: no\n"), "002": Answer(-1, b"", "")},
+            [Answer(0, b"a: b\n", ""), Answer(1, b"", "Error: no\n"), Answer(-1, b"", "")],
         )
 
     def test_the_main_of_the_program_grows_first(self) -> None:
-        source = (CRATES / "vga" / "src" / "main.rt").read_text()
+        source, main = (CRATES / "vga" / "src" / "main.rt").read_text(), "    ExitCode::from(status_of_job(&rt))\n"
         changed = growing(source)
-        self.assertIn("    let _ = grow(&rt);\n    ExitCode::from(status_of_job(&rt))\n", changed)
+        self.assertIn("    let _ = grow(&rt);\n" + main, changed)
         self.assertTrue(changed.startswith(source[:source.index("    ExitCode::from(")]))
-
-    def test_another_main_is_not_changed(self) -> None:
-        twice = 2 * "    ExitCode::from(status_of_job(&rt))\n"
-        hold_refused(self, growing, (("fn main() {}\n", "^main.rt has 0 lines "), (twice, "^main.rt has 2 lines ")))
+        hold_refused(self, growing, (("fn main() {}\n", "^main.rt has 0 lines "), (2 * main, "^main.rt has 2 lines ")))
 
     def test_what_each_job_answers(self) -> None:
         go, asm, refused = jobs().values()
@@ -62,12 +58,6 @@ class Trying(unittest.TestCase):
         self.assertEqual((refused.whole.status, refused.prefixes), (2, (b"",)))
         for job in jobs().values():
             self.assertTrue(set(job.words) & set(FILES), "a job of files that are there")
-
-    def test_the_allocation_that_is_refused_becomes_the_first(self) -> None:
-        job = jobs()["asm"]
-        cases = cases_of(1, job)
-        self.assertEqual([case for case in cases], sorted(cases))
-        self.assertEqual({len(case.given) for case in cases.values()}, set(range(job.first, ALLOCATION)))
 
 
 class Calls(unittest.TestCase):
@@ -98,9 +88,9 @@ class Calls(unittest.TestCase):
 class Program(unittest.TestCase):
     def test_runs_that_are_refused(self) -> None:
         words = IN_WORDS * [fault()]
-        self.assertEqual(judge_program([WHOLE, fault(b"1 ok\n"), fault(), *words], WHOLE, FRONTS), 2 + IN_WORDS)
+        self.assertEqual(judge_program([WHOLE, fault(b"1 ok\n"), fault(), *words], JOB), 2 + IN_WORDS)
         words[3] = WHOLE
-        self.assertEqual(judge_program([WHOLE, fault(b"1 ok\n"), fault(), *words], WHOLE, FRONTS), 1 + IN_WORDS)
+        self.assertEqual(judge_program([WHOLE, fault(b"1 ok\n"), fault(), *words], JOB), 1 + IN_WORDS)
 
     def test_what_is_wrong_is_found(self) -> None:
         behind, before, words = fault(b"1 ok\n"), fault(), IN_WORDS * [fault()]
@@ -118,4 +108,4 @@ class Program(unittest.TestCase):
         }
         for name, answers in wrongs.items():
             with self.subTest(name), self.assertRaises(Wrong):
-                judge_program(answers, WHOLE, FRONTS)
+                judge_program(answers, JOB)

@@ -1,13 +1,16 @@
 """Refuses allocations to the calls of `vga_tests` and to the program `vga`, and tells how many were refused."""
 
 import argparse
+import re
+import shutil
+import tempfile
+from itertools import islice
+from pathlib import Path
 from typing import NamedTuple, Optional, Sequence
 
 from vga_report import TOP, cli
-from vga_report.progress import Progress
+from vga_report.processes import captured, check_program
 from vga_report.trouble import Wrong
-
-from .trying import Answer, Case, growing_program, try_cases
 
 CRATES = TOP / "crates"
 TABLE = CRATES / "vga_suite" / "data" / "examples" / "palette-and-dac-services"
@@ -30,10 +33,42 @@ CALLS = (
 )
 RIGHT, REFUSED, REFUSED_IN_STEP = "as in its example", "out of memory", "out of memory in a step"
 FAULT = "vga: F10 OutOfMemory\n"
-# What is answered before the first call, where an allocation of the words is refused, or one that is made first.
-BEFORE_CALLS = Answer(1, b"", "Error: memory allocation failed\n")
+# What stands before the output of a case, and what behind what it said.
+SECTION = re.compile(rb"^== (\S+)\n", re.M)
+ENDED = re.compile(r"case=(\S+) run=(\S+)(?: status=(\d+))? .*proved=no")
+# Lines that `rt try` itself writes among those of the program.
+OWN_LINES = ("allocations: ", "checked: ", "interpreter: ")
+# The one line of its `main`, what stands before that line in the copy, and the function behind it.
+MAIN = "    ExitCode::from(status_of_job(&rt))\n"
+FIRST = "    let _ = grow(&rt);\n"
+GROW = """
+/// Makes an allocation for each byte of standard input.
+fn grow(rt: &HostRuntime) -> io::Result<()> {
+    let mut room = [0; 256];
+    for _ in 0..std::io::Read::read(&mut rt.stdin(), &mut room)? {
+        let _ = Box::new(rt.alloc(), 0u8)?;
+    }
+    Ok(())
+}
+"""
+# What a try does not read.
+UNREAD = ("out", "data", "proofs", "must-fail")
 # The allocations that reading the words takes, at most. They are a run's first ones, so that the last runs meet them.
 IN_WORDS = 12
+# What a program gets: its standard input, and its words.
+Case = tuple[str, Sequence[str]]
+
+
+class Answer(NamedTuple):
+    """How a case ended: its status, or -1 where it had none, and what it wrote on both outputs."""
+
+    status: int
+    written: bytes
+    said: str
+
+
+# What is answered before the first call, where an allocation of the words is refused, or one that is made first.
+BEFORE_CALLS = Answer(1, b"", "Error: memory allocation failed\n")
 
 
 class Job(NamedTuple):
@@ -58,6 +93,45 @@ def jobs() -> dict[str, Job]:
         "asm": Job(["asm", "path.vga", "/dev/stdout"], 33, Answer(0, PATH_SCRIPT.read_bytes() + ENDING, "")),
         "words that are refused": Job([*go, "x"], 34, Answer(2, b"", REFUSED_WORD)),
     }
+
+
+def answers_of(output: bytes, errors: str) -> list[Answer]:
+    """The answers that stand in both outputs of `rt try`, in the order of its cases."""
+    parts = SECTION.split(output)
+    written = {name.decode(): part for name, part in zip(parts[1::2], parts[2::2])}
+    answers, said = [], ""
+    for line in errors.splitlines(keepends=True):
+        ended = ENDED.match(line)
+        if ended is not None:
+            status = int(ended[3]) if ended[2] == "ended" and ended[3] else -1
+            answers.append(Answer(status, written.get(ended[1], b""), said))
+            said = ""
+        elif not line.startswith(OWN_LINES):
+            said += line
+    return answers
+
+
+def try_cases(crate: Path, cases: Sequence[Case]) -> list[Answer]:
+    """What each case of a crate's program answers, with one allocation refused."""
+    check_program("rt")
+    with tempfile.TemporaryDirectory(prefix="vga-memory-") as name:
+        for number, (given, words) in enumerate(cases):
+            Path(name, f"{number:04}").write_text(given)
+            Path(name, f"{number:04}.args").write_text("".join(f"{word}\n" for word in words))
+        files = [word for file, path in FILES.items() for word in ("--data", f"{file}={path}")]
+        done = captured(["rt", "try", "--fail-alloc", str(ALLOCATION), *files, "--cases", name, "--"], crate)
+    said = done.errors.decode("utf-8", "replace")
+    answers = answers_of(done.output, said)
+    if len(answers) != len(cases):
+        raise Wrong(said[-2000:])
+    return answers
+
+
+def growing(source: str) -> str:
+    """The root file of the program, with the allocations before what its `main` does."""
+    if source.count(MAIN) != 1:
+        raise Wrong(f"main.rt has {source.count(MAIN)} lines {MAIN.strip()!r}, and not one")
+    return source.replace(MAIN, FIRST + MAIN) + GROW
 
 
 def refused_call(answer: Answer) -> Optional[tuple[str, str]]:
@@ -93,61 +167,57 @@ def _expect_in_turn(were_refused: Sequence[bool]) -> None:
         raise Wrong("an allocation was refused, and nothing said so")
 
 
-def _is_refused(place: int, answer: Answer, whole: Answer, prefixes: Sequence[bytes]) -> bool:
-    """Whether a run of the program ended by an allocation failure, after one of these prefixes of its report."""
-    if answer.status == 1 and answer.said == FAULT and answer.written in prefixes:
+def _is_refused(place: int, answer: Answer, job: Job) -> bool:
+    """Whether a run of the program ended by an allocation failure, after one of the prefixes of its report."""
+    if answer.status == 1 and answer.said == FAULT and answer.written in job.prefixes:
         return True
-    if answer != whole:
+    if answer != job.whole:
         raise Wrong(f"run {place}: status {answer.status}, {answer.written!r}, {answer.said!r}")
     return False
 
 
-def judge_program(answers: Sequence[Answer], whole: Answer, prefixes: Sequence[bytes]) -> int:
+def judge_program(answers: Sequence[Answer], job: Job) -> int:
     """How many runs met a refusal. With each run the allocation that was refused stands earlier, up to the first of all.
 
     One may be done without: words are collected with room for all of them at once, or else with less."""
-    were_refused = [_is_refused(place, answer, whole, prefixes) for place, answer in enumerate(answers)]
+    were_refused = [_is_refused(place, answer, job) for place, answer in enumerate(answers)]
     behind_words = max(len(answers) - IN_WORDS, 1)
     _expect_in_turn(were_refused[:behind_words])
     if were_refused[behind_words:].count(False) > 1:
         raise Wrong("an allocation was refused while words were read, and nothing said so")
     written = {answer.written for answer, was_refused in zip(answers, were_refused) if was_refused}
-    if written != set(prefixes):
-        raise Wrong(f"runs ended after {sorted(written)}, and not after each of {sorted(prefixes)}")
+    if written != set(job.prefixes):
+        raise Wrong(f"runs ended after {sorted(written)}, and not after each of {sorted(job.prefixes)}")
     return sum(were_refused)
 
 
-def refuse_calls() -> str:
+def _refuse_calls() -> None:
     """Refuses each allocation of the calls that take memory: those that are made first move the one that is refused."""
-    cases = {f"{first:03}": Case("", ["memory", str(first)]) for first in range(ALLOCATION)}
-    answers = try_cases(CRATES / "vga_tests", ALLOCATION, cases, {})
-    counts = judge_calls([answers[case] for case in sorted(cases)])
-    return "allocations refused: " + ", ".join(f"{call} {count}" for call, count in counts.items())
+    cases = [("", ("memory", str(first))) for first in range(ALLOCATION)]
+    counts = judge_calls(try_cases(CRATES / "vga_tests", cases))
+    print("allocations refused: " + ", ".join(f"{call} {count}" for call, count in counts.items()), flush=True)
 
 
-def cases_of(place: int, job: Job) -> dict[str, Case]:
-    """The runs of the job at this place, each with one more allocation before it, until its first one is refused."""
-    return {f"{place}-{first:03}": Case(first * "x", job.words) for first in range(job.first, ALLOCATION)}
+def _refuse_program() -> None:
+    """Refuses each allocation of the program in each job, from the reading of its first word on.
+
+    It runs a `vga` that makes allocations first, in a copy of the crates.
+    """
+    runs = {name: [(first * "x", job.words) for first in range(job.first, ALLOCATION)] for name, job in jobs().items()}
+    with tempfile.TemporaryDirectory(prefix="vga-memory-") as name:
+        shutil.copy(TOP / "crates.txt", name)
+        shutil.copytree(CRATES, Path(name, "crates"), ignore=shutil.ignore_patterns(*UNREAD))
+        crate = Path(name, "crates", "vga")
+        root = crate / "src" / "main.rt"
+        root.write_text(growing(root.read_text()))
+        answers = iter(try_cases(crate, [case for some in runs.values() for case in some]))
+    counts = {name: judge_program(list(islice(answers, len(runs[name]))), job) for name, job in jobs().items()}
+    print("allocations of vga refused: " + ", ".join(f"{name} {count}" for name, count in counts.items()))
 
 
-def refuse_program() -> str:
-    """Refuses each allocation of the program in each job, from the reading of its first word on."""
-    all_jobs = jobs()
-    runs = {name: cases_of(place, job) for place, (name, job) in enumerate(all_jobs.items())}
-    cases = {case: run for some in runs.values() for case, run in some.items()}
-    with growing_program(TOP) as crate:
-        answers = try_cases(crate, ALLOCATION, cases, FILES)
-    counts = {
-        name: judge_program([answers[case] for case in runs[name]], job.whole, job.prefixes)
-        for name, job in all_jobs.items()
-    }
-    return "allocations of vga refused: " + ", ".join(f"{name} {count}" for name, count in counts.items())
-
-
-def _refuse(_: argparse.Namespace, __: Progress) -> None:
-    """Runs both."""
-    print(refuse_calls(), flush=True)
-    print(refuse_program())
+def _refuse(*_: object) -> None:
+    _refuse_calls()
+    _refuse_program()
 
 
 def _parser() -> argparse.ArgumentParser:
