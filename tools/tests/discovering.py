@@ -15,7 +15,6 @@ from threading import Event
 from typing import Any, Mapping
 
 from vga_report import cli
-from vga_report.output import counted
 from vga_report.processes import Done, captured, in_parallel
 from vga_report.trouble import Trouble
 
