@@ -278,28 +278,17 @@ class Writing(Folder):
         write_file(path, b"new")
         self.assertEqual((self.names(), (self.folder / "a").read_text()), (["a"], "new"))
 
-    def test_a_reader_of_the_old_file_reads_on(self) -> None:
-        path = self.write("a", "old")
-        with open(path, encoding="ascii") as stream:
-            write_file(path, b"new")
-            self.assertEqual(stream.read(), "old")
-
-    def test_rights_stay_and_new_files_have_those_of_new_files(self) -> None:
-        path = self.write("a", "old")
+    def test_what_a_file_has_been_to_others_it_stays(self) -> None:
+        path, link = self.write("a", "old"), self.folder / "link"
+        link.symlink_to("a")
         os.chmod(path, 0o640)
-        write_file(path, b"new")
+        with open(path, encoding="ascii") as stream:
+            write_file(str(link), b"new")
+            self.assertEqual((stream.read(), Path(path).read_text(), link.is_symlink()), ("old", "new", True))
         self.assertEqual(stat.S_IMODE(os.stat(path).st_mode), 0o640)
         write_file(path + "b", b"new")
         (self.folder / "c").touch()
         self.assertEqual(os.stat(path + "b").st_mode, os.stat(self.folder / "c").st_mode)
-
-    def test_a_link_stays_a_link(self) -> None:
-        path, link = self.write("a", "old"), self.folder / "link"
-        link.symlink_to("a")
-        write_file(str(link), b"new")
-        self.assertTrue(link.is_symlink())
-        self.assertEqual((self.folder / "a").read_text(), "new")
-        self.assertEqual(path, str(self.folder / "a"))
 
     def test_a_device_is_written_as_it_is(self) -> None:
         write_file(os.devnull, b"new")
@@ -316,24 +305,26 @@ class Lines(Folder):
             mock.patch("time.monotonic", lambda: self.now),
         )
 
-    def test_short_work_shows_nothing(self) -> None:
-        progress = Progress()
-        self.assertFalse(progress.is_due())
-        progress.clear()
-        self.assertEqual(self.terminal.getvalue(), "")
-
     def test_long_work_shows_one_line_and_clears_it(self) -> None:
         progress = Progress()
-        self.now += DELAY
-        self.assertTrue(progress.is_due())
-        progress.tell("r: 10 %")
-        self.assertFalse(progress.is_due())
-        self.now += DELAY
-        self.assertTrue(progress.is_due())
-        progress.tell("r: 9 %")
+        for tells, line in ((True, "r: 10 %"), (False, ""), (True, "r: 9 %")):
+            self.now += DELAY if tells else 0
+            self.assertEqual(progress.is_due(), tells)
+            if tells:
+                progress.tell(line)
         progress.clear()
         progress.clear()
         self.assertEqual(self.terminal.getvalue(), "\rr: 10 %\rr: 9 % \r      \r")
+
+    def test_short_work_and_no_terminal_show_nothing(self) -> None:
+        with mock.patch("sys.stderr", io.StringIO()):
+            elsewhere = Progress()
+        progress = Progress()
+        self.assertFalse(progress.is_due())
+        progress.clear()
+        self.now += DELAY
+        self.assertFalse(elsewhere.is_due())
+        self.assertEqual(self.terminal.getvalue(), "")
 
     def test_a_line_is_no_longer_than_the_terminal(self) -> None:
         with mock.patch.dict("os.environ", COLUMNS="10"):
@@ -364,12 +355,6 @@ class Lines(Folder):
         with open(reader, "rb") as report:
             _wait_for(report, "s.vga", progress)
         progress.tell.assert_called_once_with("s.vga: no answer yet after 0 seconds")
-
-    def test_no_terminal(self) -> None:
-        with mock.patch("sys.stderr", io.StringIO()):
-            progress = Progress()
-            self.now += DELAY
-            self.assertFalse(progress.is_due())
 
 
 class Running(Folder):
