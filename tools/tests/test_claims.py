@@ -3,7 +3,6 @@
 import re
 import unittest
 from pathlib import Path
-from typing import NamedTuple
 
 from vga_report.cases import read_cases
 from vga_report.words import SUITE
@@ -15,6 +14,9 @@ PROOFS = ROOT / "docs" / "PROOFS.md"
 DECISIONS = ROOT / "docs" / "DECISIONS.md"
 # A number of wrong bodies in a page's words.
 COUNTED = re.compile(r"([\d,]+) wrong bodies|[Ww]rong bodies, ([\d,]+) of them")
+# A wrong body: a file of its crate, and in it texts that stand there once, each with what it becomes.
+PLACE = re.compile(r"\nold: (.*)\nnew: (.*)")
+WRONG_BODY = re.compile(rf"file: (src/[\w/]+\.rt)((?:{PLACE.pattern})+)\n?")
 # The definitions of the plain screen, of its dots and of its report.
 SCREENS = [f"bios_screen/specs/{name}.antt" for name in (
     "Screen", "Step", "Colours", "Loaded", "Called", "Fresh", "Picture", "Drawing")] + [
@@ -23,31 +25,6 @@ SCREENS = [f"bios_screen/specs/{name}.antt" for name in (
 SHARED = re.compile(r"(?m)^use Rattle\.bios_services\.specs\.(?!declared|Service\b|Plan\b)\w+\.\{([^}]*)\}")
 # What the model has from the adapter: the four registers, and the names of refusals.
 NAMES = {"bios_services::Regs", "vga_bits::Refusal"}
-
-
-class Edit(NamedTuple):
-    """One place of a wrong body: a file of its crate, the text that stands there once, and what it becomes."""
-
-    file: str
-    old: str
-    new: str
-
-
-def edits_of(text: str) -> list[Edit]:
-    """The places that the lines of an edit turn, in order."""
-    edits: list[Edit] = []
-    file, old = "", ""
-    for line in text.splitlines():
-        word, _, rest = line.partition(": ")
-        if word == "file":
-            file = rest
-        elif word == "old":
-            old = rest
-        elif word in ("new", "new:"):
-            edits.append(Edit(file, old, rest))
-        else:
-            raise ValueError(f"no line of an edit: {line}")
-    return edits
 
 
 def wrong_bodies() -> list[Path]:
@@ -61,17 +38,14 @@ class WrongBodies(unittest.TestCase):
     def test_each_turns_code_that_stands_once(self) -> None:
         for path in wrong_bodies():
             with self.subTest(path.relative_to(ROOT)):
-                crate = path.parents[1]
-                texts: dict[str, str] = {}
-                edits = edits_of(path.read_text())
-                self.assertTrue(edits)
-                for edit in edits:
-                    self.assertRegex(edit.file, r"^src/[\w/]+\.rt$")
-                    text = texts.get(edit.file) or (crate / edit.file).read_text()
-                    self.assertEqual(text.count(edit.old), 1, edit.old)
-                    self.assertNotRegex(edit.old, r"\b(ensures|requires|ghost)\b")
-                    self.assertNotEqual(edit.old, edit.new)
-                    texts[edit.file] = text.replace(edit.old, edit.new)
+                found = WRONG_BODY.fullmatch(path.read_text())
+                assert found is not None
+                text = (path.parents[1] / found[1]).read_text()
+                for old, new in PLACE.findall(found[2]):
+                    self.assertEqual(text.count(old), 1, old)
+                    self.assertNotRegex(old, r"\b(ensures|requires|ghost)\b")
+                    self.assertNotEqual(old, new)
+                    text = text.replace(old, new)
 
     def test_pages_count_them(self) -> None:
         pages = [*ROOT.glob("*.md"), *(ROOT / "docs").glob("*.md"), ROOT / "tools" / "README.md"]
