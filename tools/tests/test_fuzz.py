@@ -10,7 +10,7 @@ from random import Random
 from unittest import mock
 
 from vga_fuzz import command
-from vga_fuzz.feeding import Limits, Outcome, Program, Wrong, meant_by, trouble_of
+from vga_fuzz.feeding import Limits, Outcome, Program, Wrong, check, meant_by
 from vga_fuzz.making import Input, block, make, spelled, step
 from zaklimot.format import (
     FORMS, HEADERS, MAGIC, MOST_COUNT, Block, Script, Step, decode, encode, encoded, parse_text, print_text,
@@ -31,14 +31,14 @@ else:
 """
 # What a program may do wrong in its place, and what is said of it.
 WRONGS = {
-    "sys.exit(3)": "status 3: ''",
-    "sys.exit(2)": "its words are refused: ''",
-    "os.kill(os.getpid(), signal.SIGSEGV)": "signal 11 has ended it",
+    "sys.exit(3)": "status 3, and it says ''",
+    "sys.exit(2)": "status 2, and it says ''",
+    "os.kill(os.getpid(), signal.SIGSEGV)": "signal 11 has ended it, and it says ''",
     "time.sleep(600)": "it has not ended in time",
     "sys.exit('vga: F11 TooMany(5)')": "answers F11 TooMany(5), and not done",
-    "sys.exit('vga: F12 TooMuch')": "status 1, and no fault: 'vga: F12 TooMuch\\n'",
-    "sys.exit('vga: F4 BadStep')": "status 1, and no fault: 'vga: F4 BadStep\\n'",
-    "sys.exit('vga: F2 BadMagic(4)')": "status 1, and no fault: 'vga: F2 BadMagic(4)\\n'",
+    "sys.exit('vga: F12 TooMuch')": "status 1, and it says 'vga: F12 TooMuch\\n'",
+    "sys.exit('vga: F4 BadStep')": "status 1, and it says 'vga: F4 BadStep\\n'",
+    "sys.exit('vga: F2 BadMagic(4)')": "status 1, and it says 'vga: F2 BadMagic(4)\\n'",
     "sys.exit('vga: F9 WriteFault')": "F9 WriteFault, and each write was taken",
     "print('1 55'); sys.stdout.flush(); sys.exit('vga: F3 BadVersion')": "5 bytes are written before F3 BadVersion",
     "sys.stdout.write('1 55\\n2 o'); sys.stdout.flush(); sys.exit('vga: F10 OutOfMemory')":
@@ -125,9 +125,11 @@ class Fuzzing(Folder):
             self.assertEqual(self.fed(given, self.program_that(wrong)), trouble)
 
     def test_want_of_memory_behind_whole_lines(self) -> None:
-        for written, trouble in ((b"", None), (b"1 55\n", None), (b"1 55", "report:1: the report ends within a line")):
-            outcome = Outcome(1, written, b"vga: F10 OutOfMemory\n", False)
-            self.assertEqual(trouble_of(outcome, Script((Step("in", (0x3DA,)),))), trouble)
+        script = Script((Step("in", (0x3DA,)),))
+        for written in (b"", b"1 55\n"):
+            check(Outcome(1, written, "vga: F10 OutOfMemory\n"), script)
+        with self.assertRaisesRegex(Wrong, "^report:1: the report ends within a line$"):
+            check(Outcome(1, b"1 55", "vga: F10 OutOfMemory\n"), script)
 
     def run_command(self, *words: str) -> tuple[int, list[str], str]:
         """Exit status, lines and what is said of the command."""
@@ -150,7 +152,7 @@ class Fuzzing(Folder):
         keep = self.folder / "kept"
         status, lines, _ = self.run_command(self.program_that("sys.exit(3)"), "--keep", str(keep))
         self.assertEqual((status, lines[-2]), (1, "4 with something wrong"))
-        self.assertRegex(lines[0], r"^input 1 \([a-z, ]+\): vga (run|go): status 3: ''$")
+        self.assertRegex(lines[0], r"^input 1 \([a-z, ]+\): vga (run|go): status 3, and it says ''$")
         self.assertEqual(sorted(file.stem for file in keep.iterdir()), ["1", "2", "3", "4"])
         before = {file: file.read_bytes() for file in keep.iterdir()}
         done = call(command.main, self.program_that("sys.exit(3)"), "--seed", "2", "--keep", keep)

@@ -1,5 +1,7 @@
 """Feeds the program with one input, in each way that it takes one, within limits; and what is wrong with its end."""
 
+from __future__ import annotations
+
 import io
 import resource
 import subprocess
@@ -13,11 +15,14 @@ from zaklimot.format import LINE, Script, ScriptFault, decode, is_answer_to, par
 
 from .making import Input
 
-DONE, FAULTY, WORDS = 0, 1, 2
-DONE_ANSWER = "done"
+DONE = "done"
 WRITE_FAULT, OUT_OF_MEMORY = "F9 WriteFault", "F10 OutOfMemory"
 # So much of what a program says on standard error is read.
 MOST_SAID = 4096
+
+
+class Wrong(Exception):
+    """Something was wrong with a run."""
 
 
 class Limits(NamedTuple):
@@ -33,76 +38,62 @@ class Outcome(NamedTuple):
 
     status: Optional[int]
     report: bytes
-    said: bytes
-    is_report_full: bool
+    said: str
+    is_report_full: bool = False
 
-
-def answer_of(outcome: Outcome) -> str:
-    """The fault that ended a run, or `done`. The run must be one that `trouble_of` finds nothing wrong with."""
-    return DONE_ANSWER if outcome.status == DONE else outcome.said.decode("ascii")[len("vga: "):-1]
-
-
-def _shown(data: bytes) -> str:
-    """What a program said, for messages."""
-    return repr(data[:100].decode("ascii", "backslashreplace"))
-
-
-def _trouble_of_report(report: bytes, script: Script, is_whole: bool) -> Optional[str]:
-    """Why some bytes are no report of a script, or not the whole lines of one's front."""
-    stream = io.BufferedReader(io.BytesIO(report))  # type: ignore[arg-type]
-    meant = script.steps()
-    try:
-        for answered in Report(stream, "report").steps():
-            if answered.number == 0:
-                return "a fault stands on standard output"
-            step = next(meant, None)
-            if step is None:
-                return f"step {answered.number} is answered, and the script has none"
-            if not is_answer_to(step, answered):
-                return f"step {answered.number}, {step.name}, answers {answered.answer[:60]!r}"
-    except Trouble as trouble:
-        return str(trouble)
-    return "the report ends before the script" if is_whole and next(meant, None) else None
+    @property
+    def answer(self) -> str:
+        """`done`, or the fault that ended the run; a Wrong where it has ended otherwise."""
+        line = LINE.fullmatch(self.said)
+        if self.status == 0 and not self.said:
+            return DONE
+        if self.status == 1 and line is not None:
+            return line[1]
+        if self.status is None:
+            raise Wrong("it has not ended in time")
+        ended = f"signal {-self.status} has ended it" if self.status < 0 else f"status {self.status}"
+        raise Wrong(f"{ended}, and it says {self.said[:100]!r}")
 
 
 def meant_by(read: Callable[[bytes], Script], data: bytes) -> tuple[str, Script]:
     """What the program is to answer to bytes or a text that are read so, a fault or `done`; and the script that they are."""
     try:
-        return DONE_ANSWER, read(data)
+        return DONE, read(data)
     except ScriptFault as fault:
         return fault.answer, Script()
 
 
-def trouble_of(outcome: Outcome, script: Optional[Script]) -> Optional[str]:
-    """What is wrong with a run, if anything is. What it writes is the report of a script, or has no form here."""
-    if outcome.status is None:
-        return "it has not ended in time"
-    if outcome.status < 0:
-        return f"signal {-outcome.status} has ended it"
-    if outcome.status == WORDS:
-        return f"its words are refused: {_shown(outcome.said)}"
-    if outcome.status not in (DONE, FAULTY):
-        return f"status {outcome.status}: {_shown(outcome.said)}"
-    if outcome.status == DONE:
-        if outcome.said:
-            return f"status 0, and it says {_shown(outcome.said)}"
-        return None if script is None else _trouble_of_report(outcome.report, script, is_whole=True)
-    return _trouble_of_fault(outcome, script)
+def _check_report(report: bytes, script: Script, is_whole: bool) -> None:
+    """A Wrong where some bytes are no report of a script, or not the whole lines of one's front."""
+    meant = script.steps()
+    try:
+        for answered in Report(io.BufferedReader(io.BytesIO(report)), "report").steps():  # type: ignore[arg-type]
+            if answered.number == 0:
+                raise Wrong("a fault stands on standard output")
+            step = next(meant, None)
+            if step is None:
+                raise Wrong(f"step {answered.number} is answered, and the script has none")
+            if not is_answer_to(step, answered):
+                raise Wrong(f"step {answered.number}, {step.name}, answers {answered.answer[:60]!r}")
+    except Trouble as trouble:
+        raise Wrong(str(trouble)) from trouble
+    if is_whole and next(meant, None):
+        raise Wrong("the report ends before the script")
 
 
-def _trouble_of_fault(outcome: Outcome, script: Optional[Script]) -> Optional[str]:
-    """What is wrong with a run that ended with status 1."""
-    line = LINE.fullmatch(outcome.said.decode("ascii", "backslashreplace"))
-    if line is None:
-        return f"status 1, and no fault: {_shown(outcome.said)}"
-    if line[1] == WRITE_FAULT:
-        return None if outcome.is_report_full else "F9 WriteFault, and each write was taken"
-    if line[1] == OUT_OF_MEMORY and script is not None:
-        return _trouble_of_report(outcome.report, script, is_whole=False)
-    return f"{len(outcome.report)} bytes are written before {line[1]}" if outcome.report else None
+def check(outcome: Outcome, script: Optional[Script]) -> None:
+    """A Wrong where something is wrong with a run. What it writes is the report of a script, or has no form here."""
+    answer = outcome.answer
+    if answer == WRITE_FAULT:
+        if not outcome.is_report_full:
+            raise Wrong(f"{answer}, and each write was taken")
+    elif script is not None and answer in (DONE, OUT_OF_MEMORY):
+        _check_report(outcome.report, script, is_whole=answer == DONE)
+    elif answer != DONE and outcome.report:
+        raise Wrong(f"{len(outcome.report)} bytes are written before {answer}")
 
 
-def run(words: Sequence[str], folder: Path, limits: Limits) -> Outcome:
+def run(words: Sequence[str | Path], folder: Path, limits: Limits) -> Outcome:
     """Runs a program. A write past the limit of output fails, as one on a full disk does."""
     report, said = folder / "report", folder / "said"
     most = {resource.RLIMIT_CORE: 0, resource.RLIMIT_AS: limits.memory, resource.RLIMIT_FSIZE: limits.output}
@@ -119,13 +110,9 @@ def run(words: Sequence[str], folder: Path, limits: Limits) -> Outcome:
             except subprocess.TimeoutExpired:
                 status = None
     with open(said, "rb") as stream:
-        message = stream.read(MOST_SAID)
+        message = stream.read(MOST_SAID).decode("ascii", "backslashreplace")
     data = report.read_bytes()
     return Outcome(status, data, message, len(data) >= limits.output)
-
-
-class Wrong(Exception):
-    """Something was wrong with a run."""
 
 
 class Program:
@@ -138,78 +125,70 @@ class Program:
         self._limits = limits
 
     def feed(self, given: Input) -> str:
-        """The answer of an input's run, with which all is done that there is to do besides; a Wrong if one is wrong."""
-        file = self._folder / "input"
-        file.write_bytes(given.data)
-        return (self._feed_text if given.is_text else self._feed_script)(str(file), given.data)
+        """The answer of an input's run, a Wrong if anything is wrong.
+
+        A text answers what its script does, and a script what its printed text does, which spells it again.
+        """
+        file, first = self._file("input", given.data), "go" if given.is_text else "run"
+        wanted, meant = meant_by(parse_text if given.is_text else decode, given.data)
+        ran = self._ran(first, file, wanted, meant)
+        if given.is_text:
+            script = self._folder / "script"
+            made = self._done("asm", file, script)
+            if made.answer != DONE:
+                _agree(first, ran, "asm", made)
+                return ran.answer
+            if meant_by(decode, script.read_bytes())[1] != meant:
+                raise Wrong("vga asm: the script has other steps than the text")
+            _agree(first, ran, "run", self._ran("run", script, wanted, meant))
+            file = self._file("input", script.read_bytes())
+        printed = self._done("dis", file)
+        if printed.answer != DONE:
+            _agree(first, ran, "dis", printed)
+            return ran.answer
+        if self.assembled(printed.report) != file.read_bytes():
+            raise Wrong("vga asm: what vga dis prints spells another script")
+        again = self._ran("go", self._file("printed", printed.report), DONE, meant)
+        _agree(first, ran, "go of what vga dis prints", again)
+        return ran.answer
 
     def assembled(self, text: bytes) -> Optional[bytes]:
         """The script of a text, if it is one."""
-        file, script = self._folder / "text", self._folder / "script"
-        file.write_bytes(text)
-        outcome = self._done("asm", str(file), str(script))
-        if outcome.status != DONE:
+        script = self._folder / "script"
+        script.unlink(missing_ok=True)
+        if self._done("asm", self._file("text", text), script).answer != DONE:
             return None
         if not script.exists():
             raise Wrong("vga asm: status 0, and it has written no script")
-        made = script.read_bytes()
-        script.unlink()
-        return made
+        return script.read_bytes()
 
-    def _done(self, command: str, *words: str, script: Optional[Script] = None) -> Outcome:
+    def _file(self, name: str, data: bytes) -> Path:
+        """A file of the folder with these bytes."""
+        path = self._folder / name
+        path.write_bytes(data)
+        return path
+
+    def _done(self, command: str, *words: str | Path, script: Optional[Script] = None) -> Outcome:
         """How a command ended, where nothing is wrong with it. What it writes is the report of a script, if one is given."""
         outcome = run([self.path, command, *words], self._folder, self._limits)
-        trouble = trouble_of(outcome, script)
-        if trouble is not None:
-            raise Wrong(f"vga {command}: {trouble}")
+        try:
+            check(outcome, script)
+        except Wrong as wrong:
+            raise Wrong(f"vga {command}: {wrong}") from wrong
         return outcome
 
-    def _ran(self, command: str, file: str, wanted: str, meant: Script) -> Outcome:
+    def _ran(self, command: str, file: Path, wanted: str, meant: Script) -> Outcome:
         """How a script is run: twice, with the same answers, which are to end as it is wanted."""
         once, again = (self._done(command, file, "--fonts", self._fonts, script=meant) for _ in range(2))
         _agree(command, once, f"{command} once more", again)
-        if answer_of(once) not in (wanted, WRITE_FAULT, OUT_OF_MEMORY):
-            raise Wrong(f"vga {command} answers {answer_of(once)}, and not {wanted}")
+        if once.answer not in (wanted, WRITE_FAULT, OUT_OF_MEMORY):
+            raise Wrong(f"vga {command} answers {once.answer}, and not {wanted}")
         return once
-
-    def _feed_text(self, text: str, data: bytes) -> str:
-        """Runs a text, and its script: they answer the same."""
-        script = str(self._folder / "script")
-        wanted, meant = meant_by(parse_text, data)
-        ran = self._ran("go", text, wanted, meant)
-        made = self._done("asm", text, script)
-        if made.status != DONE:
-            _agree("go", ran, "asm", made)
-            return answer_of(ran)
-        if meant_by(decode, Path(script).read_bytes())[1] != meant:
-            raise Wrong("vga asm: the script has other steps than the text")
-        _agree("go", ran, "run", self._ran("run", script, wanted, meant))
-        self._print_again(script, Path(script).read_bytes(), ran, meant)
-        return answer_of(ran)
-
-    def _feed_script(self, script: str, data: bytes) -> str:
-        """Runs a script, and prints it: the printed text spells it again, and answers the same."""
-        wanted, meant = meant_by(decode, data)
-        ran = self._ran("run", script, wanted, meant)
-        self._print_again(script, data, ran, meant)
-        return answer_of(ran)
-
-    def _print_again(self, script: str, data: bytes, ran: Outcome, meant: Script) -> None:
-        """Prints a script: the printed text spells it again, and answers as the script did."""
-        printed = self._done("dis", script)
-        if printed.status != DONE:
-            _agree("run", ran, "dis", printed)
-            return
-        if self.assembled(printed.report) != data:
-            raise Wrong("vga asm: what vga dis prints spells another script")
-        text = self._folder / "text"
-        text.write_bytes(printed.report)
-        _agree("run", ran, "go of what vga dis prints", self._ran("go", str(text), DONE_ANSWER, meant))
 
 
 def _agree(first: str, one: Outcome, second: str, other: Outcome) -> None:
     """Two runs of the same script answer the same. Want of memory or of room may stop one before the other."""
-    answers = answer_of(one), answer_of(other)
+    answers = one.answer, other.answer
     if {WRITE_FAULT, OUT_OF_MEMORY} & set(answers):
         return
     if answers[0] != answers[1]:
