@@ -4,9 +4,10 @@ import argparse
 import re
 import shutil
 import tempfile
-from itertools import islice
+from functools import partial
+from itertools import groupby, islice
 from pathlib import Path
-from typing import NamedTuple, Optional, Sequence
+from typing import Iterable, NamedTuple, Sequence
 
 from vga_report import TOP, cli
 from vga_report.processes import captured, check_program
@@ -19,8 +20,6 @@ PATH_TEXT, PATH_SCRIPT = (TOP / "examples" / name for name in ("first-path.vga",
 FILES = {"table.vga": TABLE.with_suffix(".vga"), "path.vga": PATH_TEXT, "z.fnt": TOP / "fonts" / "zaklimot.fnt"}
 # The number of the allocation that is refused, above those that a run has by itself.
 ALLOCATION = 110
-# The steps of the table's text before the one that takes memory.
-STEPS_BEFORE = 6
 REFUSED_WORD = (
     "error: unexpected argument 'x' found\n\nUsage: vga go <TEXT> --fonts <FILE> [--until <N>]\n\n"
     "For more information, try '--help'.\n"
@@ -31,8 +30,7 @@ CALLS = (
     "Bytes::copy", "Bytes::zeros", "Planes::new", "Card::new", "Fonts::from_bytes", "Screen::read",
     "decode", "encode", "assemble", "print", "run",
 )
-RIGHT, REFUSED, REFUSED_IN_STEP = "as in its example", "out of memory", "out of memory in a step"
-FAULT = "vga: F10 OutOfMemory\n"
+RIGHT, FAULT = ": as in its example", "vga: F10 OutOfMemory\n"
 # What stands before the output of a case, and what behind what it said.
 SECTION = re.compile(rb"^== (\S+)\n", re.M)
 ENDED = re.compile(r"case=(\S+) run=(\S+)(?: status=(\d+))? .*proved=no")
@@ -53,8 +51,6 @@ fn grow(rt: &HostRuntime) -> io::Result<()> {
 """
 # What a try does not read.
 UNREAD = ("out", "data", "proofs", "must-fail")
-# The allocations that reading the words takes, at most. They are a run's first ones, so that the last runs meet them.
-IN_WORDS = 12
 # What a program gets: its standard input, and its words.
 Case = tuple[str, Sequence[str]]
 
@@ -72,27 +68,68 @@ BEFORE_CALLS = Answer(1, b"", "Error: memory allocation failed\n")
 
 
 class Job(NamedTuple):
-    """A job of the program: its words, how many allocations its first run makes before it, what it answers, and prefixes.
-
-    The first run makes so many that no allocation of the job is refused. A run that meets a refusal may have written one
-    of the prefixes of its report."""
+    """A job of the program: its words, how many allocations its first run makes before it, and what it answers."""
 
     words: Sequence[str]
     first: int
     whole: Answer
-    prefixes: Sequence[bytes] = (b"",)
 
 
 def jobs() -> dict[str, Job]:
     """The jobs by their names: two that are done, and one that is none."""
-    report = TABLE.with_suffix(".txt").read_bytes()
-    prefix = b"".join(report.splitlines(keepends=True)[:STEPS_BEFORE])
-    go = ["go", "table.vga", "--fonts", "z.fnt"]
+    report, go = TABLE.with_suffix(".txt").read_bytes(), ["go", "table.vga", "--fonts", "z.fnt"]
     return {
-        "go": Job(go, 17, Answer(0, report, ""), (b"", prefix)),
+        "go": Job(go, 17, Answer(0, report, "")),
         "asm": Job(["asm", "path.vga", "/dev/stdout"], 33, Answer(0, PATH_SCRIPT.read_bytes() + ENDING, "")),
         "words that are refused": Job([*go, "x"], 34, Answer(2, b"", REFUSED_WORD)),
     }
+
+
+# How the runs of the calls and of each job end, so many alike one after the other. With each run the allocation that is
+# refused stands earlier: none at first, in the end those of the words. One of these may be done without, since words are
+# collected with room for all of them at once, or else with less.
+ENDINGS: dict[str, list[tuple[str, int]]] = {
+    "the calls": [
+        ("each as in its example", 22), ("run: out of memory in a step", 2), ("run: out of memory", 21),
+        ("print: out of memory", 3), ("assemble: out of memory", 3), ("encode: out of memory", 2),
+        ("decode: out of memory", 1), ("Screen::read: out of memory", 34), ("Fonts::from_bytes: out of memory", 8),
+        ("Card::new: out of memory", 3), ("Planes::new: out of memory", 1), ("Bytes::zeros: out of memory", 2),
+        ("Bytes::copy: out of memory", 2), ("before the calls", 6),
+    ],
+    "go": [
+        ("done", 1), ("refused behind 6 lines", 2), ("refused behind 0 lines", 81), ("done", 1), ("refused behind 0 lines", 8),
+    ],
+    "asm": [("done", 4), ("refused behind 0 lines", 66), ("done", 1), ("refused behind 0 lines", 6)],
+    "words that are refused": [("done", 2), ("refused behind 0 lines", 64), ("done", 1), ("refused behind 0 lines", 9)],
+}
+
+
+def calls_ending(answer: Answer) -> str:
+    """How the calls end: the line of the one that does not answer as in its example, if there is one."""
+    lines = answer.written.decode("utf-8", "replace").splitlines()
+    if answer == BEFORE_CALLS:
+        return "before the calls"
+    if answer.status or [line.partition(": ")[0] for line in lines] != list(CALLS):
+        return repr(answer)
+    return ", ".join(line for line in lines if not line.endswith(RIGHT)) or "each as in its example"
+
+
+def job_ending(job: Job, answer: Answer) -> str:
+    """How a job ends: done, or with an allocation failure behind so many whole lines of what it writes."""
+    lines = answer.written.splitlines(keepends=True)
+    is_front = lines == job.whole.written.splitlines(keepends=True)[:len(lines)]
+    if answer == job.whole:
+        return "done"
+    return f"refused behind {len(lines)} lines" if is_front and (answer.status, answer.said) == (1, FAULT) else repr(answer)
+
+
+def judge(name: str, endings: Iterable[str]) -> None:
+    """Tells how runs end, one after the other; a Wrong where it is otherwise than it was."""
+    found = [(ending, len(list(alike))) for ending, alike in groupby(endings)]
+    told = f"{name}: " + ", ".join(f"{count} {ending}" for ending, count in found)
+    if found != ENDINGS[name]:
+        raise Wrong(f"{told}\nand not {', '.join(f'{count} {ending}' for ending, count in ENDINGS[name])}")
+    print(told, flush=True)
 
 
 def answers_of(output: bytes, errors: str) -> list[Answer]:
@@ -134,68 +171,10 @@ def growing(source: str) -> str:
     return source.replace(MAIN, FIRST + MAIN) + GROW
 
 
-def refused_call(answer: Answer) -> Optional[tuple[str, str]]:
-    """The call that answered an allocation failure, and how; None where each answered as in its example."""
-    lines = [line.split(": ") for line in answer.written.decode().splitlines()]
-    if answer.status != 0 or [line[0] for line in lines] != list(CALLS):
-        raise Wrong(f"not each call answered: status {answer.status}, {answer.written!r}, {answer.said!r}")
-    others = [(call, ending) for call, ending in lines if ending != RIGHT]
-    if len(others) > 1 or any(ending not in (REFUSED, REFUSED_IN_STEP) for _, ending in others):
-        raise Wrong(f"these did not answer as they should: {others}")
-    return others[0] if others else None
-
-
-def judge_calls(answers: Sequence[Answer]) -> dict[str, int]:
-    """How many allocations each call was refused. With each answer the allocation that was refused stands earlier."""
-    refused = [refused_call(answer) for answer in answers if answer != BEFORE_CALLS]
-    _expect_in_turn([found is not None for found in refused])
-    met = [found for found in refused if found is not None]
-    places = [CALLS.index(call) for call, _ in met]
-    if places != sorted(places, reverse=True) or set(places) != set(range(len(CALLS))):
-        raise Wrong(f"not each call was refused in its turn: {[call for call, _ in met]}")
-    for ending in (REFUSED, REFUSED_IN_STEP):
-        if ("run", ending) not in met:
-            raise Wrong(f"no run ended so: {ending}")
-    return {call: places.count(place) for place, call in enumerate(CALLS)}
-
-
-def _expect_in_turn(were_refused: Sequence[bool]) -> None:
-    """First no allocation was refused, since there are not so many, and then each was."""
-    if not were_refused or were_refused[0]:
-        raise Wrong("no answer met no refusal: the number of the allocation that is refused is too low")
-    if list(were_refused) != sorted(were_refused):
-        raise Wrong("an allocation was refused, and nothing said so")
-
-
-def _is_refused(place: int, answer: Answer, job: Job) -> bool:
-    """Whether a run of the program ended by an allocation failure, after one of the prefixes of its report."""
-    if answer.status == 1 and answer.said == FAULT and answer.written in job.prefixes:
-        return True
-    if answer != job.whole:
-        raise Wrong(f"run {place}: status {answer.status}, {answer.written!r}, {answer.said!r}")
-    return False
-
-
-def judge_program(answers: Sequence[Answer], job: Job) -> int:
-    """How many runs met a refusal. With each run the allocation that was refused stands earlier, up to the first of all.
-
-    One may be done without: words are collected with room for all of them at once, or else with less."""
-    were_refused = [_is_refused(place, answer, job) for place, answer in enumerate(answers)]
-    behind_words = max(len(answers) - IN_WORDS, 1)
-    _expect_in_turn(were_refused[:behind_words])
-    if were_refused[behind_words:].count(False) > 1:
-        raise Wrong("an allocation was refused while words were read, and nothing said so")
-    written = {answer.written for answer, was_refused in zip(answers, were_refused) if was_refused}
-    if written != set(job.prefixes):
-        raise Wrong(f"runs ended after {sorted(written)}, and not after each of {sorted(job.prefixes)}")
-    return sum(were_refused)
-
-
 def _refuse_calls() -> None:
     """Refuses each allocation of the calls that take memory: those that are made first move the one that is refused."""
     cases = [("", ("memory", str(first))) for first in range(ALLOCATION)]
-    counts = judge_calls(try_cases(CRATES / "vga_tests", cases))
-    print("allocations refused: " + ", ".join(f"{call} {count}" for call, count in counts.items()), flush=True)
+    judge("the calls", map(calls_ending, try_cases(CRATES / "vga_tests", cases)))
 
 
 def _refuse_program() -> None:
@@ -211,8 +190,8 @@ def _refuse_program() -> None:
         root = crate / "src" / "main.rt"
         root.write_text(growing(root.read_text()))
         answers = iter(try_cases(crate, [case for some in runs.values() for case in some]))
-    counts = {name: judge_program(list(islice(answers, len(runs[name]))), job) for name, job in jobs().items()}
-    print("allocations of vga refused: " + ", ".join(f"{name} {count}" for name, count in counts.items()))
+    for name, job in jobs().items():
+        judge(name, map(partial(job_ending, job), islice(answers, len(runs[name]))))
 
 
 def _refuse(*_: object) -> None:
