@@ -1,4 +1,4 @@
-"""The links of the pages: each leads to a file that is there, and to a heading or an anchor in it; and the tutorial."""
+"""The pages: their links and commands, the tutorial as its files, and what they say of the sources."""
 
 from __future__ import annotations
 
@@ -14,10 +14,12 @@ from unittest import mock
 
 from page_tests import scripts
 from vga_page.page import examples
+from vga_report.cases import read_cases
 from vga_report.program import FONTS
+from vga_report.words import SUITE
 from zaklimot import Script, format
 
-from .tools import EXAMPLES, TOP, Folder, ended, png_chunks, run_program, run_tool, want_program
+from .tools import EXAMPLES, TOOLS, TOP, Folder, ended, png_chunks, run_program, run_tool, want_program
 
 # A link or a picture: what stands between its round brackets, without a title.
 LINK = re.compile(r"\]\(([^()\s]+)\)")
@@ -43,6 +45,19 @@ MAKING = re.compile(
 )
 # The page stays small.
 MOST_BYTES, MOST_MOVING_BYTES, MOST_LINES, MOST_COLUMNS = 40_000, 100_000, 250, 100
+# A number of wrong bodies in a page's words.
+COUNTED = re.compile(r"([\d,]+) wrong bodies|[Ww]rong bodies, ([\d,]+) of them")
+# A wrong body: a file of its crate, and in it texts that stand there once, each with what it becomes.
+PLACE = re.compile(r"\nold: (.*)\nnew: (.*)")
+WRONG_BODY = re.compile(rf"file: (src/[\w/]+\.rt)((?:{PLACE.pattern})+)\n?")
+# The definitions of the plain screen, of its dots and of its report.
+SCREENS = [f"bios_screen/specs/{name}.antt" for name in (
+    "Screen", "Step", "Colours", "Loaded", "Called", "Fresh", "Picture", "Drawing")] + [
+    f"vga_run/specs/{name}.antt" for name in ("ScreenReport", "DotReport")]
+# What such a file has from the definitions of services. Their plans are compared with, and not shared.
+SHARED = re.compile(r"(?m)^use Rattle\.bios_services\.specs\.(?!declared|Service\b|Plan\b)\w+\.\{([^}]*)\}")
+# What the model has from the adapter: the four registers, and the names of refusals.
+NAMES = {"bios_services::Regs", "vga_bits::Refusal"}
 
 
 def prose(text: str) -> Iterator[str]:
@@ -317,3 +332,105 @@ class Pictures(Folder):
         status, output, said = run_tool("vga-report", "pictures", *words, given=report)
         self.assertEqual(status, 0, said)
         return path.read_bytes() if moves else output
+
+
+def wrong_bodies() -> list[Path]:
+    """The edits of all crates that the prover must refuse."""
+    return sorted((TOP / "crates").glob("*/must-fail/*.edit"))
+
+
+class WrongBodies(unittest.TestCase):
+    """Each edit turns code, and they are as many as the pages say."""
+
+    def test_each_turns_code_that_stands_once(self) -> None:
+        for path in wrong_bodies():
+            with self.subTest(path.relative_to(TOP)):
+                found = WRONG_BODY.fullmatch(path.read_text())
+                assert found is not None
+                text = (path.parents[1] / found[1]).read_text()
+                for old, new in PLACE.findall(found[2]):
+                    self.assertEqual(text.count(old), 1, old)
+                    self.assertNotRegex(old, r"\b(ensures|requires|ghost)\b")
+                    self.assertNotEqual(old, new)
+                    text = text.replace(old, new)
+
+    def test_pages_count_them(self) -> None:
+        pages = [*TOP.glob("*.md"), *(TOP / "docs").glob("*.md"), TOP / "tools" / "README.md"]
+        told = {page.name: COUNTED.findall(page.read_text()) for page in pages}
+        self.assertEqual(len(told["PROOFS.md"]), 2)
+        for name, counts in told.items():
+            for count in counts:
+                self.assertEqual(int("".join(count).replace(",", "")), len(wrong_bodies()), name)
+
+
+class Cases(unittest.TestCase):
+    """The suite has as many cases as the pages say."""
+
+    # The pages that tell the number of all cases, and how often each does.
+    TOLD = {"README.md": 1, "docs/PROOFS.md": 2, "docs/PAGE.md": 1, "docs/LIBRARY.md": 3}
+
+    def test_pages_count_them(self) -> None:
+        count = len(read_cases(str(SUITE)))
+        for name, times in self.TOLD.items():
+            with self.subTest(name):
+                told = re.findall(r"\b(\d{3,})\s+cases\b", (TOP / name).read_text("utf-8"))
+                self.assertEqual(told, [str(count)] * times)
+
+    def test_a_page_tells_of_each_folder(self) -> None:
+        page = (TOP / "docs" / "SUITE.md").read_text("utf-8").partition("## What the folders hold")[2]
+        folders = {case.name.partition("/")[0] for case in read_cases(str(SUITE))}
+        self.assertEqual(sorted(folder for folder in folders if f"`{folder}/`" not in page.partition("\n## ")[0]), [])
+
+
+class Lines(unittest.TestCase):
+    """The tools stay as small as CONTRIBUTING says."""
+
+    def test_a_page_bounds_them(self) -> None:
+        page = (TOP / "CONTRIBUTING.md").read_text("utf-8")
+        (most,) = re.findall(r"at\s+most ([\d,]+)\s+lines of Python", page)
+        lines = sum(path.read_bytes().count(b"\n") for path in TOOLS.rglob("*.py"))
+        self.assertLessEqual(lines, int(most.replace(",", "")))
+
+
+class Model(unittest.TestCase):
+    """The slow model of the plain screen has definitions of its own, and the page names what laws share."""
+
+    def test_it_shares_no_definition(self) -> None:
+        lines = [line for line in (TOP / "crates.txt").read_text().splitlines() if ":" in line]
+        crates = "|".join(line.partition(":")[0].split()[0] for line in lines if not line.startswith("#"))
+        paths = sorted((TOP / "crates" / "vga_models" / "src").glob("plain_*.rt"))
+        self.assertGreater(len(paths), 10)
+        for path in paths:
+            text = path.read_text()
+            with self.subTest(path.name):
+                self.assertLessEqual(set(re.findall(rf"\b(?:{crates})::[\w{{*]+", text)), NAMES)
+                self.assertLessEqual(set(re.findall(r"\bRattle\.(\w+)", text)), {"std"})
+
+    def test_words_that_screens_share_with_plans_are_named(self) -> None:
+        texts = [(TOP / "crates" / name).read_text() for name in SCREENS]
+        found = [names for text in texts for names in SHARED.findall(text)]
+        words = {word.strip() for names in found for word in names.split(",")} - {"◌or◌"}
+        self.assertIn("call_of", words)
+        self.assertIn("window_among", words)
+        page = (TOP / "docs" / "PROOFS.md").read_text("utf-8")
+        self.assertEqual(sorted(word for word in words if f"`{word}`" not in page), [])
+
+
+class Modules(unittest.TestCase):
+    """What stands beside the tools names none of their modules that is not there."""
+
+    NAMED = re.compile(
+        r"from ((?:vga|page|library|bindings|emulator)_\w+)\.(\w+) import"
+        r"|tools/(\w+/\w+\.(?:py|css|js|c))\b"
+    )
+
+    def test_each_is_there(self) -> None:
+        ends, seen = ("mjs", "js", "py", "md"), 0
+        # Neither crates, tools themselves, nor what is hidden.
+        files = [path for end in ends for path in TOP.glob(f"[!.ct]*/**/*.{end}")]
+        for path in files:
+            for package, module, file in self.NAMED.findall(path.read_text("utf-8", "replace")):
+                with self.subTest(path.relative_to(TOP), module=module or file):
+                    self.assertTrue((TOP / "tools" / (file or f"{package}/{module}.py")).is_file())
+                    seen += 1
+        self.assertGreater(seen, 20)
