@@ -43,8 +43,8 @@ MAKING = re.compile(
     r"vga go (examples/tutorial/\S+)( --until \d+)? --fonts fonts/zaklimot\.fnt \|\n"
     r" +tools/vga-report pictures (.*?) ?>? (docs/pictures/\S+)$", re.M,
 )
-# The page stays small.
-MOST_BYTES, MOST_MOVING_BYTES, MOST_LINES, MOST_COLUMNS = 40_000, 100_000, 250, 100
+# The tutorial's pictures stay small.
+MOST_BYTES, MOST_MOVING_BYTES = 40_000, 100_000
 # A number of wrong bodies in a page's words.
 COUNTED = re.compile(r"([\d,]+) wrong bodies|[Ww]rong bodies, ([\d,]+) of them")
 # A wrong body: a file of its crate, and in it texts that stand there once, each with what it becomes.
@@ -176,16 +176,14 @@ class Commands(unittest.TestCase):
 
 
 class Front(unittest.TestCase):
-    """The front page stays short: it is read in a few minutes, and the rest stands on pages of its own."""
+    """The front page and the tutorial stay short: they are read in a few minutes, and the rest stands on other pages."""
 
-    MOST_LINES, MOST_COLUMNS = 110, 100
-
-    def test_it_has_few_lines_and_none_is_long(self) -> None:
-        lines = (TOP / "README.md").read_text("utf-8").splitlines()
-        self.assertLessEqual(len(lines), self.MOST_LINES)
-        # A row of a table and a picture are one line each, however long.
-        wrapped = [line for line in lines if not line.startswith(("|", "!["))]
-        self.assertEqual([line for line in wrapped if len(line) > self.MOST_COLUMNS], [])
+    def test_they_have_few_lines_and_none_is_long(self) -> None:
+        for page, most in ((TOP / "README.md", 110), (TUTORIAL, 250)):
+            lines = page.read_text("utf-8").splitlines()
+            self.assertLessEqual(len(lines), most)
+            # A row of a table and a picture are one line each, however long.
+            self.assertEqual([line for line in lines if len(line) > 100 and not line.startswith(("|", "!["))], [])
 
     def test_the_page_that_runs_scripts_has_the_size_that_is_told(self) -> None:
         size = (TOP / "page" / "zaklimot.html").stat().st_size
@@ -255,11 +253,6 @@ class Tutorial(unittest.TestCase):
         command = r"In a terminal: `tools/vga-report run (\S+) (?:--only pictures )?--show`\.$"
         names = sorted(str(path.relative_to(TOP)) for path in SCRIPTS.iterdir())
         self.assertEqual(sorted(re.findall(command, TEXT, re.M)), names)
-
-    def test_it_is_short(self) -> None:
-        lines = TEXT.splitlines()
-        self.assertLessEqual(len(lines), MOST_LINES)
-        self.assertEqual([line for line in lines if len(line) > MOST_COLUMNS], [])
 
     def test_the_page_has_them_not_in_its_list(self) -> None:
         listed = {one["name"] for one in examples()}
