@@ -1,4 +1,4 @@
-"""The built program at its edges: its words and its help; files and streams, their order and failures, the longest."""
+"""The built program at its edges: its words and its help; files and streams, their order and failures."""
 
 from __future__ import annotations
 
@@ -11,7 +11,7 @@ import threading
 import time
 from itertools import product
 from pathlib import Path
-from typing import Callable, Iterator, Optional
+from typing import Callable, Optional
 
 from vga_report.program import FONTS, PROGRAM
 
@@ -42,14 +42,6 @@ NO_NUMBERS = (
 BUFFER_LEN = 262_144
 # Room for a piece of so many bytes in a socket's queue.
 QUEUE_LEN = 2 * BUFFER_LEN
-MOST_BYTES = 16_777_216
-MEBIBYTE = 1_048_576
-HEADER = b"VGAS\x01"
-# A call of the BIOS with no register named is eleven bytes, and its line four.
-LINE, STEP = b"int\n", b"\x09" + bytes(10)
-LINES = (MOST_BYTES - len(HEADER)) // len(STEP)
-# What running may take beside the text and the bytes.
-ROOM = 8 * MEBIBYTE
 
 
 class Program(Folder):
@@ -249,38 +241,3 @@ def limit_files(room: int) -> None:
     """Lets the process write so many bytes into a file: a write that goes beyond is cut short, and the next fails."""
     signal.signal(signal.SIGXFSZ, signal.SIG_IGN)
     resource.setrlimit(resource.RLIMIT_FSIZE, (room, room))
-
-
-def most_memory(process: int) -> int:
-    """The most memory that a process has had in use so far, in bytes."""
-    lines = Path(f"/proc/{process}/status").read_text().splitlines()
-    return int(next(line.split() for line in lines if line.startswith("VmHWM:"))[1]) * 1024
-
-
-def answers() -> Iterator[bytes]:
-    """The lines of the report: mode 0 is none."""
-    return (b"%d E5 BadMode\n" % number for number in range(1, LINES + 1))
-
-
-class Longest(Folder):
-    """1,525,201 lines, whose script has as many bytes as a script of whole steps of this kind may have."""
-
-    def setUp(self) -> None:
-        want_program()
-        super().setUp()
-        self.text = Path(self.write("text", LINE * LINES))
-
-    def test_its_text_is_run_in_little_memory(self) -> None:
-        with subprocess.Popen([PROGRAM, "go", self.text, "--fonts", FONTS], stdout=subprocess.PIPE) as running:
-            assert running.stdout is not None
-            # All memory was asked for before the first answer, and the pipe does not hold them all.
-            first = running.stdout.read(1)
-            most = most_memory(running.pid)
-            rest = running.stdout.read()
-        self.assertEqual(running.returncode, 0)
-        self.assertTrue(first + rest == b"".join(answers()))
-        self.assertLessEqual(most, len(LINE + STEP) * LINES + ROOM)
-
-    def test_one_line_more_is_too_long(self) -> None:
-        self.text.write_bytes(LINE * (LINES + 1))
-        self.assertEqual(run_program("go", self.text, "--fonts", FONTS), (1, b"", "vga: F6 TooLong\n"))
