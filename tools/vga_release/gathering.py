@@ -11,7 +11,6 @@ from typing import Iterable, Mapping, Match
 from vga_library.making import MOVING, Place, make_library
 from vga_library.targets import X86_64, Target
 from vga_library.toolchain import memory_part
-from vga_manual.command import manual_files
 from vga_report import TOP
 from vga_report.processes import run
 
@@ -24,7 +23,7 @@ PAGE, FRONT = "tools/vga_release/README.md", "README.md"
 # What of the commit goes into a release, where it lies in the repository.
 PATHS = (
     "CHANGELOG.md", "LICENSE", FRONT, PAGE, "SECURITY.md", "bindings", "crates/vga_suite/data", "docs", "examples", "fonts",
-    "include", "page/zaklimot.html", "tools/README.md", *TOOLS,
+    "include", "page/zaklimot.html", "share", "tools/README.md", *TOOLS,
 )
 MOVED = {PAGE: FRONT, FRONT: f"docs/{FRONT}"}
 INSTALL = "install.sh"
@@ -74,9 +73,8 @@ def library_files(files: Mapping[str, File], target: Target, archive: Path) -> d
 
 
 def built_files(files: Mapping[str, File], program: Path, archives: Mapping[Target, Path]) -> dict[str, Entry]:
-    """The program with its manual, and for each processor the library and the wheel with it."""
+    """The program, and for each processor the library and the wheel with it."""
     entries: dict[str, Entry] = {"bin/vga": File(program.read_bytes(), True)}
-    entries.update({place: File(page) for place, page in manual_files(str(program)).items()})
     for target, archive in archives.items():
         entries.update(library_files(files, target, archive))
     return entries
