@@ -11,7 +11,8 @@ from .colours import Indexed
 from .glyphs import loading, own_glyphs, with_glyphs
 from .mode import Kind, Mode
 from .nearest import Colour
-from .screen import Areas, PlaneScreen, Screen
+from .planes import best_numbers
+from .screen import Areas, drawn
 from .steps import Part, Service
 
 # Cycles of a mode set: of registers and palette, of the glyphs of text, of memory that is cleared.
@@ -65,16 +66,16 @@ def _begin(mode: Mode, colours: Sequence[Colour], count: int) -> list[Part]:
 
 def draw_pixels(image: Indexed, mode: Mode, is_short: bool) -> Drawn:
     """A script for a graphics mode. A short one has areas by the video BIOS first."""
-    screen = PlaneScreen(mode) if mode.kind is Kind.PLANES else Screen(mode)
     count = len(image.colours)
-    image = screen.numbered(image)
+    if mode.kind is Kind.PLANES:
+        numbers = best_numbers(image.rows, count)
+        image = image.renumbered(numbers, max(numbers) + 1)
     parts = _begin(mode, image.colours, count)
-    areas = Areas(screen, image.rows) if is_short else None
-    parts += areas.parts() if areas else []
-    have = [bytes(row) for row in areas.have] if areas else [bytes(mode.width)] * mode.height
-    steps = screen.drawn(have, image.rows)
+    areas = Areas(mode, image.rows)
+    parts += areas.parts() if is_short else []
+    steps = drawn(mode, [bytes(row) for row in areas.have], image.rows)
     if steps:
-        parts.append(Part(f"{len(steps)} cycles for {'the rest' if areas else 'the pixels'}", steps))
+        parts.append(Part(f"{len(steps)} cycles for {'the rest' if is_short else 'the pixels'}", steps))
     return _drawn(parts, image.rows, image.colours, mode)
 
 

@@ -1,8 +1,8 @@
-"""Pixels of sixteen colours: a bit in each of four planes, made by the fewest writes.
+"""Pixels of sixteen colours: a bit in each of four planes, made by few writes.
 
 A write goes to the planes of a map mask, and is a byte to the low address, one to the high address, or a word to both.
 Bits are not masked, and nothing is read: each write stores what it has. All words of an image share one order of masks,
-those of more planes first, so that each mask is set once; a write of more planes may so be written over by one of fewer.
+those of more planes first, so that each mask is set once.
 """
 
 from __future__ import annotations
@@ -10,17 +10,19 @@ from __future__ import annotations
 from collections import Counter
 from functools import lru_cache
 from itertools import combinations
-from typing import Iterator, Mapping, NamedTuple, Optional, Sequence
+from typing import Iterator, Mapping, Sequence
 
 from vga_trace.rebuilding import ALL_PLANES, map_mask, masks_of
 from vga_trace.rebuilding import FIRST_ADDRESS as WINDOW
 from vga_trace.state import PLANES
-from vga_trace.step import OUTW, PUT, PUTW, Step
+from vga_trace.step import PUT, PUTW, Step
 
 # Masks in the order in which they are written: all planes, which a mode set leaves; then those of three, of two, of one.
 MASKS = tuple(sorted(range(1, 16), key=lambda mask: (-bin(mask).count("1"), mask)))
-# A byte of each plane.
-Bytes = tuple[int, int, int, int]
+# The two bytes of a word in each plane.
+Word = tuple[bytes, ...]
+# Writes: the planes that each reaches, which of the word's addresses, from 0 on, and the bytes for these.
+Writes = list[tuple[int, int, bytes]]
 NUMBERS = 16
 # Pixels of a word.
 WORD = 16
@@ -41,12 +43,6 @@ def planes_of(rows: Rows) -> Planes:
     return tuple(b"".join(int(row.translate(digits), 2).to_bytes(length, "big") for row in rows) for digits in DIGITS)
 
 
-def is_all_planes(steps: Sequence[Step]) -> bool:
-    """Whether steps leave a map mask of all planes, as they found it."""
-    masks = [step.value >> 8 for step in steps if step.opcode == OUTW]
-    return not masks or masks[-1] == ALL_PLANES
-
-
 def put_steps(window: int, written: Mapping[int, int]) -> Iterator[Step]:
     """Bytes by their offsets as words where two stand side by side, and else as bytes."""
     done = -1
@@ -58,23 +54,14 @@ def put_steps(window: int, written: Mapping[int, int]) -> Iterator[Step]:
             yield Step(PUT, window + offset, written[offset])
 
 
-def _word(planes: Sequence[bytes]) -> Word:
-    """Two bytes of each plane as a word."""
-    return Word(tuple(plane[0] for plane in planes), tuple(plane[1] for plane in planes))  # type: ignore[arg-type]
-
-
 def drawing(have: Planes, want: Planes) -> list[Step]:
     """The steps that make planes others, with each map mask once at most, from a map mask of all planes on."""
     passes: dict[int, dict[int, int]] = {mask: {} for mask in MASKS}
     for at in range(0, len(want[0]), 2):
-        old, new = [plane[at:at + 2] for plane in have], [plane[at:at + 2] for plane in want]
-        if old == new:
-            continue
-        for mask, low, high in least_writes(_word(old), _word(new)):
-            if low is not None:
-                passes[mask][at] = low
-            if high is not None:
-                passes[mask][at + 1] = high
+        old, new = (tuple(plane[at:at + 2] for plane in planes) for planes in (have, want))
+        if old != new:
+            for mask, first, data in few_writes(old, new):
+                passes[mask].update(enumerate(data, at + first))
     steps: list[Step] = []
     for mask in MASKS:
         if passes[mask]:
@@ -83,10 +70,32 @@ def drawing(have: Planes, want: Planes) -> list[Step]:
     return steps
 
 
-def _cost(colours: Sequence[int], numbers: Sequence[int]) -> int:
-    """Cycles of a word that has these colours: how many different planes but empty ones it has."""
-    planes = (sum(1 << at for at, colour in enumerate(colours) if numbers[colour] & bit) for bit in (1, 2, 4, 8))
-    return len(set(planes) - {0})
+@lru_cache(maxsize=None)
+def few_writes(have: Word, want: Word) -> Writes:
+    """The writes that make one word another: one for each different word, or for each different byte, if these are fewer.
+
+    A write of a word is one of a byte where the word's other byte is there already.
+    """
+    changed = [sum(1 << plane for plane in range(PLANES) if have[plane][at] != want[plane][at]) for at in (0, 1)]
+    by_bytes: Writes = [
+        (mask & changed[at], at, bytes([byte]))
+        for at in (0, 1) for byte, mask in masks_of(word[at] for word in want).items() if mask & changed[at]
+    ]
+    by_words: Writes = []
+    for word, mask in masks_of(want).items():
+        first, end = 0 if mask & changed[0] else 1, 2 if mask & changed[1] else 1
+        if first < end:
+            by_words.append((mask & (changed[0] | changed[1]), first, word[first:end]))
+    return min(by_words, by_bytes, key=len)
+
+
+def _cycles(words: Sequence[tuple[int, int]], numbers: Sequence[int]) -> int:
+    """Cycles of words on cleared memory: how many different planes but empty ones each has.
+
+    A word is given by the set of its colours, a bit for each, and by how often it is there.
+    """
+    a, b, c, d = (sum(1 << colour for colour, number in enumerate(numbers) if number & bit) for bit in (1, 2, 4, 8))
+    return sum(times * len({colours & a, colours & b, colours & c, colours & d} - {0}) for colours, times in words)
 
 
 def best_numbers(rows: Rows, count: int) -> list[int]:
@@ -97,113 +106,15 @@ def best_numbers(rows: Rows, count: int) -> list[int]:
     """
     sets = Counter(bytes(sorted(set(row[at:at + WORD]))) for row in rows for at in range(0, len(row), WORD))
     weighed = sorted(sets.items(), key=lambda entry: (-entry[1], entry[0]))[:MOST_SETS]
+    words = [(sum(1 << colour for colour in colours), times) for colours, times in weighed]
     # Numbers behind those of the colours are free, and may be exchanged for one that is taken.
     numbers = list(FIRST_NUMBERS)
-    costs = [times * _cost(colours, numbers) for colours, times in weighed]
-    is_better = True
-    while is_better:
-        is_better = False
+    least, before = _cycles(words, numbers), -1
+    while least != before:
+        before = least
         for one, other in combinations(range(NUMBERS), 2):
-            if one >= count:
-                break
-            touched = [at for at, (colours, _) in enumerate(weighed) if (one in colours) != (other in colours)
-                       or one in colours and len(colours) > 2]
-            numbers[one], numbers[other] = numbers[other], numbers[one]
-            new = [weighed[at][1] * _cost(weighed[at][0], numbers) for at in touched]
-            if sum(new) < sum(costs[at] for at in touched):
-                is_better = True
-                for at, cost in zip(touched, new):
-                    costs[at] = cost
-            else:
-                numbers[one], numbers[other] = numbers[other], numbers[one]
+            made = list(numbers)
+            made[one], made[other] = numbers[other], numbers[one]
+            if one < count and (cycles := _cycles(words, made)) < least:
+                numbers, least = made, cycles
     return numbers[:count]
-
-
-class Write(NamedTuple):
-    """A write: the planes that it reaches, and the byte for the low and the high address, or None."""
-
-    mask: int
-    low: Optional[int]
-    high: Optional[int]
-
-
-class Word(NamedTuple):
-    """A word of four planes: the bytes at its low and at its high address."""
-
-    low: Bytes
-    high: Bytes
-
-
-def _changed(have: Bytes, want: Bytes) -> int:
-    """The planes whose byte changes."""
-    return sum(1 << plane for plane in range(PLANES) if have[plane] != want[plane])
-
-
-def _only(values: Bytes, planes: int) -> Optional[int]:
-    """The value that all of these planes have; None where there are several, or no plane."""
-    found = {values[plane] for plane in range(PLANES) if planes >> plane & 1}
-    return found.pop() if len(found) == 1 else None
-
-
-def _last_writes(open_low: int, open_high: int, mask: int, want: Word) -> Iterator[tuple[Write, int, int]]:
-    """The writes to a mask that may come last where these planes' bytes are still to be made, and what then is."""
-    low, high = _only(want.low, open_low & mask), _only(want.high, open_high & mask)
-    if low is not None:
-        yield Write(mask, low, None), open_low & ~mask, open_high
-    if high is not None:
-        yield Write(mask, None, high), open_low, open_high & ~mask
-    if low is not None and high is not None:
-        yield Write(mask, low, high), open_low & ~mask, open_high & ~mask
-
-
-def _searched(lows: int, highs: int, want: Word, most: int) -> Optional[tuple[Write, ...]]:
-    """The fewest writes, at most so many, in the order of masks; None where there are none.
-
-    `lows` and `highs` are the planes whose low and whose high byte changes.
-    They are found from the last one backwards: what is still to be made then are the bytes that no later write makes.
-    """
-    kept_low, kept_high = ALL_PLANES & ~lows, ALL_PLANES & ~highs
-    paths: dict[tuple[int, int], tuple[Write, ...]] = {(ALL_PLANES, ALL_PLANES): ()}
-    for mask in reversed(MASKS):
-        for (open_low, open_high), path in list(paths.items()):
-            if len(path) == most:
-                continue
-            for write, *still in _last_writes(open_low, open_high, mask, want):
-                state = (still[0], still[1])
-                if state not in paths or len(paths[state]) > len(path) + 1:
-                    paths[state] = (write, *path)
-    found = [path for (low, high), path in paths.items() if low & kept_low == low and high & kept_high == high]
-    return min(found, key=len, default=None)
-
-
-@lru_cache(maxsize=None)
-def _least(have: Word, want: Word) -> tuple[Write, ...]:
-    lows, highs = _changed(have.low, want.low), _changed(have.high, want.high)
-    # A write for each different word, or for each different byte.
-    by_words = [
-        Write(mask & (lows | highs), low if mask & lows else None, high if mask & highs else None)
-        for (low, high), mask in masks_of(zip(want.low, want.high)).items() if mask & (lows | highs)
-    ]
-    by_lows = [Write(mask & lows, low, None) for low, mask in masks_of(want.low).items() if mask & lows]
-    by_highs = [Write(mask & highs, None, high) for high, mask in masks_of(want.high).items() if mask & highs]
-    best = min(by_words, by_lows + by_highs, key=len)
-    if len(best) > max(len(by_lows), len(by_highs)):
-        return _searched(lows, highs, want, len(best) - 1) or tuple(best)
-    return tuple(best)
-
-
-def _named(have: Bytes, want: Bytes) -> tuple[Bytes, Bytes, list[int]]:
-    """Bytes as numbers that only tell which are alike, and the byte of each number."""
-    values = list(dict.fromkeys((*have, *want)))
-    return tuple(map(values.index, have)), tuple(map(values.index, want)), values  # type: ignore[return-value]
-
-
-@lru_cache(maxsize=None)
-def least_writes(have: Word, want: Word) -> list[Write]:
-    """The writes that make one word another, to be done in the order of masks."""
-    have_low, want_low, lows = _named(have.low, want.low)
-    have_high, want_high, highs = _named(have.high, want.high)
-    return [
-        Write(write.mask, None if write.low is None else lows[write.low], None if write.high is None else highs[write.high])
-        for write in _least(Word(have_low, have_high), Word(want_low, want_high))
-    ]

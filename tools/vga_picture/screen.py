@@ -1,74 +1,43 @@
-"""Screens of pixels: what their memory is to hold, and the steps that write it.
+"""Screens of pixels, cleared by their mode set: what their memory is to hold, and the steps that write it.
 
 A shorter script takes more cycles: the video BIOS draws areas of one colour, and rows of cells that are alike. Pixels
 are looked at in cells then, as the BIOS has them: eight columns for a character, and so many lines as it is high.
 """
 
-from itertools import takewhile
-from typing import Iterator, Optional, Sequence
+from itertools import chain, takewhile
+from typing import Iterator, Optional
 
-from vga_trace.step import Step
+from vga_trace.step import OUTW, Step
 
-from .colours import Indexed
-from .mode import Mode
-from .planes import ALL_PLANES, WINDOW, Rows, best_numbers, drawing, is_all_planes, map_mask, planes_of, put_steps
+from .mode import Kind, Mode
+from .planes import ALL_PLANES, WINDOW, Rows, drawing, map_mask, planes_of, put_steps
 from .steps import Item, Part, Repeat, Service
 
 Cell = tuple[bytes, ...]
+# A window of cells: its column and row, and how many columns and rows it has.
+Window = tuple[int, int, int, int]
 CELL_WIDTH = 8
 # Bytes that a block must save: what its words would have saved in common with those beside it.
 LEAST_SAVED = 32
 
 
-class Screen:
-    """A screen of pixels, cleared by its mode set: of 256 colours, a byte for each pixel by chain 4."""
+def drawn(mode: Mode, have: Rows, want: Rows) -> list[Step]:
+    """The steps that make rows of a mode others, from the map mask on that a mode set leaves: all planes.
 
-    def __init__(self, mode: Mode) -> None:
-        self.mode = mode
-
-    def numbered(self, image: Indexed) -> Indexed:
-        """The image with the numbers of colours that are drawn in few cycles."""
-        return image
-
-    def drawn(self, have: Rows, want: Rows) -> list[Step]:
-        """The steps that make rows others, from the map mask on that a mode set leaves."""
-        written = {}
-        for y, (old, new) in enumerate(zip(have, want)):
-            if old != new:
-                start = y * self.mode.width
-                written.update({start + x: new[x] for x in range(len(new)) if old[x] != new[x]})
-        return list(put_steps(WINDOW, written))
-
-    def restored(self, steps: Sequence[Step]) -> list[Item]:
-        """Steps, and then what it takes to have that map mask again."""
-        return list(steps)
-
-    def window_cycles(self, columns: int, rows: int, blank: int) -> int:
-        """Cycles of function 06 or 07 on a window of cells, of whose rows so many become blank."""
-        return 64 * columns * (2 * (rows - blank) + blank)
-
-
-class PlaneScreen(Screen):
-    """One of sixteen colours, in four planes."""
-
-    def numbered(self, image: Indexed) -> Indexed:
-        numbers = best_numbers(image.rows, len(image.colours))
-        return image.renumbered(numbers, max(numbers) + 1)
-
-    def drawn(self, have: Rows, want: Rows) -> list[Step]:
+    In mode 13 memory has a byte for each pixel, by chain 4.
+    """
+    if mode.kind is Kind.PLANES:
         return drawing(planes_of(have), planes_of(want))
-
-    def restored(self, steps: Sequence[Step]) -> list[Item]:
-        return [*steps, *([] if is_all_planes(steps) else [map_mask(ALL_PLANES)])]
-
-    def window_cycles(self, columns: int, rows: int, blank: int) -> int:
-        return 2 * self.mode.cell_height * columns * rows + 8
+    pixels = enumerate(zip(chain.from_iterable(have), chain.from_iterable(want)))
+    return list(put_steps(WINDOW, {offset: new for offset, (old, new) in pixels if old != new}))
 
 
-def scroll(screen: Screen, window: tuple[int, int, int, int], lines: int, colour: int = 0) -> Service:
-    """Function 07 on a window: column, row, and how many of each; 0 lines blanks all of it in a colour."""
+def scroll(mode: Mode, window: Window, lines: int, colour: int = 0) -> Service:
+    """Function 07 on a window, of whose rows so many become blank; 0 lines blanks all of it in a colour."""
     column, row, columns, rows = window
-    cycles = screen.window_cycles(columns, rows, lines or rows)
+    cycles = 2 * mode.cell_height * columns * rows + 8
+    if mode.kind is Kind.BYTES:
+        cycles = 64 * columns * (2 * rows - (lines or rows))
     function = 0x0600 if lines == 0 else 0x0700 | lines
     return Service(cycles, function, colour << 8, row << 8 | column, row + rows - 1 << 8 | column + columns - 1)
 
@@ -76,9 +45,8 @@ def scroll(screen: Screen, window: tuple[int, int, int, int], lines: int, colour
 class Areas:
     """The memory of a screen while areas of it are drawn: what it holds, and what it is to hold."""
 
-    def __init__(self, screen: Screen, want: Rows) -> None:
-        mode = screen.mode
-        self._screen = screen
+    def __init__(self, mode: Mode, want: Rows) -> None:
+        self._mode = mode
         self._height = mode.cell_height
         self._want = want
         self.have = [bytearray(mode.width) for _ in want]
@@ -99,7 +67,7 @@ class Areas:
         if bands:
             yield Part(f"{len(bands)} times rows of cells that are alike: go down by a row, draw the first", bands)
 
-    def _finish(self, window: tuple[int, int, int, int]) -> None:
+    def _finish(self, window: Window) -> None:
         """Takes a window of cells as drawn."""
         column, row, columns, rows = window
         left, right = CELL_WIDTH * column, CELL_WIDTH * (column + columns)
@@ -129,7 +97,7 @@ class Areas:
                 continue
             columns = sum(1 for _ in takewhile(lambda other: other == cell, self._cells[row][column:]))
             window = (column, row, columns, self._rows_alike(column, row, columns))
-            yield scroll(self._screen, window, 0, colour)
+            yield scroll(self._mode, window, 0, colour)
             self._finish(window)
 
     def _bands(self) -> Iterator[Repeat]:
@@ -153,7 +121,7 @@ class Areas:
             columns = columns if cells[0] == self._blank else count
         return columns
 
-    def _band(self, window: tuple[int, int, int, int]) -> tuple[Repeat, int]:
+    def _band(self, window: Window) -> tuple[Repeat, int]:
         """A block that draws a window, and how many bytes it is shorter than its rows one by one."""
         column, row, columns, rows = window
         left, right = CELL_WIDTH * column, CELL_WIDTH * (column + columns)
@@ -161,6 +129,8 @@ class Areas:
         want = list(have)
         for y in range(self._height * row, self._height * (row + 1)):
             want[y] = have[y][:left] + self._want[y][left:right] + have[y][right:]
-        steps = self._screen.drawn(have, want)
-        block = Repeat(rows, (scroll(self._screen, window, 1), *self._screen.restored(steps)))  # type: ignore[arg-type]
+        steps = drawn(self._mode, have, want)
+        # The map mask is what it was when the block begins again.
+        masks = [map_mask(ALL_PLANES)] if any(step.opcode == OUTW for step in steps) else []
+        block = Repeat(rows, (scroll(self._mode, window, 1), *steps, *masks))
         return block, rows * sum(step.step.size for step in steps) - block.step.size
