@@ -15,13 +15,14 @@ from vga_report import cli
 from vga_report.progress import Progress
 from vga_report.trouble import Trouble
 
+from .checks import (
+    COUNTED, WAYS, check_cases, check_counted, check_examples, check_header, check_memory, check_misuse, check_names,
+    check_scripts, check_threads,
+)
 from .compilers import Built, lacking
-from .examples import check_examples, check_scripts
-from .header import check_header, check_names
 from .installing import check_installing
 from .pc import check_pc
-from .programs import COUNTED, check_counted, check_memory, check_misuse, check_threads
-from .suite import WAYS, check_cases
+from .running import make_check
 
 Check = Callable[[Built, Path], str]
 # Those of the library of each compiler, and those of one alone.
@@ -94,8 +95,7 @@ def _run(words: argparse.Namespace, _: Progress) -> None:
                 if name not in wanted:
                     continue
                 with tempfile.TemporaryDirectory(prefix="vga-library-tests-") as folder:
-                    told = check(built, Path(folder))
-                print(f"{name}, {built.name}: {told}" if name in EACH else f"{name}: {told}", flush=True)
+                    make_check(f"{name}, {built.name}" if name in EACH else name, partial(check, built, Path(folder)))
 
 
 # Runs a command line, and answers its exit status.

@@ -5,10 +5,12 @@ from __future__ import annotations
 import shutil
 import tempfile
 from pathlib import Path
-from typing import Any, Mapping, NamedTuple, Sequence
+from typing import Mapping, NamedTuple, Sequence
 
 from vga_library.targets import AARCH64, X86_64, Target
-from vga_report.processes import captured, tested
+from vga_report.processes import captured
+
+from .running import not_there, run
 
 STRICT = ("-Wall", "-Wextra", "-Wpedantic", "-Wconversion", "-Werror")
 SANITIZED = ("-g", "-fsanitize=address,undefined", "-fno-sanitize-recover=all")
@@ -93,7 +95,7 @@ def lacking(target: Target) -> list[str]:
     programs.update(machine.emulators)
     for compiler in machine.compilers:
         programs.update(zip((compiler.c, compiler.cpp), compiler.packages))
-    told = [f"{name}: install the package {package}" for name, package in programs.items() if not shutil.which(name)]
+    told = not_there(programs)
     for compiler in machine.compilers:
         runs = all(map(shutil.which, (compiler.c, *machine.emulators)))
         if runs and not _has_sanitizers(compiler, machine.runner):
@@ -108,11 +110,6 @@ def _has_sanitizers(compiler: Compiler, runner: Sequence[str]) -> bool:
         source.write_text(NOTHING)
         words = [compiler.c, *SANITIZED, source, "-o", made]
         return captured(words).status == 0 and captured([*runner, made]).status == 0
-
-
-def run(words: Sequence[str | Path], **given: Any) -> str:
-    """What a program writes that ends well, run as `captured` does. Else it is told how it ended."""
-    return tested(words, **given).output.decode("utf-8", "surrogateescape")
 
 
 def build(

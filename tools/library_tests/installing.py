@@ -12,7 +12,8 @@ from vga_library.making import FONTS, MOVING, Place, make_library
 from vga_library.toolchain import kit_archive
 from vga_report.trouble import Wrong
 
-from .compilers import COMPILERS, STRICT, Built, run
+from .compilers import COMPILERS, STRICT, Built
+from .running import run
 
 LIBRARIES = "lib/x86_64-linux-gnu"
 PICTURE = TOP / "examples" / "c" / "picture.c"

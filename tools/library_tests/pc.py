@@ -13,8 +13,9 @@ from vga_library.making import FONTS
 from vga_report.processes import captured
 from vga_report.trouble import Wrong
 
-from .compilers import COMPILERS, Built, run
-from .suite import harness
+from .checks import harness
+from .compilers import COMPILERS, Built
+from .running import run
 
 PC = TOP / "examples" / "pc"
 SOURCES = [PC / f"{name}.c" for name in ("pc", "machine", "bios", "display", "floppy", "keys", "window-files")]

@@ -7,63 +7,48 @@ import sys
 import tempfile
 import unittest
 from pathlib import Path
-from typing import Callable, Optional
 from unittest import mock
 
-from bindings_tests import checks, command
+from library_tests import bindings
+from library_tests.running import run
 from vga_library.making import package_text
 from vga_report import TOP
-from vga_report.processes import Done, tested
-from vga_report.trouble import TROUBLE, Wrong
+from vga_report.processes import Done
+from vga_report.trouble import Wrong
 from vga_report.version import version
 
-from .tools import call, ended
+from .tools import call, ended, hold_undone
 
 
 class Tests(unittest.TestCase):
-    def assert_judged(self, check: Callable[[Path, Path], str], told: Optional[str]) -> None:
-        """What a check tells first, or that it finds something wrong."""
-        if told is None:
-            self.assertRaises(Wrong, check, TOP, TOP)
-        else:
-            self.assertEqual(check(TOP, TOP)[:len(told)], told)
-
-    def test_a_program_that_ends_badly_is_wrong(self) -> None:
-        self.assertEqual(tested([sys.executable, "-c", "print(7)"]), Done(0, b"7\n", b""))
+    def test_what_is_wrong(self) -> None:
+        self.assertEqual(run([sys.executable, "-c", "print(7)"]), "7\n")
         with self.assertRaisesRegex(Wrong, "it ended with status 1\n(?s:.*)no such test"):
-            tested([sys.executable, "-c", "raise SystemExit('no such test')"])
-
-    def test_tests_that_are_skipped_are_wrong(self) -> None:
-        for said, is_right in (
-            ("Ran 9 tests in 1s\n", True), ("a ... skipped 'numpy is not here'\nRan 9 tests in 1s\n", True),
-            ("a ... skipped 'ZAKLIMOT_DIR is not set'\nRan 9 tests in 1s\n", False), ("", False),
+            run([sys.executable, "-c", "raise SystemExit('no such test')"])
+        ran, skipped, line = "Ran 9 tests in 1s\n", "a ... skipped '{}'\n", "test result: ok. {} passed; 0 failed; 0 ignored\n"
+        for check, said, told in (
+            (bindings.check_python, skipped.format("numpy is not here") + ran, "9 tests, "),
+            (bindings.check_python, skipped.format("ZAKLIMOT_DIR is not set") + ran, None),
+            (bindings.check_rust, 5 * line.format(4), "20 tests"), (bindings.check_rust, 5 * line.format(0), None),
         ):
-            with mock.patch.object(checks, "tested", lambda *_, **__: Done(0, b"", said.encode())):
-                self.assert_judged(checks.check_python, "9 tests" if is_right else None)
-
-    def test_too_few_tests_of_rust_are_wrong(self) -> None:
-        line = "test result: ok. {} passed; 0 failed; 0 ignored\n"
-        for counts, is_right in (((4, 1, 10, 0, 8), True), ((0, 0, 0, 0, 0), False), ((30,), False)):
-            with mock.patch.object(checks, "_cargo", lambda *_: "".join(line.format(count) for count in counts)):
-                self.assert_judged(checks.check_rust, "23 tests" if is_right else None)
+            fakes = {"tested": lambda *_, **__: Done(0, b"", said.encode()), "_cargo": lambda *_: said}
+            with self.subTest(said), mock.patch.multiple(bindings, **fakes):
+                if told is None:
+                    self.assertRaises(Wrong, check, TOP, TOP)
+                else:
+                    self.assertTrue(check(TOP, TOP).startswith(told))
 
     def test_the_page_has_its_programs(self) -> None:
-        self.assertEqual(list(checks.programs_of_page()), ["src/main.rs", "src/bin/program_1.rs", "src/bin/program_2.rs"])
+        self.assertEqual(list(bindings.programs_of_page()), [f"program_{number}" for number in range(3)])
 
-    def test_words_that_cannot_be_meant(self) -> None:
-        with mock.patch.object(command, "lacking", lambda: []):
+    def test_words_that_cannot_be_meant_and_what_is_lacking(self) -> None:
+        with mock.patch.object(bindings, "lacking", lambda: []):
             for words in (["--proof", "folder"], ["--library", "no-such-folder"]):
-                status, _, said = call(command.main, *words)
-                self.assertEqual((status, said.partition(": ")[0]), (TROUBLE, "vga-bindings-tests"))
-            self.assertEqual(call(command.main, "--ready"), (0, "", ""))
-
-    def test_what_is_lacking_is_named_with_its_package(self) -> None:
-        with mock.patch.object(command.shutil, "which", lambda name: None if "cargo" in name else name):
-            told = command.lacking()
-            self.assertEqual(told[:2], ["cargo: install the package cargo", "cargo-clippy: install the package rust-clippy"])
-            status, _, said = call(command.main, "--ready")
-        self.assertEqual(status, TROUBLE)
-        self.assertIn("  cargo: install the package cargo\n", said)
+                hold_undone(self, call(bindings.main, *words), "^vga-bindings-tests: ")
+            self.assertEqual(call(bindings.main, "--ready"), (0, "", ""))
+        with mock.patch("shutil.which", lambda name: None if "cargo" in name else name):
+            told = "  cargo: install the package cargo\n  cargo-clippy: install the package rust-clippy\n"
+            hold_undone(self, call(bindings.main, "--ready"), f"^vga-bindings-tests: this machine lacks\n{told}")
 
 
 @unittest.skipUnless(shutil.which("rustc"), "rustc isn't installed")

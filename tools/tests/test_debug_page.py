@@ -11,8 +11,8 @@ from functools import partial
 from pathlib import Path
 from unittest import mock
 
-from page_tests import built, scripts, suite
 from page_tests import command as tests_command
+from page_tests import scripts
 from vga_report.version import HEADER, calls_of
 from vga_page import command, page, wasm
 from vga_page.page import (
@@ -20,10 +20,10 @@ from vga_page.page import (
 )
 from vga_page.retargeting import LAYOUTS, TRIPLES, retargeted
 from vga_page.wasm import check_module, exports_of, kit_of, with_kit
-from vga_report.trouble import TROUBLE, Wrong
+from vga_report.trouble import Wrong
 from vga_report.debugging import page_data
 
-from .tools import Folder, call, hold, hold_refused, refused
+from .tools import Folder, call, hold, hold_refused, hold_undone, refused
 
 FRAME = f"<!DOCTYPE html>\n{STYLE}\n{DATA}\n{SCRIPT}\n"
 
@@ -48,22 +48,6 @@ class Bundling(unittest.TestCase):
         }
         self.assertEqual(joined(sources), joined(dict(reversed(sources.items()))))
 
-    def test_names_at_the_top_level_differ(self) -> None:
-        def with_names(first: str, second: str) -> dict[str, str]:
-            main = f'import {{ z }} from "./z.js";\nz();\n{first}\n'
-            return {"main.js": main, "z.js": f"export const z = 1;\n{second}\n"}
-
-        hold(self, partial(refused, joined), (
-            *((with_names(first, second), "main.js:3: a is a name at the top level of z.js too") for first, second in (
-                ("let a = 1;", "const a = 2;"), ("function a() {}", "let b, a;"),
-                ("class a {}", "async function a() {}"),
-                ("const b = 1, a = 2;", "function* a() {}"), ("const a = [];", "var a;"),
-            )),
-            ({"main.js": "let a;\nfunction a() {}\n"}, "main.js:2: a is declared in line 1 too"),
-        ))
-        # Names that are not at the top level may be the same.
-        joined(with_names("function b() {\n  const a = 1;\n}", "function d() {\n  const a = 2;\n}"))
-
     def test_what_is_not_as_a_module_is_to_be(self) -> None:
         others = {"a.js": "export const a = 1;\n"}
         hold_refused(self, joined, (({"main.js": f"\n{line}\n", **others}, f"^main.js:2: .*{told}") for line, told in (
@@ -75,7 +59,7 @@ class Bundling(unittest.TestCase):
             ("export default 1;", "`export` stands before"), ("export { a };", "`export` stands before"),
             ("export let a = 1;", "`export` stands before"),
             ('  await import("./a.js");', "by a line at the top alone"),
-            ("const { a } = b;", "is declared by itself"), ("export const [a] = b;", "is declared by itself"),
+            ("export const [a] = b;", "`export` stands before"),
             ('const a = "</script>";', "the end of a script"), ("// <!-- a", "the end of a script"),
         )))
 
@@ -254,84 +238,54 @@ class Tests(Folder):
         self.patch(mock.patch.object(command, "read_sources", small_sources))
         module, made = Path(self.write("module", module_of(Modules.right))), self.folder / "page"
         status, output, _ = call(command.main, "make", made, "--module", module)
-        self.assertEqual((status, built.module_in(made.read_bytes())), (0, module.read_bytes()))
+        self.assertEqual((status, tests_command.module_in(made.read_bytes())), (0, module.read_bytes()))
         self.assertIn(f"{made}: {made.stat().st_size:,} bytes; its module has", output)
 
     def test_a_page_of_other_sources(self) -> None:
         module, other = (with_kit(module_of(Modules.right), kit) for kit in ("one", "other"))
-        with mock.patch.object(built, "read_sources", small_sources):
-            made = make_page(module, small_sources())
-            self.assertTrue(built.check_built(module, made)[1])
-            self.assertFalse(built.check_built(other, made)[1])
-            wrong = with_kit(module_of(Modules.right, (1, b"\0")), "one")
-            other_page = make_page(module, small_sources("end();\n"))
-            data = page_data(made.decode("utf-8"))
-            other_data, no_data = (
-                page_text(small_sources(), {**data, "examples": examples}).encode("utf-8")
-                for examples in (base64.b64encode(packed(b"[]")).decode("ascii"), "AAAA")
-            )
-            for module_under_test, page_under_test in (
-                (wrong, made), (module, other_page), (module, other_data), (module, no_data),
-            ):
-                self.assertRaises(Wrong, built.check_built, module_under_test, page_under_test)
+        self.patch(mock.patch.object(tests_command, "read_sources", small_sources))
+        made = make_page(module, small_sources())
+        self.assertRegex(tests_command.check_built(module, made), "the one that the crate makes$")
+        self.assertRegex(tests_command.check_built(other, made), "of another kit, one: the suite judges that$")
+        data = page_data(made.decode("utf-8"))
+        for tested, page in (
+            (with_kit(module_of(Modules.right, (1, b"\0")), "one"), made), (module, make_page(module, small_sources("end();\n"))),
+            *((module, page_text(small_sources(), {**data, "examples": examples}).encode("utf-8"))
+              for examples in (base64.b64encode(packed(b"[]")).decode("ascii"), "AAAA")),
+        ):
+            self.assertRaises(Wrong, tests_command.check_built, tested, page)
 
-    def test_two_modules_that_differ(self) -> None:
-        module = module_of(Modules.right)
+    def test_what_is_wrong(self) -> None:
+        module, ways = module_of(Modules.right), {"bytes": 2, "text": 1, "steps, all at once": 2}
         self.assertIn("the same twice", tests_command.check_modules([module, module]))
         self.assertRaises(Wrong, tests_command.check_modules, [module, with_kit(module, "kit")])
-
-    def test_reports_that_differ_and_cases_that_were_not_run(self) -> None:
-        ways = {"bytes": 2, "text": 1, "steps, all at once": 2}
-        told = suite.judged({"ways": ways, "wrong": []}, 2)
+        told = scripts.judged({"ways": ways, "wrong": []}, 2)
         self.assertEqual(told, "by bytes 2; by text 1; by steps, all at once 2; of 2 cases")
         one = {"name": "n", "way": "bytes", "reason": "r"}
-        for answer in (
-            {"ways": ways, "wrong": [one]}, {"ways": {}, "wrong": []}, {"ways": {**ways, "text": 0}, "wrong": []},
-        ):
-            with self.subTest(answer), self.assertRaises(Wrong):
-                suite.judged(answer, 2)
-
-    def test_what_node_tells(self) -> None:
-        for mark in ("ℹ", "\x1b[34mℹ"):
-            told = scripts.counted(f"{mark} pass 3\n{mark} fail 0\n{mark} skipped 0\n")
-            self.assertEqual(told, "3 tests of the page's scripts pass")
-        for said in ("ℹ pass 3\nℹ fail 1\n", "ℹ pass 3\nℹ skipped 1\n", "ℹ pass 0\n", ""):
-            with self.subTest(said), self.assertRaises(Wrong):
-                scripts.counted(said)
+        for answer in ({"ways": ways, "wrong": [one]}, {"ways": {**ways, "text": 0}, "wrong": []}):
+            self.assertRaises(Wrong, scripts.judged, answer, 2)
+        with mock.patch.object(scripts, "run_node", return_value='{"agree": 2, "differ": 1, "expected": 3, "lines": ["a: r"]}'):
+            self.assertRaisesRegex(Wrong, "\n  a: r$", scripts.check_own, scripts.Modules(Path("module")))
 
     @unittest.skipIf(shutil.which(scripts.NODE) is None, "node is lacking")
-    def test_those_of_nodes_tests_that_fail_are_named(self) -> None:
-        front = 'import test from "node:test";\n'
+    def test_nodes_tests_pass_or_are_named(self) -> None:
+        front, modules = 'import test from "node:test";\n', scripts.Modules(Path("module"))
         others = "".join(f'test("other {number}", () => {{}});\n' for number in range(100))
-        words = ["--test", "--test-reporter", scripts.REPORTER]
-        with self.assertRaises(Wrong) as raised:
-            scripts.run_node([*words, self.write("one.mjs", f'{front}test("bad", () => {{ throw Error("why"); }});\n{others}')])
-        self.assertRegex(str(raised.exception), r"(?s)failing tests:.*bad.*why")
-        told = scripts.counted(scripts.run_node([*words, self.write("one.mjs", front + others)]))
-        self.assertEqual(told, "100 tests of the page's scripts pass")
-
-    def test_what_the_page_tells_of_its_examples(self) -> None:
-        told = {"agree": 2, "differ": 0, "expected": 3, "lines": ["a: right", "b: right"]}
-        self.assertEqual(scripts.agreed(told), "2 examples answer as by zak_run, 3 answers as expected")
-        for other in ({"differ": 1}, {"agree": 0}, {"expected": 0}):
-            with self.subTest(other), self.assertRaises(Wrong) as raised:
-                scripts.agreed({**told, **other})
-            self.assertIn("\n  a: right\n", str(raised.exception))
+        bad = f'{front}test("bad", () => {{ throw Error("why"); }});\n{others}'
+        # What runs in a browser, and what has no test, is left out.
+        self.write("browser.mjs", bad)
+        self.write("helper.mjs", "throw Error();")
+        for text, told in (
+            (bad, "(?s)failing tests:.*bad.*why"), (f'{front}test.skip("left out", () => {{}});\n{others}', "100 pass, .*'skipped': '1'"),
+        ):
+            self.write("one.mjs", text)
+            self.assertRaisesRegex(Wrong, told, scripts.check_scripts, modules, self.folder)
+        self.write("one.mjs", front + others)
+        self.assertEqual(scripts.check_scripts(modules, self.folder), "100 tests of the page's scripts pass")
 
     def test_node_that_is_lacking_or_too_old(self) -> None:
         with mock.patch("shutil.which", return_value=None):
-            told = refused(scripts.node_words)
-        self.assertEqual(told, "node: it is not in the path: install the package nodejs")
-        old = mock.patch.object(scripts, "_answer", return_value="v18.19.0")
-        with mock.patch("shutil.which", return_value="node"), old:
+            hold_undone(self, call(tests_command.main), "^vga-page-tests: node: it is not in the path: install the package nodejs\n")
+        with mock.patch.multiple(scripts, shutil=mock.Mock(), _answer=lambda _: "v18.19.0"):
             told = refused(scripts.node_words)
         self.assertEqual(told, "node: it is v18.19.0, and the tests need 20 or newer: the package nodejs")
-        with mock.patch("shutil.which", return_value=None):
-            status, _, said = call(tests_command.main)
-        self.assertEqual((status, said[:22]), (TROUBLE, "vga-page-tests: node: "))
-
-    def test_the_files_of_tests(self) -> None:
-        text = 'import test from "node:test";\n'
-        for file, content in (("a.mjs", text), ("browser.mjs", text), ("b.mjs", "")):
-            self.write(file, content)
-        self.assertEqual([path.name for path in scripts.test_files(self.folder)], ["a.mjs"])

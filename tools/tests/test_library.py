@@ -16,22 +16,20 @@ from pathlib import Path
 from typing import Iterator
 from unittest import mock
 
-from library_tests import compilers
-from library_tests.compilers import COMPILERS
-from library_tests.examples import SIXTEEN, bars, colours_script
-from library_tests.header import LAYOUT, OBJECTS, names_in
-from library_tests.programs import expect
-from library_tests.suite import judged
+from library_tests import checks, compilers
 from vga_library import making, toolchain
 from vga_library.making import MOVING, Place, cmake_text, cmake_version_text, package_text
-from vga_library.targets import X86_64
+from vga_library.targets import AARCH64, TARGETS, X86_64
 from vga_release import command, gathering
-from vga_release.gathering import FRONT, INSTALL, LINKS, MADE_OF, PATHS, Pages, made_of, settled, wheel_of
-from vga_release.packing import Commit, Entry, File, pack
+from vga_release.gathering import (
+    FRONT, INSTALL, LINKS, MADE_OF, PATHS, Commit, Entry, File, pack, settled,
+)
 from vga_report import TOP, crates
+from vga_report.cases import read_cases
 from vga_report.processes import Done
 from vga_report.trouble import Trouble, Wrong
 from vga_report.version import HEADER, Version, calls_of, version, version_of, without_comments
+from vga_report.words import SUITE
 
 from .test_pages import anchors, prose
 from .tools import Folder, call, ended, hold, hold_undone, refused
@@ -68,16 +66,11 @@ class Header(unittest.TestCase):
         self.assertEqual(numbers, {status for status in statuses if 0 < status < 20})
 
     def test_each_struct_has_asserts(self) -> None:
-        asserted = set(re.findall(r"TAKES\((zak_\w+), ", LAYOUT.read_text("ascii")))
+        asserted = set(re.findall(r"TAKES\((zak_\w+), ", checks.LAYOUT.read_text("ascii")))
         self.assertEqual(asserted, {*STRUCT.findall(TEXT), "zak_status"})
 
 
 class Making(unittest.TestCase):
-    def test_where_files_are_laid(self) -> None:
-        self.assertEqual(Place("/usr", stage="stage").folder("lib"), Path("stage/usr/lib"))
-        self.assertEqual(Place("/usr").folder("lib"), Path("/usr/lib"))
-        self.assertEqual(Place("kit").folder("include"), Path("kit/include"))
-
     def test_what_packages_read(self) -> None:
         text = package_text("/usr", "lib/x", Version(1, 2))
         self.assertIn("prefix=/usr\nlibdir=${prefix}/lib/x\n", text)
@@ -159,7 +152,7 @@ class Page(unittest.TestCase):
     def test_its_lines_of_cpp_are_those_that_are_tried(self) -> None:
         found = re.search(r"^  ```cpp\n(.*?)^  ```$", PAGE.read_text("utf-8"), re.M | re.S)
         assert found is not None
-        tried = [line.strip() for line in OBJECTS.read_text("ascii").splitlines()]
+        tried = [line.strip() for line in checks.OBJECTS.read_text("ascii").splitlines()]
         self.assertEqual([line for line in found[1].splitlines() if line.strip() not in tried], [])
 
     def test_its_version_is_the_header_s(self) -> None:
@@ -180,40 +173,57 @@ class Page(unittest.TestCase):
         self.assertEqual([name for name in calls_of(TEXT) if name not in page], [])
 
 
-class Checks(unittest.TestCase):
-    def test_names_of_objects(self) -> None:
-        table = "\nzaklimot.o:\n                 U malloc\n0000000000000010 T zak_open\n 0 w __gmon_start__\n U f@GLIBC_2\n"
-        self.assertEqual(names_in(table), ({"zak_open"}, {"malloc", "__gmon_start__", "f"}))
+class Checks(Folder):
+    """That the library's tests can fail."""
 
-    def test_a_case_that_differs_is_wrong(self) -> None:
-        def told(*answers: str) -> dict[str, object]:
-            return {"rules": [{"cases": [{"name": f"n{at}", "answer": one} for at, one in enumerate(answers)]}]}
+    def test_names_and_texts_that_differ(self) -> None:
+        source, objects = self.write("one.c", "#include <stdlib.h>\nvoid *zak_open(void) { return malloc(1); }\n"), self.folder / "one.o"
+        self.assertEqual(ended("cc", "-c", source, "-o", objects), (0, "", ""))
+        built = compilers.Built("given", self.folder, objects)
+        found = [checks.names_in(built, objects, "-g", f"--{which}-only") for which in ("defined", "undefined")]
+        self.assertEqual(found, [{"zak_open"}, {"malloc"}])
+        with mock.patch.object(checks, "run", return_value=""):
+            self.assertRaises(Wrong, checks.check_names, built, self.folder)
+        wanted = checks.LAYOUT.with_name("threads.txt").read_text("ascii")
+        checks.expect("threads", wanted)
+        self.assertRaises(Wrong, checks.expect, "threads", wanted.replace("alike", "differ", 1))
 
-        self.assertEqual(judged(told("agrees", "skipped"), {"n1"}), "1 cases agree, 1 of bytes can't be stopped")
-        self.assertEqual(judged(told("agrees", "agrees"), set()), "2 cases agree")
-        for answers in (["agrees", "differs"], ["agrees", "failed"], ["skipped", "agrees"], ["agrees", "skipped", "skipped"], []):
-            with self.subTest(answers), self.assertRaises(Wrong):
-                judged(told(*answers), {"n1"})
+    def test_cases_that_do_not_agree(self) -> None:
+        count, built = len(read_cases(str(SUITE))), compilers.Built("given", Path("kit"), Path("crates.a"), AARCH64)
+        called: list[list[str]] = []
 
-    def test_another_text_is_wrong(self) -> None:
-        wanted = LAYOUT.with_name("threads.txt").read_text("ascii")
-        expect("threads", wanted)
-        with self.assertRaises(Wrong):
-            expect("threads", wanted.replace("alike", "differ", 1))
+        def noting(words: list[str], *_: object, **__: object) -> Done:
+            called.append([str(word) for word in words])
+            return Done(0, self.table.encode(), b"")
+
+        self.patch(
+            mock.patch.multiple("vga_report.processes", captured=noting, check_program=lambda _: None),
+            mock.patch.object(checks, "captured", noting),
+        )
+        self.table = f"a\n{count} cases: {count - 1} agree, 1 skipped\n"
+        self.assertEqual(checks.check_cases("suite", built, Path("made")), self.table[2:-1])
+        # The programs of another processor are built by its compiler, and run in the emulator.
+        self.assertEqual(called[0][0], "aarch64-linux-gnu-gcc")
+        front = "env ASAN_OPTIONS=detect_leaks=0 qemu-aarch64 -L /usr/aarch64-linux-gnu made/harness-given "
+        texts, scripts = (word for word in called[1] if "harness" in word)
+        self.assertEqual((texts, scripts), (f"{front}{{script}} {{fonts}} {{until}}", f"{front}--bytes {{script}} {{fonts}}"))
+        self.table = f"           n1: step 3\n{count} cases: {count - 2} agree, 1 skipped, 1 differ\n"
+        for way in ("suite", "sliced"):
+            with self.assertRaisesRegex(Wrong, r"^not `\d+ cases: .*`:\n +n1: step 3\n"):
+                checks.check_cases(way, built, Path("made"))
 
     def test_what_is_lacking_is_told_with_its_package(self) -> None:
+        self.assertEqual(set(compilers.MACHINES), {*TARGETS.values()})
         with mock.patch("shutil.which", return_value=None):
+            told = [line for target in TARGETS.values() for line in compilers.lacking(target)]
+        for name, package in (
+            ("gcc", "gcc"), ("clang++", "clang"), ("nm", "binutils"), ("aarch64-linux-gnu-gcc", "gcc-aarch64-linux-gnu"),
+            ("aarch64-linux-gnu-nm", "binutils-aarch64-linux-gnu"), ("qemu-aarch64", "qemu-user"),
+        ):
+            self.assertIn(f"{name}: install the package {package}", told)
+        with mock.patch.object(compilers, "_has_sanitizers", return_value=False), mock.patch("shutil.which", return_value="x"):
             told = compilers.lacking(X86_64)
-        for name in (*(compiler.c for compiler in COMPILERS), "nm", "objcopy"):
-            self.assertTrue(any(line.startswith(f"{name}: install the package ") for line in told), name)
-        with mock.patch.object(compilers, "_has_sanitizers", return_value=False):
-            told = compilers.lacking(X86_64)
-        self.assertTrue(all("install the package" in line for line in told) and told)
-
-    def test_what_the_first_program_and_the_core_draw(self) -> None:
-        lines = colours_script().splitlines()
-        self.assertEqual(lines[:2] + lines[-2:], ["int ax=13", "put A0000 0", "put AF9FF FF", "frame"])
-        self.assertEqual((len(bars()), bars()[-3:].hex().upper()), (3 * 640 * 480, SIXTEEN[15]))
+        self.assertEqual(told[0], "the sanitizers of gcc: install the package libgcc-12-dev")
 
 
 def packed(entries: dict[str, Entry]) -> bytes:
@@ -242,11 +252,6 @@ class Parts(unittest.TestCase):
         self.assertEqual([oct(member.mode) for member in members if member.isfile()], ["0o644", "0o755", "0o644"])
         self.assertEqual([member.linkname for member in members if member.issym()], ["b.so.1"])
 
-    def test_what_it_is_made_of(self) -> None:
-        text = made_of(COMMIT, "kit", ENTRIES).content.decode("ascii")
-        self.assertTrue(text.startswith("commit 0123abcd\ntoolchain kit\nsha256 "))
-        self.assertEqual(re.findall(r"^sha256 [0-9a-f]{64} (\S+)$", text, re.M), ["z/a", "z/bin/vga", "z/lib/b.so.1"])
-
     def test_its_page_tells_all_of_it(self) -> None:
         page = (TOP / gathering.PAGE).read_text("utf-8")
         self.assertIn(f"zaklimot-{version()}-x86_64-linux.tar.gz", page)
@@ -256,17 +261,17 @@ class Parts(unittest.TestCase):
         self.assertEqual(command.release_name(), f"zaklimot-{version()}-x86_64-linux")
 
     def test_the_links_of_pages(self) -> None:
-        pages = Pages(["docs/A.md", "README.md", "src/low/x.rs"], {"docs/B.md": "README.md"})
-        hold(self, lambda page, text: pages.settled(text, page), (
-            ("docs/C.md", "[a](A.md#c) ![b](../src/low)", "[a](A.md#c) ![b](../src/low)"),
+        front, others = gathering.PAGE, {"docs/A.md": File(b""), "src/low/x.rs": File(b"")}
+        hold(self, lambda page, text: settled({**others, page: File(text)})[gathering.MOVED.get(page, page)].content, (
+            ("docs/C.md", b"[a](A.md#c) ![b](../src/low)", b"[a](A.md#c) ![b](../src/low)"),
             # Links to what is not there are words.
-            ("docs/C.md", "[of\ntwo](../src/high/) and `x`", "of\ntwo and `x`"),
+            ("docs/C.md", b"[of\ntwo](../src/high/) and `x`", b"of\ntwo and `x`"),
             # Pages may lie elsewhere.
-            ("docs/C.md", "[b](B.md#d)", "[b](../README.md#d)"),
-            ("docs/B.md", "[a](A.md) [c](#e) [f](https://g.h/)", "[a](docs/A.md) [c](#e) [f](https://g.h/)"),
+            (FRONT, b"[a](docs/A.md) [b](README.md#d)", b"[a](A.md) [b](README.md#d)"),
+            (front, b"[a](../../docs/A.md) [c](#e) [f](https://g.h/)", b"[a](docs/A.md) [c](#e) [f](https://g.h/)"),
             # What stands between fences stays.
-            ("docs/C.md", "```\n[a](Z.md)\n```\n[b](Z.md)\n```\n[c](Z.md)\n```\n",
-             "```\n[a](Z.md)\n```\nb\n```\n[c](Z.md)\n```\n"),
+            ("docs/C.md", b"```\n[a](Z.md)\n```\n[b](Z.md)\n```\n[c](Z.md)\n```\n",
+             b"```\n[a](Z.md)\n```\nb\n```\n[c](Z.md)\n```\n"),
         ))
 
     def test_what_is_changed_is_no_release(self) -> None:
@@ -350,20 +355,6 @@ def commands_of(text: str) -> Iterator[str]:
 
 
 class Packed(Folder):
-    def test_the_wheel_has_the_library(self) -> None:
-        files = {place: entry for place, entry in sources().items() if isinstance(entry, File)}
-        for place in ("lib/libzaklimot.so", "share/zaklimot/zaklimot.fnt"):
-            self.write(f"library/{place}", place)
-        made = []
-        for number in "12":
-            (self.folder / number).mkdir()
-            made.append(wheel_of(files, self.folder / "library", self.folder / number, X86_64))
-        self.assertEqual(made[0].read_bytes(), made[1].read_bytes())
-        self.assertEqual(made[0].name, f"zaklimot-{version()}-py3-none-linux_x86_64.whl")
-        with zipfile.ZipFile(made[0]) as wheel:
-            self.assertEqual(wheel.read("zaklimot/carried/libzaklimot.so"), b"lib/libzaklimot.so")
-            self.assertIn("zaklimot/format/table.py", wheel.namelist())
-
     def test_the_archive_and_its_checksum(self) -> None:
         given = self.write("given", "built")
         made = {"clean_commit": lambda: COMMIT, "release_entries": lambda *_: ENTRIES, "check_program": lambda _: None}

@@ -8,14 +8,11 @@ import zipfile
 from pathlib import Path
 from unittest import mock
 
-from library_tests import compilers, suite
-from library_tests.compilers import MACHINES, Built
 from vga_library import command, making, toolchain
-from vga_library.targets import AARCH64, TARGETS, X86_64
+from vga_library.targets import AARCH64, X86_64
 from vga_library.toolchain import HEAP, HEAP_OPTIONS
 from vga_release import gathering
-from vga_report import processes
-from vga_report.processes import PACKAGES, Done
+from vga_report.processes import PACKAGES
 from vga_report.progress import Progress
 from vga_report.trouble import TROUBLE
 from vga_report.version import version
@@ -125,6 +122,8 @@ class Making(Folder):
         assert isinstance(wheel, gathering.File)
         with zipfile.ZipFile(io.BytesIO(wheel.content)) as opened:
             self.assertEqual(opened.read("zaklimot/carried/libzaklimot.so"), b"made\n")
+            self.assertIn("zaklimot/format/table.py", opened.namelist())
+        self.assertEqual(gathering.library_files(files, AARCH64, archive), entries)
         text = gathering.made_of(gathering.Commit("0123", 0), "kit", entries).content.decode("ascii")
         self.assertRegex(text, r"(?m)^sha256 [0-9a-f]{64} aarch64/lib/libzaklimot\.a$")
 
@@ -134,35 +133,3 @@ class Making(Folder):
         # A compiler that knows malloc would warn of so large a request.
         self.assertEqual(ended("cc", *HEAP_OPTIONS, "-fno-builtin", TAKING, HEAP, "-o", program), (0, "", ""))
         self.assertEqual(ended(program)[0], 0)
-
-
-class Testing(Folder):
-    """The tests of the library for another processor run its programs in an emulator."""
-
-    def test_each_processor_has_its_programs(self) -> None:
-        self.assertEqual(set(MACHINES), {*TARGETS.values()})
-        with mock.patch("shutil.which", return_value=None):
-            told = compilers.lacking(AARCH64)
-        for name, package in (
-            ("aarch64-linux-gnu-gcc", "gcc-aarch64-linux-gnu"), ("aarch64-linux-gnu-nm", "binutils-aarch64-linux-gnu"),
-            ("qemu-aarch64", "qemu-user"),
-        ):
-            self.assertIn(f"{name}: install the package {package}", told)
-
-    def test_the_suite_is_run_in_the_emulator(self) -> None:
-        called: list[list[str]] = []
-
-        def noting(words: list[str], *_: object, **__: object) -> Done:
-            called.append([str(word) for word in words])
-            return Done(0, b'{"rules": [{"cases": [{"name": "a", "answer": "agrees"}]}]}', b"")
-
-        built = Built("given", Path("kit"), Path("crates.a"), AARCH64)
-        self.patch(
-            mock.patch.multiple(processes, captured=noting, check_program=lambda _: None),
-            mock.patch.object(suite, "captured", noting),
-        )
-        self.assertEqual(suite.check_cases("suite", built, Path("made")), "1 cases agree")
-        self.assertEqual(called[0][0], "aarch64-linux-gnu-gcc")
-        front = "env ASAN_OPTIONS=detect_leaks=0 qemu-aarch64 -L /usr/aarch64-linux-gnu made/harness-given "
-        texts, scripts = (word for word in called[1] if "harness" in word)
-        self.assertEqual((texts, scripts), (f"{front}{{script}} {{fonts}} {{until}}", f"{front}--bytes {{script}} {{fonts}}"))

@@ -15,8 +15,7 @@ from vga_report.progress import Progress
 from vga_report.streams import check_folder, to_read, write_file, writing
 from vga_report.trouble import Trouble
 
-from .gathering import release_entries
-from .packing import clean_commit, pack
+from .gathering import clean_commit, pack, release_entries
 
 PROGRAM = TOP / "crates" / "vga"
 MACHINE = "x86_64-linux"

@@ -1,20 +1,51 @@
-"""What a release holds, the package for Python as a wheel among it; and its pages' links."""
+"""What a release holds: files of the commit, what is built, the wheel, and pages with their links; and its archive.
 
+The archive hangs on nothing but its files and the commit's time.
+"""
+
+import gzip
 import hashlib
+import io
 import posixpath
 import re
 import sys
+import tarfile
 import tempfile
+from functools import partial
 from pathlib import Path, PurePosixPath
-from typing import Iterable, Mapping, Match
+from typing import AbstractSet, BinaryIO, Mapping, Match, NamedTuple, Optional, Sequence, Union
 
 from vga_library.making import MOVING, Place, make_library
 from vga_library.targets import X86_64, Target
 from vga_library.toolchain import memory_part
 from vga_report import TOP
-from vga_report.processes import run
+from vga_report.processes import ended_well, run
+from vga_report.trouble import Trouble
 
-from .packing import Commit, Entry, File, files_of
+EXECUTABLE = 0o100
+PLAIN, RUN = 0o644, 0o755
+LEVEL = 9
+
+
+
+
+class File(NamedTuple):
+    """A file of a release."""
+
+    content: bytes
+    is_executable: bool = False
+
+
+# A file, or where a link leads.
+Entry = Union[File, str]
+
+
+class Commit(NamedTuple):
+    """A commit's number, and its time in seconds since 1970."""
+
+    number: str
+    time: int
+
 
 # The tools that need no toolchain: the command of each, and its package.
 TOOLS = tuple(f"tools/vga{mark}{name}" for name in ("floppy", "fuzz", "picture", "report", "trace") for mark in "-_")
@@ -89,11 +120,12 @@ def suite_scripts() -> dict[str, Entry]:
 
 def settled(entries: Mapping[str, Entry]) -> dict[str, Entry]:
     """All that is in a release, by its place there: pages lead to no more than that."""
-    pages = Pages([MOVED.get(place, place) for place in entries], MOVED)
+    moved = [MOVED.get(place, place) for place in entries]
+    places = {str(place) for name in moved for place in (name, *PurePosixPath(name).parents)}
     done: dict[str, Entry] = {}
     for place, entry in entries.items():
         if place.endswith(".md") and isinstance(entry, File):
-            entry = File(pages.settled(entry.content.decode("utf-8"), place).encode("utf-8"))
+            entry = File(LINK.sub(partial(_link, place, places), entry.content.decode("utf-8")).encode("utf-8"))
         done[MOVED.get(place, place)] = entry
     return done
 
@@ -133,24 +165,61 @@ def wheel_of(files: Mapping[str, File], library: Path, folder: Path, target: Tar
     return next(made.iterdir())
 
 
-class Pages:
-    """What is in a release, and where pages lie in it that lie elsewhere in the repository."""
+def _link(page: str, places: AbstractSet[str], found: Match[str]) -> str:
+    """A link of a page of the repository, as it is in a release that has these places: words, if it leads elsewhere."""
+    if found["place"] is None:
+        return found[0]
+    target = posixpath.normpath(posixpath.join(posixpath.dirname(page), found["place"]))
+    place = MOVED.get(target, target)
+    if place not in places:
+        return found["text"]
+    folder = posixpath.dirname(MOVED.get(page, page)) or "."
+    return f"{found['mark']}[{found['text']}]({posixpath.relpath(place, folder)}{found['anchor'] or ''})"
 
-    def __init__(self, places: Iterable[str], moved: Mapping[str, str]) -> None:
-        self._moved = moved
-        self._places = {str(place) for name in places for place in (name, *PurePosixPath(name).parents)}
 
-    def settled(self, text: str, page: str) -> str:
-        """The text of a page, which lies at this place of the repository."""
-        folder = posixpath.dirname(self._moved.get(page, page)) or "."
+def clean_commit() -> Commit:
+    """The commit that is checked out. Where a file differs from it, there is none to make a release from."""
+    changed = _git("status", "--porcelain", "--untracked-files=no").decode("utf-8", "replace").split("\n")[0]
+    if changed:
+        raise Trouble(f"a release is made from a commit, and this is changed: {changed.strip()}")
+    number, time = _git("log", "-1", "--format=%H %ct").decode("ascii").split()
+    return Commit(number, int(time))
 
-        def link(found: Match[str]) -> str:
-            if found["place"] is None:
-                return found[0]
-            target = posixpath.normpath(posixpath.join(posixpath.dirname(page), found["place"]))
-            place = self._moved.get(target, target)
-            if place not in self._places:
-                return found["text"]
-            return f"{found['mark']}[{found['text']}]({posixpath.relpath(place, folder)}{found['anchor'] or ''})"
 
-        return LINK.sub(link, text)
+def files_of(commit: Commit, paths: Sequence[str]) -> dict[str, File]:
+    """The files of a commit below these paths."""
+    files: dict[str, File] = {}
+    with tarfile.open(fileobj=io.BytesIO(_git("archive", "--format=tar", commit.number, "--", *paths))) as archive:
+        for member in archive.getmembers():
+            stream = archive.extractfile(member) if member.isfile() else None
+            if stream is not None:
+                files[member.name] = File(stream.read(), bool(member.mode & EXECUTABLE))
+    return files
+
+
+def _git(*words: str) -> bytes:
+    return ended_well(["git", "-C", str(TOP), *words]).output
+
+
+def _member(name: str, entry: Optional[Entry], time: int) -> tarfile.TarInfo:
+    """What an archive tells of a file, a link, or a folder, which has no entry: no owner, and the commit's time."""
+    made = tarfile.TarInfo(name)
+    made.mtime, made.mode = time, RUN
+    if isinstance(entry, File):
+        made.size, made.mode = len(entry.content), RUN if entry.is_executable else PLAIN
+    elif entry is None:
+        made.type = tarfile.DIRTYPE
+    else:
+        made.type, made.linkname = tarfile.SYMTYPE, entry
+    return made
+
+
+def pack(stream: BinaryIO, entries: Mapping[str, Entry], time: int) -> None:
+    """Writes the archive: names in order, each folder before what lies in it."""
+    folders = {str(folder) for path in entries for folder in PurePosixPath(path).parents} - {"."}
+    with gzip.GzipFile(filename="", mode="wb", compresslevel=LEVEL, fileobj=stream, mtime=time) as packed:
+        with tarfile.open(fileobj=packed, mode="w", format=tarfile.PAX_FORMAT) as archive:
+            for name in sorted({*entries, *folders}):
+                entry = entries.get(name)
+                content = io.BytesIO(entry.content) if isinstance(entry, File) else None
+                archive.addfile(_member(name, entry, time), content)

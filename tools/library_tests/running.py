@@ -1,0 +1,27 @@
+"""What the tests of the library, of the packages and of the page share: programs that must end well, checks in a row."""
+
+from __future__ import annotations
+
+import shutil
+import time
+from pathlib import Path
+from typing import Any, Callable, Mapping, Sequence
+
+from vga_report.processes import tested
+
+
+def run(words: Sequence[str | Path], **given: Any) -> str:
+    """What a program writes that ends well, run as `captured` does. Else a Wrong tells how it ended."""
+    return tested(words, **given).output.decode("utf-8", "surrogateescape")
+
+
+def make_check(name: str, check: Callable[[], str]) -> None:
+    """Makes a check, and tells what came of it, and how many seconds it took."""
+    begun = time.monotonic()
+    told = check()
+    print(f"{name}: {told} ({time.monotonic() - begun:.0f} s)", flush=True)
+
+
+def not_there(programs: Mapping[str, str]) -> list[str]:
+    """The programs that are not in the path, each with the package of Debian that has it."""
+    return [f"{name}: install the package {package}" for name, package in programs.items() if not shutil.which(name)]
