@@ -135,7 +135,6 @@ def _check_page(library: Path, folder: Path) -> None:
 
 
 def _check_cargo(line: str, told: str, library: Path, folder: Path) -> str:
-    """A command of cargo finds nothing to warn of."""
     _cargo(library, folder, *line.split())
     return told
 
@@ -183,7 +182,6 @@ def _library(words: argparse.Namespace, folder: Path, progress: Progress) -> Pat
 
 
 def _run(words: argparse.Namespace, progress: Progress) -> None:
-    """Makes each check that is wanted."""
     cli.refuse_to_check(words, lacking())
     if words.ready:
         return

@@ -76,7 +76,6 @@ def _libraries(words: argparse.Namespace, target: Target) -> Iterator[list[Built
 
 
 def _wanted(words: argparse.Namespace, target: Target) -> list[str]:
-    """The checks that are wanted: those that are named, or all that there are for the processor."""
     own = OWN if target != X86_64 else ()
     for name in words.only:
         if name in own:
@@ -85,7 +84,6 @@ def _wanted(words: argparse.Namespace, target: Target) -> list[str]:
 
 
 def _run(words: argparse.Namespace, _: Progress) -> None:
-    """Makes each check that is wanted, and tells what came of it."""
     target = TARGETS[words.target]
     wanted = _wanted(words, target)
     cli.refuse_to_check(words, lacking(target))

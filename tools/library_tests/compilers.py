@@ -104,7 +104,6 @@ def lacking(target: Target) -> list[str]:
 
 
 def _has_sanitizers(compiler: Compiler, runner: Sequence[str]) -> bool:
-    """Whether a program that is built with them runs."""
     with tempfile.TemporaryDirectory(prefix="vga-library-tests-") as name:
         source, made = Path(name) / "nothing.c", Path(name) / "nothing"
         source.write_text(NOTHING)

@@ -75,7 +75,6 @@ def _screens(pc: Path, folder: Path, *words: str | Path) -> list[Path]:
 
 
 def _check_demo(pc: Path, folder: Path, *rom: str | Path) -> None:
-    """The floppy's first screen ends with a white bar."""
     last = _screens(pc, folder, "--seconds", "2", *rom)[-1].read_bytes()
     if not last.startswith(SIZE) or not last.endswith(BAR):
         raise Wrong(f"the PC's floppy shows another first screen{' with ' + str(rom[1]) if rom else ''}")

@@ -41,7 +41,6 @@ def built_page() -> bytes:
 
 
 def _unzipped(text: str) -> bytes:
-    """The bytes of a text that is base64 of gzip."""
     try:
         with gzip.GzipFile(fileobj=io.BytesIO(base64.b64decode(text, validate=True))) as stream:
             data = stream.read(MOST_MODULE + 1)
@@ -58,7 +57,6 @@ def module_in(page: bytes) -> bytes:
 
 
 def _first_difference(page: bytes, other: bytes) -> str:
-    """Where two pages differ: the first line, and its beginning."""
     lines = zip(page.split(b"\n"), other.split(b"\n"))
     for number, (line, wanted) in enumerate(lines, 1):
         if line != wanted:
@@ -134,7 +132,6 @@ def _file(folder: Path, name: str, data: bytes) -> Path:
 
 
 def _checks(words: argparse.Namespace, progress: Progress, folder: Path) -> Iterator[tuple[str, Callable[[], str]]]:
-    """The checks that are wanted, by their names."""
     wanted = words.only or CHECKS
     page = built_page() if {PAGE, SCRIPTS, OWN} & set(wanted) else None
     same, small = _made(words, progress, 1 if words.module else _times(page, wanted))
@@ -156,7 +153,6 @@ def _checks(words: argparse.Namespace, progress: Progress, folder: Path) -> Iter
 
 
 def _run(words: argparse.Namespace, progress: Progress) -> None:
-    """Looks at the words and at node, and makes the checks."""
     cli.refuse_to_check(words)
     node_words()
     if words.ready:

@@ -3,8 +3,6 @@
 from __future__ import annotations
 
 import base64
-import gzip
-import json
 import shutil
 import unittest
 from functools import partial
@@ -15,11 +13,9 @@ from page_tests import command as tests_command
 from page_tests import scripts
 from vga_report.version import HEADER, calls_of
 from vga_page import command, page, wasm
-from vga_page.page import (
-    DATA, SCRIPT, STYLE, Sources, about, data_of, examples, joined, make_page, packed, page_text,
-)
+from vga_page.page import DATA, SCRIPT, STYLE, Sources, about, joined, make_page, packed, page_text
 from vga_page.retargeting import LAYOUTS, TRIPLES, retargeted
-from vga_page.wasm import check_module, exports_of, kit_of, with_kit
+from vga_page.wasm import check_module, kit_of, with_kit
 from vga_report.trouble import Wrong
 from vga_report.debugging import page_data
 
@@ -29,25 +25,6 @@ FRAME = f"<!DOCTYPE html>\n{STYLE}\n{DATA}\n{SCRIPT}\n"
 
 
 class Bundling(unittest.TestCase):
-    def test_a_module_stands_after_those_that_it_imports(self) -> None:
-        told = joined({
-            "a.js": 'import { c } from "./c.js";\nexport const a = c + 1;\n',
-            "b.js": ('import { a } from "./a.js";\nimport { c } from "./c.js";\n\nexport class B {\n  c = a + c;\n}\n'),
-            "c.js": "export const c = 1;\n",
-            "main.js": 'import { B } from "./b.js";\nimport { a } from "./a.js";\n\nnew B(a);\n',
-        })
-        self.assertEqual(told, (
-            "// c.js\nconst c = 1;\n\n// a.js\nconst a = c + 1;\n\n"
-            "// b.js\nclass B {\n  c = a + c;\n}\n\n// main.js\nnew B(a);\n"
-        ))
-
-    def test_the_order_of_files_is_not_seen(self) -> None:
-        sources = {
-            "main.js": 'import { x } from "./x.js";\nimport { y } from "./y.js";\nx(y);\n',
-            "x.js": "export function x() {}\n", "y.js": "export async function y() {}\n",
-        }
-        self.assertEqual(joined(sources), joined(dict(reversed(sources.items()))))
-
     def test_what_is_not_as_a_module_is_to_be(self) -> None:
         others = {"a.js": "export const a = 1;\n"}
         hold_refused(self, joined, (({"main.js": f"\n{line}\n", **others}, f"^main.js:2: .*{told}") for line, told in (
@@ -81,16 +58,14 @@ def small_sources(script: str = "start();\n", style: str = "p {}\n") -> Sources:
 
 
 class Pages(unittest.TestCase):
-    def test_each_part_has_its_place(self) -> None:
-        data = {"open": None, "text": "</script><!-- <script>"}
-        text = page_text(small_sources(), data)
-        self.assertEqual(text, (
-            "<!DOCTYPE html>\n<style>\np {}\n</style>\n"
-            '<script type="application/json" id="zaklimot-data">'
-            '{"open":null,"text":"\\u003c/script>\\u003c!-- \\u003cscript>"}</script>\n'
-            '<script type="module">\n// main.js\nstart();\n</script>\n'
-        ))
-        self.assertEqual(page_data(text), data)
+    def test_the_page_as_built(self) -> None:
+        # It holds the order of modules, the place of each part, and what the page is given.
+        built = tests_command.built_page()
+        module = tests_command.module_in(built)
+        self.assertRegex(tests_command.check_built(module, built), "its module is the one that the crate makes$")
+        self.assertRegex(check_module(module), r"^[\d,]+ bytes, \d+ calls, no imports, no table$")
+        # No time is in what is packed.
+        self.assertEqual(packed(b"module")[4:8], bytes(4))
 
     def test_a_frame_that_lacks_a_place(self) -> None:
         frames = (FRAME.replace(STYLE, ""), FRAME + DATA, FRAME.replace(SCRIPT, ""))
@@ -99,12 +74,6 @@ class Pages(unittest.TestCase):
             (small_sources(style="a::after { content: '</Style>' }"), "style.css: "),
         ))
 
-    def test_it_is_the_same_each_time(self) -> None:
-        pages = {make_page(b"module", small_sources()) for _ in range(2)}
-        self.assertEqual(len(pages), 1)
-        packing = packed(b"module")
-        self.assertEqual((gzip.decompress(packing), packing[4:8]), (b"module", bytes(4)))
-
     def test_a_page_that_is_too_large(self) -> None:
         length = len(make_page(b"", small_sources("")))
         fits = "x" * (page.MOST_BYTES - length)
@@ -112,29 +81,10 @@ class Pages(unittest.TestCase):
         told = refused(make_page, b"", small_sources(f"{fits}x\n"))
         self.assertEqual(told, "zaklimot.html: it would have 400,001 bytes, and 400,000 are the most")
 
-    def test_what_it_is_given(self) -> None:
-        data = data_of(b"module")
-        self.assertEqual(gzip.decompress(base64.b64decode(data["module"])), b"module")
-        self.assertEqual(len(base64.b64decode(data["fonts"])), 9728)
-        self.assertEqual((data["pages"], data["open"]), ("../docs/", None))
-        given = json.loads(gzip.decompress(base64.b64decode(data["examples"])))
-        self.assertEqual(given, examples())
-        names = [one["name"] for one in given]
-        self.assertEqual(names, sorted(names))
-        self.assertTrue({"text-by-services", "raster-bands"} <= set(names))
-        told = {one["name"]: one["about"] for one in given}
-        self.assertEqual(told["driver-test"], "")
-        self.assertEqual(told["text-by-services"], "A screen of text by the video services alone, in ten steps.")
-        self.assertGreater(sum(map(bool, told.values())), 14)
-
     def test_what_an_example_is_about(self) -> None:
         hold(self, about, (
-            ("; A screen. Numbers are\n; hexadecimal.\n\nframe\n", "A screen."),
-            ("; A screen\n; of text.\nframe ; a picture\n", "A screen of text."),
-            ("frame\nout 3C2 3 ; memory on\n; more.\n", ""), ("; A bar: red! More.\n", "A bar: red!"),
-            ("\n; one\n\n; two\n", "one"),
-            ("frame\n", ""),
-            ("", ""),
+            ("; A screen. Numbers are\n; hexadecimal.\n\nframe\n", "A screen."), ("\n; one\n\n; two\n", "one"),
+            ("; A screen\n; of text.\nframe ; a picture\n", "A screen of text."), ("frame\n; more.\n", ""), ("", ""),
         ))
 
 
@@ -204,12 +154,6 @@ def module_of(names: list[str], *more: tuple[int, bytes], memory: int = 4) -> by
 class Modules(unittest.TestCase):
     calls = calls_of(HEADER.read_text("ascii"))
     right = [*calls, "page_take", "page_give"]
-
-    def test_one_that_is_right(self) -> None:
-        module = module_of(self.right)
-        told = f"{len(module):,} bytes, {len(self.calls)} calls, no imports, no table"
-        self.assertEqual(check_module(module), told)
-        self.assertEqual([*exports_of(module)], [*self.right, "memory", "__heap_base"])
 
     def test_what_is_otherwise(self) -> None:
         hold_refused(self, check_module, (

@@ -15,11 +15,10 @@ from pathlib import Path
 from typing import Iterator, NamedTuple, Sequence
 
 from vga_picture.cells import FONTS_AT, Chooser, Chosen
-from vga_picture.choosing import middle_colours, outer_colours
+from vga_picture.choosing import Colour, Nearest, distance, middle_colours, outer_colours
 from vga_picture.colours import Fewer, indexed
 from vga_picture.command import main
 from vga_picture.mode import MODES
-from vga_picture.nearest import Colour, Nearest, distance
 from vga_report.png import write_png
 from vga_report.program import FONTS
 from zaklimot.format import Picture, encode, parse_text

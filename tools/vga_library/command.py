@@ -75,7 +75,6 @@ def _wanted_target(words: argparse.Namespace) -> Target:
 
 
 def _lay(words: argparse.Namespace, place: Place, prefix: str, progress: Progress, takes_made: bool = False) -> None:
-    """Makes the library, and tells its files."""
     if words.archive is not None and not os.path.isfile(words.archive):
         raise Trouble("there is no such file", words.archive)
     # What is wrong with words, programs and folders is told before the long work.

@@ -154,7 +154,6 @@ def made_of(backend: str, target: Target, parts: Iterable[Path]) -> str:
 
 
 def _parts(target: Target) -> tuple[Path, Path]:
-    """Where both parts are kept."""
     return FOLDER / target.name / CRATES, FOLDER / target.name / MEMORY
 
 

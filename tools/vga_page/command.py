@@ -20,7 +20,6 @@ MOST_MEBIBYTES = 4096
 
 
 def _mebibytes(word: str) -> int:
-    """Reads a number of MiB; how many bytes they are."""
     return number_to(MOST_MEBIBYTES)(word) * MEBIBYTE
 
 
@@ -47,7 +46,6 @@ def _parser() -> argparse.ArgumentParser:
 
 
 def _made_module(words: argparse.Namespace, progress: Progress) -> bytes:
-    """The module, as it is given or made, held to what the page relies on."""
     if words.module is not None:
         with reading(words.module) as stream:
             module = stream.read(MOST_MODULE + 1)
@@ -82,7 +80,6 @@ def _module(words: argparse.Namespace, progress: Progress) -> None:
 
 
 def _check_words(words: argparse.Namespace) -> None:
-    """Ends the work where words contradict one another."""
     cli.refuse_to_check(words)
     if words.module is not None and words.gated:
         raise Trouble("--module takes a module as it is, so --gated proves nothing")

@@ -104,7 +104,6 @@ class Maker:
         return archive
 
     def _linked(self, archive: Path, memory: Optional[int]) -> bytes:
-        """The WebAssembly module of an archive."""
         module = archive.with_name("linked.wasm")
         words = ["--target", WASM, "--toolchain", self._kit / "toolchain"]
         words += [] if memory is None else ["--memory", str(memory)]

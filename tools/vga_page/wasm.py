@@ -49,7 +49,6 @@ class _Reader(io.BytesIO):
 
 
 def _all_sections(module: bytes) -> Iterator[tuple[int, bytes]]:
-    """The sections of a module in their order: their numbers, and their bytes."""
     if not module.startswith(MAGIC):
         raise Trouble("it is no WebAssembly module", "the module")
     reader = _Reader(module[len(MAGIC):])

@@ -10,8 +10,7 @@ from typing import Callable, Iterable, Iterator, Mapping, Sequence
 from vga_report.images import Image
 from vga_report.trouble import Trouble
 
-from .choosing import middle_colours, outer_colours
-from .nearest import Colour, Nearest, distance
+from .choosing import Colour, Nearest, distance, middle_colours, outer_colours
 
 Row = Sequence[Colour]
 MOST = 63
@@ -118,13 +117,11 @@ def _floyd(rows: Sequence[Row], colours: Sequence[Colour]) -> Iterator[bytes]:
 
 
 def _nearest(rows: Sequence[Row], colours: Sequence[Colour]) -> Iterator[bytes]:
-    """Rows of the nearest colours."""
     nearest = Nearest(colours)
     return _by_table(rows, {colour: nearest(colour) for colour in counted(rows)})
 
 
 def _by_table(rows: Sequence[Row], numbers: Mapping[Colour, int]) -> Iterator[bytes]:
-    """Rows of numbers, one for each colour."""
     made = {id(row): bytes(map(numbers.__getitem__, row)) for row in {id(row): row for row in rows}.values()}
     return (made[id(row)] for row in rows)
 

@@ -66,7 +66,6 @@ def _parser() -> argparse.ArgumentParser:
 
 
 def _drawn(words: argparse.Namespace, progress: Progress) -> tuple[Drawn, str]:
-    """The parts of the script, and what was done to the image."""
     mode, name = MODES[words.mode], name_of(words.image)
     if words.bars is not None and words.fit is not Fit.FIT:
         raise Trouble("--bars is the colour of the bars that --fit makes")
@@ -94,7 +93,6 @@ def _drawn(words: argparse.Namespace, progress: Progress) -> tuple[Drawn, str]:
 
 
 def _script(words: argparse.Namespace, progress: Progress) -> None:
-    """Makes a script, and says what it has."""
     if words.picture is not None and os.path.realpath(words.script) == os.path.realpath(words.picture):
         raise Trouble("the script and its picture are to be two files", words.script)
     drawn, told = _drawn(words, progress)

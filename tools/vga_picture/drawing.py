@@ -6,11 +6,10 @@ from typing import Callable, Iterator, Sequence
 from vga_trace.step import FRAME, Step
 from zaklimot.format import Picture
 
-from .cells import cells_of, put_cells, rows_of, typed_cells
+from .cells import cells_of, loading, own_glyphs, put_cells, rows_of, typed_cells, with_glyphs
+from .choosing import Colour
 from .colours import Indexed
-from .glyphs import loading, own_glyphs, with_glyphs
 from .mode import Kind, Mode
-from .nearest import Colour
 from .planes import best_numbers
 from .screen import Areas, drawn
 from .steps import Part, Service
@@ -55,7 +54,6 @@ def _drawn(
 
 
 def _begin(mode: Mode, colours: Sequence[Colour], count: int) -> list[Part]:
-    """The mode and the colours."""
     note = f"A picture of {mode.width} by {mode.height} pixels and {count} colours, in mode {mode.name}, made by vga-picture."
     cycles = SET_CYCLES + (GLYPH_CYCLES + TEXT_CYCLES if mode.kind is Kind.CELLS else GRAPHICS_CYCLES)
     return [

@@ -41,13 +41,11 @@ def release_name() -> str:
 
 
 def _proved_program(heard: Hearer) -> Path:
-    """The program, proved and built. What is kept of its proof makes it quick."""
     run(["rt", "run", "--", "--help"], PROGRAM, heard)
     return PROGRAM / "out" / "vga"
 
 
 def _check_words(words: argparse.Namespace) -> None:
-    """What is wrong with the words is told before the long work."""
     for given in (words.program, words.archive, words.archive_aarch64):
         if given is not None and not os.path.isfile(given):
             raise Trouble("there is no such file", given)
@@ -67,7 +65,6 @@ def _built(words: argparse.Namespace, progress: Progress) -> tuple[Path, dict[Ta
 
 
 def _release(words: argparse.Namespace, progress: Progress) -> None:
-    """Makes the archive and the file of its checksum, and tells their names."""
     _check_words(words)
     commit, name = clean_commit(), release_name()
     for program in (*X86_64.programs(), *AARCH64.programs()):
