@@ -8,12 +8,12 @@ from itertools import permutations
 from typing import Callable, Iterator, Mapping, Sequence
 
 from vga_report.trouble import Trouble
-from vga_trace.step import PUTW, Step
+from zaklimot import format
 
 from .choosing import Colour, distance
 from .colours import Indexed
 from .mode import Mode
-from .steps import Item, Service
+from .steps import Item, service
 
 WINDOW = 0xB8000
 GLYPHS = 256
@@ -155,12 +155,12 @@ def _is_blank(cell: Chosen) -> bool:
     return (cell.character, cell.attribute) == (BLANK, BLANK_ATTRIBUTE)
 
 
-def _put(at: int, cell: Chosen) -> Step:
+def _put(at: int, cell: Chosen) -> Item:
     """A word for a cell: the character low, at the even address, and the attribute high."""
-    return Step(PUTW, WINDOW + 2 * at, cell.attribute << 8 | cell.character)
+    return Item(format.Step("putw", (WINDOW + 2 * at, cell.attribute << 8 | cell.character)))
 
 
-def put_cells(cells: Sequence[Chosen]) -> list[Step]:
+def put_cells(cells: Sequence[Chosen]) -> list[Item]:
     """A word for each cell that a mode set has not made."""
     return [_put(at, cell) for at, cell in enumerate(cells) if not _is_blank(cell)]
 
@@ -171,9 +171,9 @@ def typed_cells(cells: Sequence[Chosen], columns: int) -> list[Item]:
     for start, end in _strings(cells):
         block = b"".join(bytes([cell.character, cell.attribute]) for cell in cells[start:end])
         # Character and attribute are a cycle each, and no cursor is shown.
-        typed = Service(len(block), 0x1302, 0, end - start, start // columns << 8 | start % columns, block)
+        typed = service(len(block), 0x1302, 0, end - start, start // columns << 8 | start % columns, block=block)
         steps = [_put(start + at, cell) for at, cell in enumerate(cells[start:end])]
-        items += [typed] if typed.step.size < sum(step.step.size for step in steps) else steps
+        items += [typed] if typed.step.size < sum(item.step.size for item in steps) else steps
     alone = [at for at, cell in enumerate(cells) if not _can_be_typed(at, cells) and not _is_blank(cell)]
     return items + [_put(at, cells[at]) for at in alone]
 
@@ -244,15 +244,15 @@ def with_glyphs(font: bytes, glyphs: Mapping[int, bytes]) -> bytes:
     return bytes(made)
 
 
-def loading(mode: Mode, glyphs: Mapping[int, bytes]) -> Iterator[Service]:
+def loading(mode: Mode, glyphs: Mapping[int, bytes]) -> Iterator[Item]:
     """What gives text its rows, if these are not those of the mode set; and the glyphs, as many as stand side by side."""
     height = mode.cell_height
     if mode.rows != 25:
-        yield Service(LOAD_CYCLES + GLYPHS * height, FONT_PARTS[height])
+        yield service(LOAD_CYCLES + GLYPHS * height, FONT_PARTS[height])
     first = count = 0
     for character in (*sorted(glyphs), -1):
         if count and character != first + count:
             block = b"".join(glyphs[at] for at in range(first, first + count))
-            yield Service(LOAD_CYCLES + len(block), 0x1110, height << 8, count, first, block)
+            yield service(LOAD_CYCLES + len(block), 0x1110, height << 8, count, first, block=block)
             count = 0
         first, count = (first, count + 1) if count else (character, 1)

@@ -3,7 +3,7 @@
 from dataclasses import dataclass
 from typing import Callable, Iterator, Sequence
 
-from vga_trace.step import FRAME, Step
+from zaklimot import format
 from zaklimot.format import Picture
 
 from .cells import cells_of, loading, own_glyphs, put_cells, rows_of, typed_cells, with_glyphs
@@ -12,7 +12,7 @@ from .colours import Indexed
 from .mode import Kind, Mode
 from .planes import best_numbers
 from .screen import Areas, drawn
-from .steps import Part, Service
+from .steps import Item, Part, service
 
 # Cycles of a mode set: of registers and palette, of the glyphs of text, of memory that is cleared.
 SET_CYCLES, GLYPH_CYCLES, TEXT_CYCLES, GRAPHICS_CYCLES = 896, 4112, 32768, 65536
@@ -33,13 +33,13 @@ class Drawn:
         return f"picture {self.picture.size} {self.picture.sum}"
 
 
-def _colours(colours: Sequence[Colour], mode: Mode) -> Iterator[Service]:
+def _colours(colours: Sequence[Colour], mode: Mode) -> Iterator[Item]:
     """The entries of the DAC that the palette names for these colours, as many at a time as stand side by side."""
     first = 0
     for number in range(1, len(colours) + 1):
         if number == len(colours) or mode.entries[number] != mode.entries[number - 1] + 1:
             block = bytes(part for colour in colours[first:number] for part in colour)
-            yield Service(1 + len(block), 0x1012, mode.entries[first], number - first, 0, block)
+            yield service(1 + len(block), 0x1012, mode.entries[first], number - first, block=block)
             first = number
 
 
@@ -50,14 +50,14 @@ def _drawn(
     dots = [bytes(colour) * mode.across for colour in colours]
     lines = (mode.down * b"".join(map(dots.__getitem__, row)) for row in rows)
     picture = Picture.of_dots(mode.width * mode.across, mode.height * mode.down, b"".join(lines))
-    return Drawn([*parts, Part("The picture", [Step(FRAME)])], picture, told)
+    return Drawn([*parts, Part("The picture", [Item(format.Step("frame"), 0)])], picture, told)
 
 
 def _begin(mode: Mode, colours: Sequence[Colour], count: int) -> list[Part]:
     note = f"A picture of {mode.width} by {mode.height} pixels and {count} colours, in mode {mode.name}, made by vga-picture."
     cycles = SET_CYCLES + (GLYPH_CYCLES + TEXT_CYCLES if mode.kind is Kind.CELLS else GRAPHICS_CYCLES)
     return [
-        Part(f"{note} Numbers are hexadecimal, but the count of `repeat`.", [Service(cycles, mode.number)]),
+        Part(f"{note} Numbers are hexadecimal, but the count of `repeat`.", [service(cycles, mode.number)]),
         Part("Its colours, six bits a component", list(_colours(colours, mode))),
     ]
 
@@ -92,7 +92,7 @@ def draw_text(
     if loads:
         parts.append(Part(f"Text of {mode.rows} rows, and {len(glyphs)} glyphs of its own", loads))
     # In frames 16 to 31 of 32 a blinking character is away, and its background has three bits.
-    parts.append(Part("No blinking, but bright backgrounds; no cursor", [Service(6, 0x1003), Service(4, 0x0100, 0, NO_CURSOR)]))
+    parts.append(Part("No blinking, but bright backgrounds; no cursor", [service(6, 0x1003), service(4, 0x0100, 0, NO_CURSOR)]))
     steps = typed_cells(cells, mode.columns) if is_short else put_cells(cells)
     if steps:
         parts.append(Part("The cells: a character and its attribute", steps))

@@ -15,7 +15,9 @@ from typing import Iterator, Mapping, Sequence
 from vga_trace.rebuilding import ALL_PLANES, map_mask, masks_of
 from vga_trace.rebuilding import FIRST_ADDRESS as WINDOW
 from vga_trace.state import PLANES
-from vga_trace.step import PUT, PUTW, Step
+from zaklimot import format
+
+from .steps import Item
 
 # Masks in the order in which they are written: all planes, which a mode set leaves; then those of three, of two, of one.
 MASKS = tuple(sorted(range(1, 16), key=lambda mask: (-bin(mask).count("1"), mask)))
@@ -43,18 +45,18 @@ def planes_of(rows: Rows) -> Planes:
     return tuple(b"".join(int(row.translate(digits), 2).to_bytes(length, "big") for row in rows) for digits in DIGITS)
 
 
-def put_steps(window: int, written: Mapping[int, int]) -> Iterator[Step]:
+def put_steps(window: int, written: Mapping[int, int]) -> Iterator[Item]:
     """Bytes by their offsets as words where two stand side by side, and else as bytes."""
     done = -1
     for offset in sorted(written):
         if offset + 1 in written and offset > done:
             done = offset + 1
-            yield Step(PUTW, window + offset, written[offset] | written[done] << 8)
+            yield Item(format.Step("putw", (window + offset, written[offset] | written[done] << 8)))
         elif offset > done:
-            yield Step(PUT, window + offset, written[offset])
+            yield Item(format.Step("put", (window + offset, written[offset])))
 
 
-def drawing(have: Planes, want: Planes) -> list[Step]:
+def drawing(have: Planes, want: Planes) -> list[Item]:
     """The steps that make planes others, with each map mask once at most, from a map mask of all planes on."""
     passes: dict[int, dict[int, int]] = {mask: {} for mask in MASKS}
     for at in range(0, len(want[0]), 2):
@@ -62,10 +64,10 @@ def drawing(have: Planes, want: Planes) -> list[Step]:
         if old != new:
             for mask, first, data in few_writes(old, new):
                 passes[mask].update(enumerate(data, at + first))
-    steps: list[Step] = []
+    steps: list[Item] = []
     for mask in MASKS:
         if passes[mask]:
-            steps += [map_mask(mask)] if mask != ALL_PLANES else []
+            steps += [Item(map_mask(mask).step)] if mask != ALL_PLANES else []
             steps += put_steps(WINDOW, passes[mask])
     return steps
 

@@ -7,11 +7,9 @@ are looked at in cells then, as the BIOS has them: eight columns for a character
 from itertools import chain, takewhile
 from typing import Iterator, Optional
 
-from vga_trace.step import OUTW, Step
-
 from .mode import Kind, Mode
 from .planes import ALL_PLANES, WINDOW, Rows, drawing, map_mask, planes_of, put_steps
-from .steps import Item, Part, Repeat, Service
+from .steps import Item, Part, repeat, service
 
 Cell = tuple[bytes, ...]
 # A window of cells: its column and row, and how many columns and rows it has.
@@ -21,7 +19,7 @@ CELL_WIDTH = 8
 LEAST_SAVED = 32
 
 
-def drawn(mode: Mode, have: Rows, want: Rows) -> list[Step]:
+def drawn(mode: Mode, have: Rows, want: Rows) -> list[Item]:
     """The steps that make rows of a mode others, from the map mask on that a mode set leaves: all planes.
 
     In mode 13 memory has a byte for each pixel, by chain 4.
@@ -32,14 +30,14 @@ def drawn(mode: Mode, have: Rows, want: Rows) -> list[Step]:
     return list(put_steps(WINDOW, {offset: new for offset, (old, new) in pixels if old != new}))
 
 
-def scroll(mode: Mode, window: Window, lines: int, colour: int = 0) -> Service:
+def scroll(mode: Mode, window: Window, lines: int, colour: int = 0) -> Item:
     """Function 07 on a window, of whose rows so many become blank; 0 lines blanks all of it in a colour."""
     column, row, columns, rows = window
     cycles = 2 * mode.cell_height * columns * rows + 8
     if mode.kind is Kind.BYTES:
         cycles = 64 * columns * (2 * rows - (lines or rows))
     function = 0x0600 if lines == 0 else 0x0700 | lines
-    return Service(cycles, function, colour << 8, row << 8 | column, row + rows - 1 << 8 | column + columns - 1)
+    return service(cycles, function, colour << 8, row << 8 | column, row + rows - 1 << 8 | column + columns - 1)
 
 
 class Areas:
@@ -100,7 +98,7 @@ class Areas:
             yield scroll(self._mode, window, 0, colour)
             self._finish(window)
 
-    def _bands(self) -> Iterator[Repeat]:
+    def _bands(self) -> Iterator[Item]:
         """Rows of cells that are alike, as wide as the first cell's go down, where a block of them is shorter."""
         for column, row, _ in self._places():
             rows = self._rows_alike(column, row, 1)
@@ -121,7 +119,7 @@ class Areas:
             columns = columns if cells[0] == self._blank else count
         return columns
 
-    def _band(self, window: Window) -> tuple[Repeat, int]:
+    def _band(self, window: Window) -> tuple[Item, int]:
         """A block that draws a window, and how many bytes it is shorter than its rows one by one."""
         column, row, columns, rows = window
         left, right = CELL_WIDTH * column, CELL_WIDTH * (column + columns)
@@ -131,6 +129,6 @@ class Areas:
             want[y] = have[y][:left] + self._want[y][left:right] + have[y][right:]
         steps = drawn(self._mode, have, want)
         # The map mask is what it was when the block begins again.
-        masks = [map_mask(ALL_PLANES)] if any(step.opcode == OUTW for step in steps) else []
-        block = Repeat(rows, (scroll(self._mode, window, 1), *steps, *masks))
-        return block, rows * sum(step.step.size for step in steps) - block.step.size
+        masks = [Item(map_mask(ALL_PLANES).step)] if any(item.step.name == "outw" for item in steps) else []
+        block = repeat(rows, [scroll(self._mode, window, 1), *steps, *masks])
+        return block, rows * sum(item.step.size for item in steps) - block.step.size
