@@ -1,4 +1,4 @@
-"""The library for C: what its header says, where its files lie, what a release holds, and that its tests can fail.
+"""The library for C: its header, its files, also for another processor; the packages; releases; that its tests can fail.
 
 A release has the same bytes whatever the order and the time, from a commit alone.
 """
@@ -9,25 +9,30 @@ import os
 import posixpath
 import re
 import shutil
+import subprocess
+import sys
 import tarfile
+import tempfile
 import unittest
 import zipfile
 from pathlib import Path
 from typing import Iterator
 from unittest import mock
 
-from library_tests import checks, compilers
-from vga_library import making, toolchain
+from library_tests import bindings, checks, compilers
+from library_tests.running import run
+from vga_library import command, making, toolchain
 from vga_library.making import MOVING, Place, cmake_text, cmake_version_text, package_text
 from vga_library.targets import AARCH64, TARGETS, X86_64
-from vga_release import command, gathering
-from vga_release.gathering import (
-    FRONT, INSTALL, LINKS, MADE_OF, PATHS, Commit, Entry, File, pack, settled,
-)
+from vga_library.toolchain import HEAP, HEAP_OPTIONS
+from vga_release import command as release
+from vga_release import gathering
+from vga_release.gathering import FRONT, INSTALL, LINKS, MADE_OF, PATHS, Commit, Entry, File, pack, settled
 from vga_report import TOP, crates
 from vga_report.cases import read_cases
-from vga_report.processes import Done
-from vga_report.trouble import Trouble, Wrong
+from vga_report.processes import PACKAGES, Done
+from vga_report.progress import Progress
+from vga_report.trouble import TROUBLE, Trouble, Wrong
 from vga_report.version import HEADER, Version, calls_of, version, version_of, without_comments
 from vga_report.words import SUITE
 
@@ -43,6 +48,9 @@ ENTRIES: dict[str, Entry] = {
     "z/lib/b.so.1": File(b"library"), "z/lib/b.so": "b.so.1", "z/bin/vga": File(b"program", True), "z/a": File(b""),
 }
 COMMIT = Commit("0123abcd", 1_700_000_000)
+# A program that notes its words; and one that takes blocks of memory in each way.
+FAKE = Path(__file__).with_name("noting.sh").read_text("ascii")
+TAKING = Path(__file__).with_name("taking.c")
 
 
 class Header(unittest.TestCase):
@@ -117,21 +125,15 @@ class Made(Folder):
         self.assertIsNone(making.kept("llvm", X86_64))
         kept = making.keep("llvm", X86_64, *self.parts)
         self.assertEqual([path.read_text() for path in kept], ["one.a", "two.a"])
-        self.assertEqual(making.kept("llvm", X86_64), kept)
         self.assertIsNone(making.kept("rattle", X86_64))
-        # Other sources, and other archives.
-        self.low.write_text("changed")
-        self.assertIsNone(making.kept("llvm", X86_64))
-        self.low.write_text("low")
-        self.assertEqual(making.kept("llvm", X86_64), kept)
-        kept[0].write_text("changed")
-        self.assertIsNone(making.kept("llvm", X86_64))
+        # Another source, another archive, and one source more.
+        for path in (self.low, kept[0], self.low.with_name("more.rt")):
+            self.assertEqual(making.kept("llvm", X86_64), kept)
+            before = path.read_text() if path.exists() else None
+            path.write_text("changed")
+            self.assertIsNone(making.kept("llvm", X86_64), path)
+            path.unlink() if before is None else path.write_text(before)
         kept[0].unlink()
-        self.assertIsNone(making.kept("llvm", X86_64))
-        # A new source is another too.
-        making.keep("llvm", X86_64, *self.parts)
-        self.assertIsNotNone(making.kept("llvm", X86_64))
-        self.low.with_name("more.rt").write_text("")
         self.assertIsNone(making.kept("llvm", X86_64))
 
 
@@ -258,7 +260,7 @@ class Parts(unittest.TestCase):
         self.assertIn(f"zaklimot-{version()}-py3-none-linux_x86_64.whl", page)
         self.assertIn(f"## {version()}\n", (TOP / "CHANGELOG.md").read_text("utf-8"))
         self.assertEqual([path for path in PATHS if not (TOP / path).exists()], [])
-        self.assertEqual(command.release_name(), f"zaklimot-{version()}-x86_64-linux")
+        self.assertEqual(release.release_name(), f"zaklimot-{version()}-x86_64-linux")
 
     def test_the_links_of_pages(self) -> None:
         front, others = gathering.PAGE, {"docs/A.md": File(b""), "src/low/x.rs": File(b"")}
@@ -277,7 +279,7 @@ class Parts(unittest.TestCase):
     def test_what_is_changed_is_no_release(self) -> None:
         with mock.patch("vga_report.processes.captured", return_value=Done(0, b" M README.md\n", b"")):
             told = "^vga-release: a release is made from a commit, and this is changed: M README.md\n$"
-            hold_undone(self, call(command.main, "release"), told)
+            hold_undone(self, call(release.main, "release"), told)
 
 
 def sources() -> dict[str, Entry]:
@@ -358,9 +360,9 @@ class Packed(Folder):
     def test_the_archive_and_its_checksum(self) -> None:
         given = self.write("given", "built")
         made = {"clean_commit": lambda: COMMIT, "release_entries": lambda *_: ENTRIES, "check_program": lambda _: None}
-        self.patch(mock.patch.multiple(command, **made))
+        self.patch(mock.patch.multiple(release, **made))
         words = ["--program", given, "--archive", given, "--archive-aarch64", given]
-        status, output, _ = call(command.main, self.folder, *words)
+        status, output, _ = call(release.main, self.folder, *words)
         archive, sums = map(Path, output.splitlines())
         number = hashlib.sha256(archive.read_bytes()).hexdigest()
         self.assertEqual((status, sums.read_text("ascii")), (0, f"{number}  {archive.name}\n"))
@@ -419,3 +421,194 @@ class Installing(Folder):
             with self.subTest(words=words):
                 hold_undone(self, self.install(*words), rf"{told}.*\n\Z")
         self.assertEqual((self.release / "bin/vga").read_text(), "#!program")
+
+
+class OtherProcessors(Folder):
+    """The library is made by programs of the cross compiler and of the toolchain that note how they are called."""
+
+    def setUp(self) -> None:
+        super().setUp()
+        self.notes, kit = self.folder / "notes", self.folder / "kit"
+        names = [f"bin/{name}" for name in ("rt", *AARCH64.programs())]
+        for name in (*names, "kit/bin/rattle"):
+            self.program(name, FAKE)
+        path = f"{self.folder / 'bin'}:{os.environ['PATH']}"
+        self.crate = self.folder / "crates" / "vga_c"
+        (self.crate / "out").mkdir(parents=True)
+        self.patch(
+            mock.patch.dict(os.environ, {"PATH": path, "NOTES": str(self.notes), "KIT": str(kit)}),
+            mock.patch.multiple(
+                toolchain, CRATE=self.crate, KEPT=self.crate / "out" / "incremental",
+                rlib=lambda name: Path(f"{name}.rlib"),
+            ),
+            mock.patch.object(making, "FOLDER", self.crate / "out" / "made"),
+        )
+
+    def noted(self) -> list[list[str]]:
+        """The words of each program that was called."""
+        return [line.split(" ") for line in self.notes.read_text("utf-8").splitlines()]
+
+    def test_what_is_run_and_what_is_laid(self) -> None:
+        place = self.folder / "kit-for-arm"
+        progress = mock.create_autospec(Progress, instance=True)
+        with mock.patch("vga_report.cli.Progress", return_value=progress):
+            status, told, said = call(command.main, "make", str(place), "--target", "aarch64")
+        self.assertIn(" proving and building the library: vga_bits, crate 1 of ", progress.tell.call_args[0][0])
+        self.assertEqual((status, said), (0, ""))
+        self.assertIn(f"{place / 'lib' / f'libzaklimot.so.{version()}'}\n", told)
+        calls = [words for words in self.noted() if words != ["rt", "doc"]]
+        front = "aarch64-linux-gnu-"
+        self.assertEqual([words[0] for words in calls], [
+            "rt", "rattle", f"{front}gcc", f"{front}ld", f"{front}objcopy", f"{front}ar", f"{front}gcc",
+        ])
+        self.assertEqual(calls[0], ["rt", "check"])
+        building_words = " ".join(calls[1])
+        for word in (" build ", " --target aarch64-unknown-linux-gnu ", " --backend llvm ", " --crate-type staticlib "):
+            self.assertIn(word, f"{building_words} ")
+        self.assertEqual(Path(calls[1][-1]), self.crate / "out" / "libvga_c-aarch64.a")
+        # Both the crate's archive and the memory's functions are joined.
+        self.assertEqual([Path(word).name for word in calls[3][-2:]], ["crates.a", "memory.a"])
+        self.assertIn(str(HEAP), calls[2])
+
+    def test_install_takes_what_was_made_for_the_same_processor(self) -> None:
+        self.assertEqual(call(command.main, "make", str(self.folder / "first"), "--target", "aarch64")[0], 0)
+        self.notes.unlink()
+        words = ["install", "--prefix", "/usr", "--destdir", str(self.folder / "stage")]
+        self.assertEqual(call(command.main, *words, "--target", "aarch64")[0], 0)
+        self.assertEqual({words[0] for words in self.noted()}, set(AARCH64.programs()))
+        self.assertIsNone(making.kept("llvm", X86_64))
+        with mock.patch.object(making, "HEAP", Path(__file__)):
+            self.assertIsNone(making.kept("llvm", AARCH64))
+        self.assertIsNotNone(making.kept("llvm", AARCH64))
+
+    def test_what_cannot_be_made_is_told_before_the_long_work(self) -> None:
+        place = str(self.folder / "none")
+        self.assertEqual(call(command.main, "make", place, "--target", "aarch64", "--backend", "rattle"), (
+            TROUBLE, "", "vga-library: aarch64: the toolchain has no compiler rattle for it\n",
+        ))
+        for program in AARCH64.programs():
+            path = self.folder / "bin" / program
+            path.rename(self.folder / "away")
+            with self.subTest(program), mock.patch.dict(os.environ, {"PATH": str(self.folder / "bin")}):
+                self.assertEqual(call(command.main, "make", place, "--target", "aarch64"), (
+                    TROUBLE, "", f"vga-library: {program}: it is not in the path: install the package {PACKAGES[program]}\n",
+                ))
+            (self.folder / "away").rename(path)
+        done = call(command.main, "make", self.write("file", ""), "--target", "aarch64")
+        self.assertEqual(done, (TROUBLE, "", f"vga-library: {self.folder}/file: it is not a folder\n"))
+        self.assertFalse(self.notes.exists())
+
+    def test_what_fails_leaves_no_folder(self) -> None:
+        self.program(f"bin/{AARCH64.tool('ar')}", "#!/bin/sh\nexit 1\n")
+        status, _, said = call(command.main, "make", self.folder / "none", "--target", "aarch64")
+        self.assertEqual((status, (self.folder / "none").exists()), (TROUBLE, False), said)
+
+    def test_the_machine_s_own(self) -> None:
+        with mock.patch.dict(os.environ, {"CC": "some-cc"}):
+            self.assertEqual(X86_64.programs(), ["some-cc", "ld", "objcopy", "ar"])
+            self.assertEqual(AARCH64.compiler(), "aarch64-linux-gnu-gcc")
+
+    def test_what_a_release_has_of_it(self) -> None:
+        files = {place: entry for place, entry in sources().items() if isinstance(entry, gathering.File)}
+        archive = self.folder / "crates.a"
+        archive.touch()
+        entries = gathering.library_files(files, AARCH64, archive)
+        name = f"aarch64/zaklimot-{version()}-py3-none-linux_aarch64.whl"
+        self.assertEqual({place.partition("/")[0] for place in entries}, {"aarch64"})
+        self.assertEqual(entries["aarch64/lib/libzaklimot.so"], f"libzaklimot.so.{version()}")
+        wheel = entries[name]
+        assert isinstance(wheel, gathering.File)
+        with zipfile.ZipFile(io.BytesIO(wheel.content)) as opened:
+            self.assertEqual(opened.read("zaklimot/carried/libzaklimot.so"), b"made\n")
+            self.assertIn("zaklimot/format/table.py", opened.namelist())
+        self.assertEqual(gathering.library_files(files, AARCH64, archive), entries)
+        text = gathering.made_of(gathering.Commit("0123", 0), "kit", entries).content.decode("ascii")
+        self.assertRegex(text, r"(?m)^sha256 [0-9a-f]{64} aarch64/lib/libzaklimot\.a$")
+
+    @unittest.skipUnless(shutil.which("cc"), "there is no C compiler")
+    def test_what_the_heap_answers(self) -> None:
+        program = self.folder / "taking"
+        # A compiler that knows malloc would warn of so large a request.
+        self.assertEqual(ended("cc", *HEAP_OPTIONS, "-fno-builtin", TAKING, HEAP, "-o", program), (0, "", ""))
+        self.assertEqual(ended(program)[0], 0)
+
+
+class Bindings(unittest.TestCase):
+    """That the tests of the packages can fail."""
+
+    def test_what_is_wrong(self) -> None:
+        self.assertEqual(run([sys.executable, "-c", "print(7)"]), "7\n")
+        with self.assertRaisesRegex(Wrong, "it ended with status 1\n(?s:.*)no such test"):
+            run([sys.executable, "-c", "raise SystemExit('no such test')"])
+        ran, skipped, line = "Ran 9 tests in 1s\n", "a ... skipped '{}'\n", "test result: ok. {} passed; 0 failed; 0 ignored\n"
+        for check, said, told in (
+            (bindings.check_python, skipped.format("numpy is not here") + ran, "9 tests, "),
+            (bindings.check_python, skipped.format("ZAKLIMOT_DIR is not set") + ran, None),
+            (bindings.check_rust, 5 * line.format(4), "20 tests"), (bindings.check_rust, 5 * line.format(0), None),
+        ):
+            fakes = {"tested": lambda *_, **__: Done(0, b"", said.encode()), "_cargo": lambda *_: said}
+            with self.subTest(said), mock.patch.multiple(bindings, **fakes):
+                if told is None:
+                    self.assertRaises(Wrong, check, TOP, TOP)
+                else:
+                    self.assertTrue(check(TOP, TOP).startswith(told))
+
+    def test_the_page_has_its_programs(self) -> None:
+        self.assertEqual(list(bindings.programs_of_page()), [f"program_{number}" for number in range(3)])
+
+    def test_words_that_cannot_be_meant_and_what_is_lacking(self) -> None:
+        with mock.patch.object(bindings, "lacking", lambda: []):
+            for words in (["--proof", "folder"], ["--library", "no-such-folder"]):
+                hold_undone(self, call(bindings.main, *words), "^vga-bindings-tests: ")
+            self.assertEqual(call(bindings.main, "--ready"), (0, "", ""))
+        with mock.patch("shutil.which", lambda name: None if "cargo" in name else name):
+            told = "  cargo: install the package cargo\n  cargo-clippy: install the package rust-clippy\n"
+            hold_undone(self, call(bindings.main, "--ready"), f"^vga-bindings-tests: this machine lacks\n{told}")
+
+
+@unittest.skipUnless(shutil.which("rustc"), "rustc isn't installed")
+class Finding(unittest.TestCase):
+    """What the build of the crate for Rust finds, and what it says where there is no library."""
+
+    @classmethod
+    def setUpClass(cls) -> None:
+        folder = tempfile.TemporaryDirectory()
+        cls.addClassCleanup(folder.cleanup)
+        cls.folder = Path(folder.name)
+        source = TOP / "bindings" / "rust" / "zaklimot-sys" / "build.rs"
+        words = ["rustc", "--edition", "2021", "-D", "warnings", "-o", cls.folder / "build", source]
+        subprocess.run(words, check=True, timeout=120)
+        # Each of them has its library in lib, and a file for pkg-config; the library of `empty` is not there.
+        for name in ("full", "empty"):
+            packages = cls.folder / name / "lib" / "pkgconfig"
+            packages.mkdir(parents=True)
+            (packages / "zaklimot.pc").write_text(package_text("", "lib", version()), "ascii")
+        (cls.folder / "full" / "lib" / "libzaklimot.a").touch()
+
+    def built(self, **names: str) -> tuple[int, str, str]:
+        """How the build ends, what it tells cargo, and what it says."""
+        return ended(self.folder / "build", env={"PATH": os.environ["PATH"], **names})
+
+    def test_what_is_found(self) -> None:
+        full = self.folder / "full"
+        for names in ({"ZAKLIMOT_DIR": str(full)}, {"PKG_CONFIG_PATH": f"/no-such-folder:{full}/lib/pkgconfig"}):
+            with self.subTest(names):
+                status, told, said = self.built(**names)
+                self.assertEqual((status, said), (0, ""))
+                self.assertIn("cargo:rustc-link-lib=static=zaklimot\n", told)
+                folders = dict(line.partition("=")[::2] for line in told.splitlines())
+                self.assertTrue(os.path.samefile(folders["cargo:rustc-link-search"].partition("=")[2], full / "lib"))
+
+    def test_without_a_library_each_way_to_one_is_told(self) -> None:
+        empty, ways = str(self.folder / "empty"), ("a release", "./install.sh", "tools/vga-library install", "PKG_CONFIG_PATH")
+        for names, begins in (
+            ({"PKG_CONFIG_PATH": f"{empty}/lib/pkgconfig"}, "there is no library libzaklimot.\n"),
+            ({"ZAKLIMOT_DIR": empty}, f"ZAKLIMOT_DIR is {empty}, and there is no lib/libzaklimot.a or .so.\n"),
+            ({"ZAKLIMOT_DIR": "kit"}, "ZAKLIMOT_DIR is kit, and a path is to begin with a slash.\n"),
+        ):
+            with self.subTest(names):
+                status, told, said = self.built(**names)
+                self.assertEqual((status, said[:len(begins)]), (1, begins))
+                self.assertNotIn("rustc-link", told)
+                for way in (*ways, "tools/vga-library make kit", "set ZAKLIMOT_DIR"):
+                    self.assertIn(way, said)
