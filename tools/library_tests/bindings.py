@@ -13,8 +13,8 @@ from pathlib import Path
 from typing import Callable
 
 from vga_library.making import MOVING, Place, make_library
-from vga_library.targets import BACKENDS
-from vga_library.toolchain import gated_archive, kit_archive, proved_archive
+from vga_library.targets import BACKENDS, X86_64
+from vga_library.toolchain import built_archive, gated_archive, kit_archive
 from vga_report import TOP, cli
 from vga_report.crates import phases
 from vga_report.processes import captured, tested
@@ -175,7 +175,7 @@ def _library(words: argparse.Namespace, folder: Path, progress: Progress) -> Pat
     if words.gated:
         archive = gated_archive(BACKENDS[0], words.proof or folder / "proof", folder / "crates.a")
     else:
-        archive = proved_archive(BACKENDS[0], phases(progress)("proving and building the library"))
+        archive = built_archive(BACKENDS[0], X86_64, phases(progress)("proving and building the library"))
         progress.clear()
     make_library(archive, kit_archive(), Place(str(folder / "library")), MOVING)
     return folder / "library"

@@ -53,24 +53,20 @@ def _parser() -> argparse.ArgumentParser:
     return parser
 
 
-def _archive(words: argparse.Namespace, backend: str, target: Target, folder: Path) -> Path:
-    """Lays the archive of a compiler, or the one that is given, into a file of the folder."""
-    kept = folder / f"{backend}.a"
-    if words.gated:
-        # One proof is enough for both compilers.
-        return gated_archive(backend, words.proof or folder / "proof", kept, target)
-    # The next compiler's archive takes the place of this one.
-    return Path(shutil.copyfile(words.archive or built_archive(backend, target), kept))
-
-
 @contextmanager
 def _libraries(words: argparse.Namespace, target: Target) -> Iterator[list[Built]]:
     """The libraries that are tested, in folders that are there as long as this lasts."""
     with tempfile.TemporaryDirectory(prefix="vga-library-tests-") as name:
-        built = []
+        top, built = Path(name), []
         for backend in target.backends if words.archive is None else ["given"]:
-            folder, kept = Path(name) / backend, _archive(words, backend, target, Path(name))
-            make_library(kept, memory_part(target, Path(name)), Place(str(folder)), MOVING, target)
+            folder, kept = top / backend, top / f"{backend}.a"
+            if words.gated:
+                # One proof is enough for both compilers.
+                gated_archive(backend, words.proof or top / "proof", kept, target)
+            else:
+                # The next compiler's archive takes the place of this one.
+                shutil.copyfile(words.archive or built_archive(backend, target), kept)
+            make_library(kept, memory_part(target, top), Place(str(folder)), MOVING, target)
             built.append(Built(backend, folder, kept, target))
         yield built
 

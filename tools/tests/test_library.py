@@ -22,7 +22,7 @@ from unittest import mock
 from library_tests import bindings, checks, compilers
 from library_tests.running import run
 from vga_library import command, making, toolchain
-from vga_library.making import MOVING, Place, cmake_text, cmake_version_text, package_text
+from vga_library.making import MOVING, Place, described
 from vga_library.targets import AARCH64, TARGETS, X86_64
 from vga_library.toolchain import HEAP, HEAP_OPTIONS
 from vga_release import command as release
@@ -79,22 +79,18 @@ class Header(unittest.TestCase):
 
 
 class Making(unittest.TestCase):
-    def test_what_packages_read(self) -> None:
-        text = package_text("/usr", "lib/x", Version(1, 2))
-        self.assertIn("prefix=/usr\nlibdir=${prefix}/lib/x\n", text)
-        self.assertIn("fonts=${prefix}/share/zaklimot/zaklimot.fnt\n", text)
-        self.assertIn("Version: 1.2\n", text)
-        self.assertIn("prefix=${pcfiledir}/../..\n", package_text(MOVING, "lib", Version(1, 2)))
-        self.assertIn("prefix=${pcfiledir}/../../..\n", package_text(MOVING, "lib/x", Version(1, 2)))
-
-    def test_what_cmake_reads(self) -> None:
-        text = cmake_text("lib/x", Version(1, 2))
-        self.assertIn('"${CMAKE_CURRENT_LIST_DIR}/../../../.." ABSOLUTE', text)
-        self.assertIn('"${_zaklimot_prefix}/lib/x/libzaklimot.so.1.2"\n    IMPORTED_SONAME "libzaklimot.so.1"', text)
-        told = cmake_version_text(Version(1, 2))
+    def test_what_packages_and_cmake_read(self) -> None:
+        package, cmake, told = described("/usr", "lib/x", Version(1, 2)).values()
+        for line in (
+            "prefix=/usr\nlibdir=${prefix}/lib/x\n", "fonts=${prefix}/share/zaklimot/zaklimot.fnt\n", "Version: 1.2\n",
+        ):
+            self.assertIn(line, package)
+        for folder, upwards in (("lib", "../.."), ("lib/x", "../../..")):
+            self.assertIn(f"prefix=${{pcfiledir}}/{upwards}\n", [*described(MOVING, folder, Version(1, 2)).values()][0])
+        self.assertIn('"${CMAKE_CURRENT_LIST_DIR}/../../../.." ABSOLUTE', cmake)
+        self.assertIn('"${_zaklimot_prefix}/lib/x/libzaklimot.so.1.2"\n    IMPORTED_SONAME "libzaklimot.so.1"', cmake)
         self.assertIn('set(PACKAGE_VERSION "1.2")', told)
-        for whole in (text, told):
-            self.assertNotIn("@", whole)
+        self.assertNotIn("@", cmake + told)
 
     def test_crates_below_stand_lowest_first(self) -> None:
         below = crates.below("vga_c")
@@ -237,11 +233,8 @@ def packed(entries: dict[str, Entry]) -> bytes:
 class Parts(unittest.TestCase):
     """The archive, and what goes into it."""
 
-    def test_a_change_is_seen_and_the_order_of_files_is_not(self) -> None:
-        self.assertEqual(packed(ENTRIES), packed(dict(reversed(ENTRIES.items()))))
-        self.assertNotEqual(packed(ENTRIES), packed({**ENTRIES, "z/a": File(b"x")}))
-
     def test_what_the_archive_tells(self) -> None:
+        self.assertEqual(packed(ENTRIES), packed(dict(reversed(ENTRIES.items()))))
         with tarfile.open(fileobj=io.BytesIO(packed(ENTRIES))) as archive:
             members = archive.getmembers()
             content = archive.extractfile("z/bin/vga")
@@ -366,12 +359,6 @@ class Packed(Folder):
         archive, sums = map(Path, output.splitlines())
         number = hashlib.sha256(archive.read_bytes()).hexdigest()
         self.assertEqual((status, sums.read_text("ascii")), (0, f"{number}  {archive.name}\n"))
-
-    def test_what_is_laid_is_told(self) -> None:
-        with mock.patch.object(making, "run", return_value=""):
-            laid = making.make_library(Path("a"), Path("b"), Place(str(self.folder)), making.MOVING)
-        self.assertIn(self.folder / "include" / "zaklimot.h", laid)
-        self.assertTrue((self.folder / "share" / "zaklimot" / "zaklimot.fnt").is_file())
 
     def test_no_source_is_laid_over_itself(self) -> None:
         header = Path(self.write("include/zaklimot.h", TEXT))
@@ -580,9 +567,9 @@ class Finding(unittest.TestCase):
         subprocess.run(words, check=True, timeout=120)
         # Each of them has its library in lib, and a file for pkg-config; the library of `empty` is not there.
         for name in ("full", "empty"):
-            packages = cls.folder / name / "lib" / "pkgconfig"
-            packages.mkdir(parents=True)
-            (packages / "zaklimot.pc").write_text(package_text("", "lib", version()), "ascii")
+            for file, text in described("", "lib", version()).items():
+                (cls.folder / name / "lib" / file).parent.mkdir(parents=True, exist_ok=True)
+                (cls.folder / name / "lib" / file).write_text(text, "ascii")
         (cls.folder / "full" / "lib" / "libzaklimot.a").touch()
 
     def built(self, **names: str) -> tuple[int, str, str]:

@@ -4,6 +4,7 @@ import argparse
 import os
 import tempfile
 from pathlib import Path
+from typing import Optional
 
 from vga_report import cli
 from vga_report.cli import add
@@ -19,6 +20,13 @@ from .toolchain import ARCHIVE, built_archive, memory_part
 
 # Where files go that a package names no other place for.
 USUAL_PREFIX = "/usr/local"
+
+
+def check_given(*paths: Optional[str]) -> None:
+    """Ends the work where one of these is given and is no file."""
+    for path in filter(None, paths):
+        if not os.path.isfile(path):
+            raise Trouble("there is no such file", path)
 
 
 def _add_archive(parser: argparse.ArgumentParser) -> None:
@@ -75,9 +83,8 @@ def _wanted_target(words: argparse.Namespace) -> Target:
 
 
 def _lay(words: argparse.Namespace, place: Place, prefix: str, progress: Progress, takes_made: bool = False) -> None:
-    if words.archive is not None and not os.path.isfile(words.archive):
-        raise Trouble("there is no such file", words.archive)
     # What is wrong with words, programs and folders is told before the long work.
+    check_given(words.archive)
     target = _wanted_target(words)
     for name in ("include", place.library_folder, "share"):
         check_folder(place.folder(name))

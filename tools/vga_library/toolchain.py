@@ -43,13 +43,6 @@ def kit_archive() -> Path:
     return kit_folder() / "c" / "liblibc_c.a"
 
 
-def proved_archive(backend: str, heard: Optional[Hearer] = None) -> Path:
-    """The crate's archive, proved and built by one of the two compilers. What is kept of its proof makes it quick."""
-    flags = [] if backend == BACKENDS[0] else ["--backend", backend]
-    run(["rt", "lib", *flags], CRATE, heard)
-    return ARCHIVE
-
-
 def rlib(name: str) -> Path:
     """The library that `rt ci` built of a crate."""
     path = TOP / "crates" / name / "out" / "rlib" / f"{name}.rlib"
@@ -96,7 +89,8 @@ def gated_archive(backend: str, kept: Path, made: Path, target: Target = X86_64)
 def built_archive(backend: str, target: Target, heard: Optional[Hearer] = None) -> Path:
     """The crate's archive for a processor, proved and built. What is kept of its proof makes it quick."""
     if target == X86_64:
-        return proved_archive(backend, heard)
+        run(["rt", "lib", *([] if backend == BACKENDS[0] else ["--backend", backend])], CRATE, heard)
+        return ARCHIVE
     # `rt lib` builds for the kit's own processor alone. The compiler proves the crate for the other one too.
     run(["rt", "check"], CRATE, heard)
     return gated_archive(backend, KEPT, CRATE / "out" / f"lib{CRATE.name}-{target.name}.a", target)

@@ -3,7 +3,7 @@
 from __future__ import annotations
 
 import io
-from typing import Iterator
+from typing import BinaryIO, Iterator
 
 from vga_report.version import HEADER, calls_of
 from vga_report.trouble import Trouble
@@ -21,39 +21,30 @@ IS_64 = 4
 MOST_MODULE = 16 << 20
 
 
-class _Reader(io.BytesIO):
-    """Reads a module's numbers and names."""
+def _taken(stream: BinaryIO, count: int) -> bytes:
+    data = stream.read(min(count, MOST_MODULE))
+    if len(data) < count:
+        raise Trouble("it is cut off", "the module")
+    return data
 
-    def byte(self) -> int:
-        return self.taken(1)[0]
 
-    def taken(self, count: int) -> bytes:
-        """The next bytes, so many."""
-        data = self.read(min(count, MOST_MODULE))
-        if len(data) < count:
-            raise Trouble("it is cut off", "the module")
-        return data
-
-    def number(self) -> int:
-        """A number in LEB128."""
-        value = shift = 0
-        while True:
-            byte = self.byte()
-            value |= (byte & 127) << shift
-            shift += 7
-            if byte < 128:
-                return value
-
-    def name(self) -> str:
-        return self.taken(self.number()).decode("utf-8", "replace")
+def _number(stream: BinaryIO) -> int:
+    """A number in LEB128."""
+    value = shift = 0
+    while True:
+        (byte,) = _taken(stream, 1)
+        value |= (byte & 127) << shift
+        shift += 7
+        if byte < 128:
+            return value
 
 
 def _all_sections(module: bytes) -> Iterator[tuple[int, bytes]]:
     if not module.startswith(MAGIC):
         raise Trouble("it is no WebAssembly module", "the module")
-    reader = _Reader(module[len(MAGIC):])
-    while number := reader.read(1):
-        yield number[0], reader.taken(reader.number())
+    stream = io.BytesIO(module[len(MAGIC):])
+    while number := stream.read(1):
+        yield number[0], _taken(stream, _number(stream))
 
 
 def sections(module: bytes) -> dict[int, bytes]:
@@ -78,12 +69,12 @@ def kit_of(module: bytes) -> str:
 
 def exports_of(module: bytes) -> dict[str, int]:
     """The names that a module exports, in its order, each with its kind: 0 is a function."""
-    reader, found = _Reader(sections(module).get(EXPORTS, b"\0")), {}
-    for _ in range(reader.number()):
-        name = reader.name()
-        found[name] = reader.byte()
+    stream, found = io.BytesIO(sections(module).get(EXPORTS, b"\0")), {}
+    for _ in range(_number(stream)):
+        name = _taken(stream, _number(stream)).decode("utf-8", "replace")
+        (found[name],) = _taken(stream, 1)
         # Its place among others of its kind.
-        reader.number()
+        _number(stream)
     return found
 
 

@@ -2,18 +2,17 @@
 
 import argparse
 import hashlib
-import os
 from pathlib import Path
 
 from vga_report import TOP, cli
 from vga_report.version import version
 from vga_report.crates import phases
+from vga_library.command import check_given
 from vga_library.targets import AARCH64, BACKENDS, X86_64, Target
 from vga_library.toolchain import built_archive
-from vga_report.processes import Hearer, check_program, run
+from vga_report.processes import check_program, run
 from vga_report.progress import Progress
 from vga_report.streams import check_folder, to_read, write_file, writing
-from vga_report.trouble import Trouble
 
 from .gathering import clean_commit, pack, release_entries
 
@@ -40,22 +39,13 @@ def release_name() -> str:
     return f"zaklimot-{version()}-{MACHINE}"
 
 
-def _proved_program(heard: Hearer) -> Path:
-    run(["rt", "run", "--", "--help"], PROGRAM, heard)
-    return PROGRAM / "out" / "vga"
-
-
-def _check_words(words: argparse.Namespace) -> None:
-    for given in (words.program, words.archive, words.archive_aarch64):
-        if given is not None and not os.path.isfile(given):
-            raise Trouble("there is no such file", given)
-    check_folder(words.folder)
-
-
 def _built(words: argparse.Namespace, progress: Progress) -> tuple[Path, dict[Target, Path]]:
     """The program, and the crate's archive for each processor: given, or proved and built now."""
     tell = phases(progress)
-    program = Path(words.program or _proved_program(tell("proving and building the program")))
+    if words.program is None:
+        # What is kept of its proof makes it quick.
+        run(["rt", "run", "--", "--help"], PROGRAM, tell("proving and building the program"))
+    program = Path(words.program or PROGRAM / "out" / "vga")
     archives = {}
     for target, given in ((X86_64, words.archive), (AARCH64, words.archive_aarch64)):
         heard = tell(f"proving and building the library for {target.name}")
@@ -65,7 +55,8 @@ def _built(words: argparse.Namespace, progress: Progress) -> tuple[Path, dict[Ta
 
 
 def _release(words: argparse.Namespace, progress: Progress) -> None:
-    _check_words(words)
+    check_given(words.program, words.archive, words.archive_aarch64)
+    check_folder(words.folder)
     commit, name = clean_commit(), release_name()
     for program in (*X86_64.programs(), *AARCH64.programs()):
         check_program(program)
