@@ -172,8 +172,8 @@ def check_cases(way: str, built: Built, folder: Path) -> str:
     """Each case agrees in a way of WAYS."""
     texts, scripts = WAYS[way]
     command, cases = shlex.join(map(str, harness(built, folder))), read_cases(str(SUITE))
-    words = [sys.executable, TOP / "tools" / "vga-report", "suite", f"{command} {texts}", "--bytes", f"{command} {scripts}"]
-    done = captured([*words, "--jobs", str(os.cpu_count() or 1)])
+    words = [f"{command} {texts}", "--bytes", f"{command} {scripts}", "--jobs", str(os.cpu_count() or 1)]
+    done = captured([sys.executable, TOP / "tools" / "vga-report", "suite", *words])
     # Cases of bytes that are to be stopped, which zak_run does not do.
     stopped = sum(case.is_bytes and case.until is not None for case in cases) if scripts == BYTES else 0
     wanted = f"{counted(len(cases), 'case')}: {len(cases) - stopped} agree" + f", {stopped} skipped" * bool(stopped)
@@ -185,7 +185,7 @@ def check_cases(way: str, built: Built, folder: Path) -> str:
 
 
 EXAMPLES = TOP / "examples"
-# What programs draw: the 256 colours of mode 13, as by a script with a put for each pixel; and sixteen bars of 30 lines.
+# What programs draw: the 256 colours of mode 13, as by a script with a put for each pixel; and sixteen bars.
 PICTURES = {"picture": "640x400 6b35295951c28e75ea5b9797d171904b", "core": "640x480 e4616bacd9e54c09502d9c64039bd566"}
 STEPPING = [EXAMPLES / "c" / name for name in ("debugger.c", "script.c")]
 # A text of few steps, the lines as which it is printed, and those of its report.
@@ -201,8 +201,8 @@ def check_examples(built: Built, folder: Path) -> str:
     """The first program draws its colours, as each compiler builds it, and the core in miniature draws its bars."""
     first, *others = [compiler.c for compiler in built.compilers]
     for name, compiler in [("core", first), *(("picture", one) for one in (first, *others))]:
-        program, ppm = build(compiler, built, [EXAMPLES / "c" / f"{name}.c"], folder / name, "-O2"), folder / f"{compiler}.ppm"
-        run([*program, FONTS, ppm])
+        ppm = folder / f"{compiler}.ppm"
+        run([*build(compiler, built, [EXAMPLES / "c" / f"{name}.c"], folder / name, "-O2"), FONTS, ppm])
         picture = Picture.of_ppm(ppm.read_bytes())
         if f"{picture.size} {picture.sum}" != PICTURES[name]:
             raise Wrong(f"{name} by {compiler} draws another picture: {picture.size} {picture.sum}")

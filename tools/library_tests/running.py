@@ -1,4 +1,4 @@
-"""What the tests of the library, of the packages and of the page share: programs that must end well, checks in a row."""
+"""What the tests of the library, the packages and the page share: programs that must end well, and checks."""
 
 from __future__ import annotations
 

@@ -1,4 +1,4 @@
-"""The words of the command line, and the checks one after the other; whether the page as built is what its sources make."""
+"""The words of the command line, and the checks in their order; whether the page is what its sources make."""
 
 from __future__ import annotations
 

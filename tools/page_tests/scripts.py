@@ -1,4 +1,4 @@
-"""What node does with the page's module and scripts: the suite, the heap, the tests, the examples; the page in a browser."""
+"""What node does with the page's module and scripts: suite, heap, tests, examples; and the page in a browser."""
 
 from __future__ import annotations
 
@@ -105,7 +105,8 @@ def check_syntax(page: bytes, folder: Path) -> str:
 
 def check_scripts(modules: Modules, folder: Path = TESTS) -> str:
     """The tests of a folder in node, of which each passes, and none is left out."""
-    files = sorted(path for path in folder.glob("*.mjs") if path.name != BROWSER.name and IS_TEST in path.read_text("utf-8"))
+    files = sorted(path for path in folder.glob("*.mjs") if path.name != BROWSER.name)
+    files = [path for path in files if IS_TEST in path.read_text("utf-8")]
     if not files:
         raise Wrong(f"there are no tests in {folder}")
     small = {} if modules.small is None else {SMALL: str(modules.small)}

@@ -193,7 +193,8 @@ class Tests(Folder):
         self.assertRegex(tests_command.check_built(other, made), "of another kit, one: the suite judges that$")
         data = page_data(made.decode("utf-8"))
         for tested, page in (
-            (with_kit(module_of(Modules.right, (1, b"\0")), "one"), made), (module, make_page(module, small_sources("end();\n"))),
+            (with_kit(module_of(Modules.right, (1, b"\0")), "one"), made),
+            (module, make_page(module, small_sources("end();\n"))),
             *((module, page_text(small_sources(), {**data, "examples": examples}).encode("utf-8"))
               for examples in (base64.b64encode(packed(b"[]")).decode("ascii"), "AAAA")),
         ):
@@ -208,7 +209,8 @@ class Tests(Folder):
         one = {"name": "n", "way": "bytes", "reason": "r"}
         for answer in ({"ways": ways, "wrong": [one]}, {"ways": {**ways, "text": 0}, "wrong": []}):
             self.assertRaises(Wrong, scripts.judged, answer, 2)
-        with mock.patch.object(scripts, "run_node", return_value='{"agree": 2, "differ": 1, "expected": 3, "lines": ["a: r"]}'):
+        told = '{"agree": 2, "differ": 1, "expected": 3, "lines": ["a: r"]}'
+        with mock.patch.object(scripts, "run_node", return_value=told):
             self.assertRaisesRegex(Wrong, "\n  a: r$", scripts.check_own, scripts.Modules(Path("module")))
 
     @unittest.skipIf(shutil.which(scripts.NODE) is None, "node is lacking")
@@ -220,7 +222,8 @@ class Tests(Folder):
         self.write("browser.mjs", bad)
         self.write("helper.mjs", "throw Error();")
         for text, told in (
-            (bad, "(?s)failing tests:.*bad.*why"), (f'{front}test.skip("left out", () => {{}});\n{others}', "100 pass, .*'skipped': '1'"),
+            (bad, "(?s)failing tests:.*bad.*why"),
+            (f'{front}test.skip("left out", () => {{}});\n{others}', "100 pass, .*'skipped': '1'"),
         ):
             self.write("one.mjs", text)
             self.assertRaisesRegex(Wrong, told, scripts.check_scripts, modules, self.folder)
@@ -229,7 +232,8 @@ class Tests(Folder):
 
     def test_node_that_is_lacking_or_too_old(self) -> None:
         with mock.patch("shutil.which", return_value=None):
-            hold_undone(self, call(tests_command.main), "^vga-page-tests: node: it is not in the path: install the package nodejs\n")
+            told = "^vga-page-tests: node: it is not in the path: install the package nodejs\n"
+            hold_undone(self, call(tests_command.main), told)
         with mock.patch.multiple(scripts, shutil=mock.Mock(), _answer=lambda _: "v18.19.0"):
             told = refused(scripts.node_words)
         self.assertEqual(told, "node: it is v18.19.0, and the tests need 20 or newer: the package nodejs")

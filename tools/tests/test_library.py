@@ -1,4 +1,4 @@
-"""The library for C: its header, its files, also for another processor; the packages; releases; that its tests can fail.
+"""The library for C: its header, its files, also for another processor; the packages; releases; that tests can fail.
 
 A release has the same bytes whatever the order and the time, from a commit alone.
 """
@@ -175,7 +175,8 @@ class Checks(Folder):
     """That the library's tests can fail."""
 
     def test_names_and_texts_that_differ(self) -> None:
-        source, objects = self.write("one.c", "#include <stdlib.h>\nvoid *zak_open(void) { return malloc(1); }\n"), self.folder / "one.o"
+        source = self.write("one.c", "#include <stdlib.h>\nvoid *zak_open(void) { return malloc(1); }\n")
+        objects = self.folder / "one.o"
         self.assertEqual(ended("cc", "-c", source, "-o", objects), (0, "", ""))
         built = compilers.Built("given", self.folder, objects)
         found = [checks.names_in(built, objects, "-g", f"--{which}-only") for which in ("defined", "undefined")]
@@ -215,12 +216,13 @@ class Checks(Folder):
         with mock.patch("shutil.which", return_value=None):
             told = [line for target in TARGETS.values() for line in compilers.lacking(target)]
         for name, package in (
-            ("gcc", "gcc"), ("clang++", "clang"), ("nm", "binutils"), ("aarch64-linux-gnu-gcc", "gcc-aarch64-linux-gnu"),
-            ("aarch64-linux-gnu-nm", "binutils-aarch64-linux-gnu"), ("qemu-aarch64", "qemu-user"),
+            ("gcc", "gcc"), ("clang++", "clang"), ("nm", "binutils"),
+            ("aarch64-linux-gnu-gcc", "gcc-aarch64-linux-gnu"), ("qemu-aarch64", "qemu-user"),
+            ("aarch64-linux-gnu-nm", "binutils-aarch64-linux-gnu"),
         ):
             self.assertIn(f"{name}: install the package {package}", told)
-        with mock.patch.object(compilers, "_has_sanitizers", return_value=False), mock.patch("shutil.which", return_value="x"):
-            told = compilers.lacking(X86_64)
+        self.patch(mock.patch.object(compilers, "_has_sanitizers", return_value=False), mock.patch("shutil.which"))
+        told = compilers.lacking(X86_64)
         self.assertEqual(told[0], "the sanitizers of gcc: install the package libgcc-12-dev")
 
 
@@ -527,7 +529,8 @@ class Bindings(unittest.TestCase):
         self.assertEqual(run([sys.executable, "-c", "print(7)"]), "7\n")
         with self.assertRaisesRegex(Wrong, "it ended with status 1\n(?s:.*)no such test"):
             run([sys.executable, "-c", "raise SystemExit('no such test')"])
-        ran, skipped, line = "Ran 9 tests in 1s\n", "a ... skipped '{}'\n", "test result: ok. {} passed; 0 failed; 0 ignored\n"
+        ran, skipped = "Ran 9 tests in 1s\n", "a ... skipped '{}'\n"
+        line = "test result: ok. {} passed; 0 failed; 0 ignored\n"
         for check, said, told in (
             (bindings.check_python, skipped.format("numpy is not here") + ran, "9 tests, "),
             (bindings.check_python, skipped.format("ZAKLIMOT_DIR is not set") + ran, None),

@@ -5,7 +5,6 @@ import re
 import shutil
 import unittest
 from pathlib import Path
-from typing import NamedTuple
 
 from vga_report.version import version
 
@@ -13,7 +12,8 @@ from .test_edges import HELP
 from .tools import TOP, Folder, ended, hold
 
 PAGE, BASH, ZSH, FISH = (TOP / "share" / place for place in (
-    "man/man1/vga.1", "bash-completion/completions/vga", "zsh/site-functions/_vga", "fish/vendor_completions.d/vga.fish",
+    "man/man1/vga.1", "bash-completion/completions/vga", "zsh/site-functions/_vga",
+    "fish/vendor_completions.d/vga.fish",
 ))
 # The helps that the program prints, by the names of its commands; and its own, with what each command does.
 HELPS = {path.stem: path.read_text("utf-8") for path in HELP.glob("*.txt")}
@@ -23,23 +23,23 @@ BARS, FONT, FONTS = ["bars.bin", "bars.vga"], "zaklimot.fnt", ["fonts", "zaklimo
 FILES = [*BARS, "fonts", "one two.vga", FONT]
 
 
-class Option(NamedTuple):
-    """An option as a help lists it: its names, what its value is, if it has one, and what it does."""
-
-    names: tuple[str, ...]
-    value: str
-    told: str
+# An option as a help lists it: its names, what its value is, if it has one, and what it does.
+Option = tuple[tuple[str, ...], str, str]
+# How zsh and fish offer a value, by its name in the help.
+OFFERS = {
+    "": ("", ""), "N": (":N: ", " -x"), "FILE": (':FILE:_files -g "*.fnt"', " -x -k -a '(__vga_files .fnt)'"),
+}
 
 
 def options_of(text: str) -> set[Option]:
     """The options that a help lists."""
     found = re.findall(r"^ {2,6}(-\S+(?:, -\S+)*)(?: <(\w+)>)? {2,}(\S.*)$", text, re.M)
-    return {Option(tuple(names.split(", ")), value, told) for names, value, told in found}
+    return {(tuple(names.split(", ")), value, told) for names, value, told in found}
 
 
 def names_of(options: set[Option]) -> list[str]:
     """All names of options, sorted."""
-    return sorted(name for option in options for name in option.names)
+    return sorted(name for names, _, _ in options for name in names)
 
 
 OPTIONS = {option for text in HELPS.values() for option in options_of(text)}
@@ -76,13 +76,14 @@ class Files(unittest.TestCase):
             self.assertIn(f"\n        '{name}:{told}'\n", zsh)
             self.assertIn(f"\n        {name} '{told}'", fish)
         for names, value, told in OPTIONS:
-            offers = {"": ("", ""), "N": (":N: ", " -x"), "FILE": (':FILE:_files -g "*.fnt"', " -x -k -a '(__vga_files .fnt)'")}
+            in_zsh, in_fish = OFFERS[value]
             for name in names:
-                self.assertIn(f"{name}{'=' * bool(value)}[{told}]{offers[value][0]}'", zsh)
+                self.assertIn(f"{name}{'=' * bool(value)}[{told}]{in_zsh}'", zsh)
                 self.assertRegex(fish, f" {name.replace('--', '-l ').replace('-h', '-s h')}\\b")
-            self.assertIn(f" {names[-1].replace('--', '-l ')}{offers[value][1]} -d '{told}'\n", fish)
+            self.assertIn(f" {names[-1].replace('--', '-l ')}{in_fish} -d '{told}'\n", fish)
         self.assertEqual(sorted(set(re.findall(r"[)'](--?[a-z]+)", zsh))), names_of(OPTIONS))
-        self.assertEqual(len(re.findall(r" -[sl] (?=.* -d )", fish.partition("complete -c")[2])), len(names_of(OPTIONS)))
+        listed = re.findall(r" -[sl] (?=.* -d )", fish.partition("complete -c")[2])
+        self.assertEqual(len(listed), len(names_of(OPTIONS)))
 
 
 class Shells(Folder):
@@ -100,15 +101,18 @@ class Shells(Folder):
         offered = {
             "vga ": [*COMMANDS], "vga help ": [*COMMANDS], "vga play ": [], "vga g": ["go"], "vga asm ": FILES,
             "vga asm x b": BARS, "vga asm o": ["one two.vga"], "vga dis -- ": FILES, "vga dis -- -": [],
-            "vga -": names_of(options_of(WHOLE)), **{f"vga {name} -": names_of(options_of(HELPS[name])) for name in HELPS},
-            "vga run --until 5 b": BARS, "vga run --fonts ": FONTS, "vga go x --fonts ": FONTS, "vga run x --fonts b": BARS,
-            "vga go --until ": [],
+            "vga -": names_of(options_of(WHOLE)),
+            **{f"vga {name} -": names_of(options_of(HELPS[name])) for name in HELPS},
+            "vga run --until 5 b": BARS, "vga run --fonts ": FONTS, "vga go x --fonts ": FONTS,
+            "vga run x --fonts b": BARS, "vga go --until ": [],
         }
-        environment = {"HOME": str(self.folder), "PATH": f"{self.folder / 'bin'}:{os.environ['PATH']}", "LANG": "C.UTF-8"}
+        path = f"{self.folder / 'bin'}:{os.environ['PATH']}"
+        environment = {"HOME": str(self.folder), "PATH": path, "LANG": "C.UTF-8"}
         script = Path(__file__).with_name("manual") / f"completing.{words[0]}"
         status, output, said = ended(*words, script, completion, *offered, cwd=self.folder / "files", env=environment)
         self.assertEqual((status, said), (0, ""))
-        found = [sorted(filter(None, line.replace("\\", "").replace("/", "").split("|"))) for line in output.splitlines()]
+        lines = output.replace("\\", "").replace("/", "").splitlines()
+        found = [sorted(filter(None, line.split("|"))) for line in lines]
         hold(self, dict(zip(offered, found)).get, ((line, sorted(more.get(line, offered[line]))) for line in offered))
 
     def test_bash(self) -> None:

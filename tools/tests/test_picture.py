@@ -33,11 +33,10 @@ import test_card  # noqa: E402
 FONT = FONTS.read_bytes()
 # The dots of an image, six bits a component, row by row.
 Dots = Sequence[Sequence[Colour]]
-BLACK, RED, BLUE = (0, 0, 0), (63, 0, 0), (0, 0, 63)
+BLACK, RED, BLUE, WHITE = (0, 0, 0), (63, 0, 0), (0, 0, 63), (63, 63, 63)
 # Width, height and colours of a mode, and how many dots of a frame a pixel is wide and high.
 SIZES = {
     "0D": (320, 200, 16, 1, 2), "10": (640, 350, 16, 1, 1), "12": (640, 480, 16, 1, 1), "13": (320, 200, 200, 2, 2),
-    "3": (720, 400, 16, 1, 1),
 }
 MANY = [[(x // 20 * 4, y // 20 * 5, (x + y) // 64) for x in range(320)] for y in range(200)]
 
@@ -182,7 +181,7 @@ def of_text() -> Iterator[Case]:
         image = ppm_of(text_dots(height, 40))
         for option in ("", " --short"):
             yield Case(image, f"--mode 3 --rows {rows} --own-glyphs{option}", f", {told} glyphs of its own; ", image)
-    # Half of each line is red, half nearly so, and the rest blue: two colours, of which the background is the ninth dot's.
+    # Half of each line is red, nearly half, and the rest blue: two colours, of which the background is the ninth dot's.
     line = [(60, 0, 0), (60, 0, 0), (60, 0, 0), (56, 0, 0), (0, 0, 60), (0, 0, 60), (60, 0, 0), (60, 0, 0), (0, 0, 60)]
     image, line[3] = ppm_of([line * 80] * 400), (60, 0, 0)
     told = " 3 colours, 0 of 2,000 cells fit, 1 glyphs of its own; "
@@ -248,7 +247,8 @@ class Drawing(Folder):
     def test_the_picture_as_a_file(self) -> None:
         dots, path = some_dots(320, 200, 16), self.folder / "p.png"
         made_of(png_of(dots), "--mode", "0D", "--picture", str(path))
-        self.assertEqual(png_rows(path.read_bytes()), (320, 400, [row for row in png_rows(png_of(dots))[2] for _ in "12"]))
+        rows = [row for row in png_rows(png_of(dots))[2] for _ in "12"]
+        self.assertEqual(png_rows(path.read_bytes()), (320, 400, rows))
 
     def test_many_colours_are_refused(self) -> None:
         told = f"it has {len(set(chain(*MANY))):,} colours of six bits a component, and the mode 16"
@@ -259,7 +259,7 @@ class Drawing(Folder):
 class Colours(unittest.TestCase):
     def test_colours_that_stand_for_more(self) -> None:
         hold(self, lambda counts, most: middle_colours(Counter(counts), most), (
-            ({BLACK: 90, (1, 1, 1): 10, (60, 60, 60): 5, (63, 63, 63): 40, RED: 1, (62, 0, 0): 1}, 2, [BLACK, (63, 63, 63)]),
+            ({BLACK: 90, (1, 1, 1): 10, (60, 60, 60): 5, WHITE: 40, RED: 1, (62, 0, 0): 1}, 2, [BLACK, WHITE]),
             ({BLACK: 90, (10, 10, 10): 10, (40, 40, 40): 60, (50, 50, 50): 40}, 2, [BLACK, (44, 44, 44)]),
         ))
         counts = Counter({(at, at, 9): 1 for at in range(6)})
@@ -297,7 +297,7 @@ class Colours(unittest.TestCase):
         dots = [[(x // 2, x // 2, x // 2) for x in range(128)] for _ in range(64)]
         for most, has_ends in ((4, True), (12, False)):
             floyd, nearest = (set(indexed(dots, most, way, "i")[0].colours) for way in (Fewer.FLOYD, Fewer.NEAREST))
-            ends = {BLACK, (63, 63, 63)}
+            ends = {BLACK, WHITE}
             self.assertEqual((ends <= floyd, ends & nearest, floyd == nearest), (has_ends, set(), not has_ends))
 
     def test_dithers_keep_how_bright_an_area_is(self) -> None:
@@ -327,7 +327,8 @@ class Text(unittest.TestCase):
         self.assertEqual(found.error, error(found.character, found.attribute & 15, found.attribute >> 4))
         self.assertEqual(found.error, min(error(*one) for one in every))
         # A cell of one colour is a blank, of colour 0 as a mode set leaves it.
-        self.assertEqual([chooser.chosen(bytes([at] * 144)) for at in (0, 2)], [Chosen(0, 0x20, 0x07), Chosen(0, 0x20, 0x20)])
+        plain = [chooser.chosen(bytes([at] * 144)) for at in (0, 2)]
+        self.assertEqual(plain, [Chosen(0, 0x20, 0x07), Chosen(0, 0x20, 0x20)])
 
 
 class Examples(unittest.TestCase):
@@ -340,7 +341,8 @@ class Examples(unittest.TestCase):
         return made_of(ppm_of(test_card.drawn(*map(int, size.split("x"))).rows), *words.split())
 
     def test_each_card(self) -> None:
-        rows = re.findall(r"^\|.*\| ([\d,]+ \| [\d,]+ \| [\d,]+) \|$", self.PAGE.partition("| Bytes as text |")[2], re.M)
+        table = self.PAGE.partition("| Bytes as text |")[2]
+        rows = re.findall(r"^\|.*\| ([\d,]+ \| [\d,]+ \| [\d,]+) \|$", table, re.M)
         for at, (size, mode) in enumerate((("640x480", "12"), ("320x200", "13"))):
             for option, row in zip(("", " --short"), rows[2 * at:]):
                 told, text = self.made(size, f"--mode {mode}{option}")

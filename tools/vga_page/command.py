@@ -46,6 +46,10 @@ def _parser() -> argparse.ArgumentParser:
 
 
 def _made_module(words: argparse.Namespace, progress: Progress) -> bytes:
+    cli.refuse_to_check(words)
+    if words.module is not None and words.gated:
+        raise Trouble("--module takes a module as it is, so --gated proves nothing")
+    check_file(words.file)
     if words.module is not None:
         with reading(words.module) as stream:
             module = stream.read(MOST_MODULE + 1)
@@ -67,23 +71,14 @@ def _write(path: str, data: bytes, told: str) -> None:
 def _make(words: argparse.Namespace, progress: Progress) -> None:
     # What is wrong with the sources is told before the long work; none of them is written.
     sources = read_sources()
-    _check_words(words)
     module = _made_module(words, progress)
     page = make_page(module, sources)
     _write(words.file, page, f"{len(page):,} bytes; its module has {check_module(module)}")
 
 
 def _module(words: argparse.Namespace, progress: Progress) -> None:
-    _check_words(words)
     module = _made_module(words, progress)
     _write(words.file, module, check_module(module))
-
-
-def _check_words(words: argparse.Namespace) -> None:
-    cli.refuse_to_check(words)
-    if words.module is not None and words.gated:
-        raise Trouble("--module takes a module as it is, so --gated proves nothing")
-    check_file(words.file)
 
 
 # Runs a command line, and answers its exit status.

@@ -43,7 +43,7 @@ ENDING = re.compile(r"</script|<!--", re.I)
 
 
 class Module(NamedTuple):
-    """A module: its text without import lines and `export`; what it imports, names by the module; and what it exports."""
+    """A module: its text without import lines and `export`; what it imports, names by modules; and what it exports."""
 
     name: str
     text: str
@@ -107,7 +107,7 @@ def ordered(modules: Mapping[str, Module]) -> list[Module]:
 
 
 def joined(sources: Mapping[str, str]) -> str:
-    """One script of modules, which are given by their names. Node finds names that two of them have at the top level."""
+    """One script of modules, which are given by their names. Node finds names that two of them declare."""
     modules = ordered({name: read_module(name, text) for name, text in sources.items()})
     return "\n".join(f"// {module.name}\n{module.text}" for module in modules)
 

@@ -1,4 +1,4 @@
-"""Text: the characters and attributes that come nearest to an image, glyphs of its own, and the steps that write these."""
+"""Text: characters and attributes that come nearest to an image, glyphs of its own, and the steps that write these."""
 
 import struct
 from collections import Counter

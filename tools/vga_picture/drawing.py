@@ -92,7 +92,8 @@ def draw_text(
     if loads:
         parts.append(Part(f"Text of {mode.rows} rows, and {len(glyphs)} glyphs of its own", loads))
     # In frames 16 to 31 of 32 a blinking character is away, and its background has three bits.
-    parts.append(Part("No blinking, but bright backgrounds; no cursor", [service(6, 0x1003), service(4, 0x0100, 0, NO_CURSOR)]))
+    calls = [service(6, 0x1003), service(4, 0x0100, 0, NO_CURSOR)]
+    parts.append(Part("No blinking, but bright backgrounds; no cursor", calls))
     steps = typed_cells(cells, mode.columns) if is_short else put_cells(cells)
     if steps:
         parts.append(Part("The cells: a character and its attribute", steps))

@@ -74,7 +74,7 @@ def drawing(have: Planes, want: Planes) -> list[Item]:
 
 @lru_cache(maxsize=None)
 def few_writes(have: Word, want: Word) -> Writes:
-    """The writes that make one word another: one for each different word, or for each different byte, if these are fewer.
+    """The writes that make one word another: one for each different word, or for each different byte if that is fewer.
 
     A write of a word is one of a byte where the word's other byte is there already.
     """

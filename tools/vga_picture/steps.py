@@ -17,7 +17,7 @@ class Item(NamedTuple):
 
 
 def service(cycles: int, *registers: int, block: bytes = b"") -> Item:
-    """A call of the video BIOS with AX, BX, CX and DX, or the first of these; its cycles are those of docs/SERVICES.md."""
+    """A call of the video BIOS with AX, BX, CX and DX, or the first of these; its cycles are as in docs/SERVICES.md."""
     return Item(format.Step("int", (*registers, 0, 0, 0)[:4], block), cycles)
 
 

@@ -27,8 +27,6 @@ PLAIN, RUN = 0o644, 0o755
 LEVEL = 9
 
 
-
-
 class File(NamedTuple):
     """A file of a release."""
 
