@@ -181,8 +181,9 @@ class Checks(Folder):
         built = compilers.Built("given", self.folder, objects)
         found = [checks.names_in(built, objects, "-g", f"--{which}-only") for which in ("defined", "undefined")]
         self.assertEqual(found, [{"zak_open"}, {"malloc"}])
-        with mock.patch.object(checks, "run", return_value=""):
-            self.assertRaises(Wrong, checks.check_names, built, self.folder)
+        told = f"soname: [libzaklimot.so.{version().major}] Flags: NOW GNU_RELRO"
+        with mock.patch.object(checks, "run", lambda words: told if words[0] == "readelf" else ""):
+            self.assertRaisesRegex(Wrong, "^libzaklimot.a: seen and not in", checks.check_names, built, self.folder)
         wanted = checks.LAYOUT.with_name("threads.txt").read_text("ascii")
         checks.expect("threads", wanted)
         self.assertRaises(Wrong, checks.expect, "threads", wanted.replace("alike", "differ", 1))
@@ -206,6 +207,8 @@ class Checks(Folder):
         front = "env ASAN_OPTIONS=detect_leaks=0 qemu-aarch64 -L /usr/aarch64-linux-gnu made/harness-given "
         texts, scripts = (word for word in called[1] if "harness" in word)
         self.assertEqual((texts, scripts), (f"{front}{{script}} {{fonts}} {{until}}", f"{front}--bytes {{script}} {{fonts}}"))
+        self.table = f"{count} cases: {count} agree\n"
+        self.assertEqual(checks.check_cases("sliced", built, Path("made")), self.table[:-1])
         self.table = f"           n1: step 3\n{count} cases: {count - 2} agree, 1 skipped, 1 differ\n"
         for way in ("suite", "sliced"):
             with self.assertRaisesRegex(Wrong, r"^not `\d+ cases: .*`:\n +n1: step 3\n"):
@@ -307,6 +310,7 @@ class Whole(unittest.TestCase):
         self.assertTrue(self.pages[FRONT].startswith("# Zaklimot: a release\n"))
         self.assertTrue(self.pages[f"docs/{FRONT}"].startswith("# Zaklimot\n"))
         self.assertNotIn(gathering.PAGE, self.pages)
+        self.assertIn("share/man/man1/vga.1", self.places)
         self.assertGreater(len(self.pages), 30)
 
     def test_each_link_leads_to_what_is_there(self) -> None:

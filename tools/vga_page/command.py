@@ -8,7 +8,7 @@ from vga_report.crates import phases
 from vga_report import cli
 from vga_report.processes import MEBIBYTE
 from vga_report.progress import Progress
-from vga_report.streams import STANDARD, check_file, reading, to_read, write_file
+from vga_report.streams import STANDARD, check_file, read_at_most, to_read, write_file
 from vga_report.trouble import Trouble
 from vga_report.words import number_to
 
@@ -51,8 +51,7 @@ def _made_module(words: argparse.Namespace, progress: Progress) -> bytes:
         raise Trouble("--module takes a module as it is, so --gated proves nothing")
     check_file(words.file)
     if words.module is not None:
-        with reading(words.module) as stream:
-            module = stream.read(MOST_MODULE + 1)
+        module = read_at_most(words.module, MOST_MODULE)
         check_module(module)
         return module
     try:
