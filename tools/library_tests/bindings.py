@@ -13,8 +13,7 @@ from pathlib import Path
 from typing import Callable
 
 from vga_library.making import MOVING, Place, make_library
-from vga_library.targets import BACKENDS, X86_64
-from vga_library.toolchain import built_archive, gated_archive, kit_archive
+from vga_library.toolchain import BACKENDS, X86_64, built_archive, gated_archive, kit_archive
 from vga_report import TOP, cli
 from vga_report.crates import phases
 from vga_report.processes import captured, tested

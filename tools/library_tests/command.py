@@ -9,8 +9,7 @@ from pathlib import Path
 from typing import Callable, Iterator
 
 from vga_library.making import MOVING, Place, make_library
-from vga_library.targets import TARGETS, X86_64, Target
-from vga_library.toolchain import built_archive, gated_archive, memory_part
+from vga_library.toolchain import TARGETS, X86_64, Target, built_archive, gated_archive, memory_part
 from vga_report import cli
 from vga_report.progress import Progress
 from vga_report.trouble import Trouble

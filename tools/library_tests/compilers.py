@@ -7,14 +7,13 @@ import tempfile
 from pathlib import Path
 from typing import Mapping, NamedTuple, Sequence
 
-from vga_library.targets import AARCH64, X86_64, Target
+from vga_library.toolchain import AARCH64, X86_64, Target
 from vga_report.processes import captured
 
 from .running import not_there, run
 
 STRICT = ("-Wall", "-Wextra", "-Wpedantic", "-Wconversion", "-Werror")
 SANITIZED = ("-g", "-fsanitize=address,undefined", "-fno-sanitize-recover=all")
-NOTHING = "int main(void) { return 0; }\n"
 
 
 class Compiler(NamedTuple):
@@ -71,11 +70,6 @@ class Built(NamedTuple):
         return MACHINES[self.target].compilers
 
     @property
-    def runner(self) -> tuple[str, ...]:
-        """The words that stand before such a program."""
-        return MACHINES[self.target].runner
-
-    @property
     def include(self) -> Path:
         return self.folder / "include"
 
@@ -106,7 +100,7 @@ def lacking(target: Target) -> list[str]:
 def _has_sanitizers(compiler: Compiler, runner: Sequence[str]) -> bool:
     with tempfile.TemporaryDirectory(prefix="vga-library-tests-") as name:
         source, made = Path(name) / "nothing.c", Path(name) / "nothing"
-        source.write_text(NOTHING)
+        source.write_text("int main(void) { return 0; }\n")
         words = [compiler.c, *SANITIZED, source, "-o", made]
         return captured(words).status == 0 and captured([*runner, made]).status == 0
 
@@ -116,4 +110,4 @@ def build(
 ) -> list[str | Path]:
     """Builds a program with the static library, and answers the words that run it."""
     run([compiler, f"-std={standard}", *STRICT, *flags, "-I", built.include, *sources, built.static, "-o", made])
-    return [*built.runner, made]
+    return [*MACHINES[built.target].runner, made]

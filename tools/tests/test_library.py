@@ -23,8 +23,7 @@ from library_tests import bindings, checks, compilers
 from library_tests.running import run
 from vga_library import command, making, toolchain
 from vga_library.making import MOVING, Place, described
-from vga_library.targets import AARCH64, TARGETS, X86_64
-from vga_library.toolchain import HEAP, HEAP_OPTIONS
+from vga_library.toolchain import AARCH64, HEAP, HEAP_OPTIONS, TARGETS, X86_64
 from vga_release import command as release
 from vga_release import gathering
 from vga_release.gathering import FRONT, INSTALL, LINKS, MADE_OF, PATHS, Commit, Entry, File, pack, settled

@@ -16,8 +16,7 @@ from vga_report.processes import run
 from vga_report.streams import filled, refuse_input, to_read
 from vga_report.version import HEADER, Version, version
 
-from .targets import X86_64, Target
-from .toolchain import CRATE, HEAP
+from .toolchain import CRATE, HEAP, X86_64, Target
 
 NAME = "zaklimot"
 # The name by which CMake finds it, and the files that it reads, with places for what is made.

@@ -1,4 +1,4 @@
-"""What the library is joined of: the crate's archive for a processor, and the functions that take its memory.
+"""The processors that the library is made for, and what it is joined of: the crate's archive, and its memory's part.
 
 Right behind the gate the archive is made over the libraries that `rt ci` proved and built: `rt lib`
 does not take these, and would prove all crates once more. So its calls of the compiler are made
@@ -11,14 +11,12 @@ from __future__ import annotations
 
 import os
 from pathlib import Path
-from typing import Optional
+from typing import NamedTuple, Optional
 
 from vga_report import TOP
 from vga_report.crates import below, uses
 from vga_report.processes import Hearer, run
 from vga_report.trouble import Trouble
-
-from .targets import BACKENDS, X86_64, Target
 
 CRATE = TOP / "crates" / "vga_c"
 ARCHIVE = CRATE / "out" / "libvga_c.a"
@@ -31,6 +29,37 @@ HEAP = Path(__file__).resolve().parent / "heap.c"
 HEAP_OPTIONS = ("-std=c99", "-O2", "-fPIC", "-Wall", "-Wextra", "-Werror")
 # Where `rt check` keeps its work.
 KEPT = CRATE / "out" / "incremental"
+# Rattle's compilers: LLVM, and one that is written in Rattle.
+BACKENDS = ("llvm", "rattle")
+
+
+class Target(NamedTuple):
+    """A processor with Linux: its name, Rattle's name of it, and the compilers of Rattle that a kit has for it.
+
+    `prefix` begins the names of the programs that make files for it; it is empty where they are the machine's own.
+    """
+
+    name: str
+    triple: str
+    backends: tuple[str, ...]
+    prefix: str = ""
+
+    def tool(self, name: str) -> str:
+        """The program of this name that makes files for it."""
+        return f"{self.prefix}{name}"
+
+    def compiler(self) -> str:
+        """Its C compiler; for the machine's own processor as packagers name one."""
+        return self.tool("gcc") if self.prefix else os.environ.get("CC") or "cc"
+
+    def programs(self) -> list[str]:
+        """All that is run to make the library for it, but for Rattle's own."""
+        return [self.compiler(), *map(self.tool, ("ld", "objcopy", "ar"))]
+
+
+X86_64 = Target("x86_64", "x86_64-unknown-linux-gnu", BACKENDS)
+AARCH64 = Target("aarch64", "aarch64-unknown-linux-gnu", BACKENDS[:1], "aarch64-linux-gnu-")
+TARGETS = {target.name: target for target in (X86_64, AARCH64)}
 
 
 def kit_folder() -> Path:

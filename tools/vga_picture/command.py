@@ -101,8 +101,9 @@ def _script(words: argparse.Namespace, progress: Progress) -> None:
         # Told before the script goes to standard output.
         refuse_input(words.picture)
     # The script takes its place once the picture has taken its own, so that neither is written alone.
+    answer = f"picture {drawn.picture.size} {drawn.picture.sum}"
     with writing(words.script) as stream:
-        figures = write_script(stream, drawn.parts, drawn.answer, not words.bytes)
+        figures = write_script(stream, drawn.parts, answer, not words.bytes)
         if words.picture is not None:
             save_png(words.picture, drawn.picture)
     line = f"mode {words.mode}: {told}{drawn.told}; {figures}"

@@ -1,7 +1,6 @@
 """A script that draws an image: its parts, and the picture that its frame is to show."""
 
-from dataclasses import dataclass
-from typing import Callable, Iterator, Sequence
+from typing import Callable, Iterator, NamedTuple, Sequence
 
 from zaklimot import format
 from zaklimot.format import Picture
@@ -19,18 +18,12 @@ SET_CYCLES, GLYPH_CYCLES, TEXT_CYCLES, GRAPHICS_CYCLES = 896, 4112, 32768, 65536
 NO_CURSOR = 0x2000
 
 
-@dataclass(frozen=True)
-class Drawn:
+class Drawn(NamedTuple):
     """The parts of a script, the picture that its frame shows, and what else is told of it."""
 
     parts: list[Part]
     picture: Picture
     told: str = ""
-
-    @property
-    def answer(self) -> str:
-        """What the frame is expected to answer."""
-        return f"picture {self.picture.size} {self.picture.sum}"
 
 
 def _colours(colours: Sequence[Colour], mode: Mode) -> Iterator[Item]:

@@ -62,11 +62,10 @@ MODES = {
         Mode(0x13, Kind.BYTES, 320, 200, 2, 2, 8, 8, tuple(range(0x100))),
     )
 }
-TEXT = MODES["3"]
 # Lines of a character, by the rows that function 11 gives to text.
 LINES = {25: 16, 28: 14, 50: 8}
 
 
 def text_of(rows: int) -> Mode:
     """Mode 3 with so many rows: 25, 28 or 50."""
-    return replace(TEXT, height=rows * LINES[rows], cell_height=LINES[rows])
+    return replace(MODES["3"], height=rows * LINES[rows], cell_height=LINES[rows])

@@ -8,8 +8,7 @@ from vga_report import TOP, cli
 from vga_report.version import version
 from vga_report.crates import phases
 from vga_library.command import check_given
-from vga_library.targets import AARCH64, BACKENDS, X86_64, Target
-from vga_library.toolchain import built_archive
+from vga_library.toolchain import AARCH64, BACKENDS, X86_64, Target, built_archive
 from vga_report.processes import check_program, run
 from vga_report.progress import Progress
 from vga_report.streams import check_folder, to_read, write_file, writing

@@ -16,8 +16,7 @@ from pathlib import Path, PurePosixPath
 from typing import AbstractSet, BinaryIO, Mapping, Match, NamedTuple, Optional, Sequence, Union
 
 from vga_library.making import MOVING, Place, make_library
-from vga_library.targets import X86_64, Target
-from vga_library.toolchain import memory_part
+from vga_library.toolchain import X86_64, Target, memory_part
 from vga_report import TOP
 from vga_report.processes import ended_well, run
 from vga_report.trouble import Trouble
