@@ -13,7 +13,8 @@ from pathlib import Path
 from typing import Callable, Iterator, Optional, Sequence
 
 from library_tests.running import make_check
-from vga_page.making import kit_line, made_modules
+from vga_library.toolchain import kit_line
+from vga_page.making import made_modules
 from vga_page.page import MOST_BYTES, data_of, page_text, read_sources
 from vga_page.wasm import MOST_MODULE, check_module, kit_of
 from vga_report import cli

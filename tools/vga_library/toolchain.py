@@ -67,6 +67,11 @@ def kit_folder() -> Path:
     return Path(run(["rt", "doc"]).strip()).parent
 
 
+def kit_line() -> str:
+    """The line by which the kit tells what it is."""
+    return run(["rt", "version"]).strip()
+
+
 def kit_archive() -> Path:
     """The kit's functions that a static library of Rattle takes its memory by."""
     return kit_folder() / "c" / "liblibc_c.a"

@@ -7,16 +7,14 @@ import tempfile
 from pathlib import Path
 from typing import Callable, Optional, Sequence
 
-from vga_library.toolchain import CRATE, kit_folder, proving_words
-from vga_report.processes import Hearer, ended_well, run
+from vga_library.toolchain import CRATE, KEPT, kit_folder, kit_line, proving_words
+from vga_report.processes import Hearer, ended_well
 from vga_report.trouble import Trouble
 
 from .retargeting import CPU, WASM, retargeted
 from .wasm import check_module, with_kit
 
 HEAP = Path(__file__).resolve().parent / "heap.c"
-# Where `rt check` keeps its work, from the crate's folder.
-KEPT = Path("out") / "incremental"
 # As Rattle calls clang for this target.
 TARGET = (
     f"--target={WASM}", f"-mcpu={CPU}",
@@ -33,11 +31,6 @@ PROVED = "logic=proved "
 KEEPER = "#!/bin/sh\n/bin/cp module.bc {kept} && : > module.o\n"
 # Tells a phase of the work, and answers what hears the programs that do it.
 Phase = Callable[[str], Optional[Hearer]]
-
-
-def kit_line() -> str:
-    """The line by which a kit tells what it is."""
-    return run(["rt", "version"]).strip()
 
 
 class Maker:

@@ -16,7 +16,7 @@ from pathlib import Path, PurePosixPath
 from typing import AbstractSet, BinaryIO, Mapping, Match, NamedTuple, Optional, Sequence, Union
 
 from vga_library.making import MOVING, Place, make_library
-from vga_library.toolchain import X86_64, Target, memory_part
+from vga_library.toolchain import X86_64, Target, kit_line, memory_part
 from vga_report import TOP
 from vga_report.processes import ended_well, run
 from vga_report.trouble import Trouble
@@ -138,12 +138,11 @@ def made_of(commit: Commit, toolchain: str, built: Mapping[str, Entry]) -> File:
 
 def release_entries(commit: Commit, program: Path, archives: Mapping[Target, Path]) -> dict[str, Entry]:
     """All files of a release."""
-    toolchain = run(["rt", "version"]).strip()
     files = files_of(commit, PATHS)
     built = built_files(files, program, archives)
     install = File((Path(__file__).parent / INSTALL).read_bytes(), True)
     entries = {**files, **suite_scripts(), **built, **LINKS, INSTALL: install}
-    return settled({**entries, MADE_OF: made_of(commit, toolchain, built)})
+    return settled({**entries, MADE_OF: made_of(commit, kit_line(), built)})
 
 
 def wheel_of(files: Mapping[str, File], library: Path, folder: Path, target: Target) -> Path:
