@@ -21,8 +21,6 @@ WHOLE = HELPS.pop("vga")
 COMMANDS = dict(re.findall(r"^  (\w+) +(\S.*)$", WHOLE.partition("\n\nOptions:")[0], re.M))
 BARS, FONT, FONTS = ["bars.bin", "bars.vga"], "zaklimot.fnt", ["fonts", "zaklimot.fnt"]
 FILES = [*BARS, "fonts", "one two.vga", FONT]
-
-
 # An option as a help lists it: its names, what its value is, if it has one, and what it does.
 Option = tuple[tuple[str, ...], str, str]
 # How zsh and fish offer a value, by its name in the help.

@@ -181,7 +181,7 @@ def of_text() -> Iterator[Case]:
         image = ppm_of(text_dots(height, 40))
         for option in ("", " --short"):
             yield Case(image, f"--mode 3 --rows {rows} --own-glyphs{option}", f", {told} glyphs of its own; ", image)
-    # Half of each line is red, nearly half, and the rest blue: two colours, of which the background is the ninth dot's.
+    # Red, nearly red and blue in each line: two colours show it, and the background has that of the ninth dot.
     line = [(60, 0, 0), (60, 0, 0), (60, 0, 0), (56, 0, 0), (0, 0, 60), (0, 0, 60), (60, 0, 0), (60, 0, 0), (0, 0, 60)]
     image, line[3] = ppm_of([line * 80] * 400), (60, 0, 0)
     told = " 3 colours, 0 of 2,000 cells fit, 1 glyphs of its own; "
