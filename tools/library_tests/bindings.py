@@ -56,8 +56,6 @@ PROGRAMS = {
     "python3": "python3", "cargo": "cargo", "rustc": "rustc", "rustdoc": "rustc", "cargo-clippy": "rust-clippy",
     "ld": "binutils", "objcopy": "binutils", "ar": "binutils", "cc": "gcc",
 }
-# What makes an environment of Python's has this in it.
-VENV, VENV_PACKAGE = "ensurepip", "python3-venv"
 
 
 def check_python(library: Path, _: Path) -> str:
@@ -161,8 +159,9 @@ def _parser() -> argparse.ArgumentParser:
 
 def lacking() -> list[str]:
     """What this machine lacks, each with the package to install."""
-    is_lacking = importlib.util.find_spec(VENV) is None
-    return not_there(PROGRAMS) + [f"Python's venv: install the package {VENV_PACKAGE}"] * is_lacking
+    # What makes an environment of Python's has this in it.
+    venv = [] if importlib.util.find_spec("ensurepip") else ["Python's venv: install the package python3-venv"]
+    return not_there(PROGRAMS) + venv
 
 
 def _library(words: argparse.Namespace, folder: Path, progress: Progress) -> Path:

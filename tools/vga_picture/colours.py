@@ -166,7 +166,7 @@ def _seen(rows: Sequence[Row], colours: Sequence[Colour], made: Iterable[bytes])
 def indexed(rows: Sequence[Row], most: int, fewer: Fewer, name: str) -> tuple[Indexed, int]:
     """The image of these dots in so many colours at most, and how many it had; a Trouble where more are refused."""
     counts = counted(rows)
-    colours = [colour for colour, _ in sorted(counts.items(), key=lambda entry: (-entry[1], entry[0]))]
+    colours = list(counts)
     if len(colours) <= most:
         made = list(_by_table(rows, {colour: number for number, colour in enumerate(colours)}))
     elif fewer is Fewer.REFUSED:
