@@ -6,7 +6,6 @@ A release has the same bytes whatever the order and the time, from a commit alon
 import hashlib
 import io
 import os
-import posixpath
 import re
 import shutil
 import subprocess
@@ -35,7 +34,7 @@ from vga_report.trouble import TROUBLE, Trouble, Wrong
 from vga_report.version import HEADER, Version, calls_of, version, version_of, without_comments
 from vga_report.words import SUITE
 
-from .test_pages import anchors, prose
+from .test_pages import broken
 from .tools import Folder, call, ended, hold, hold_undone, refused
 
 TEXT = HEADER.read_text("ascii")
@@ -53,19 +52,13 @@ TAKING = Path(__file__).with_name("taking.c")
 
 
 class Header(unittest.TestCase):
-    def test_its_version(self) -> None:
+    def test_its_version_and_its_calls(self) -> None:
         self.assertEqual(version_of("#define ZAK_API_MAJOR 3 /* x */\n#define ZAK_API_MINOR 14\n"), Version(3, 14))
-        self.assertEqual(str(version_of(TEXT)), f"{version_of(TEXT).major}.{version_of(TEXT).minor}")
-        with self.assertRaises(Trouble):
-            version_of("#define ZAK_API_MAJOR 3\n")
-
-    def test_its_calls(self) -> None:
+        self.assertRaises(Trouble, version_of, "#define ZAK_API_MAJOR 3\n")
         text = "/* zak_status zak_old(int); */\nzak_status zak_open(int a,\n    int b);\nuint32_t zak_version(void);\n"
         self.assertEqual(calls_of(text), ["zak_open", "zak_version"])
-        calls = calls_of(TEXT)
-        self.assertEqual(len(calls), len(set(calls)))
-        # Each name of a call stands in a line that was read as one.
-        self.assertEqual(set(calls), set(re.findall(r"\b(zak_\w+)\(", without_comments(TEXT))))
+        # Each name of a call stands once in a line that was read as one.
+        self.assertEqual(sorted(calls_of(TEXT)), sorted(set(re.findall(r"\b(zak_\w+)\(", without_comments(TEXT)))))
 
     def test_refusals_are_their_numbers(self) -> None:
         numbers = {int(number) for number in REFUSAL.findall((TOP / "docs" / "REPORT.md").read_text())}
@@ -133,41 +126,33 @@ class Made(Folder):
 
 
 class Page(unittest.TestCase):
-    def test_its_program_is_the_example(self) -> None:
-        self.assertIn((TOP / "examples" / "c" / "picture.c").read_text("ascii"), PAGE.read_text("utf-8"))
-
-    def test_its_functions_are_those_of_the_examples(self) -> None:
-        for name, begins in (
-            ("core", "static void take_frame(void)\n{"), ("core", "static void settle(void)\n{"),
-            ("debugger", "/* Takes the next steps,"), ("debugger", "static void back("),
-            ("script", "zak_status script_assemble("),
+    def test_its_programs_are_those_that_are_tried(self) -> None:
+        text = PAGE.read_text("utf-8")
+        for name, begins, end in (
+            ("picture.c", "", ""), ("core.c", "static void take_frame(void)\n{", "\n}\n"),
+            ("core.c", "static void settle(void)\n{", "\n}\n"), ("debugger.c", "/* Takes the next steps,", "\n}\n"),
+            ("debugger.c", "static void back(", "\n}\n"), ("script.c", "zak_status script_assemble(", "\n}\n"),
         ):
-            source = (TOP / "examples" / "c" / f"{name}.c").read_text("ascii")
+            source = (TOP / "examples" / "c" / name).read_text("ascii")
             function = source[source.index(begins):]
-            self.assertIn(function[:function.index("\n}\n") + 3], PAGE.read_text("utf-8"), begins)
-
-    def test_its_lines_of_cpp_are_those_that_are_tried(self) -> None:
-        found = re.search(r"^  ```cpp\n(.*?)^  ```$", PAGE.read_text("utf-8"), re.M | re.S)
-        assert found is not None
+            self.assertIn(function[:function.index(end) + len(end)] if end else function, text, begins)
+        lines = "".join(re.findall(r"^  ```cpp\n(.*?)^  ```$", text, re.M | re.S)).splitlines()
         tried = [line.strip() for line in checks.OBJECTS.read_text("ascii").splitlines()]
-        self.assertEqual([line for line in found[1].splitlines() if line.strip() not in tried], [])
+        self.assertEqual((len(lines), [line for line in lines if line.strip() not in tried]), (5, []))
 
     def test_its_version_is_the_header_s(self) -> None:
-        told = version_of(TEXT)
-        self.assertIn(f"this is version {told}.", " ".join(PAGE.read_text("utf-8").split()))
+        self.assertIn(f"this is version {version()}.", " ".join(PAGE.read_text("utf-8").split()))
         for page in (PAGE, TOP / gathering.PAGE):
-            self.assertEqual(set(re.findall(r"zaklimot-(\d+\.\d+)-", page.read_text("utf-8"))), {str(told)}, page.name)
+            self.assertEqual(set(re.findall(r"zaklimot-(\d+\.\d+)-", page.read_text("utf-8"))), {str(version())}, page.name)
 
-    def test_each_call_has_its_function_in_cpp(self) -> None:
+    def test_each_call_is_named_and_has_its_function_in_cpp(self) -> None:
+        page, functions = PAGE.read_text("utf-8"), HEADER.with_suffix(".hpp").read_text("ascii")
+        self.assertEqual([name for name in calls_of(TEXT) if name not in page], [])
         # Dumps, slices, lines and the print of a script are the C header's alone.
-        lacking = {name for name in calls_of(TEXT) if not re.search(rf"\b{name}\b", HEADER.with_suffix(".hpp").read_text("ascii"))}
+        lacking = {name for name in calls_of(TEXT) if not re.search(rf"\b{name}\b", functions)}
         self.assertEqual({name.partition("_show_")[0] for name in lacking}, {
             "zak", "zak_version", "zak_frame_lines", "zak_run_on", "zak_print",
         })
-
-    def test_each_call_is_named(self) -> None:
-        page = PAGE.read_text("utf-8")
-        self.assertEqual([name for name in calls_of(TEXT) if name not in page], [])
 
 
 class Checks(Folder):
@@ -189,43 +174,30 @@ class Checks(Folder):
 
     def test_cases_that_do_not_agree(self) -> None:
         count, built = len(read_cases(str(SUITE))), compilers.Built("given", Path("kit"), Path("crates.a"), AARCH64)
-        called: list[list[str]] = []
-
-        def noting(words: list[str], *_: object, **__: object) -> Done:
-            called.append([str(word) for word in words])
-            return Done(0, self.table.encode(), b"")
-
-        self.patch(
-            mock.patch.multiple("vga_report.processes", captured=noting, check_program=lambda _: None),
-            mock.patch.object(checks, "captured", noting),
-        )
-        self.table = f"a\n{count} cases: {count - 1} agree, 1 skipped\n"
-        self.assertEqual(checks.check_cases("suite", built, Path("made")), self.table[2:-1])
-        # The programs of another processor are built by its compiler, and run in the emulator.
-        self.assertEqual(called[0][0], "aarch64-linux-gnu-gcc")
-        front = "env ASAN_OPTIONS=detect_leaks=0 qemu-aarch64 -L /usr/aarch64-linux-gnu made/harness-given "
-        texts, scripts = (word for word in called[1] if "harness" in word)
-        self.assertEqual((texts, scripts), (f"{front}{{script}} {{fonts}} {{until}}", f"{front}--bytes {{script}} {{fonts}}"))
-        self.table = f"{count} cases: {count} agree\n"
-        self.assertEqual(checks.check_cases("sliced", built, Path("made")), self.table[:-1])
-        self.table = f"           n1: step 3\n{count} cases: {count - 2} agree, 1 skipped, 1 differ\n"
-        for way in ("suite", "sliced"):
-            with self.assertRaisesRegex(Wrong, r"^not `\d+ cases: .*`:\n +n1: step 3\n"):
+        captured, running = mock.Mock(), mock.Mock()
+        self.patch(mock.patch.object(checks, "captured", captured), mock.patch.object(compilers, "run", running))
+        for way, skipped in (("suite", 1), ("sliced", 0)):
+            wanted = f"{count} cases: {count - skipped} agree{', 1 skipped' * skipped}"
+            captured.return_value = Done(0, f"a\n{wanted}\n".encode(), b"")
+            self.assertEqual(checks.check_cases(way, built, Path("made")), wanted)
+            captured.return_value = Done(0, f"           n1: step 3\n{count} cases: 1 differ\n".encode(), b"")
+            with self.assertRaisesRegex(Wrong, rf"^not `{wanted}`:\n +n1: step 3\n"):
                 checks.check_cases(way, built, Path("made"))
+        # The programs of another processor are built by its compiler, and run in the emulator.
+        self.assertEqual(running.call_args[0][0][0], "aarch64-linux-gnu-gcc")
+        front = "env ASAN_OPTIONS=detect_leaks=0 qemu-aarch64 -L /usr/aarch64-linux-gnu made/harness-given "
+        self.assertIn(f"{front}{{script}} {{fonts}} {{until}}", captured.call_args_list[0][0][0])
 
     def test_what_is_lacking_is_told_with_its_package(self) -> None:
-        self.assertEqual(set(compilers.MACHINES), {*TARGETS.values()})
-        with mock.patch("shutil.which", return_value=None):
+        self.patch(mock.patch.object(compilers, "_has_sanitizers", return_value=False))
+        with mock.patch("shutil.which", lambda name: None if name[-2:] in ("nm", "64") else name):
             told = [line for target in TARGETS.values() for line in compilers.lacking(target)]
-        for name, package in (
-            ("gcc", "gcc"), ("clang++", "clang"), ("nm", "binutils"),
-            ("aarch64-linux-gnu-gcc", "gcc-aarch64-linux-gnu"), ("qemu-aarch64", "qemu-user"),
-            ("aarch64-linux-gnu-nm", "binutils-aarch64-linux-gnu"),
-        ):
-            self.assertIn(f"{name}: install the package {package}", told)
-        self.patch(mock.patch.object(compilers, "_has_sanitizers", return_value=False), mock.patch("shutil.which"))
-        told = compilers.lacking(X86_64)
-        self.assertEqual(told[0], "the sanitizers of gcc: install the package libgcc-12-dev")
+        self.assertEqual(told, [
+            "nm: install the package binutils", "the sanitizers of gcc: install the package libgcc-12-dev",
+            "the sanitizers of clang: install the package libclang-rt-dev",
+            "aarch64-linux-gnu-nm: install the package binutils-aarch64-linux-gnu",
+            "qemu-aarch64: install the package qemu-user",
+        ])
 
 
 def packed(entries: dict[str, Entry]) -> bytes:
@@ -251,13 +223,13 @@ class Parts(unittest.TestCase):
         self.assertEqual([oct(member.mode) for member in members if member.isfile()], ["0o644", "0o755", "0o644"])
         self.assertEqual([member.linkname for member in members if member.issym()], ["b.so.1"])
 
-    def test_its_page_tells_all_of_it(self) -> None:
+    def test_its_page_and_the_news_tell_of_it(self) -> None:
+        name = f"zaklimot-{version()}"
+        self.assertEqual(release.release_name(), f"{name}-x86_64-linux")
         page = (TOP / gathering.PAGE).read_text("utf-8")
-        self.assertIn(f"zaklimot-{version()}-x86_64-linux.tar.gz", page)
-        self.assertIn(f"zaklimot-{version()}-py3-none-linux_x86_64.whl", page)
-        self.assertIn(f"## {version()}\n", (TOP / "CHANGELOG.md").read_text("utf-8"))
+        self.assertEqual([end for end in ("x86_64-linux.tar.gz", "py3-none-linux_x86_64.whl") if f"{name}-{end}" not in page], [])
         self.assertEqual([path for path in PATHS if not (TOP / path).exists()], [])
-        self.assertEqual(release.release_name(), f"zaklimot-{version()}-x86_64-linux")
+        self.assertIn(f"## {version()}\n", (TOP / "CHANGELOG.md").read_text("utf-8"))
 
     def test_the_links_of_pages(self) -> None:
         front, others = gathering.PAGE, {"docs/A.md": File(b""), "src/low/x.rs": File(b"")}
@@ -293,36 +265,25 @@ def sources() -> dict[str, Entry]:
     return {**entries, **LINKS}
 
 
-class Whole(unittest.TestCase):
+class Whole(Folder):
     """All pages of a release, as who has unpacked it reads them."""
 
-    @classmethod
-    def setUpClass(cls) -> None:
-        cls.entries = settled(sources())
-        cls.places = {"."} | {str(path) for place in cls.entries for path in (Path(place), *Path(place).parents)}
-        cls.pages = {
-            place: entry.content.decode("utf-8")
-            for place, entry in cls.entries.items() if place.endswith(".md") and isinstance(entry, File)
-        }
-
-    def test_the_front_page(self) -> None:
-        self.assertTrue(self.pages[FRONT].startswith("# Zaklimot: a release\n"))
-        self.assertTrue(self.pages[f"docs/{FRONT}"].startswith("# Zaklimot\n"))
-        self.assertNotIn(gathering.PAGE, self.pages)
-        self.assertIn("share/man/man1/vga.1", self.places)
-        self.assertGreater(len(self.pages), 30)
+    def setUp(self) -> None:
+        super().setUp()
+        self.pages = {}
+        for place, entry in settled(sources()).items():
+            (self.folder / place).parent.mkdir(parents=True, exist_ok=True)
+            if isinstance(entry, str):
+                (self.folder / place).symlink_to(entry)
+            elif self.write(place, entry.content) and place.endswith(".md"):
+                self.pages[place] = entry.content.decode("utf-8")
 
     def test_each_link_leads_to_what_is_there(self) -> None:
-        found = {page: anchors(text) for page, text in self.pages.items()}
-        links = [
-            (page, posixpath.normpath(posixpath.join(posixpath.dirname(page), place)) if place else page, anchor)
-            for page, text in self.pages.items()
-            for place, anchor in re.findall(r"\]\((?!https?:)([^()\s#]*)(?:#([^()\s]+))?\)", "\n".join(prose(text)))
-        ]
-        self.assertIn((FRONT, "docs/LIBRARY.md", "a-release"), links)
-        self.assertIn(("docs/LIBRARY.md", f"docs/{FRONT}", "build-it"), links)
-        self.assertEqual([link for link in links if link[1] not in self.places], [])
-        self.assertEqual([link for link in links if link[2] and link[2] not in found.get(link[1], ())], [])
+        self.assertTrue(self.pages[FRONT].startswith("# Zaklimot: a release\n"))
+        self.assertTrue(self.pages[f"docs/{FRONT}"].startswith("# Zaklimot\n"))
+        self.assertIn("(docs/LIBRARY.md#a-release)", self.pages[FRONT])
+        self.assertTrue(len(self.pages) > 30 and (self.folder / "share/man/man1/vga.1").exists())
+        hold(self, lambda page: broken(self.folder / page, self.pages[page]), ((page, []) for page in self.pages))
 
     def test_each_command_is_there_or_told_to_be_elsewhere(self) -> None:
         elsewhere = re.findall(r"`([^`]+)`", self.pages[FRONT].partition("These prove, build or test")[2].partition("\n\n")[0])
@@ -332,12 +293,11 @@ class Whole(unittest.TestCase):
             made = {Path(name).name for name in re.findall(r" -o (\S+)", text)}
             for name in commands_of(text):
                 with self.subTest(page=page, command=name):
-                    is_there = name in self.places or Path(name).name in made
+                    is_there = (self.folder / name).exists() or Path(name).name in made
                     self.assertTrue(is_there or any(name.startswith(told) for told in elsewhere))
         # What is told to be elsewhere is not here.
-        for name in (name for name in elsewhere if name.startswith("tools/")):
-            self.assertNotIn(name, self.places)
-            self.assertTrue((TOP / name).exists(), name)
+        there = [((self.folder / name).exists(), (TOP / name).exists()) for name in elsewhere if name.startswith("tools/")]
+        self.assertEqual(set(there), {(False, True)})
 
 
 # What may stand before a program of the repository, or before the folder of its tests.
@@ -394,11 +354,9 @@ class Installing(Folder):
             self.assertEqual(self.install("--prefix", str(prefix)), (0, "".join(laid), ""))
         self.assertTrue(os.access(prefix / "bin/vga", os.X_OK))
         self.assertEqual(os.readlink(prefix / "lib/z.so"), "z.so.1")
-        self.assertEqual((prefix / "share/z/f.fnt").read_text(), "font")
-
-    def test_a_stage_stands_before_the_prefix(self) -> None:
+        # A stage stands before the prefix.
         self.assertEqual(self.install("--destdir=stage", "--prefix=/usr")[0], 0)
-        self.assertEqual((self.folder / "stage/usr/bin/vga").read_text(), "#!program")
+        self.assertEqual((self.folder / "stage/usr/share/z/f.fnt").read_text(), "font")
 
     def test_what_it_refuses(self) -> None:
         (self.folder / "full" / "bin" / "vga").mkdir(parents=True)
@@ -440,75 +398,62 @@ class OtherProcessors(Folder):
         """The words of each program that was called."""
         return [line.split(" ") for line in self.notes.read_text("utf-8").splitlines()]
 
+    def make(self, name: str, *words: str) -> tuple[int, str, str]:
+        """How the library for the other processor is made in a folder."""
+        return call(command.main, "make", self.folder / name, "--target", "aarch64", *words)
+
     def test_what_is_run_and_what_is_laid(self) -> None:
-        place = self.folder / "kit-for-arm"
         progress = mock.create_autospec(Progress, instance=True)
         with mock.patch("vga_report.cli.Progress", return_value=progress):
-            status, told, said = call(command.main, "make", str(place), "--target", "aarch64")
+            status, told, said = self.make("kit-for-arm")
         self.assertIn(" proving and building the library: vga_bits, crate 1 of ", progress.tell.call_args[0][0])
         self.assertEqual((status, said), (0, ""))
-        self.assertIn(f"{place / 'lib' / f'libzaklimot.so.{version()}'}\n", told)
-        calls = [words for words in self.noted() if words != ["rt", "doc"]]
-        front = "aarch64-linux-gnu-"
+        self.assertIn(f"{self.folder}/kit-for-arm/lib/libzaklimot.so.{version()}\n", told)
+        calls, front = [words for words in self.noted() if words != ["rt", "doc"]], "aarch64-linux-gnu-"
         self.assertEqual([words[0] for words in calls], [
             "rt", "rattle", f"{front}gcc", f"{front}ld", f"{front}objcopy", f"{front}ar", f"{front}gcc",
         ])
         self.assertEqual(calls[0], ["rt", "check"])
-        building_words = " ".join(calls[1])
-        for word in (" build ", " --target aarch64-unknown-linux-gnu ", " --backend llvm ", " --crate-type staticlib "):
-            self.assertIn(word, f"{building_words} ")
-        self.assertEqual(Path(calls[1][-1]), self.crate / "out" / "libvga_c-aarch64.a")
+        self.assertEqual((calls[1][1], Path(calls[1][-1])), ("build", self.crate / "out" / "libvga_c-aarch64.a"))
+        building = dict(zip(calls[1], calls[1][1:]))
+        options = [building.get(f"--{name}") for name in ("target", "backend", "crate-type")]
+        self.assertEqual(options, ["aarch64-unknown-linux-gnu", "llvm", "staticlib"])
         # Both the crate's archive and the memory's functions are joined.
         self.assertEqual([Path(word).name for word in calls[3][-2:]], ["crates.a", "memory.a"])
         self.assertIn(str(HEAP), calls[2])
-
-    def test_install_takes_what_was_made_for_the_same_processor(self) -> None:
-        self.assertEqual(call(command.main, "make", str(self.folder / "first"), "--target", "aarch64")[0], 0)
+        # What was made is installed without the toolchain, but not where the memory's functions are others.
         self.notes.unlink()
-        words = ["install", "--prefix", "/usr", "--destdir", str(self.folder / "stage")]
-        self.assertEqual(call(command.main, *words, "--target", "aarch64")[0], 0)
+        words = ["install", "--prefix", "/usr", "--destdir", str(self.folder / "stage"), "--target", "aarch64"]
+        self.assertEqual(call(command.main, *words)[0], 0)
         self.assertEqual({words[0] for words in self.noted()}, set(AARCH64.programs()))
-        self.assertIsNone(making.kept("llvm", X86_64))
+        self.assertIsNotNone(making.kept("llvm", AARCH64))
         with mock.patch.object(making, "HEAP", Path(__file__)):
             self.assertIsNone(making.kept("llvm", AARCH64))
-        self.assertIsNotNone(making.kept("llvm", AARCH64))
 
     def test_what_cannot_be_made_is_told_before_the_long_work(self) -> None:
-        place = str(self.folder / "none")
-        self.assertEqual(call(command.main, "make", place, "--target", "aarch64", "--backend", "rattle"), (
-            TROUBLE, "", "vga-library: aarch64: the toolchain has no compiler rattle for it\n",
-        ))
+        self.write("file", "")
+        hold_undone(self, self.make("none", "--backend", "rattle"), "^vga-library: aarch64: the toolchain has no compiler rattle for")
+        hold_undone(self, self.make("file"), f"^vga-library: {self.folder}/file: it is not a folder\n$")
         for program in AARCH64.programs():
-            path = self.folder / "bin" / program
-            path.rename(self.folder / "away")
-            with self.subTest(program), mock.patch.dict(os.environ, {"PATH": str(self.folder / "bin")}):
-                self.assertEqual(call(command.main, "make", place, "--target", "aarch64"), (
-                    TROUBLE, "", f"vga-library: {program}: it is not in the path: install the package {PACKAGES[program]}\n",
-                ))
-            (self.folder / "away").rename(path)
-        done = call(command.main, "make", self.write("file", ""), "--target", "aarch64")
-        self.assertEqual(done, (TROUBLE, "", f"vga-library: {self.folder}/file: it is not a folder\n"))
+            with self.subTest(program), mock.patch("shutil.which", lambda name: None if name == program else name):
+                told = f"^vga-library: {program}: it is not in the path: install the package {PACKAGES[program]}\n$"
+                hold_undone(self, self.make("none"), told)
         self.assertFalse(self.notes.exists())
-
-    def test_what_fails_leaves_no_folder(self) -> None:
+        # What fails leaves no folder.
         self.program(f"bin/{AARCH64.tool('ar')}", "#!/bin/sh\nexit 1\n")
-        status, _, said = call(command.main, "make", self.folder / "none", "--target", "aarch64")
-        self.assertEqual((status, (self.folder / "none").exists()), (TROUBLE, False), said)
-
-    def test_the_machine_s_own(self) -> None:
+        hold_undone(self, self.make("none"), "aarch64-linux-gnu-ar: it ended with status 1\n")
+        self.assertFalse((self.folder / "none").exists())
         with mock.patch.dict(os.environ, {"CC": "some-cc"}):
             self.assertEqual(X86_64.programs(), ["some-cc", "ld", "objcopy", "ar"])
-            self.assertEqual(AARCH64.compiler(), "aarch64-linux-gnu-gcc")
 
     def test_what_a_release_has_of_it(self) -> None:
         files = {place: entry for place, entry in sources().items() if isinstance(entry, gathering.File)}
         archive = self.folder / "crates.a"
         archive.touch()
         entries = gathering.library_files(files, AARCH64, archive)
-        name = f"aarch64/zaklimot-{version()}-py3-none-linux_aarch64.whl"
         self.assertEqual({place.partition("/")[0] for place in entries}, {"aarch64"})
         self.assertEqual(entries["aarch64/lib/libzaklimot.so"], f"libzaklimot.so.{version()}")
-        wheel = entries[name]
+        wheel = entries[f"aarch64/zaklimot-{version()}-py3-none-linux_aarch64.whl"]
         assert isinstance(wheel, gathering.File)
         with zipfile.ZipFile(io.BytesIO(wheel.content)) as opened:
             self.assertEqual(opened.read("zaklimot/carried/libzaklimot.so"), b"made\n")
@@ -532,21 +477,16 @@ class Bindings(unittest.TestCase):
         self.assertEqual(run([sys.executable, "-c", "print(7)"]), "7\n")
         with self.assertRaisesRegex(Wrong, "it ended with status 1\n(?s:.*)no such test"):
             run([sys.executable, "-c", "raise SystemExit('no such test')"])
-        ran, skipped = "Ran 9 tests in 1s\n", "a ... skipped '{}'\n"
         line = "test result: ok. {} passed; 0 failed; 0 ignored\n"
-        for check, said, told in (
-            (bindings.check_python, skipped.format("numpy is not here") + ran, "9 tests, "),
-            (bindings.check_python, skipped.format("ZAKLIMOT_DIR is not set") + ran, None),
-            (bindings.check_rust, 5 * line.format(4), "20 tests"), (bindings.check_rust, 5 * line.format(0), None),
+        for check, right, wrong in (
+            (bindings.check_python, "a ... skipped 'numpy is not here'\nRan 9 tests in 1s\n", "a ... skipped 'x'\nRan 9 tests in 1s\n"),
+            (bindings.check_rust, 5 * line.format(4), 5 * line.format(0)),
         ):
-            fakes = {"tested": lambda *_, **__: Done(0, b"", said.encode()), "_cargo": lambda *_: said}
-            with self.subTest(said), mock.patch.multiple(bindings, **fakes):
-                if told is None:
-                    self.assertRaises(Wrong, check, TOP, TOP)
-                else:
-                    self.assertTrue(check(TOP, TOP).startswith(told))
-
-    def test_the_page_has_its_programs(self) -> None:
+            said = mock.Mock(side_effect=[right, wrong])
+            tested = mock.Mock(side_effect=[Done(0, b"", text.encode()) for text in (right, wrong)])
+            with self.subTest(right), mock.patch.multiple(bindings, tested=tested, _cargo=said):
+                self.assertRegex(check(TOP, TOP), "^(9|20) tests")
+                self.assertRaises(Wrong, check, TOP, TOP)
         self.assertEqual(list(bindings.programs_of_page()), [f"program_{number}" for number in range(3)])
 
     def test_words_that_cannot_be_meant_and_what_is_lacking(self) -> None:
