@@ -12,8 +12,7 @@ from functools import partial
 from pathlib import Path
 from typing import Callable
 
-from vga_library.making import MOVING, Place, make_library
-from vga_library.toolchain import BACKENDS, X86_64, built_archive, gated_archive, kit_archive
+from vga_library.toolchain import BACKENDS, X86_64
 from vga_report import TOP, cli
 from vga_report.crates import phases
 from vga_report.processes import captured, tested
@@ -21,6 +20,7 @@ from vga_report.progress import Progress
 from vga_report.trouble import Trouble, Wrong
 
 from .checks import PRINTED, REPORT, TEXT
+from .compilers import laid_library
 from .running import make_check, not_there, run
 
 PACKAGE = TOP / "bindings" / "python"
@@ -51,11 +51,8 @@ RUNS = (
 )
 # Within so many seconds such a run ends.
 SOON = 60
-# What the tests need of this machine, each program with its package of Debian. Clippy is a program of cargo's.
-PROGRAMS = {
-    "python3": "python3", "cargo": "cargo", "rustc": "rustc", "rustdoc": "rustc", "cargo-clippy": "rust-clippy",
-    "ld": "binutils", "objcopy": "binutils", "ar": "binutils", "cc": "gcc",
-}
+# The programs that the tests need of this machine. Clippy is one of cargo's.
+PROGRAMS = ("python3", "cargo", "rustc", "rustdoc", "cargo-clippy", "ld", "objcopy", "ar", "cc")
 
 
 def check_python(library: Path, _: Path) -> str:
@@ -149,7 +146,7 @@ def _parser() -> argparse.ArgumentParser:
         "vga-bindings-tests", "Tests the packages for Python and Rust.",
         "tools/vga-bindings-tests --library kit --only python", "docs/LIBRARY.md", cli.JUDGES,
     )
-    parser.set_defaults(job=_run)
+    parser.set_defaults(job=_run, archive=None)
     given = parser.add_mutually_exclusive_group()
     cli.add(given, "--library FOLDER", "takes a folder of `vga-library make` (default: makes one)", type=Path)
     cli.add_checks(parser, CHECKS, given)
@@ -170,13 +167,10 @@ def _library(words: argparse.Namespace, folder: Path, progress: Progress) -> Pat
         if not (words.library / "lib").is_dir():
             raise Trouble("it is no folder of `vga-library make`", str(words.library))
         return Path(words.library).absolute()
-    if words.gated:
-        archive = gated_archive(BACKENDS[0], words.proof or folder / "proof", folder / "crates.a")
-    else:
-        archive = built_archive(BACKENDS[0], X86_64, phases(progress)("proving and building the library"))
-        progress.clear()
-    make_library(archive, kit_archive(), Place(str(folder / "library")), MOVING)
-    return folder / "library"
+    heard = phases(progress)("proving and building the library")
+    built = laid_library(words, BACKENDS[0], X86_64, folder, heard)
+    progress.clear()
+    return built.folder
 
 
 def _run(words: argparse.Namespace, progress: Progress) -> None:

@@ -2,13 +2,15 @@
 
 from __future__ import annotations
 
+import argparse
 import shutil
 import tempfile
 from pathlib import Path
-from typing import Mapping, NamedTuple, Sequence
+from typing import NamedTuple, Sequence
 
-from vga_library.toolchain import AARCH64, X86_64, Target
-from vga_report.processes import captured
+from vga_library.making import MOVING, Place, make_library
+from vga_library.toolchain import AARCH64, X86_64, Target, built_archive, gated_archive, memory_part
+from vga_report.processes import BINUTILS, SOURCES, Hearer, captured
 
 from .running import not_there, run
 
@@ -17,43 +19,23 @@ SANITIZED = ("-g", "-fsanitize=address,undefined", "-fno-sanitize-recover=all")
 
 
 class Compiler(NamedTuple):
-    """A compiler of C and of C++, with the packages of Debian that it and its sanitizers come in."""
+    """A compiler of C and of C++, and the package of Debian that has its sanitizers."""
 
     c: str
     cpp: str
-    packages: tuple[str, str]
     sanitizers: str
 
 
-class Machine(NamedTuple):
-    """What programs for a processor are built by, with the package of its binutils, and what runs them here.
-
-    The runner's words stand before a program; the emulators that they name have their packages.
-    """
-
-    compilers: tuple[Compiler, ...]
-    binutils: str
-    runner: tuple[str, ...] = ()
-    emulators: Mapping[str, str] = {}
-
-
-COMPILERS = (
-    Compiler("gcc", "g++", ("gcc", "g++"), "libgcc-12-dev"),
-    Compiler("clang", "clang++", ("clang", "clang"), "libclang-rt-dev"),
-)
-_CROSS = Compiler(
-    "aarch64-linux-gnu-gcc", "aarch64-linux-gnu-g++", ("gcc-aarch64-linux-gnu", "g++-aarch64-linux-gnu"),
-    "libgcc-12-dev-arm64-cross",
-)
+# What programs for a processor are built by, and the words that stand before one where it runs.
+COMPILERS = {
+    X86_64: (Compiler("gcc", "g++", "libgcc-12-dev"), Compiler("clang", "clang++", "libclang-rt-dev")),
+    AARCH64: (Compiler(AARCH64.tool("gcc"), AARCH64.tool("g++"), "libgcc-12-dev-arm64-cross"),),
+}
 # The emulator takes the C library of the cross compiler. The sanitizers can't look for leaks in it, but for all
 # else. They read their options where the system has those of the emulator.
-_EMULATOR = ("env", "ASAN_OPTIONS=detect_leaks=0", "qemu-aarch64", "-L", "/usr/aarch64-linux-gnu")
-MACHINES = {
-    X86_64: Machine(COMPILERS, "binutils"),
-    AARCH64: Machine((_CROSS,), "binutils-aarch64-linux-gnu", _EMULATOR, {"qemu-aarch64": "qemu-user"}),
+RUNNERS = {
+    X86_64: (), AARCH64: ("env", "ASAN_OPTIONS=detect_leaks=0", "qemu-aarch64", "-L", "/usr/aarch64-linux-gnu"),
 }
-# Other programs that are run.
-OTHERS = ("ld", "objcopy", "objdump", "ar", "nm", "readelf")
 
 
 class Built(NamedTuple):
@@ -67,7 +49,7 @@ class Built(NamedTuple):
     @property
     def compilers(self) -> tuple[Compiler, ...]:
         """Those that build programs with it."""
-        return MACHINES[self.target].compilers
+        return COMPILERS[self.target]
 
     @property
     def include(self) -> Path:
@@ -84,17 +66,13 @@ class Built(NamedTuple):
 
 def lacking(target: Target) -> list[str]:
     """What this machine lacks to test the library for a processor, each with the package to install."""
-    machine = MACHINES[target]
-    programs = {target.tool(name): machine.binutils for name in OTHERS}
-    programs.update(machine.emulators)
-    for compiler in machine.compilers:
-        programs.update(zip((compiler.c, compiler.cpp), compiler.packages))
-    told = not_there(programs)
-    for compiler in machine.compilers:
-        runs = all(map(shutil.which, (compiler.c, *machine.emulators)))
-        if runs and not _has_sanitizers(compiler, machine.runner):
-            told.append(f"the sanitizers of {compiler.c}: install the package {compiler.sanitizers}")
-    return told
+    compilers, runner = COMPILERS[target], RUNNERS[target]
+    emulators = [word for word in runner if word in SOURCES]
+    built_by = [name for compiler in compilers for name in (compiler.c, compiler.cpp)]
+    return not_there([*map(target.tool, BINUTILS), *emulators, *built_by]) + [
+        f"the sanitizers of {compiler.c}: install the package {compiler.sanitizers}" for compiler in compilers
+        if all(map(shutil.which, (compiler.c, *emulators))) and not _has_sanitizers(compiler, runner)
+    ]
 
 
 def _has_sanitizers(compiler: Compiler, runner: Sequence[str]) -> bool:
@@ -105,9 +83,22 @@ def _has_sanitizers(compiler: Compiler, runner: Sequence[str]) -> bool:
         return captured(words).status == 0 and captured([*runner, made]).status == 0
 
 
+def laid_library(words: argparse.Namespace, backend: str, target: Target, folder: Path, heard: Hearer) -> Built:
+    """Makes a library in a folder: of the archive that is given, over what the gate left, or proved and built anew."""
+    built = Built("given" if words.archive else backend, folder / backend, folder / f"{backend}.a", target)
+    if words.gated:
+        # One proof is enough for both compilers.
+        gated_archive(backend, words.proof or folder / "proof", built.archive, target)
+    else:
+        # The next compiler's archive takes the place of this one.
+        shutil.copyfile(words.archive or built_archive(backend, target, heard), built.archive)
+    make_library(built.archive, memory_part(target, folder), Place(str(built.folder)), MOVING, target)
+    return built
+
+
 def build(
     compiler: str, built: Built, sources: Sequence[Path], made: Path, *flags: str, standard: str = "c99"
 ) -> list[str | Path]:
     """Builds a program with the static library, and answers the words that run it."""
     run([compiler, f"-std={standard}", *STRICT, *flags, "-I", built.include, *sources, built.static, "-o", made])
-    return [*MACHINES[built.target].runner, made]
+    return [*RUNNERS[built.target], made]

@@ -12,7 +12,7 @@ from vga_library.making import FONTS, MOVING, Place, make_library
 from vga_library.toolchain import kit_archive
 from vga_report.trouble import Wrong
 
-from .compilers import COMPILERS, STRICT, Built
+from .compilers import STRICT, Built
 from .running import run
 
 LIBRARIES = "lib/x86_64-linux-gnu"
@@ -56,7 +56,7 @@ def check_installing(built: Built, folder: Path) -> str:
     if "prefix=/usr\n" not in package or str(folder) in package:
         raise Wrong(f"zaklimot.pc has\n{package}")
     made, environment = folder / "picture", {**os.environ, "LD_LIBRARY_PATH": str(prefix / LIBRARIES)}
-    run([COMPILERS[0].c, "-std=c99", *STRICT, PICTURE, *_flags(prefix), "-o", made])
+    run([built.compilers[0].c, "-std=c99", *STRICT, PICTURE, *_flags(prefix), "-o", made])
     told = "the program that was built with the installed files"
     _check_picture(made, folder / "picture.ppm", told, environment=environment)
     ways = [_check_pkg_config(built, folder), _check_cmake(prefix, folder)]

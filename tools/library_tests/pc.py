@@ -14,7 +14,7 @@ from vga_report.processes import captured
 from vga_report.trouble import Wrong
 
 from .checks import harness
-from .compilers import COMPILERS, Built
+from .compilers import Built
 from .running import run
 
 PC = TOP / "examples" / "pc"
@@ -47,7 +47,7 @@ def flags_of(*packages: str) -> Optional[list[str]]:
 
 def _build(built: Built, made: Path, sources: list[Path], flags: list[str]) -> None:
     # The interface of Unicorn takes functions as pointers to anything, which pedantic compilers refuse.
-    words = [COMPILERS[0].c, "-std=c99", "-O2", "-Wall", "-Wextra", "-Werror", "-I", built.include]
+    words = [built.compilers[0].c, "-std=c99", "-O2", "-Wall", "-Wextra", "-Werror", "-I", built.include]
     run([*words, *sources, built.static, *flags, "-o", made])
 
 

@@ -5,9 +5,9 @@ from __future__ import annotations
 import shutil
 import time
 from pathlib import Path
-from typing import Any, Callable, Mapping, Sequence
+from typing import Any, Callable, Iterable, Sequence
 
-from vga_report.processes import tested
+from vga_report.processes import SOURCES, tested
 
 
 def run(words: Sequence[str | Path], **given: Any) -> str:
@@ -22,6 +22,6 @@ def make_check(name: str, check: Callable[[], str]) -> None:
     print(f"{name}: {told} ({time.monotonic() - begun:.0f} s)", flush=True)
 
 
-def not_there(programs: Mapping[str, str]) -> list[str]:
-    """The programs that are not in the path, each with the package of Debian that has it."""
-    return [f"{name}: install the package {package}" for name, package in programs.items() if not shutil.which(name)]
+def not_there(programs: Iterable[str]) -> list[str]:
+    """Those of some programs that are not in the path, each with the package of Debian that has it."""
+    return [f"{name}: {SOURCES[name]}" for name in programs if not shutil.which(name)]
