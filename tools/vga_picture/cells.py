@@ -4,7 +4,7 @@ import struct
 from collections import Counter
 from dataclasses import dataclass
 from functools import lru_cache, partial
-from itertools import permutations
+from itertools import groupby, permutations, product
 from typing import Callable, Iterator, Mapping, Sequence
 
 from vga_report.trouble import Trouble
@@ -13,7 +13,7 @@ from zaklimot import format
 from .choosing import Colour, distance
 from .colours import Indexed
 from .mode import Mode
-from .steps import Item, service
+from .steps import Item, runs, service
 
 WINDOW = 0xB8000
 GLYPHS = 256
@@ -24,8 +24,8 @@ LINE_CHARACTERS = range(0xC0, 0xE0)
 BLANK, BLANK_ATTRIBUTE = 0x20, 0x07
 # Characters that a string obeys, and does not write.
 CONTROLS = (0x07, 0x08, 0x0A, 0x0D)
-# So many cells that need no writing are written all the same, where a string goes on behind them.
-GAP = 5
+# So many cells at most that need no writing are written all the same, where a string goes on behind them.
+GAP = 4
 
 # Of a cell's colours those that have the most dots are tried as its two.
 TRIED = 6
@@ -130,18 +130,20 @@ def cells_of(image: Indexed, mode: Mode, font: bytes, tell: Callable[[int], None
     return made
 
 
+def _corners(mode: Mode) -> Iterator[tuple[int, int]]:
+    return product(range(0, mode.height, mode.cell_height), range(0, mode.width, mode.cell_width))
+
+
 def dots_of_cells(image: Indexed, mode: Mode) -> Iterator[bytes]:
     """The dots of each cell of an image, line by line."""
-    for at in range(mode.columns * mode.rows):
-        top, left = at // mode.columns * mode.cell_height, at % mode.columns * mode.cell_width
+    for top, left in _corners(mode):
         yield b"".join(line[left:left + mode.cell_width] for line in image.rows[top:top + mode.cell_height])
 
 
 def rows_of(cells: Sequence[Chosen], mode: Mode, font: bytes) -> list[bytes]:
     """The rows of dots that cells show, as numbers of colours."""
     rows = [bytearray(mode.width) for _ in range(mode.height)]
-    for at, cell in enumerate(cells):
-        top, left = at // mode.columns * mode.cell_height, at % mode.columns * mode.cell_width
+    for (top, left), cell in zip(_corners(mode), cells):
         dots, front, back = glyph_dots(font, cell.character, mode.cell_width), cell.attribute & 0x0F, cell.attribute >> 4
         for y in range(mode.cell_height):
             line = dots >> mode.cell_width * y
@@ -166,36 +168,30 @@ def put_cells(cells: Sequence[Chosen]) -> list[Item]:
 
 
 def typed_cells(cells: Sequence[Chosen], columns: int) -> list[Item]:
-    """Strings of function 13 with an attribute for each character; a word for a cell that no string can write."""
-    items: list[Item] = []
-    for start, end in _strings(cells):
-        block = b"".join(bytes([cell.character, cell.attribute]) for cell in cells[start:end])
-        # Character and attribute are a cycle each, and no cursor is shown.
-        typed = service(len(block), 0x1302, 0, end - start, start // columns << 8 | start % columns, block=block)
-        steps = [_put(start + at, cell) for at, cell in enumerate(cells[start:end])]
-        items += [typed] if typed.step.size < sum(item.step.size for item in steps) else steps
-    alone = [at for at, cell in enumerate(cells) if not _can_be_typed(at, cells) and not _is_blank(cell)]
-    return items + [_put(at, cells[at]) for at in alone]
+    """Strings of function 13 with an attribute for each character; a word for a cell that no string can write.
+
+    That is a control character, and the last cell, behind which the page scrolls.
+    """
+    strings: list[range] = []
+    alone: list[int] = []
+    can_be_typed = [cell.character not in CONTROLS for cell in cells[:-1]] + [False]
+    for is_typed, places in groupby(range(len(cells)), can_be_typed.__getitem__):
+        written = [at for at in places if not _is_blank(cells[at])]
+        if is_typed:
+            strings += runs(written, GAP)
+        else:
+            alone += written
+    typed = [item for run in strings for item in _typed(run, cells[run.start:run.stop], columns)]
+    return typed + [_put(at, cells[at]) for at in alone]
 
 
-def _can_be_typed(at: int, cells: Sequence[Chosen]) -> bool:
-    """Whether a string can write a cell: no control character, and not the last cell, behind which the page scrolls."""
-    return cells[at].character not in CONTROLS and at != len(cells) - 1
-
-
-def _strings(cells: Sequence[Chosen]) -> Iterator[tuple[int, int]]:
-    """Where strings begin and end: they have the cells that need writing, and short gaps between these."""
-    start = end = -1
-    for at, cell in enumerate(cells):
-        if not _can_be_typed(at, cells) or start >= 0 and at - end >= GAP:
-            if start >= 0:
-                yield start, end
-            start = -1
-        if _can_be_typed(at, cells) and not _is_blank(cell):
-            start = at if start < 0 else start
-            end = at + 1
-    if start >= 0:
-        yield start, end
+def _typed(run: range, cells: Sequence[Chosen], columns: int) -> list[Item]:
+    """A string that writes cells, or a word for each, whichever has fewer bytes."""
+    block = b"".join(bytes([cell.character, cell.attribute]) for cell in cells)
+    # Character and attribute are a cycle each, and no cursor is shown.
+    typed = service(len(block), 0x1302, 0, len(run), run.start // columns << 8 | run.start % columns, block=block)
+    steps = list(map(_put, run, cells))
+    return [typed] if typed.step.size < sum(item.step.size for item in steps) else steps
 
 
 def own_glyphs(image: Indexed, mode: Mode, cells: Sequence[Chosen]) -> dict[int, bytes]:
@@ -249,10 +245,6 @@ def loading(mode: Mode, glyphs: Mapping[int, bytes]) -> Iterator[Item]:
     height = mode.cell_height
     if mode.rows != 25:
         yield service(LOAD_CYCLES + GLYPHS * height, FONT_PARTS[height])
-    first = count = 0
-    for character in (*sorted(glyphs), -1):
-        if count and character != first + count:
-            block = b"".join(glyphs[at] for at in range(first, first + count))
-            yield service(LOAD_CYCLES + len(block), 0x1110, height << 8, count, first, block=block)
-            count = 0
-        first, count = (first, count + 1) if count else (character, 1)
+    for run in runs(sorted(glyphs)):
+        block = b"".join(map(glyphs.__getitem__, run))
+        yield service(LOAD_CYCLES + len(block), 0x1110, height << 8, len(run), run.start, block=block)

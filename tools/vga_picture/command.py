@@ -7,7 +7,7 @@ import sys
 
 from vga_report import cli
 from vga_report.cli import add
-from vga_report.images import image_bytes
+from vga_report.images import image_bytes, image_of
 from vga_report.output import counted, name_of, refuse_twice
 from vga_report.png import save_png
 from vga_report.program import FONTS
@@ -19,7 +19,7 @@ from zaklimot.format import MOST_BYTES
 from .cells import font_of
 from .colours import Fewer, indexed, six_bits
 from .drawing import Drawn, draw_pixels, draw_text
-from .fitting import Fit, fitted, read_image
+from .fitting import MOST_DOTS, Fit, fitted
 from .mode import LINES, MODES, Kind, text_of
 from .steps import write_script
 
@@ -76,7 +76,7 @@ def _drawn(words: argparse.Namespace, progress: Progress) -> tuple[Drawn, str]:
         font = font_of(read_at_most(words.fonts, MOST_BYTES), mode.cell_height, name_of(words.fonts))
     elif words.rows or words.own_glyphs:
         raise Trouble("--rows and --own-glyphs are of text, which is mode 3")
-    image = read_image(image_bytes(words.image), name)
+    image = image_of(image_bytes(words.image), name, MOST_DOTS)
     image, size = fitted(image, mode, words.fit, words.bars or bytes(3), name)
     made, count = indexed(six_bits(image), len(mode.entries), words.fewer, name)
     told = f"{size}, {counted(len(made.colours), 'colour')}"

@@ -11,7 +11,7 @@ from .colours import Indexed
 from .mode import Kind, Mode
 from .planes import best_numbers
 from .screen import Areas, drawn
-from .steps import Item, Part, service
+from .steps import Item, Part, runs, service
 
 # Cycles of a mode set: of registers and palette, of the glyphs of text, of memory that is cleared.
 SET_CYCLES, GLYPH_CYCLES, TEXT_CYCLES, GRAPHICS_CYCLES = 896, 4112, 32768, 65536
@@ -28,12 +28,10 @@ class Drawn(NamedTuple):
 
 def _colours(colours: Sequence[Colour], mode: Mode) -> Iterator[Item]:
     """The entries of the DAC that the palette names for these colours, as many at a time as stand side by side."""
-    first = 0
-    for number in range(1, len(colours) + 1):
-        if number == len(colours) or mode.entries[number] != mode.entries[number - 1] + 1:
-            block = bytes(part for colour in colours[first:number] for part in colour)
-            yield service(1 + len(block), 0x1012, mode.entries[first], number - first, block=block)
-            first = number
+    parts = iter(colours)
+    for run in runs(mode.entries[:len(colours)]):
+        block = bytes(part for _ in run for part in next(parts))
+        yield service(1 + len(block), 0x1012, run.start, len(run), block=block)
 
 
 def _drawn(

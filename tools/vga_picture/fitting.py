@@ -1,11 +1,8 @@
 """An image of another size than the mode's."""
 
-import re
-import struct
 from enum import Enum
 
-from vga_report.images import Image, image_of
-from vga_report.png import SIGNATURE
+from vga_report.images import Image
 from vga_report.trouble import Trouble
 
 from .mode import Mode
@@ -14,8 +11,6 @@ from .mode import Mode
 MOST_DOTS = 1 << 24
 # The shape of a screen.
 WIDE, HIGH = 4, 3
-PNG_SIZE = struct.Struct(">8x4x4sII")
-PPM_SIZE = re.compile(rb"P6(?:\s|#[^\n]*\n)+(\d+)(?:\s|#[^\n]*\n)+(\d+)")
 
 
 class Fit(Enum):
@@ -24,18 +19,6 @@ class Fit(Enum):
     EXACT = "exact"
     SCALE = "scale"
     FIT = "fit"
-
-
-def read_image(data: bytes, name: str) -> Image:
-    """The image that a file holds. One that is too large is told before it is unpacked."""
-    width = height = 0
-    if data.startswith(SIGNATURE) and len(data) >= PNG_SIZE.size:
-        _, width, height = PNG_SIZE.unpack_from(data)
-    elif found := PPM_SIZE.match(data):
-        width, height = int(found[1]), int(found[2])
-    if width * height > MOST_DOTS:
-        raise Trouble(f"the image has {width}x{height} dots, and {MOST_DOTS:,} are the most", name)
-    return image_of(data, name)
 
 
 def _stretched(image: Image, width: int, height: int) -> list[bytes]:

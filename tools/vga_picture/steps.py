@@ -1,7 +1,7 @@
 """What a script that draws is made of: steps, services, blocks that are repeated; how it is written; its figures."""
 
 from collections import Counter
-from typing import BinaryIO, NamedTuple, Sequence, Union
+from typing import BinaryIO, Iterable, Iterator, NamedTuple, Sequence, Union
 
 from vga_report.trouble import Trouble
 from zaklimot import format
@@ -24,6 +24,20 @@ def service(cycles: int, *registers: int, block: bytes = b"") -> Item:
 def repeat(count: int, items: Sequence[Item]) -> Item:
     """A block of steps that are taken so many times."""
     return Item(format.Block(count, tuple(item.step for item in items)), count * sum(item.cycles for item in items))
+
+
+def runs(numbers: Iterable[int], gap: int = 0) -> Iterator[range]:
+    """Numbers as ranges of those that follow one another; so many may be lacking between two, and are in it then."""
+    run = range(0)
+    for number in numbers:
+        if run and run.stop <= number <= run.stop + gap:
+            run = range(run.start, number + 1)
+            continue
+        if run:
+            yield run
+        run = range(number, number + 1)
+    if run:
+        yield run
 
 
 class Part(NamedTuple):
