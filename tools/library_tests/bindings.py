@@ -162,7 +162,6 @@ def lacking() -> list[str]:
 
 
 def _library(words: argparse.Namespace, folder: Path, progress: Progress) -> Path:
-    """The folder of the library that is tested: the one that is given, or one made over what the gate left, or anew."""
     if words.library is not None:
         if not (words.library / "lib").is_dir():
             raise Trouble("it is no folder of `vga-library make`", str(words.library))

@@ -9,7 +9,7 @@ from typing import Any
 from vga_report import TOP
 from vga_report.version import version
 from vga_library.making import FONTS, MOVING, Place, make_library
-from vga_library.toolchain import kit_archive
+from vga_library.toolchain import memory_part
 from vga_report.trouble import Wrong
 
 from .compilers import STRICT, Built
@@ -39,7 +39,6 @@ def _install(built: Built, stage: Path) -> Path:
 
 
 def _check_picture(program: Path, ppm: Path, made_how: str, **given: Any) -> None:
-    """The program draws, however it was made."""
     run([program, FONTS, ppm], **given)
     if not ppm.read_bytes().startswith(b"P6\n640 400\n63\n"):
         raise Wrong(f"{made_how} draws no picture")
@@ -68,7 +67,7 @@ def _check_pkg_config(built: Built, folder: Path) -> str:
     if not shutil.which("pkg-config"):
         return "pkg-config is left out: install the package pkg-config"
     moved = folder / "moved" / "kit"
-    make_library(built.archive, kit_archive(), Place(str(folder / "first"), LIBRARIES), MOVING)
+    make_library(built.archive, memory_part(built.target, folder), Place(str(folder / "first"), LIBRARIES), MOVING)
     moved.parent.mkdir()
     (folder / "first").rename(moved)
     environment = {**os.environ, "PKG_CONFIG_PATH": str(moved / LIBRARIES / "pkgconfig")}

@@ -104,7 +104,6 @@ def _parser() -> argparse.ArgumentParser:
 
 
 def _made(words: argparse.Namespace, progress: Progress, times: int) -> tuple[list[bytes], Optional[bytes]]:
-    """The module that is tested, made so many times, and one of fixed memory; or the one that is given."""
     if words.module is not None:
         return [read_at_most(words.module, MOST_MODULE)], None
     try:

@@ -71,20 +71,14 @@ def _parts(
     return keep(words.backend, target, *parts)
 
 
-def _wanted_target(words: argparse.Namespace) -> Target:
-    """The processor that is named, once all is there that makes the library for it."""
+def _lay(words: argparse.Namespace, place: Place, prefix: str, progress: Progress, takes_made: bool = False) -> None:
+    # What is wrong with words, programs and folders is told before the long work.
+    check_given(words.archive)
     target = TARGETS[words.target]
     if words.archive is None and words.backend not in target.backends:
         raise Trouble(f"the toolchain has no compiler {words.backend} for it", target.name)
     for name in target.programs():
         check_program(name)
-    return target
-
-
-def _lay(words: argparse.Namespace, place: Place, prefix: str, progress: Progress, takes_made: bool = False) -> None:
-    # What is wrong with words, programs and folders is told before the long work.
-    check_given(words.archive)
-    target = _wanted_target(words)
     for name in ("include", place.library_folder, "share"):
         check_folder(place.folder(name))
     with tempfile.TemporaryDirectory(prefix="vga-library-") as folder:

@@ -124,7 +124,6 @@ def make_library(archive: Path, memory: Path, place: Place, prefix: str, target:
 
 
 def _sources() -> Iterator[Path]:
-    """The files that the library's crate is made of, and those of the crates below it."""
     yield TOP / "crates.txt"
     for name in [*below(CRATE.name), CRATE.name]:
         for entry in sorted((TOP / "crates" / name).iterdir()):

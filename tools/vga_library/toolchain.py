@@ -72,11 +72,6 @@ def kit_line() -> str:
     return run(["rt", "version"]).strip()
 
 
-def kit_archive() -> Path:
-    """The kit's functions that a static library of Rattle takes its memory by."""
-    return kit_folder() / "c" / "liblibc_c.a"
-
-
 def rlib(name: str) -> Path:
     """The library that `rt ci` built of a crate."""
     path = TOP / "crates" / name / "out" / "rlib" / f"{name}.rlib"
@@ -86,7 +81,6 @@ def rlib(name: str) -> Path:
 
 
 def _libraries(kit: Path) -> list[str | Path]:
-    """The words that name the libraries of the kit and of the repository."""
     own = below(CRATE.name)
     words: list[str | Path] = []
     for name in [ALWAYS, *(name for name in uses()[CRATE.name] if name not in uses())]:
@@ -133,7 +127,7 @@ def built_archive(backend: str, target: Target, heard: Optional[Hearer] = None) 
 def memory_part(target: Target, folder: Path) -> Path:
     """The functions that the crate takes its memory by: the kit's, or a file that is made in the folder."""
     if target == X86_64:
-        return kit_archive()
+        return kit_folder() / "c" / "liblibc_c.a"
     made = folder / "heap.o"
     run([target.compiler(), *HEAP_OPTIONS, "-c", HEAP, "-o", made])
     return made

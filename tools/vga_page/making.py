@@ -43,7 +43,6 @@ class Maker:
         self._tools = self._kit / "toolchain" / "bin"
 
     def _run(self, phase: str, words: Sequence[str | Path], folder: Optional[Path] = None) -> str:
-        """Runs a program of a phase, and answers all that it says."""
         done = ended_well(words, folder, self._phase(phase))
         return (done.output + done.errors).decode("utf-8", "replace")
 
@@ -86,7 +85,6 @@ class Maker:
         return text.read_text("utf-8")
 
     def _archive(self, text: str, folder: Path) -> Path:
-        """The archive for wasm64 of an LLVM module's text and of the heap."""
         source, archive = folder / "wasm.ll", folder / "wasm.a"
         objects = [folder / "wasm.o", folder / "heap.o"]
         source.write_text(text, "utf-8")

@@ -47,7 +47,6 @@ class Nearest:
         return number
 
     def _search(self, colour: Colour, first: int) -> int:
-        """The number for a colour, by a search from the colour of a number on."""
         red, green, blue = colour
         weigh_red, weigh_green, weigh_blue = WEIGHTS
         best, least = first, distance(colour, self._colours[first])

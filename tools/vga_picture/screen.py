@@ -66,7 +66,6 @@ class Areas:
             yield Part(f"{len(bands)} times rows of cells that are alike: go down by a row, draw the first", bands)
 
     def _finish(self, window: Window) -> None:
-        """Takes a window of cells as drawn."""
         column, row, columns, rows = window
         left, right = CELL_WIDTH * column, CELL_WIDTH * (column + columns)
         for y in range(self._height * row, self._height * (row + rows)):

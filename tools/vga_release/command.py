@@ -33,11 +33,6 @@ def _parser() -> argparse.ArgumentParser:
     return parser
 
 
-def release_name() -> str:
-    """What the archive is called, and the folder that it holds."""
-    return f"zaklimot-{version()}-{MACHINE}"
-
-
 def _built(words: argparse.Namespace, progress: Progress) -> tuple[Path, dict[Target, Path]]:
     """The program, and the crate's archive for each processor: given, or proved and built now."""
     tell = phases(progress)
@@ -56,7 +51,8 @@ def _built(words: argparse.Namespace, progress: Progress) -> tuple[Path, dict[Ta
 def _release(words: argparse.Namespace, progress: Progress) -> None:
     check_given(words.program, words.archive, words.archive_aarch64)
     check_folder(words.folder)
-    commit, name = clean_commit(), release_name()
+    # What the archive is called, and the folder that it holds.
+    commit, name = clean_commit(), f"zaklimot-{version()}-{MACHINE}"
     for program in (*X86_64.programs(), *AARCH64.programs()):
         check_program(program)
     entries = release_entries(commit, *_built(words, progress))

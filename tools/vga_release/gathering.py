@@ -100,14 +100,6 @@ def library_files(files: Mapping[str, File], target: Target, archive: Path) -> d
     return made if target == X86_64 else {f"{target.name}/{place}": entry for place, entry in made.items()}
 
 
-def built_files(files: Mapping[str, File], program: Path, archives: Mapping[Target, Path]) -> dict[str, Entry]:
-    """The program, and for each processor the library and the wheel with it."""
-    entries: dict[str, Entry] = {"bin/vga": File(program.read_bytes(), True)}
-    for target, archive in archives.items():
-        entries.update(library_files(files, target, archive))
-    return entries
-
-
 def suite_scripts() -> dict[str, Entry]:
     """The suite's scripts, each whole, as `vga-report scripts` writes them."""
     with tempfile.TemporaryDirectory(prefix="vga-release-") as name:
@@ -137,9 +129,10 @@ def made_of(commit: Commit, toolchain: str, built: Mapping[str, Entry]) -> File:
 
 
 def release_entries(commit: Commit, program: Path, archives: Mapping[Target, Path]) -> dict[str, Entry]:
-    """All files of a release."""
-    files = files_of(commit, PATHS)
-    built = built_files(files, program, archives)
+    """All files of a release: among those that are built the program, and a library and a wheel for each processor."""
+    files, built = files_of(commit, PATHS), dict[str, Entry]({"bin/vga": File(program.read_bytes(), True)})
+    for target, archive in archives.items():
+        built.update(library_files(files, target, archive))
     install = File((Path(__file__).parent / INSTALL).read_bytes(), True)
     entries = {**files, **suite_scripts(), **built, **LINKS, INSTALL: install}
     return settled({**entries, MADE_OF: made_of(commit, kit_line(), built)})
