@@ -18,14 +18,13 @@ from vga_page.making import made_modules
 from vga_page.page import MOST_BYTES, data_of, page_text, read_sources
 from vga_page.wasm import MOST_MODULE, check_module, kit_of
 from vga_report import cli
-from vga_report.crates import phases
 from vga_report.debugging import MOST_PAGE, page_data, read_at_most
 from vga_report.debugging import PAGE as BUILT_PAGE
 from vga_report.progress import Progress
 from vga_report.trouble import Trouble, Wrong
 
 from .scripts import (
-    SMALL_MEMORY, Modules, check_browser, check_heap, check_own, check_scripts, check_suite, check_syntax, node_words,
+    SMALL_MEMORY, check_browser, check_heap, check_own, check_scripts, check_suite, check_syntax, node_words,
 )
 
 MODULE, PAGE, SUITE, HEAP, SCRIPTS, OWN = CHECKS = ("module", "page", "suite", "heap", "scripts", "own")
@@ -106,11 +105,8 @@ def _parser() -> argparse.ArgumentParser:
 def _made(words: argparse.Namespace, progress: Progress, times: int) -> tuple[list[bytes], Optional[bytes]]:
     if words.module is not None:
         return [read_at_most(words.module, MOST_MODULE)], None
-    try:
-        made = made_modules(phases(progress), words.gated, words.proof, [None, SMALL_MEMORY], times)
-        return [module for module, _ in made], made[0][1]
-    finally:
-        progress.clear()
+    made = made_modules(words, progress, [None, SMALL_MEMORY], times)
+    return [module for module, _ in made], made[0][1]
 
 
 def check_modules(modules: Sequence[bytes]) -> str:
@@ -126,30 +122,24 @@ def _times(page: Optional[bytes], wanted: Sequence[str]) -> int:
     return 1 if PAGE in wanted and page is not None and kit_of(module_in(page)) == kit_line() else 2
 
 
-def _file(folder: Path, name: str, data: bytes) -> Path:
-    (folder / name).write_bytes(data)
-    return folder / name
-
-
 def _checks(words: argparse.Namespace, progress: Progress, folder: Path) -> Iterator[tuple[str, Callable[[], str]]]:
     wanted = words.only or CHECKS
     page = built_page() if {PAGE, SCRIPTS, OWN} & set(wanted) else None
     same, small = _made(words, progress, 1 if words.module else _times(page, wanted))
     yield MODULE, partial(check_modules, same)
-    modules = Modules(_file(folder, "module.wasm", same[0]), small and _file(folder, "small.wasm", small))
-    under_test = {same[0]: modules.module}
-    if page is not None:
-        # What runs in the page is the module in it, even where that is another kit's.
-        modules = modules._replace(module=_file(folder, "page.wasm", module_in(page)))
-        if PAGE in wanted:
-            yield PAGE, lambda: f"{check_built(same[0], page)}; {check_syntax(page, folder)}"
-            under_test.setdefault(module_in(page), modules.module)
+    # What runs in the page is the module in it, even where that is another kit's.
+    parts = {"module": same[0], "page": same[0] if page is None else module_in(page), "small": small}
+    files = {name: folder / f"{name}.wasm" for name, data in parts.items() if data is not None}
+    for name, path in files.items():
+        path.write_bytes(parts[name] or b"")
+    if PAGE in wanted and page is not None:
+        yield PAGE, lambda: f"{check_built(same[0], page)}; {check_syntax(page, folder)}"
     if SUITE in wanted:
-        for module in under_test.values():
-            yield SUITE, partial(check_suite, module, folder / f"cases of {module.name}")
+        for name in ("module", "page")[:1 + (PAGE in wanted and parts["page"] != same[0])]:
+            yield SUITE, partial(check_suite, files[name], folder / f"cases of {name}")
     for name, check in ((HEAP, check_heap), (SCRIPTS, check_scripts), (OWN, check_own)):
         if name in wanted:
-            yield name, partial(check, modules)
+            yield name, partial(check, files["page"], files.get("small"))
 
 
 def _run(words: argparse.Namespace, progress: Progress) -> None:

@@ -10,7 +10,7 @@ import shutil
 from concurrent.futures import ThreadPoolExecutor
 from pathlib import Path
 from threading import Event
-from typing import Any, Mapping, NamedTuple, Optional, Sequence
+from typing import Any, Mapping, Optional, Sequence
 
 from library_tests.running import run
 from vga_report.cases import Case, read_cases
@@ -56,13 +56,6 @@ STEPS = "steps, all at once"
 MOST_TOLD = 20
 
 
-class Modules(NamedTuple):
-    """The files of a module, and of one whose memory is fixed, where there is one."""
-
-    module: Path
-    small: Optional[Path] = None
-
-
 def _answer(words: Sequence[str]) -> str:
     done = captured(words, seconds=MOST_SECONDS)
     return done.output.decode("utf-8", "replace").strip() if done.status == 0 else ""
@@ -103,14 +96,13 @@ def check_syntax(page: bytes, folder: Path) -> str:
     return f"a script of {len(found[0]):,} characters, as node takes it"
 
 
-def check_scripts(modules: Modules, folder: Path = TESTS) -> str:
-    """The tests of a folder in node, of which each passes, and none is left out."""
+def check_scripts(module: Path, small: Optional[Path], folder: Path = TESTS) -> str:
+    """The tests of a folder in node, of which each passes, and none is left out; the small module has fixed memory."""
     files = sorted(path for path in folder.glob("*.mjs") if path.name != BROWSER.name)
     files = [path for path in files if IS_TEST in path.read_text("utf-8")]
     if not files:
         raise Wrong(f"there are no tests in {folder}")
-    small = {} if modules.small is None else {SMALL: str(modules.small)}
-    environment = {MODULE: str(modules.module), BUILT: str(PAGE), **small}
+    environment = {MODULE: str(module), BUILT: str(PAGE), **({} if small is None else {SMALL: str(small)})}
     counts = dict(COUNT.findall(run_node(["--test", "--test-reporter", REPORTER, *files], environment)))
     passed = counts.pop("pass", "0")
     if passed == "0" or set(counts.values()) != {"0"}:
@@ -118,20 +110,20 @@ def check_scripts(modules: Modules, folder: Path = TESTS) -> str:
     return f"{passed} tests of the page's scripts pass"
 
 
-def check_own(modules: Modules) -> str:
+def check_own(module: Path, _: Optional[Path] = None) -> str:
     """The page's check of its examples, over its module: each answers as by `zak_run`, and as expected."""
-    told = json.loads(run_node([OWN, modules.module, PAGE]))
+    told = json.loads(run_node([OWN, module, PAGE]))
     if told["differ"] or not (told["agree"] and told["expected"]):
         lines = [f"  {line}" for line in told["lines"]]
         raise Wrong("\n".join(["the page's check of its examples:", *lines]))
     return f"{told['agree']} examples answer as by zak_run, {told['expected']} answers as expected"
 
 
-def check_heap(modules: Modules) -> str:
+def check_heap(module: Path, small: Optional[Path]) -> str:
     """The module's heap: blocks at random don't overlap, and calls say where memory is spent, and go on."""
-    if modules.small is None:
+    if small is None:
         return "left out: --module has none of fixed memory"
-    told = json.loads(run_node([HEAP, modules.module, modules.small]))
+    told = json.loads(run_node([HEAP, module, small]))
     grown, cards = told["grown"] // MEBIBYTE, told["cards"]
     spent = f"where memory is spent after {cards} card{'s' * (cards != 1)}, calls say so and go on"
     return f"{told['rounds']:,} times a block is taken or given back, in {grown} MiB; {spent}"

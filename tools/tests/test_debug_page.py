@@ -15,7 +15,7 @@ from vga_report.version import HEADER, calls_of
 from vga_page import command, page, wasm
 from vga_page.page import DATA, SCRIPT, STYLE, Sources, about, joined, make_page, packed, page_text
 from vga_page.retargeting import LAYOUTS, TRIPLES, retargeted
-from vga_page.wasm import check_module, kit_of, with_kit
+from vga_page.wasm import check_module, with_kit
 from vga_report.trouble import Wrong
 from vga_report.debugging import page_data
 
@@ -28,15 +28,10 @@ class Bundling(unittest.TestCase):
     def test_what_is_not_as_a_module_is_to_be(self) -> None:
         others = {"a.js": "export const a = 1;\n"}
         hold_refused(self, joined, (({"main.js": f"\n{line}\n", **others}, f"^main.js:2: .*{told}") for line, told in (
-            ('import a from "./a.js";', "an import is a line"),
             ('import * as a from "./a.js";', "an import is a line"),
-            ('import { a as b } from "./a.js";', "an import is a line"),
-            ('import { a } from "a";', "an import is a line"),
-            ("import {", "an import is a line"), ('import "./a.js";', "an import is a line"),
-            ("export default 1;", "`export` stands before"), ("export { a };", "`export` stands before"),
-            ("export let a = 1;", "`export` stands before"),
+            ('import { a as b } from "./a.js";', "an import is a line"), ("import {", "an import is a line"),
+            ("export { a };", "`export` stands before"), ("export const [a] = b;", "`export` stands before"),
             ('  await import("./a.js");', "by a line at the top alone"),
-            ("export const [a] = b;", "`export` stands before"),
             ('const a = "</script>";', "the end of a script"), ("// <!-- a", "the end of a script"),
         )))
 
@@ -167,20 +162,13 @@ class Modules(unittest.TestCase):
             (module_of(self.right)[:-1], "it is cut off"), (b"\x7fELF", "it is no WebAssembly module"),
         ))
 
-    def test_the_kit_that_made_it(self) -> None:
-        module = module_of(self.right)
-        self.assertEqual(kit_of(module), "")
-        self.assertEqual(kit_of(with_kit(module, "kit 1")), "kit 1")
-        told = [check_module(one).partition("bytes")[2] for one in (with_kit(module, "kit 1"), module)]
-        self.assertEqual(told[0], told[1])
-
 
 class Tests(Folder):
     """That a page is made around a module, and that the page's tests can fail."""
 
     def test_a_module_that_was_made_already(self) -> None:
         self.patch(mock.patch.object(command, "read_sources", small_sources))
-        module, made = Path(self.write("module", module_of(Modules.right))), self.folder / "page"
+        module, made = Path(self.write("module", with_kit(module_of(Modules.right), "kit 1"))), self.folder / "page"
         status, output, _ = call(command.main, "make", made, "--module", module)
         self.assertEqual((status, tests_command.module_in(made.read_bytes())), (0, module.read_bytes()))
         self.assertIn(f"{made}: {made.stat().st_size:,} bytes; its module has", output)
@@ -189,33 +177,30 @@ class Tests(Folder):
         module, other = (with_kit(module_of(Modules.right), kit) for kit in ("one", "other"))
         self.patch(mock.patch.object(tests_command, "read_sources", small_sources))
         made = make_page(module, small_sources())
-        self.assertRegex(tests_command.check_built(module, made), "the one that the crate makes$")
         self.assertRegex(tests_command.check_built(other, made), "of another kit, one: the suite judges that$")
-        data = page_data(made.decode("utf-8"))
-        for tested, page in (
-            (with_kit(module_of(Modules.right, (1, b"\0")), "one"), made),
-            (module, make_page(module, small_sources("end();\n"))),
-            *((module, page_text(small_sources(), {**data, "examples": examples}).encode("utf-8"))
-              for examples in (base64.b64encode(packed(b"[]")).decode("ascii"), "AAAA")),
-        ):
-            self.assertRaises(Wrong, tests_command.check_built, tested, page)
+        data, empty = page_data(made.decode("utf-8")), base64.b64encode(packed(b"[]")).decode("ascii")
+        hold_refused(self, tests_command.check_built, (
+            (with_kit(module_of(Modules.right, (1, b"\0")), "one"), made, "is not the one that the crate makes"),
+            (module, make_page(module, small_sources("end();\n")), "is not the page that its sources make: line 8 is"),
+            *((module, page_text(small_sources(), {**data, "examples": examples}).encode("utf-8"), told)
+              for examples, told in ((empty, "other data than the repository: examples"), ("AAAA", "is not packed as it"))),
+        ))
 
     def test_what_is_wrong(self) -> None:
-        module, ways = module_of(Modules.right), {"bytes": 2, "text": 1, "steps, all at once": 2}
+        module, ways, one = module_of(Modules.right), {"bytes": 2, "steps, all at once": 2}, {"name": "n", "way": "w", "reason": "r"}
+        self.assertEqual(scripts.judged({"ways": ways, "wrong": []}, 2), "by bytes 2; by steps, all at once 2; of 2 cases")
+        hold_refused(self, scripts.judged, (
+            ({"ways": ways, "wrong": [one]}, 2, "\n  n, by w: r$"), ({"ways": {**ways, "text": 0}, "wrong": []}, 2, "too few"),
+        ))
         self.assertIn("the same twice", tests_command.check_modules([module, module]))
-        self.assertRaises(Wrong, tests_command.check_modules, [module, with_kit(module, "kit")])
-        told = scripts.judged({"ways": ways, "wrong": []}, 2)
-        self.assertEqual(told, "by bytes 2; by text 1; by steps, all at once 2; of 2 cases")
-        one = {"name": "n", "way": "bytes", "reason": "r"}
-        for answer in ({"ways": ways, "wrong": [one]}, {"ways": {**ways, "text": 0}, "wrong": []}):
-            self.assertRaises(Wrong, scripts.judged, answer, 2)
+        hold_refused(self, tests_command.check_modules, [([module, with_kit(module, "kit")], "two modules")])
         told = '{"agree": 2, "differ": 1, "expected": 3, "lines": ["a: r"]}'
         with mock.patch.object(scripts, "run_node", return_value=told):
-            self.assertRaisesRegex(Wrong, "\n  a: r$", scripts.check_own, scripts.Modules(Path("module")))
+            self.assertRaisesRegex(Wrong, "\n  a: r$", scripts.check_own, Path("module"))
 
     @unittest.skipIf(shutil.which(scripts.NODE) is None, "node is lacking")
     def test_nodes_tests_pass_or_are_named(self) -> None:
-        front, modules = 'import test from "node:test";\n', scripts.Modules(Path("module"))
+        front = 'import test from "node:test";\n'
         others = "".join(f'test("other {number}", () => {{}});\n' for number in range(100))
         bad = f'{front}test("bad", () => {{ throw Error("why"); }});\n{others}'
         # What runs in a browser, and what has no test, is left out.
@@ -226,9 +211,9 @@ class Tests(Folder):
             (f'{front}test.skip("left out", () => {{}});\n{others}', "100 pass, .*'skipped': '1'"),
         ):
             self.write("one.mjs", text)
-            self.assertRaisesRegex(Wrong, told, scripts.check_scripts, modules, self.folder)
+            self.assertRaisesRegex(Wrong, told, scripts.check_scripts, Path("module"), None, self.folder)
         self.write("one.mjs", front + others)
-        self.assertEqual(scripts.check_scripts(modules, self.folder), "100 tests of the page's scripts pass")
+        self.assertEqual(scripts.check_scripts(Path("module"), None, self.folder), "100 tests of the page's scripts pass")
 
     def test_node_that_is_lacking_or_too_old(self) -> None:
         with mock.patch("shutil.which", return_value=None):

@@ -4,7 +4,6 @@ from __future__ import annotations
 
 import argparse
 
-from vga_report.crates import phases
 from vga_report import cli
 from vga_report.processes import MEBIBYTE
 from vga_report.progress import Progress
@@ -54,10 +53,7 @@ def _made_module(words: argparse.Namespace, progress: Progress) -> bytes:
         module = read_at_most(words.module, MOST_MODULE)
         check_module(module)
         return module
-    try:
-        return made_modules(phases(progress), words.gated, words.proof, [words.memory])[0][0]
-    finally:
-        progress.clear()
+    return made_modules(words, progress, [words.memory])[0][0]
 
 
 def _write(path: str, data: bytes, told: str) -> None:
