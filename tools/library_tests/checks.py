@@ -36,10 +36,6 @@ OUTSIDE = frozenset(("malloc", "realloc", "free", "memcpy", "memmove", "memset",
 WEAK = frozenset(("_ITM_deregisterTMCloneTable", "_ITM_registerTMCloneTable", "__cxa_finalize", "__gmon_start__"))
 
 
-def _compile(compiler: str, language: str, standard: str, source: Path, include: Path) -> None:
-    run([compiler, "-x", language, f"-std={standard}", *STRICT, "-fsyntax-only", "-I", include, source])
-
-
 def check_header(built: Built, folder: Path) -> str:
     """Compiles the header alone, and the asserts about its structs, as C and as C++; and the C++ header."""
     alone = folder / "alone.c"
@@ -50,9 +46,8 @@ def check_header(built: Built, folder: Path) -> str:
         tries = [(compiler.c, "c", standard) for standard in C_STANDARDS]
         tries += [(compiler.cpp, "c++", standard) for standard in CPP_STANDARDS]
         for name, language, standard in tries:
-            _compile(name, language, standard, alone, built.include)
-            if language == "c++" or standard in ASSERTING:
-                _compile(name, language, standard, LAYOUT, built.include)
+            for source in [alone, LAYOUT] if language == "c++" or standard in ASSERTING else [alone]:
+                run([name, "-x", language, f"-std={standard}", *STRICT, "-fsyntax-only", "-I", built.include, source])
             count += 1
         # The C++ header is taken, and a card by it answers, throws, moves and closes.
         for standard in OBJECT_STANDARDS:

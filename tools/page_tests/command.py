@@ -102,13 +102,6 @@ def _parser() -> argparse.ArgumentParser:
     return parser
 
 
-def _made(words: argparse.Namespace, progress: Progress, times: int) -> tuple[list[bytes], Optional[bytes]]:
-    if words.module is not None:
-        return [read_at_most(words.module, MOST_MODULE)], None
-    made = made_modules(words, progress, [None, SMALL_MEMORY], times)
-    return [module for module, _ in made], made[0][1]
-
-
 def check_modules(modules: Sequence[bytes]) -> str:
     """The module has what the page relies on, and is the same bytes each time."""
     if len(set(modules)) != 1:
@@ -125,7 +118,11 @@ def _times(page: Optional[bytes], wanted: Sequence[str]) -> int:
 def _checks(words: argparse.Namespace, progress: Progress, folder: Path) -> Iterator[tuple[str, Callable[[], str]]]:
     wanted = words.only or CHECKS
     page = built_page() if {PAGE, SCRIPTS, OWN} & set(wanted) else None
-    same, small = _made(words, progress, 1 if words.module else _times(page, wanted))
+    if words.module is not None:
+        same, small = [read_at_most(words.module, MOST_MODULE)], None
+    else:
+        made = made_modules(words, progress, [None, SMALL_MEMORY], _times(page, wanted))
+        same, small = [module for module, _ in made], made[0][1]
     yield MODULE, partial(check_modules, same)
     # What runs in the page is the module in it, even where that is another kit's.
     parts = {"module": same[0], "page": same[0] if page is None else module_in(page), "small": small}

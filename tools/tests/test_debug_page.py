@@ -183,15 +183,17 @@ class Tests(Folder):
             (with_kit(module_of(Modules.right, (1, b"\0")), "one"), made, "is not the one that the crate makes"),
             (module, make_page(module, small_sources("end();\n")), "is not the page that its sources make: line 8 is"),
             *((module, page_text(small_sources(), {**data, "examples": examples}).encode("utf-8"), told)
-              for examples, told in ((empty, "other data than the repository: examples"), ("AAAA", "is not packed as it"))),
+              for examples, told in ((empty, "other data .* examples;"), ("AAAA", "is not packed as it"))),
         ))
 
     def test_what_is_wrong(self) -> None:
-        module, ways, one = module_of(Modules.right), {"bytes": 2, "steps, all at once": 2}, {"name": "n", "way": "w", "reason": "r"}
-        self.assertEqual(scripts.judged({"ways": ways, "wrong": []}, 2), "by bytes 2; by steps, all at once 2; of 2 cases")
-        hold_refused(self, scripts.judged, (
-            ({"ways": ways, "wrong": [one]}, 2, "\n  n, by w: r$"), ({"ways": {**ways, "text": 0}, "wrong": []}, 2, "too few"),
+        ways, wrong = {"bytes": 2, scripts.STEPS: 2}, [{"name": "n", "way": "w", "reason": "r"}]
+        told = f"by bytes 2; by {scripts.STEPS} 2; of 2 cases"
+        self.assertEqual(scripts.judged({"ways": ways, "wrong": []}, 2), told)
+        hold_refused(self, lambda *answer: scripts.judged(dict(zip(("ways", "wrong"), answer)), 2), (
+            (ways, wrong, "\n  n, by w: r$"), ({**ways, "text": 0}, [], "^too few cases were run"),
         ))
+        module = module_of(Modules.right)
         self.assertIn("the same twice", tests_command.check_modules([module, module]))
         hold_refused(self, tests_command.check_modules, [([module, with_kit(module, "kit")], "two modules")])
         told = '{"agree": 2, "differ": 1, "expected": 3, "lines": ["a: r"]}'
@@ -213,7 +215,8 @@ class Tests(Folder):
             self.write("one.mjs", text)
             self.assertRaisesRegex(Wrong, told, scripts.check_scripts, Path("module"), None, self.folder)
         self.write("one.mjs", front + others)
-        self.assertEqual(scripts.check_scripts(Path("module"), None, self.folder), "100 tests of the page's scripts pass")
+        told = scripts.check_scripts(Path("module"), None, self.folder)
+        self.assertEqual(told, "100 tests of the page's scripts pass")
 
     def test_node_that_is_lacking_or_too_old(self) -> None:
         with mock.patch("shutil.which", return_value=None):

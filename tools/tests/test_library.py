@@ -143,7 +143,8 @@ class Page(unittest.TestCase):
     def test_its_version_is_the_header_s(self) -> None:
         self.assertIn(f"this is version {version()}.", " ".join(PAGE.read_text("utf-8").split()))
         for page in (PAGE, TOP / gathering.PAGE):
-            self.assertEqual(set(re.findall(r"zaklimot-(\d+\.\d+)-", page.read_text("utf-8"))), {str(version())}, page.name)
+            told = set(re.findall(r"zaklimot-(\d+\.\d+)-", page.read_text("utf-8")))
+            self.assertEqual(told, {str(version())}, page.name)
 
     def test_each_call_is_named_and_has_its_function_in_cpp(self) -> None:
         page, functions = PAGE.read_text("utf-8"), HEADER.with_suffix(".hpp").read_text("ascii")
@@ -221,7 +222,8 @@ class Parts(unittest.TestCase):
     def test_its_page_and_the_news_tell_of_it(self) -> None:
         name = f"zaklimot-{version()}"
         page = (TOP / gathering.PAGE).read_text("utf-8")
-        self.assertEqual([end for end in ("x86_64-linux.tar.gz", "py3-none-linux_x86_64.whl") if f"{name}-{end}" not in page], [])
+        for end in ("x86_64-linux.tar.gz", "py3-none-linux_x86_64.whl"):
+            self.assertIn(f"{name}-{end}", page)
         self.assertEqual([path for path in PATHS if not (TOP / path).exists()], [])
         self.assertIn(f"## {version()}\n", (TOP / "CHANGELOG.md").read_text("utf-8"))
 
@@ -290,8 +292,8 @@ class Whole(Folder):
                     is_there = (self.folder / name).exists() or Path(name).name in made
                     self.assertTrue(is_there or any(name.startswith(told) for told in elsewhere))
         # What is told to be elsewhere is not here.
-        there = [((self.folder / name).exists(), (TOP / name).exists()) for name in elsewhere if name.startswith("tools/")]
-        self.assertEqual(set(there), {(False, True)})
+        others = [name for name in elsewhere if name.startswith("tools/")]
+        self.assertEqual({((self.folder / name).exists(), (TOP / name).exists()) for name in others}, {(False, True)})
 
 
 # What may stand before a program of the repository, or before the folder of its tests.
@@ -316,8 +318,8 @@ class Packed(Folder):
         words = ["--program", given, "--archive", given, "--archive-aarch64", given]
         status, output, _ = call(release.main, self.folder, *words)
         archive, sums = map(Path, output.splitlines())
-        number = hashlib.sha256(archive.read_bytes()).hexdigest()
-        self.assertEqual((status, sums.read_text("ascii")), (0, f"{number}  zaklimot-{version()}-x86_64-linux.tar.gz\n"))
+        told = f"{hashlib.sha256(archive.read_bytes()).hexdigest()}  zaklimot-{version()}-x86_64-linux.tar.gz\n"
+        self.assertEqual((status, sums.read_text("ascii")), (0, told))
 
     def test_no_source_is_laid_over_itself(self) -> None:
         header = Path(self.write("include/zaklimot.h", TEXT))
@@ -426,7 +428,7 @@ class OtherProcessors(Folder):
 
     def test_what_cannot_be_made_is_told_before_the_long_work(self) -> None:
         self.write("file", "")
-        hold_undone(self, self.make("none", "--backend", "rattle"), "^vga-library: aarch64: the toolchain has no compiler rattle for")
+        hold_undone(self, self.make("none", "--backend", "rattle"), "aarch64: the toolchain has no compiler rattle for")
         hold_undone(self, self.make("file"), f"^vga-library: {self.folder}/file: it is not a folder\n$")
         for program in AARCH64.programs():
             with self.subTest(program), mock.patch("shutil.which", lambda name: None if name == program else name):
@@ -473,7 +475,7 @@ class Bindings(unittest.TestCase):
             run([sys.executable, "-c", "raise SystemExit('no such test')"])
         line = "test result: ok. {} passed; 0 failed; 0 ignored\n"
         for check, right, wrong in (
-            (bindings.check_python, "a ... skipped 'numpy is not here'\nRan 9 tests in 1s\n", "a ... skipped 'x'\nRan 9 tests in 1s\n"),
+            (bindings.check_python, "skipped 'numpy is not here'\nRan 9 tests in 1s\n", "skipped 'x'\nRan 9 tests in 1s"),
             (bindings.check_rust, 5 * line.format(4), 5 * line.format(0)),
         ):
             said = mock.Mock(side_effect=[right, wrong])

@@ -47,20 +47,13 @@ class Nearest:
         return number
 
     def _search(self, colour: Colour, first: int) -> int:
-        red, green, blue = colour
-        weigh_red, weigh_green, weigh_blue = WEIGHTS
-        best, least = first, distance(colour, self._colours[first])
-        limit = 4 * least
-        for far, number, (r, g, b) in self._neighbours(first):
-            if far > limit:
+        least = distance(colour, self._colours[first])
+        best = least, first
+        for far, number, other in self._neighbours(first):
+            if far > 4 * least:
                 break
-            r -= red
-            g -= green
-            b -= blue
-            off = weigh_red * r * r + weigh_green * g * g + weigh_blue * b * b
-            if off <= least and (off < least or number < best):
-                best, least = number, off
-        return best
+            best = min(best, (distance(colour, other), number))
+        return best[1]
 
     def _neighbours(self, number: int) -> list[tuple[int, int, Colour]]:
         if number not in self._around:

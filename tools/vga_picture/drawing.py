@@ -1,6 +1,6 @@
 """A script that draws an image: its parts, and the picture that its frame is to show."""
 
-from typing import Callable, Iterator, NamedTuple, Sequence
+from typing import Callable, Iterable, Iterator, NamedTuple, Sequence
 
 from zaklimot import format
 from zaklimot.format import Picture
@@ -35,22 +35,19 @@ def _colours(colours: Sequence[Colour], mode: Mode) -> Iterator[Item]:
 
 
 def _drawn(
-    parts: Sequence[Part], rows: Sequence[bytes], colours: Sequence[Colour], mode: Mode, told: str = ""
+    mode: Mode, colours: Sequence[Colour], count: int, parts: Iterable[Part], rows: Sequence[bytes], told: str = ""
 ) -> Drawn:
-    """A script with its frame, in whose picture each pixel is as many dots wide and high as the mode shows it."""
+    """A script: mode, colours, its parts, and its frame, whose picture has each pixel as wide and high as the mode."""
+    note = f"A picture of {mode.width} by {mode.height} pixels and {count} colours, in mode {mode.name}"
+    note += ", made by vga-picture. Numbers are hexadecimal, but the count of `repeat`."
+    cycles = SET_CYCLES + (GLYPH_CYCLES + TEXT_CYCLES if mode.kind is Kind.CELLS else GRAPHICS_CYCLES)
+    begin = Part(note, [service(cycles, mode.number)])
+    palette = Part("Its colours, six bits a component", list(_colours(colours, mode)))
+    frame = Part("The picture", [Item(format.Step("frame"), 0)])
     dots = [bytes(colour) * mode.across for colour in colours]
     lines = (mode.down * b"".join(map(dots.__getitem__, row)) for row in rows)
     picture = Picture.of_dots(mode.width * mode.across, mode.height * mode.down, b"".join(lines))
-    return Drawn([*parts, Part("The picture", [Item(format.Step("frame"), 0)])], picture, told)
-
-
-def _begin(mode: Mode, colours: Sequence[Colour], count: int) -> list[Part]:
-    note = f"A picture of {mode.width} by {mode.height} pixels and {count} colours, in mode {mode.name}, made by vga-picture."
-    cycles = SET_CYCLES + (GLYPH_CYCLES + TEXT_CYCLES if mode.kind is Kind.CELLS else GRAPHICS_CYCLES)
-    return [
-        Part(f"{note} Numbers are hexadecimal, but the count of `repeat`.", [service(cycles, mode.number)]),
-        Part("Its colours, six bits a component", list(_colours(colours, mode))),
-    ]
+    return Drawn([begin, palette, *(part for part in parts if part.items), frame], picture, told)
 
 
 def draw_pixels(image: Indexed, mode: Mode, is_short: bool) -> Drawn:
@@ -59,13 +56,11 @@ def draw_pixels(image: Indexed, mode: Mode, is_short: bool) -> Drawn:
     if mode.kind is Kind.PLANES:
         numbers = best_numbers(image.rows, count)
         image = image.renumbered(numbers, max(numbers) + 1)
-    parts = _begin(mode, image.colours, count)
     areas = Areas(mode, image.rows)
-    parts += areas.parts() if is_short else []
+    parts = list(areas.parts()) if is_short else []
     steps = drawn(mode, [bytes(row) for row in areas.have], image.rows)
-    if steps:
-        parts.append(Part(f"{len(steps)} cycles for {'the rest' if is_short else 'the pixels'}", steps))
-    return _drawn(parts, image.rows, image.colours, mode)
+    parts.append(Part(f"{len(steps)} cycles for {'the rest' if is_short else 'the pixels'}", steps))
+    return _drawn(mode, image.colours, count, parts, image.rows)
 
 
 def draw_text(
@@ -78,15 +73,13 @@ def draw_text(
         glyphs = own_glyphs(image, mode, cells)
         font = with_glyphs(font, glyphs)
         cells, told = cells_of(image, mode, font, tell), f", {len(glyphs):,} glyphs of its own"
-    parts = _begin(mode, image.colours, len(image.colours))
-    loads = list(loading(mode, glyphs))
-    if loads:
-        parts.append(Part(f"Text of {mode.rows} rows, and {len(glyphs)} glyphs of its own", loads))
+    told = f", {sum(cell.error == 0 for cell in cells):,} of {len(cells):,} cells fit{told}"
     # In frames 16 to 31 of 32 a blinking character is away, and its background has three bits.
     calls = [service(6, 0x1003), service(4, 0x0100, 0, NO_CURSOR)]
-    parts.append(Part("No blinking, but bright backgrounds; no cursor", calls))
     steps = typed_cells(cells, mode.columns) if is_short else put_cells(cells)
-    if steps:
-        parts.append(Part("The cells: a character and its attribute", steps))
-    told = f", {sum(cell.error == 0 for cell in cells):,} of {len(cells):,} cells fit{told}"
-    return _drawn(parts, rows_of(cells, mode, font), image.colours, mode, told)
+    parts = [
+        Part(f"Text of {mode.rows} rows, and {len(glyphs)} glyphs of its own", list(loading(mode, glyphs))),
+        Part("No blinking, but bright backgrounds; no cursor", calls),
+        Part("The cells: a character and its attribute", steps),
+    ]
+    return _drawn(mode, image.colours, len(image.colours), parts, rows_of(cells, mode, font), told)

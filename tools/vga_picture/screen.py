@@ -7,9 +7,11 @@ are looked at in cells then, as the BIOS has them: eight columns for a character
 from itertools import chain, takewhile
 from typing import Iterator, Optional
 
+from zaklimot import format
+
 from .mode import Kind, Mode
 from .planes import ALL_PLANES, WINDOW, Rows, drawing, map_mask, planes_of, put_steps
-from .steps import Item, Part, repeat, service
+from .steps import Item, Part, service
 
 Cell = tuple[bytes, ...]
 # A window of cells: its column and row, and how many columns and rows it has.
@@ -59,11 +61,9 @@ class Areas:
     def parts(self) -> Iterator[Part]:
         """Steps for the areas, which are drawn then."""
         rectangles = list(self._rectangles())
-        if rectangles:
-            yield Part(f"{len(rectangles)} areas of one colour", rectangles)
+        yield Part(f"{len(rectangles)} areas of one colour", rectangles)
         bands = list(self._bands())
-        if bands:
-            yield Part(f"{len(bands)} times rows of cells that are alike: go down by a row, draw the first", bands)
+        yield Part(f"{len(bands)} times rows of cells that are alike: go down by a row, draw the first", bands)
 
     def _finish(self, window: Window) -> None:
         column, row, columns, rows = window
@@ -129,5 +129,7 @@ class Areas:
         steps = drawn(self._mode, have, want)
         # The map mask is what it was when the block begins again.
         masks = [Item(map_mask(ALL_PLANES).step)] if any(item.step.name == "outw" for item in steps) else []
-        block = repeat(rows, [scroll(self._mode, window, 1), *steps, *masks])
-        return block, rows * sum(item.step.size for item in steps) - block.step.size
+        items = [scroll(self._mode, window, 1), *steps, *masks]
+        block = format.Block(rows, tuple(item.step for item in items))
+        saved = rows * sum(item.step.size for item in steps) - block.size
+        return Item(block, rows * sum(item.cycles for item in items)), saved

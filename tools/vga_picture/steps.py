@@ -21,11 +21,6 @@ def service(cycles: int, *registers: int, block: bytes = b"") -> Item:
     return Item(format.Step("int", (*registers, 0, 0, 0)[:4], block), cycles)
 
 
-def repeat(count: int, items: Sequence[Item]) -> Item:
-    """A block of steps that are taken so many times."""
-    return Item(format.Block(count, tuple(item.step for item in items)), count * sum(item.cycles for item in items))
-
-
 def runs(numbers: Iterable[int], gap: int = 0) -> Iterator[range]:
     """Numbers as ranges of those that follow one another; so many may be lacking between two, and are in it then."""
     run = range(0)

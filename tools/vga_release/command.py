@@ -34,7 +34,6 @@ def _parser() -> argparse.ArgumentParser:
 
 
 def _built(words: argparse.Namespace, progress: Progress) -> tuple[Path, dict[Target, Path]]:
-    """The program, and the crate's archive for each processor: given, or proved and built now."""
     tell = phases(progress)
     if words.program is None:
         # What is kept of its proof makes it quick.
