@@ -20,8 +20,7 @@ from vga_report.progress import Progress
 from vga_report.trouble import Trouble, Wrong
 
 from .checks import PRINTED, REPORT, TEXT
-from .compilers import laid_library
-from .running import make_check, not_there, run
+from .compilers import laid_library, make_check, not_there, run
 
 PACKAGE = TOP / "bindings" / "python"
 # How unittest ends, and what a test may be skipped for.

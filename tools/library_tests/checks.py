@@ -20,8 +20,7 @@ from vga_report.version import HEADER, calls_of, version
 from vga_report.words import SUITE
 from zaklimot.format import Picture
 
-from .compilers import SANITIZED, STRICT, Built, build
-from .running import run
+from .compilers import SANITIZED, STRICT, Built, build, run
 
 LAYOUT = Path(__file__).resolve().parent / "c" / "layout.c"
 OBJECTS = LAYOUT.with_name("objects.cpp")

@@ -16,10 +16,9 @@ from .checks import (
     COUNTED, WAYS, check_cases, check_counted, check_examples, check_header, check_memory, check_misuse, check_names,
     check_scripts, check_threads,
 )
-from .compilers import Built, lacking, laid_library
+from .compilers import Built, lacking, laid_library, make_check
 from .installing import check_installing
 from .pc import check_pc
-from .running import make_check
 
 Check = Callable[[Built, Path], str]
 # Those of the library of each compiler, and those of one alone.

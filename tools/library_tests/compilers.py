@@ -1,18 +1,17 @@
-"""The compilers, what is lacking of them on this machine, and how a program is built against the library."""
+"""The compilers, what is lacking of them on this machine, and how libraries and checks are made."""
 
 from __future__ import annotations
 
 import argparse
 import shutil
 import tempfile
+import time
 from pathlib import Path
-from typing import NamedTuple, Sequence
+from typing import Any, Callable, Iterable, NamedTuple, Sequence
 
 from vga_library.making import MOVING, Place, make_library
 from vga_library.toolchain import AARCH64, X86_64, Target, built_archive, gated_archive, memory_part
-from vga_report.processes import BINUTILS, SOURCES, Hearer, captured
-
-from .running import not_there, run
+from vga_report.processes import BINUTILS, SOURCES, Hearer, captured, tested
 
 STRICT = ("-Wall", "-Wextra", "-Wpedantic", "-Wconversion", "-Werror")
 SANITIZED = ("-g", "-fsanitize=address,undefined", "-fno-sanitize-recover=all")
@@ -62,6 +61,23 @@ class Built(NamedTuple):
     @property
     def shared(self) -> Path:
         return self.folder / "lib" / "libzaklimot.so"
+
+
+def run(words: Sequence[str | Path], **given: Any) -> str:
+    """What a program writes that ends well, run as `captured` does. Else a Wrong tells how it ended."""
+    return tested(words, **given).output.decode("utf-8", "surrogateescape")
+
+
+def make_check(name: str, check: Callable[[], str]) -> None:
+    """Makes a check, and tells what came of it, and how many seconds it took."""
+    begun = time.monotonic()
+    told = check()
+    print(f"{name}: {told} ({time.monotonic() - begun:.0f} s)", flush=True)
+
+
+def not_there(programs: Iterable[str]) -> list[str]:
+    """Those of some programs that are not in the path, each with the package of Debian that has it."""
+    return [f"{name}: {SOURCES[name]}" for name in programs if not shutil.which(name)]
 
 
 def lacking(target: Target) -> list[str]:

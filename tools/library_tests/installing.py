@@ -12,8 +12,7 @@ from vga_library.making import FONTS, MOVING, Place, make_library
 from vga_library.toolchain import memory_part
 from vga_report.trouble import Wrong
 
-from .compilers import STRICT, Built
-from .running import run
+from .compilers import STRICT, Built, run
 
 LIBRARIES = "lib/x86_64-linux-gnu"
 PICTURE = TOP / "examples" / "c" / "picture.c"

@@ -14,8 +14,7 @@ from vga_report.processes import captured
 from vga_report.trouble import Wrong
 
 from .checks import harness
-from .compilers import Built
-from .running import run
+from .compilers import Built, run
 
 PC = TOP / "examples" / "pc"
 SOURCES = [PC / f"{name}.c" for name in ("pc", "machine", "bios", "display", "floppy", "keys", "window-files")]

@@ -12,7 +12,7 @@ from pathlib import Path
 from threading import Event
 from typing import Any, Mapping, Optional, Sequence
 
-from library_tests.running import run
+from library_tests.compilers import run
 from vga_report.cases import Case, read_cases
 from vga_report.debugging import PAGE
 from vga_report.processes import MEBIBYTE, Limits, captured, ended_well, run_command

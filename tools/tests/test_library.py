@@ -19,14 +19,14 @@ from typing import Iterator
 from unittest import mock
 
 from library_tests import bindings, checks, compilers
-from library_tests.running import run
+from library_tests.compilers import run
 from vga_library import command, making, toolchain
 from vga_library.making import MOVING, Place, described
 from vga_library.toolchain import AARCH64, HEAP, HEAP_OPTIONS, TARGETS, X86_64
 from vga_release import command as release
 from vga_release import gathering
-from vga_release.gathering import FRONT, INSTALL, LINKS, MADE_OF, PATHS, Commit, Entry, File, pack, settled
-from vga_report import TOP, crates
+from vga_release.gathering import FRONT, INSTALL, LINKS, MADE_OF, PATHS, Commit, Entry, File, settled
+from vga_report import TOP
 from vga_report.cases import read_cases
 from vga_report.processes import PACKAGES, Done
 from vga_report.progress import Progress
@@ -73,23 +73,13 @@ class Header(unittest.TestCase):
 class Making(unittest.TestCase):
     def test_what_packages_and_cmake_read(self) -> None:
         package, cmake, told = described("/usr", "lib/x", Version(1, 2)).values()
-        for line in (
-            "prefix=/usr\nlibdir=${prefix}/lib/x\n", "fonts=${prefix}/share/zaklimot/zaklimot.fnt\n", "Version: 1.2\n",
+        for text, part in (
+            (package, "prefix=/usr\nlibdir=${prefix}/lib/x\n"), (package, "Version: 1.2\n"),
+            (next(iter(described(MOVING, "lib/x", version()).values())), "prefix=${pcfiledir}/../../..\n"),
+            (cmake, '"${CMAKE_CURRENT_LIST_DIR}/../../../.." ABSOLUTE'), (told, 'set(PACKAGE_VERSION "1.2")'),
+            (cmake, '"${_zaklimot_prefix}/lib/x/libzaklimot.so.1.2"\n    IMPORTED_SONAME "libzaklimot.so.1"'),
         ):
-            self.assertIn(line, package)
-        for folder, upwards in (("lib", "../.."), ("lib/x", "../../..")):
-            self.assertIn(f"prefix=${{pcfiledir}}/{upwards}\n", [*described(MOVING, folder, Version(1, 2)).values()][0])
-        self.assertIn('"${CMAKE_CURRENT_LIST_DIR}/../../../.." ABSOLUTE', cmake)
-        self.assertIn('"${_zaklimot_prefix}/lib/x/libzaklimot.so.1.2"\n    IMPORTED_SONAME "libzaklimot.so.1"', cmake)
-        self.assertIn('set(PACKAGE_VERSION "1.2")', told)
-        self.assertNotIn("@", cmake + told)
-
-    def test_crates_below_stand_lowest_first(self) -> None:
-        below = crates.below("vga_c")
-        self.assertEqual(below[0], "vga_bits")
-        self.assertEqual(len(below), len(set(below)))
-        for place, name in enumerate(below):
-            self.assertLessEqual(set(crates.below(name)), set(below[:place]), name)
+            self.assertIn(part, text)
 
     def test_what_the_gate_has_not_left(self) -> None:
         told = r"^nowhere/crates/vga_bits/out/rlib/vga_bits\.rlib: it is not there: run rt ci first.* crates/\*/out"
@@ -108,6 +98,12 @@ class Made(Folder):
         self.parts = [Path(self.write(name, name)) for name in ("one.a", "two.a")]
         folder = self.folder / "crates" / "vga_c" / "out" / "made"
         self.patch(mock.patch.multiple(making, TOP=self.folder, FOLDER=folder, below=lambda _: ["low"]))
+
+    def test_no_source_is_laid_over_itself(self) -> None:
+        header = Path(self.write("include/zaklimot.h", TEXT))
+        with mock.patch.multiple(making, HEADER=header, run=lambda *_: ""):
+            told = refused(making.make_library, Path("a"), Path("b"), Place(str(self.folder)), making.MOVING)
+        self.assertEqual((told, header.exists()), (f"{header}: it is read as {header}, so it isn't written", True))
 
     def test_the_same_sources_and_others(self) -> None:
         self.assertIsNone(making.kept("llvm", X86_64))
@@ -196,24 +192,31 @@ class Checks(Folder):
         ])
 
 
-def packed(entries: dict[str, Entry]) -> bytes:
-    stream = io.BytesIO()
-    pack(stream, entries, COMMIT.time)
-    return stream.getvalue()
-
-
-class Parts(unittest.TestCase):
+class Parts(Folder):
     """The archive, and what goes into it."""
 
-    def test_what_the_archive_tells(self) -> None:
-        self.assertEqual(packed(ENTRIES), packed(dict(reversed(ENTRIES.items()))))
-        with tarfile.open(fileobj=io.BytesIO(packed(ENTRIES))) as archive:
-            members = archive.getmembers()
-            content = archive.extractfile("z/bin/vga")
+    def packed(self, entries: dict[str, Entry]) -> tuple[Path, str]:
+        """The archive of a release of these, and what is told of its sum."""
+        given = self.write("given", "built")
+        made = {"clean_commit": lambda: COMMIT, "release_entries": lambda *_: entries, "check_program": lambda _: None}
+        with mock.patch.multiple(release, **made):
+            words = ["--program", given, "--archive", given, "--archive-aarch64", given]
+            status, output, said = call(release.main, self.folder, *words)
+        archive, sums = map(Path, output.splitlines())
+        self.assertEqual((status, said), (0, ""))
+        return archive, sums.read_text("ascii")
+
+    def test_what_the_archive_and_its_checksum_tell(self) -> None:
+        front = f"zaklimot-{version()}-x86_64-linux"
+        archive, told = self.packed(ENTRIES)
+        self.assertEqual(told, f"{hashlib.sha256(archive.read_bytes()).hexdigest()}  {front}.tar.gz\n")
+        self.assertEqual(self.packed(dict(reversed(ENTRIES.items()))), (archive, told))
+        with tarfile.open(archive) as opened:
+            members, content = opened.getmembers(), opened.extractfile(f"{front}/z/bin/vga")
             assert content is not None
             self.assertEqual(content.read(), b"program")
-        names = [member.name for member in members]
-        self.assertEqual(names, ["z", "z/a", "z/bin", "z/bin/vga", "z/lib", "z/lib/b.so", "z/lib/b.so.1"])
+        names = ["", "/z", "/z/a", "/z/bin", "/z/bin/vga", "/z/lib", "/z/lib/b.so", "/z/lib/b.so.1"]
+        self.assertEqual([member.name for member in members], [f"{front}{name}" for name in names])
         owners = {(member.uid, member.gid, member.uname, member.gname, member.mtime) for member in members}
         self.assertEqual(owners, {(0, 0, "", "", COMMIT.time)})
         self.assertEqual([oct(member.mode) for member in members if member.isfile()], ["0o644", "0o755", "0o644"])
@@ -308,24 +311,6 @@ def commands_of(text: str) -> Iterator[str]:
             yield found[1]
         elif re.match(r"\(cd crates/|rt ", line):
             yield line.strip("(")
-
-
-class Packed(Folder):
-    def test_the_archive_and_its_checksum(self) -> None:
-        given = self.write("given", "built")
-        made = {"clean_commit": lambda: COMMIT, "release_entries": lambda *_: ENTRIES, "check_program": lambda _: None}
-        self.patch(mock.patch.multiple(release, **made))
-        words = ["--program", given, "--archive", given, "--archive-aarch64", given]
-        status, output, _ = call(release.main, self.folder, *words)
-        archive, sums = map(Path, output.splitlines())
-        told = f"{hashlib.sha256(archive.read_bytes()).hexdigest()}  zaklimot-{version()}-x86_64-linux.tar.gz\n"
-        self.assertEqual((status, sums.read_text("ascii")), (0, told))
-
-    def test_no_source_is_laid_over_itself(self) -> None:
-        header = Path(self.write("include/zaklimot.h", TEXT))
-        with mock.patch.multiple(making, HEADER=header, run=lambda *_: ""):
-            told = refused(making.make_library, Path("a"), Path("b"), Place(str(self.folder)), making.MOVING)
-        self.assertEqual((told, header.exists()), (f"{header}: it is read as {header}, so it isn't written", True))
 
 
 class Installing(Folder):

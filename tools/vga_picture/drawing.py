@@ -9,8 +9,7 @@ from .cells import cells_of, loading, own_glyphs, put_cells, rows_of, typed_cell
 from .choosing import Colour
 from .colours import Indexed
 from .mode import Kind, Mode
-from .planes import best_numbers
-from .screen import Areas, drawn
+from .screen import Areas, best_numbers, drawn
 from .steps import Item, Part, runs, service
 
 # Cycles of a mode set: of registers and palette, of the glyphs of text, of memory that is cleared.
