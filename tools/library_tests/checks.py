@@ -8,7 +8,7 @@ import re
 import shlex
 import sys
 from pathlib import Path
-from typing import Sequence
+from typing import Any, Sequence
 
 from vga_library.making import FONTS
 from vga_report import TOP
@@ -22,8 +22,8 @@ from zaklimot.format import Picture
 
 from .compilers import SANITIZED, STRICT, Built, build, run
 
-LAYOUT = Path(__file__).resolve().parent / "c" / "layout.c"
-OBJECTS = LAYOUT.with_name("objects.cpp")
+SOURCES = Path(__file__).resolve().parent / "c"
+LAYOUT, OBJECTS = SOURCES / "layout.c", SOURCES / "objects.cpp"
 C_STANDARDS, CPP_STANDARDS = ("c99", "c11", "c17"), ("c++11", "c++14", "c++17", "c++20")
 # Those that the C++ header is for.
 OBJECT_STANDARDS = ("c++17", "c++20")
@@ -46,7 +46,7 @@ def check_header(built: Built, folder: Path) -> str:
         tries += [(compiler.cpp, "c++", standard) for standard in CPP_STANDARDS]
         for name, language, standard in tries:
             for source in [alone, LAYOUT] if language == "c++" or standard in ASSERTING else [alone]:
-                run([name, "-x", language, f"-std={standard}", *STRICT, "-fsyntax-only", "-I", built.include, source])
+                run([name, "-x", language, f"-std={standard}", *STRICT, "-fsyntax-only", "-I", built.folder / "include", source])
             count += 1
         # The C++ header is taken, and a card by it answers, throws, moves and closes.
         for standard in OBJECT_STANDARDS:
@@ -79,7 +79,6 @@ def check_names(built: Built, _: Path) -> str:
     return f"{len(calls)} names are seen, the header's"
 
 
-SOURCES = Path(__file__).resolve().parent / "c"
 # A line of misuse.txt that tells a call's status; functions of misuse.c make some.
 CALL = re.compile(r"^(?:zak_\w+|restore_with|assemble|print|take)\(", re.M)
 WRAPPED = "-Wl,--wrap=malloc,--wrap=realloc,--wrap=free"
@@ -191,15 +190,24 @@ LONG = "version 2\nint ax=13\nrepeat 90\nadvance 12345\nshow beam\nin 3DA\nend\n
 LONG_STEPS, FROM, BACK = 272, 150, 45
 
 
+def check_picture(name: str, words: Sequence[str | Path], ppm: Path, made_how: str, **given: Any) -> None:
+    """A program of the examples draws its picture, however it was made; it is run by these words as `run` does."""
+    run([*words, FONTS, ppm], **given)
+    try:
+        picture = Picture.of_ppm(ppm.read_bytes())
+    except ValueError as error:
+        raise Wrong(f"{name}, {made_how}, draws no picture: {error}") from error
+    ppm.unlink()
+    if f"{picture.size} {picture.sum}" != PICTURES[name]:
+        raise Wrong(f"{name}, {made_how}, draws another picture: {picture.size} {picture.sum}")
+
+
 def check_examples(built: Built, folder: Path) -> str:
     """The first program draws its colours, as each compiler builds it, and the core in miniature draws its bars."""
     first, *others = [compiler.c for compiler in built.compilers]
     for name, compiler in [("core", first), *(("picture", one) for one in (first, *others))]:
-        ppm = folder / f"{compiler}.ppm"
-        run([*build(compiler, built, [EXAMPLES / "c" / f"{name}.c"], folder / name, "-O2"), FONTS, ppm])
-        picture = Picture.of_ppm(ppm.read_bytes())
-        if f"{picture.size} {picture.sum}" != PICTURES[name]:
-            raise Wrong(f"{name} by {compiler} draws another picture: {picture.size} {picture.sum}")
+        words = build(compiler, built, [EXAMPLES / "c" / f"{name}.c"], folder / name, "-O2")
+        check_picture(name, words, folder / "picture.ppm", f"built by {compiler}")
     return f"pictures from C by {', '.join((first, *others))}, and a core's"
 
 

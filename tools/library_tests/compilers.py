@@ -51,10 +51,6 @@ class Built(NamedTuple):
         return COMPILERS[self.target]
 
     @property
-    def include(self) -> Path:
-        return self.folder / "include"
-
-    @property
     def static(self) -> Path:
         return self.folder / "lib" / "libzaklimot.a"
 
@@ -116,5 +112,5 @@ def build(
     compiler: str, built: Built, sources: Sequence[Path], made: Path, *flags: str, standard: str = "c99"
 ) -> list[str | Path]:
     """Builds a program with the static library, and answers the words that run it."""
-    run([compiler, f"-std={standard}", *STRICT, *flags, "-I", built.include, *sources, built.static, "-o", made])
+    run([compiler, f"-std={standard}", *STRICT, *flags, "-I", built.folder / "include", *sources, built.static, "-o", made])
     return [*RUNNERS[built.target], made]

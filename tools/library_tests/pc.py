@@ -46,7 +46,7 @@ def flags_of(*packages: str) -> Optional[list[str]]:
 
 def _build(built: Built, made: Path, sources: list[Path], flags: list[str]) -> None:
     # The interface of Unicorn takes functions as pointers to anything, which pedantic compilers refuse.
-    words = [built.compilers[0].c, "-std=c99", "-O2", "-Wall", "-Wextra", "-Werror", "-I", built.include]
+    words = [built.compilers[0].c, "-std=c99", "-O2", "-Wall", "-Wextra", "-Werror", "-I", built.folder / "include"]
     run([*words, *sources, built.static, *flags, "-o", made])
 
 

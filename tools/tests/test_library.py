@@ -26,7 +26,7 @@ from vga_library.toolchain import AARCH64, HEAP, HEAP_OPTIONS, TARGETS, X86_64
 from vga_release import command as release
 from vga_release import gathering
 from vga_release.gathering import FRONT, INSTALL, LINKS, MADE_OF, PATHS, Commit, Entry, File, settled
-from vga_report import TOP
+from vga_report import TOP, crates
 from vga_report.cases import read_cases
 from vga_report.processes import PACKAGES, Done
 from vga_report.progress import Progress
@@ -80,6 +80,11 @@ class Making(unittest.TestCase):
             (cmake, '"${_zaklimot_prefix}/lib/x/libzaklimot.so.1.2"\n    IMPORTED_SONAME "libzaklimot.so.1"'),
         ):
             self.assertIn(part, text)
+
+    def test_crates_below_stand_lowest_first(self) -> None:
+        below = crates.below("vga_c")
+        for place, name in enumerate(below):
+            self.assertLessEqual(set(crates.below(name)), set(below[:place]), name)
 
     def test_what_the_gate_has_not_left(self) -> None:
         told = r"^nowhere/crates/vga_bits/out/rlib/vga_bits\.rlib: it is not there: run rt ci first.* crates/\*/out"

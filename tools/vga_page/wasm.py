@@ -39,17 +39,12 @@ def _number(stream: BinaryIO) -> int:
             return value
 
 
-def _all_sections(module: bytes) -> Iterator[tuple[int, bytes]]:
+def _sections(module: bytes) -> Iterator[tuple[int, bytes]]:
     if not module.startswith(MAGIC):
         raise Trouble("it is no WebAssembly module", "the module")
     stream = io.BytesIO(module[len(MAGIC):])
     while number := stream.read(1):
         yield number[0], _taken(stream, _number(stream))
-
-
-def sections(module: bytes) -> dict[int, bytes]:
-    """The sections of a module by their numbers, but for those of tools."""
-    return {number: data for number, data in _all_sections(module) if number != CUSTOM}
 
 
 def with_kit(module: bytes, kit: str) -> bytes:
@@ -63,13 +58,13 @@ def with_kit(module: bytes, kit: str) -> bytes:
 def kit_of(module: bytes) -> str:
     """The kit that has made a module; nothing where it doesn't tell."""
     begin = bytes([len(KIT)]) + KIT
-    found = [data for number, data in _all_sections(module) if number == CUSTOM and data.startswith(begin)]
+    found = [data for number, data in _sections(module) if number == CUSTOM and data.startswith(begin)]
     return found[-1][len(begin):].decode("ascii", "replace") if found else ""
 
 
-def exports_of(module: bytes) -> dict[str, int]:
-    """The names that a module exports, in its order, each with its kind: 0 is a function."""
-    stream, found = io.BytesIO(sections(module).get(EXPORTS, b"\0")), {}
+def exports_of(section: bytes) -> dict[str, int]:
+    """The names that a section of exports has, in its order, each with its kind: 0 is a function."""
+    stream, found = io.BytesIO(section), {}
     for _ in range(_number(stream)):
         name = _taken(stream, _number(stream)).decode("utf-8", "replace")
         (found[name],) = _taken(stream, 1)
@@ -85,13 +80,13 @@ def check_module(module: bytes) -> str:
     """
     if len(module) > MOST_MODULE:
         raise Trouble(f"it has more than {MOST_MODULE:,} bytes", "the module")
-    found = sections(module)
+    found = {number: data for number, data in _sections(module) if number != CUSTOM}
     for number, what in ((IMPORTS, "imports"), (TABLES, "a table"), (ELEMENTS, "elements of a table")):
         if number in found:
             raise Trouble(f"it has {what}, which it must not have", "the module")
     if not found.get(MEMORIES, b"")[1:2] or not found[MEMORIES][1] & IS_64:
         raise Trouble("its memory is not one of 64-bit addresses", "the module")
-    exports = exports_of(module)
+    exports = exports_of(found.get(EXPORTS, b"\0"))
     calls = set(calls_of(HEADER.read_text("ascii")))
     shown = {name for name, kind in exports.items() if kind == FUNCTION} - OWN
     lacking, more = sorted((calls - shown) | (OWN - exports.keys())), sorted(exports.keys() - calls - OWN)

@@ -77,13 +77,10 @@ LINK = re.compile(
 
 def laid_files(folder: Path) -> dict[str, Entry]:
     """The files and the links below a folder, by their places in it."""
-    entries: dict[str, Entry] = {}
-    for path in sorted(folder.rglob("*")):
-        if path.is_symlink():
-            entries[str(path.relative_to(folder))] = str(path.readlink())
-        elif path.is_file():
-            entries[str(path.relative_to(folder))] = File(path.read_bytes())
-    return entries
+    return {
+        str(path.relative_to(folder)): str(path.readlink()) if path.is_symlink() else File(path.read_bytes())
+        for path in sorted(folder.rglob("*")) if path.is_symlink() or path.is_file()
+    }
 
 
 def library_files(files: Mapping[str, File], target: Target, archive: Path) -> dict[str, Entry]:
