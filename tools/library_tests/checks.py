@@ -46,7 +46,8 @@ def check_header(built: Built, folder: Path) -> str:
         tries += [(compiler.cpp, "c++", standard) for standard in CPP_STANDARDS]
         for name, language, standard in tries:
             for source in [alone, LAYOUT] if language == "c++" or standard in ASSERTING else [alone]:
-                run([name, "-x", language, f"-std={standard}", *STRICT, "-fsyntax-only", "-I", built.folder / "include", source])
+                words = ["-x", language, f"-std={standard}", *STRICT, "-fsyntax-only", "-I", built.folder / "include"]
+                run([name, *words, source])
             count += 1
         # The C++ header is taken, and a card by it answers, throws, moves and closes.
         for standard in OBJECT_STANDARDS:

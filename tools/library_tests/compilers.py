@@ -112,5 +112,6 @@ def build(
     compiler: str, built: Built, sources: Sequence[Path], made: Path, *flags: str, standard: str = "c99"
 ) -> list[str | Path]:
     """Builds a program with the static library, and answers the words that run it."""
-    run([compiler, f"-std={standard}", *STRICT, *flags, "-I", built.folder / "include", *sources, built.static, "-o", made])
+    words = [f"-std={standard}", *STRICT, *flags, "-I", built.folder / "include"]
+    run([compiler, *words, *sources, built.static, "-o", made])
     return [*RUNNERS[built.target], made]

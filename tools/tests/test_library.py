@@ -24,8 +24,7 @@ from vga_library import command, making, toolchain
 from vga_library.making import MOVING, Place, described
 from vga_library.toolchain import AARCH64, HEAP, HEAP_OPTIONS, TARGETS, X86_64
 from vga_release import command as release
-from vga_release import gathering
-from vga_release.gathering import FRONT, INSTALL, LINKS, MADE_OF, PATHS, Commit, Entry, File, settled
+from vga_release.command import FRONT, INSTALL, LINKS, MADE_OF, PATHS, Commit, Entry, File, settled
 from vga_report import TOP, crates
 from vga_report.cases import read_cases
 from vga_report.processes import PACKAGES, Done
@@ -143,7 +142,7 @@ class Page(unittest.TestCase):
 
     def test_its_version_is_the_header_s(self) -> None:
         self.assertIn(f"this is version {version()}.", " ".join(PAGE.read_text("utf-8").split()))
-        for page in (PAGE, TOP / gathering.PAGE):
+        for page in (PAGE, TOP / release.PAGE):
             told = set(re.findall(r"zaklimot-(\d+\.\d+)-", page.read_text("utf-8")))
             self.assertEqual(told, {str(version())}, page.name)
 
@@ -229,15 +228,15 @@ class Parts(Folder):
 
     def test_its_page_and_the_news_tell_of_it(self) -> None:
         name = f"zaklimot-{version()}"
-        page = (TOP / gathering.PAGE).read_text("utf-8")
+        page = (TOP / release.PAGE).read_text("utf-8")
         for end in ("x86_64-linux.tar.gz", "py3-none-linux_x86_64.whl"):
             self.assertIn(f"{name}-{end}", page)
         self.assertEqual([path for path in PATHS if not (TOP / path).exists()], [])
         self.assertIn(f"## {version()}\n", (TOP / "CHANGELOG.md").read_text("utf-8"))
 
     def test_the_links_of_pages(self) -> None:
-        front, others = gathering.PAGE, {"docs/A.md": File(b""), "src/low/x.rs": File(b"")}
-        hold(self, lambda page, text: settled({**others, page: File(text)})[gathering.MOVED.get(page, page)].content, (
+        front, others = release.PAGE, {"docs/A.md": File(b""), "src/low/x.rs": File(b"")}
+        hold(self, lambda page, text: settled({**others, page: File(text)})[release.MOVED.get(page, page)].content, (
             ("docs/C.md", b"[a](A.md#c) ![b](../src/low)", b"[a](A.md#c) ![b](../src/low)"),
             # Links to what is not there are words.
             ("docs/C.md", b"[of\ntwo](../src/high/) and `x`", b"of\ntwo and `x`"),
@@ -433,19 +432,19 @@ class OtherProcessors(Folder):
             self.assertEqual(X86_64.programs(), ["some-cc", "ld", "objcopy", "ar"])
 
     def test_what_a_release_has_of_it(self) -> None:
-        files = {place: entry for place, entry in sources().items() if isinstance(entry, gathering.File)}
+        files = {place: entry for place, entry in sources().items() if isinstance(entry, release.File)}
         archive = self.folder / "crates.a"
         archive.touch()
-        entries = gathering.library_files(files, AARCH64, archive)
+        entries = release.library_files(files, AARCH64, archive)
         self.assertEqual({place.partition("/")[0] for place in entries}, {"aarch64"})
         self.assertEqual(entries["aarch64/lib/libzaklimot.so"], f"libzaklimot.so.{version()}")
         wheel = entries[f"aarch64/zaklimot-{version()}-py3-none-linux_aarch64.whl"]
-        assert isinstance(wheel, gathering.File)
+        assert isinstance(wheel, release.File)
         with zipfile.ZipFile(io.BytesIO(wheel.content)) as opened:
             self.assertEqual(opened.read("zaklimot/carried/libzaklimot.so"), b"made\n")
             self.assertIn("zaklimot/format/table.py", opened.namelist())
-        self.assertEqual(gathering.library_files(files, AARCH64, archive), entries)
-        text = gathering.made_of(gathering.Commit("0123", 0), "kit", entries).content.decode("ascii")
+        self.assertEqual(release.library_files(files, AARCH64, archive), entries)
+        text = release.made_of(release.Commit("0123", 0), "kit", entries).content.decode("ascii")
         self.assertRegex(text, r"(?m)^sha256 [0-9a-f]{64} aarch64/lib/libzaklimot\.a$")
 
     @unittest.skipUnless(shutil.which("cc"), "there is no C compiler")

@@ -19,8 +19,7 @@ from zaklimot.format import MOST_BYTES
 from .cells import font_of
 from .colours import Fewer, indexed, six_bits
 from .drawing import Drawn, draw_pixels, draw_text
-from .fitting import MOST_DOTS, Fit, fitted
-from .mode import LINES, MODES, Kind, text_of
+from .mode import LINES, MODES, MOST_DOTS, Fit, Kind, fitted, text_of
 from .steps import write_script
 
 WAYS = {
