@@ -6,6 +6,7 @@ import argparse
 import base64
 import gzip
 import io
+import os
 import tempfile
 import zlib
 from functools import partial
@@ -56,14 +57,6 @@ def module_in(page: bytes) -> bytes:
     return _unzipped(page_data(page.decode("utf-8"))["module"])
 
 
-def _first_difference(page: bytes, other: bytes) -> str:
-    lines = zip(page.split(b"\n"), other.split(b"\n"))
-    for number, (line, wanted) in enumerate(lines, 1):
-        if line != wanted:
-            return f"line {number} is {line[:60]!r}, and the sources make {wanted[:60]!r}"
-    return "one goes on where the other ends"
-
-
 def check_built(module: bytes, page: bytes) -> str:
     """Holds the page as built to its sources, and to the module that this kit makes.
 
@@ -74,8 +67,8 @@ def check_built(module: bytes, page: bytes) -> str:
         raise Wrong(f"{NAME} has {len(page):,} bytes, and {MOST_BYTES:,} are the most")
     wanted = page_text(read_sources(), data).encode("utf-8")
     if page != wanted:
-        where = _first_difference(page, wanted)
-        raise Wrong(f"{NAME} is not the page that its sources make: {where}; {ANEW}")
+        line = page.count(b"\n", 0, len(os.path.commonprefix([page, wanted]))) + 1
+        raise Wrong(f"{NAME} is not the page that its sources make, from line {line} on; {ANEW}")
     # Other versions of zlib pack otherwise.
     parts, wanted_parts = ({**one, **{name: _unzipped(one[name]) for name in PACKED}} for one in (data, data_of(own)))
     others = [name for name in wanted_parts if parts.get(name) != wanted_parts[name]]

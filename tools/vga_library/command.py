@@ -56,10 +56,7 @@ def _parser() -> argparse.ArgumentParser:
 def _parts(
     words: argparse.Namespace, target: Target, takes_made: bool, progress: Progress, folder: Path
 ) -> tuple[Path, Path]:
-    """The crate's archive, given or made before of the same sources, or proved and built now; and its memory's part.
-
-    What goes once the library is laid lies in the folder.
-    """
+    """The crate's archive, given, or made before of the same sources, or proved and built now; its memory's part."""
     if words.archive is not None:
         return Path(words.archive), memory_part(target, folder)
     found = kept(words.backend, target) if takes_made else None

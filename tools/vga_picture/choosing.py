@@ -159,10 +159,7 @@ def _lost(box: Box, middle: Colour) -> int:
 
 
 def _refined(counts: Counter[Colour], chosen: list[Colour]) -> list[Colour]:
-    """Colours that are moved into the middle of those that are nearest to them, again and again.
-
-    So none moves far. Those that save little are put where most is lost, as long as all is nearer then.
-    """
+    """Colours in the middle of those that are nearest to them; those that save little are put where most is lost."""
     best, least = chosen, -1
     for _ in range(EXCHANGES):
         for _ in range(MOVES):

@@ -65,16 +65,14 @@ def _spread(colours: Sequence[Colour]) -> float:
 
 
 def _ordered(rows: Sequence[Row], colours: Sequence[Colour]) -> Iterator[bytes]:
-    """Rows by the ordered dither: a dot is made brighter or darker by its place, as far as colours lie apart.
-
-    A dot whose colour is there keeps it.
-    """
+    """Rows by the ordered dither: a dot is made brighter or darker by its place, as far as colours lie apart."""
     nearest, own = Nearest(colours), {colour: number for number, colour in enumerate(colours)}
     spread = _spread(colours)
     for y, row in enumerate(rows):
         steps = [round(((2 * order + 1) / 32 - 0.5) * spread) for order in ORDERED[y % 4]]
         made = bytearray(len(row))
         for x, dot in enumerate(row):
+            # A dot whose colour is there keeps it.
             step, number = steps[x % 4], own.get(dot)
             if number is None:
                 red, green, blue = dot

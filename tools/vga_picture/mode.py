@@ -1,4 +1,4 @@
-"""The modes that a picture may be drawn in, as far as drawing needs docs/MODES.md; an image of another size than theirs."""
+"""The modes that a picture may be drawn in, as far as drawing needs them; an image of another size than theirs."""
 
 from dataclasses import dataclass, replace
 from enum import Enum

@@ -102,10 +102,7 @@ def few_writes(have: Word, want: Word) -> Writes:
 
 
 def _cycles(words: Sequence[tuple[int, int]], numbers: Sequence[int]) -> int:
-    """Cycles of words on cleared memory: how many different planes but empty ones each has.
-
-    A word is given by the set of its colours, a bit for each, and by how often it is there.
-    """
+    """Cycles of words, each the bits of its colours and how often it is there: of different planes but empty ones."""
     a, b, c, d = (sum(1 << colour for colour, number in enumerate(numbers) if number & bit) for bit in (1, 2, 4, 8))
     return sum(times * len({colours & a, colours & b, colours & c, colours & d} - {0}) for colours, times in words)
 
