@@ -438,6 +438,7 @@ class OtherProcessors(Folder):
         entries = release.library_files(files, AARCH64, archive)
         self.assertEqual({place.partition("/")[0] for place in entries}, {"aarch64"})
         self.assertEqual(entries["aarch64/lib/libzaklimot.so"], f"libzaklimot.so.{version()}")
+        self.assertEqual(entries["aarch64/lib/libzaklimot.a"], File(b"archive\n"))
         wheel = entries[f"aarch64/zaklimot-{version()}-py3-none-linux_aarch64.whl"]
         assert isinstance(wheel, release.File)
         with zipfile.ZipFile(io.BytesIO(wheel.content)) as opened:

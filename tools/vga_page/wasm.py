@@ -80,7 +80,7 @@ def check_module(module: bytes) -> str:
     """
     if len(module) > MOST_MODULE:
         raise Trouble(f"it has more than {MOST_MODULE:,} bytes", "the module")
-    found = {number: data for number, data in _sections(module) if number != CUSTOM}
+    found = dict(_sections(module))
     for number, what in ((IMPORTS, "imports"), (TABLES, "a table"), (ELEMENTS, "elements of a table")):
         if number in found:
             raise Trouble(f"it has {what}, which it must not have", "the module")
