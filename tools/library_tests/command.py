@@ -1,27 +1,24 @@
 """The words of the command line, and the checks one after the other."""
 
 import argparse
-import shutil
 import tempfile
-from contextlib import contextmanager
 from functools import partial
 from pathlib import Path
-from typing import Callable, Iterator
+from typing import Callable, Sequence
 
-from vga_library.making import MOVING, Place, make_library
-from vga_library.targets import TARGETS, X86_64, Target
-from vga_library.toolchain import built_archive, gated_archive, memory_part
+from vga_library.toolchain import TARGETS, X86_64, Target
 from vga_report import cli
+from vga_report.crates import phases
 from vga_report.progress import Progress
 from vga_report.trouble import Trouble
 
-from .compilers import Built, lacking
-from .examples import check_examples, check_scripts
-from .header import check_header, check_names
+from .checks import (
+    COUNTED, WAYS, check_cases, check_counted, check_examples, check_header, check_memory, check_misuse, check_names,
+    check_scripts, check_threads,
+)
+from .compilers import Built, lacking, laid_library, make_check
 from .installing import check_installing
 from .pc import check_pc
-from .programs import COUNTED, check_counted, check_memory, check_misuse, check_threads
-from .suite import WAYS, check_cases
 
 Check = Callable[[Built, Path], str]
 # Those of the library of each compiler, and those of one alone.
@@ -52,50 +49,27 @@ def _parser() -> argparse.ArgumentParser:
     return parser
 
 
-def _archive(words: argparse.Namespace, backend: str, target: Target, folder: Path) -> Path:
-    """Lays the archive of a compiler, or the one that is given, into a file of the folder."""
-    kept = folder / f"{backend}.a"
-    if words.gated:
-        # One proof is enough for both compilers.
-        return gated_archive(backend, words.proof or folder / "proof", kept, target)
-    # The next compiler's archive takes the place of this one.
-    return Path(shutil.copyfile(words.archive or built_archive(backend, target), kept))
-
-
-@contextmanager
-def _libraries(words: argparse.Namespace, target: Target) -> Iterator[list[Built]]:
-    """The libraries that are tested, in folders that are there as long as this lasts."""
-    with tempfile.TemporaryDirectory(prefix="vga-library-tests-") as name:
-        built = []
-        for backend in target.backends if words.archive is None else ["given"]:
-            folder, kept = Path(name) / backend, _archive(words, backend, target, Path(name))
-            make_library(kept, memory_part(target, Path(name)), Place(str(folder)), MOVING, target)
-            built.append(Built(backend, folder, kept, target))
-        yield built
-
-
-def _wanted(words: argparse.Namespace, target: Target) -> list[str]:
-    """The checks that are wanted: those that are named, or all that there are for the processor."""
-    own = OWN if target != X86_64 else ()
-    for name in words.only:
-        if name in own:
+def _wanted(only: Sequence[str], target: Target) -> dict[str, Check]:
+    there = {name: check for name, check in {**ONCE, **EACH}.items() if target == X86_64 or name not in OWN}
+    for name in only:
+        if name not in there:
             raise Trouble(f"there is no such check for {target.name}", name)
-    return words.only or [name for name in (*ONCE, *EACH) if name not in own]
+    return {name: check for name, check in there.items() if not only or name in only}
 
 
-def _run(words: argparse.Namespace, _: Progress) -> None:
-    """Makes each check that is wanted, and tells what came of it."""
+def _run(words: argparse.Namespace, progress: Progress) -> None:
     target = TARGETS[words.target]
-    wanted = _wanted(words, target)
+    wanted = _wanted(words.only, target)
     cli.refuse_to_check(words, lacking(target))
-    with _libraries(words, target) as libraries:
-        for name, check in {**ONCE, **EACH}.items():
-            for built in libraries if name in EACH else libraries[:1]:
-                if name not in wanted:
-                    continue
-                with tempfile.TemporaryDirectory(prefix="vga-library-tests-") as folder:
-                    told = check(built, Path(folder))
-                print(f"{name}, {built.name}: {told}" if name in EACH else f"{name}: {told}", flush=True)
+    with tempfile.TemporaryDirectory(prefix="vga-library-tests-") as top:
+        heard = phases(progress)("proving and building the library")
+        backends = target.backends[:1] if words.archive else target.backends
+        libraries = [laid_library(words, backend, target, Path(top), heard) for backend in backends]
+        progress.clear()
+        for name, built in ((name, built) for name in wanted for built in libraries[:None if name in EACH else 1]):
+            with tempfile.TemporaryDirectory(prefix="vga-library-tests-") as folder:
+                work = partial(wanted[name], built, Path(folder))
+                make_check(f"{name}, {built.name}" if name in EACH else name, work)
 
 
 # Runs a command line, and answers its exit status.

@@ -1,58 +1,40 @@
-"""The compilers, what is lacking of them on this machine, and how a program is built against the library."""
+"""The compilers, what is lacking of them on this machine, and how libraries and checks are made."""
 
 from __future__ import annotations
 
+import argparse
 import shutil
 import tempfile
+import time
 from pathlib import Path
-from typing import Any, Mapping, NamedTuple, Sequence
+from typing import Any, Callable, Iterable, NamedTuple, Sequence
 
-from vga_library.targets import AARCH64, X86_64, Target
-from vga_report.processes import captured, tested
+from vga_library.making import MOVING, Place, make_library
+from vga_library.toolchain import AARCH64, X86_64, Target, built_archive, gated_archive, memory_part
+from vga_report.processes import BINUTILS, SOURCES, Hearer, captured, tested
 
 STRICT = ("-Wall", "-Wextra", "-Wpedantic", "-Wconversion", "-Werror")
 SANITIZED = ("-g", "-fsanitize=address,undefined", "-fno-sanitize-recover=all")
-NOTHING = "int main(void) { return 0; }\n"
 
 
 class Compiler(NamedTuple):
-    """A compiler of C and of C++, with the packages of Debian that it and its sanitizers come in."""
+    """A compiler of C and of C++, and the package of Debian that has its sanitizers."""
 
     c: str
     cpp: str
-    packages: tuple[str, str]
     sanitizers: str
 
 
-class Machine(NamedTuple):
-    """What programs for a processor are built by, with the package of its binutils, and what runs them here.
-
-    The runner's words stand before a program; the emulators that they name have their packages.
-    """
-
-    compilers: tuple[Compiler, ...]
-    binutils: str
-    runner: tuple[str, ...] = ()
-    emulators: Mapping[str, str] = {}
-
-
-COMPILERS = (
-    Compiler("gcc", "g++", ("gcc", "g++"), "libgcc-12-dev"),
-    Compiler("clang", "clang++", ("clang", "clang"), "libclang-rt-dev"),
-)
-_CROSS = Compiler(
-    "aarch64-linux-gnu-gcc", "aarch64-linux-gnu-g++", ("gcc-aarch64-linux-gnu", "g++-aarch64-linux-gnu"),
-    "libgcc-12-dev-arm64-cross",
-)
+# What programs for a processor are built by, and the words that stand before one where it runs.
+COMPILERS = {
+    X86_64: (Compiler("gcc", "g++", "libgcc-12-dev"), Compiler("clang", "clang++", "libclang-rt-dev")),
+    AARCH64: (Compiler(AARCH64.tool("gcc"), AARCH64.tool("g++"), "libgcc-12-dev-arm64-cross"),),
+}
 # The emulator takes the C library of the cross compiler. The sanitizers can't look for leaks in it, but for all
 # else. They read their options where the system has those of the emulator.
-_EMULATOR = ("env", "ASAN_OPTIONS=detect_leaks=0", "qemu-aarch64", "-L", "/usr/aarch64-linux-gnu")
-MACHINES = {
-    X86_64: Machine(COMPILERS, "binutils"),
-    AARCH64: Machine((_CROSS,), "binutils-aarch64-linux-gnu", _EMULATOR, {"qemu-aarch64": "qemu-user"}),
+RUNNERS = {
+    X86_64: (), AARCH64: ("env", "ASAN_OPTIONS=detect_leaks=0", "qemu-aarch64", "-L", "/usr/aarch64-linux-gnu"),
 }
-# Other programs that are run.
-OTHERS = ("ld", "objcopy", "objdump", "ar", "nm", "readelf")
 
 
 class Built(NamedTuple):
@@ -66,16 +48,7 @@ class Built(NamedTuple):
     @property
     def compilers(self) -> tuple[Compiler, ...]:
         """Those that build programs with it."""
-        return MACHINES[self.target].compilers
-
-    @property
-    def runner(self) -> tuple[str, ...]:
-        """The words that stand before such a program."""
-        return MACHINES[self.target].runner
-
-    @property
-    def include(self) -> Path:
-        return self.folder / "include"
+        return COMPILERS[self.target]
 
     @property
     def static(self) -> Path:
@@ -86,38 +59,59 @@ class Built(NamedTuple):
         return self.folder / "lib" / "libzaklimot.so"
 
 
+def run(words: Sequence[str | Path], **given: Any) -> str:
+    """What a program writes that ends well, run as `captured` does. Else a Wrong tells how it ended."""
+    return tested(words, **given).output.decode("utf-8", "surrogateescape")
+
+
+def make_check(name: str, check: Callable[[], str]) -> None:
+    """Makes a check, and tells what came of it, and how many seconds it took."""
+    begun = time.monotonic()
+    told = check()
+    print(f"{name}: {told} ({time.monotonic() - begun:.0f} s)", flush=True)
+
+
+def not_there(programs: Iterable[str]) -> list[str]:
+    """Those of some programs that are not in the path, each with the package of Debian that has it."""
+    return [f"{name}: {SOURCES[name]}" for name in programs if not shutil.which(name)]
+
+
 def lacking(target: Target) -> list[str]:
     """What this machine lacks to test the library for a processor, each with the package to install."""
-    machine = MACHINES[target]
-    programs = {target.tool(name): machine.binutils for name in OTHERS}
-    programs.update(machine.emulators)
-    for compiler in machine.compilers:
-        programs.update(zip((compiler.c, compiler.cpp), compiler.packages))
-    told = [f"{name}: install the package {package}" for name, package in programs.items() if not shutil.which(name)]
-    for compiler in machine.compilers:
-        runs = all(map(shutil.which, (compiler.c, *machine.emulators)))
-        if runs and not _has_sanitizers(compiler, machine.runner):
-            told.append(f"the sanitizers of {compiler.c}: install the package {compiler.sanitizers}")
-    return told
+    compilers, runner = COMPILERS[target], RUNNERS[target]
+    emulators = [word for word in runner if word in SOURCES]
+    built_by = [name for compiler in compilers for name in (compiler.c, compiler.cpp)]
+    return not_there([*map(target.tool, BINUTILS), *emulators, *built_by]) + [
+        f"the sanitizers of {compiler.c}: install the package {compiler.sanitizers}" for compiler in compilers
+        if all(map(shutil.which, (compiler.c, *emulators))) and not _has_sanitizers(compiler, runner)
+    ]
 
 
 def _has_sanitizers(compiler: Compiler, runner: Sequence[str]) -> bool:
-    """Whether a program that is built with them runs."""
     with tempfile.TemporaryDirectory(prefix="vga-library-tests-") as name:
         source, made = Path(name) / "nothing.c", Path(name) / "nothing"
-        source.write_text(NOTHING)
+        source.write_text("int main(void) { return 0; }\n")
         words = [compiler.c, *SANITIZED, source, "-o", made]
         return captured(words).status == 0 and captured([*runner, made]).status == 0
 
 
-def run(words: Sequence[str | Path], **given: Any) -> str:
-    """What a program writes that ends well, run as `captured` does. Else it is told how it ended."""
-    return tested(words, **given).output.decode("utf-8", "surrogateescape")
+def laid_library(words: argparse.Namespace, backend: str, target: Target, folder: Path, heard: Hearer) -> Built:
+    """Makes a library in a folder: of the archive that is given, over what the gate left, or proved and built anew."""
+    built = Built("given" if words.archive else backend, folder / backend, folder / f"{backend}.a", target)
+    if words.gated:
+        # One proof is enough for both compilers.
+        gated_archive(backend, words.proof or folder / "proof", built.archive, target)
+    else:
+        # The next compiler's archive takes the place of this one.
+        shutil.copyfile(words.archive or built_archive(backend, target, heard), built.archive)
+    make_library(built.archive, memory_part(target, folder), Place(str(built.folder)), MOVING, target)
+    return built
 
 
 def build(
     compiler: str, built: Built, sources: Sequence[Path], made: Path, *flags: str, standard: str = "c99"
 ) -> list[str | Path]:
     """Builds a program with the static library, and answers the words that run it."""
-    run([compiler, f"-std={standard}", *STRICT, *flags, "-I", built.include, *sources, built.static, "-o", made])
-    return [*built.runner, made]
+    words = [f"-std={standard}", *STRICT, *flags, "-I", built.folder / "include"]
+    run([compiler, *words, *sources, built.static, "-o", made])
+    return [*RUNNERS[built.target], made]

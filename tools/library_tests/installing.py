@@ -4,15 +4,15 @@ import os
 import shutil
 import sys
 from pathlib import Path
-from typing import Any
 
 from vga_report import TOP
 from vga_report.version import version
-from vga_library.making import FONTS, MOVING, Place, make_library
-from vga_library.toolchain import kit_archive
+from vga_library.making import MOVING, Place, make_library
+from vga_library.toolchain import memory_part
 from vga_report.trouble import Wrong
 
-from .compilers import COMPILERS, STRICT, Built, run
+from .checks import check_picture
+from .compilers import STRICT, Built, run
 
 LIBRARIES = "lib/x86_64-linux-gnu"
 PICTURE = TOP / "examples" / "c" / "picture.c"
@@ -29,25 +29,11 @@ def laid_files() -> list[str]:
     return sorted(["include/zaklimot.h", "include/zaklimot.hpp", "share/zaklimot/zaklimot.fnt", *packages])
 
 
-def _install(built: Built, stage: Path) -> Path:
-    """Lays the library as for a package; the folder of its prefix."""
-    command = [sys.executable, TOP / "tools" / "vga-library", "install", "--libdir", LIBRARIES]
-    environment = {**os.environ, "PREFIX": "/usr", "DESTDIR": str(stage)}
-    run([*command, "--archive", built.archive], environment=environment)
-    return stage / "usr"
-
-
-def _check_picture(program: Path, ppm: Path, made_how: str, **given: Any) -> None:
-    """The program draws, however it was made."""
-    run([program, FONTS, ppm], **given)
-    if not ppm.read_bytes().startswith(b"P6\n640 400\n63\n"):
-        raise Wrong(f"{made_how} draws no picture")
-    ppm.unlink()
-
-
 def check_installing(built: Built, folder: Path) -> str:
     """The files lie where they should, name no folder of this machine, and a program is built and run with them."""
-    prefix = _install(built, folder / "stage")
+    words, prefix = ["install", "--libdir", LIBRARIES, "--archive", built.archive], folder / "stage" / "usr"
+    environment = {**os.environ, "PREFIX": "/usr", "DESTDIR": str(prefix.parent)}
+    run([sys.executable, TOP / "tools" / "vga-library", *words], environment=environment)
     found = sorted(str(path.relative_to(prefix)) for path in prefix.rglob("*") if not path.is_dir())
     if found != laid_files():
         raise Wrong(f"laid are {found}, and not {laid_files()}")
@@ -55,9 +41,9 @@ def check_installing(built: Built, folder: Path) -> str:
     if "prefix=/usr\n" not in package or str(folder) in package:
         raise Wrong(f"zaklimot.pc has\n{package}")
     made, environment = folder / "picture", {**os.environ, "LD_LIBRARY_PATH": str(prefix / LIBRARIES)}
-    run([COMPILERS[0].c, "-std=c99", *STRICT, PICTURE, *_flags(prefix), "-o", made])
-    told = "the program that was built with the installed files"
-    _check_picture(made, folder / "picture.ppm", told, environment=environment)
+    run([built.compilers[0].c, "-std=c99", *STRICT, PICTURE, *_flags(prefix), "-o", made])
+    told = "built with the installed files"
+    check_picture("picture", [made], folder / "picture.ppm", told, environment=environment)
     ways = [_check_pkg_config(built, folder), _check_cmake(prefix, folder)]
     return "; ".join([f"{len(found)} files, and a program that is linked with the shared library", *filter(None, ways)])
 
@@ -67,7 +53,7 @@ def _check_pkg_config(built: Built, folder: Path) -> str:
     if not shutil.which("pkg-config"):
         return "pkg-config is left out: install the package pkg-config"
     moved = folder / "moved" / "kit"
-    make_library(built.archive, kit_archive(), Place(str(folder / "first"), LIBRARIES), MOVING)
+    make_library(built.archive, memory_part(built.target, folder), Place(str(folder / "first"), LIBRARIES), MOVING)
     moved.parent.mkdir()
     (folder / "first").rename(moved)
     environment = {**os.environ, "PKG_CONFIG_PATH": str(moved / LIBRARIES / "pkgconfig")}
@@ -88,7 +74,7 @@ def _check_cmake(prefix: Path, folder: Path) -> str:
     run([*words, f"-DCMAKE_PREFIX_PATH={prefix}"])
     run(["cmake", "--build", made])
     for name in ("picture", "picture_static"):
-        _check_picture(made / name, folder / "cmake.ppm", f"{name}, built by CMake,")
+        check_picture("picture", [made / name], folder / "cmake.ppm", f"built by CMake as {name}")
     needed = run(["objdump", "-p", made / "picture"])
     if f"NEEDED               libzaklimot.so.{version().major}\n" not in needed:
         raise Wrong("the program that CMake has linked doesn't want the library by its soname")

@@ -13,8 +13,8 @@ from vga_library.making import FONTS
 from vga_report.processes import captured
 from vga_report.trouble import Wrong
 
-from .compilers import COMPILERS, Built, run
-from .suite import harness
+from .checks import harness
+from .compilers import Built, run
 
 PC = TOP / "examples" / "pc"
 SOURCES = [PC / f"{name}.c" for name in ("pc", "machine", "bios", "display", "floppy", "keys", "window-files")]
@@ -46,7 +46,7 @@ def flags_of(*packages: str) -> Optional[list[str]]:
 
 def _build(built: Built, made: Path, sources: list[Path], flags: list[str]) -> None:
     # The interface of Unicorn takes functions as pointers to anything, which pedantic compilers refuse.
-    words = [COMPILERS[0].c, "-std=c99", "-O2", "-Wall", "-Wextra", "-Werror", "-I", built.include]
+    words = [built.compilers[0].c, "-std=c99", "-O2", "-Wall", "-Wextra", "-Werror", "-I", built.folder / "include"]
     run([*words, *sources, built.static, *flags, "-o", made])
 
 
@@ -74,7 +74,6 @@ def _screens(pc: Path, folder: Path, *words: str | Path) -> list[Path]:
 
 
 def _check_demo(pc: Path, folder: Path, *rom: str | Path) -> None:
-    """The floppy's first screen ends with a white bar."""
     last = _screens(pc, folder, "--seconds", "2", *rom)[-1].read_bytes()
     if not last.startswith(SIZE) or not last.endswith(BAR):
         raise Wrong(f"the PC's floppy shows another first screen{' with ' + str(rom[1]) if rom else ''}")

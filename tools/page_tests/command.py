@@ -1,28 +1,85 @@
-"""The words of the command line, and the checks one after the other."""
+"""The words of the command line, and the checks in their order; whether the page is what its sources make."""
 
 from __future__ import annotations
 
 import argparse
+import base64
+import gzip
+import io
+import os
 import tempfile
-import time
+import zlib
+from functools import partial
 from pathlib import Path
-from typing import Iterator, Optional, Sequence
+from typing import Callable, Iterator, Optional, Sequence
 
-from vga_report.crates import phases
-from vga_page.making import kit_line, made_modules
+from library_tests.compilers import make_check
+from vga_library.toolchain import kit_line
+from vga_page.making import made_modules
+from vga_page.page import MOST_BYTES, data_of, page_text, read_sources
 from vga_page.wasm import MOST_MODULE, check_module, kit_of
 from vga_report import cli
-from vga_report.debugging import read_at_most
+from vga_report.debugging import MOST_PAGE, page_data, read_at_most
+from vga_report.debugging import PAGE as BUILT_PAGE
 from vga_report.progress import Progress
-from vga_report.trouble import Wrong
+from vga_report.trouble import Trouble, Wrong
 
-from .built import built_page, check_built, module_in
 from .scripts import (
-    SMALL_MEMORY, Modules, check_browser, check_heap, check_own, check_scripts, check_syntax, node_words,
+    SMALL_MEMORY, check_browser, check_heap, check_own, check_scripts, check_suite, check_syntax, node_words,
 )
-from .suite import check_suite
 
 MODULE, PAGE, SUITE, HEAP, SCRIPTS, OWN = CHECKS = ("module", "page", "suite", "heap", "scripts", "own")
+NAME = f"page/{BUILT_PAGE.name}"
+PACKED = ("examples", "module")
+ANEW = f"`tools/vga-page make {NAME}` makes it anew"
+
+
+def built_page() -> bytes:
+    """The page of the repository."""
+    if not BUILT_PAGE.exists():
+        raise Wrong(f"{NAME} is not there: {ANEW}")
+    return read_at_most(str(BUILT_PAGE), MOST_PAGE)
+
+
+def _unzipped(text: str) -> bytes:
+    try:
+        with gzip.GzipFile(fileobj=io.BytesIO(base64.b64decode(text, validate=True))) as stream:
+            data = stream.read(MOST_MODULE + 1)
+    except (EOFError, OSError, ValueError, zlib.error) as error:
+        raise Wrong(f"a part of {NAME} is not packed as it should be: {error}; {ANEW}") from error
+    if len(data) > MOST_MODULE:
+        raise Trouble(f"a part of it unpacks to more than {MOST_MODULE:,} bytes", NAME)
+    return data
+
+
+def module_in(page: bytes) -> bytes:
+    """The module that a page has in it."""
+    return _unzipped(page_data(page.decode("utf-8"))["module"])
+
+
+def check_built(module: bytes, page: bytes) -> str:
+    """Holds the page as built to its sources, and to the module that this kit makes.
+
+    Where another kit has made the page's module, the suite judges it.
+    """
+    own, data = module_in(page), page_data(page.decode("utf-8"))
+    if len(page) > MOST_BYTES:
+        raise Wrong(f"{NAME} has {len(page):,} bytes, and {MOST_BYTES:,} are the most")
+    wanted = page_text(read_sources(), data).encode("utf-8")
+    if page != wanted:
+        line = page.count(b"\n", 0, len(os.path.commonprefix([page, wanted]))) + 1
+        raise Wrong(f"{NAME} is not the page that its sources make, from line {line} on; {ANEW}")
+    # Other versions of zlib pack otherwise.
+    parts, wanted_parts = ({**one, **{name: _unzipped(one[name]) for name in PACKED}} for one in (data, data_of(own)))
+    others = [name for name in wanted_parts if parts.get(name) != wanted_parts[name]]
+    if others or list(parts) != list(wanted_parts):
+        raise Wrong(f"{NAME} has other data than the repository: {', '.join(others or parts)}; {ANEW}")
+    told = f"{NAME} is the page that its sources make, {len(page):,} bytes"
+    if own == module:
+        return f"{told}; its module is the one that the crate makes"
+    if kit_of(own) == kit_of(module):
+        raise Wrong(f"the module in {NAME} is not the one that the crate makes: {ANEW}")
+    return f"{told}, around a module of another kit, {kit_of(own)}: the suite judges that"
 
 
 def _parser() -> argparse.ArgumentParser:
@@ -38,17 +95,6 @@ def _parser() -> argparse.ArgumentParser:
     return parser
 
 
-def _made(words: argparse.Namespace, progress: Progress, times: int) -> tuple[list[bytes], Optional[bytes]]:
-    """The module that is tested, made so many times, and one of fixed memory; or the one that is given."""
-    if words.module is not None:
-        return [read_at_most(words.module, MOST_MODULE)], None
-    try:
-        made = made_modules(phases(progress), words.gated, words.proof, [None, SMALL_MEMORY], times)
-        return [module for module, _ in made], made[0][1]
-    finally:
-        progress.clear()
-
-
 def check_modules(modules: Sequence[bytes]) -> str:
     """The module has what the page relies on, and is the same bytes each time."""
     if len(set(modules)) != 1:
@@ -62,46 +108,38 @@ def _times(page: Optional[bytes], wanted: Sequence[str]) -> int:
     return 1 if PAGE in wanted and page is not None and kit_of(module_in(page)) == kit_line() else 2
 
 
-def _file(folder: Path, name: str, data: bytes) -> Path:
-    (folder / name).write_bytes(data)
-    return folder / name
-
-
-def _checks(words: argparse.Namespace, progress: Progress, folder: Path) -> Iterator[tuple[str, str]]:
-    """Makes each check that is wanted: its name, and what came of it."""
+def _checks(words: argparse.Namespace, progress: Progress, folder: Path) -> Iterator[tuple[str, Callable[[], str]]]:
     wanted = words.only or CHECKS
     page = built_page() if {PAGE, SCRIPTS, OWN} & set(wanted) else None
-    same, small = _made(words, progress, 1 if words.module else _times(page, wanted))
-    yield MODULE, check_modules(same)
-    modules = Modules(_file(folder, "module.wasm", same[0]), small and _file(folder, "small.wasm", small))
-    under_test = [modules.module]
-    if page is not None:
-        # What runs in the page is the module in it, even where that is another kit's.
-        modules = modules._replace(module=_file(folder, "page.wasm", module_in(page)))
-    if page is not None and PAGE in wanted:
-        told, is_of_this_kit = check_built(same[0], page)
-        under_test += [] if is_of_this_kit else [modules.module]
-        yield PAGE, f"{told}; {check_syntax(page, folder)}"
+    if words.module is not None:
+        same, small = [read_at_most(words.module, MOST_MODULE)], None
+    else:
+        made = made_modules(words, progress, [None, SMALL_MEMORY], _times(page, wanted))
+        same, small = [module for module, _ in made], made[0][1]
+    yield MODULE, partial(check_modules, same)
+    # What runs in the page is the module in it, even where that is another kit's.
+    parts = {"module": same[0], "page": same[0] if page is None else module_in(page), "small": small}
+    files = {name: folder / f"{name}.wasm" for name, data in parts.items() if data is not None}
+    for name, path in files.items():
+        path.write_bytes(parts[name] or b"")
+    if PAGE in wanted and page is not None:
+        yield PAGE, lambda: f"{check_built(same[0], page)}; {check_syntax(page, folder)}"
     if SUITE in wanted:
-        for module in under_test:
-            yield SUITE, check_suite(module, folder / f"cases of {module.name}")
+        for name in ("module", "page")[:1 + (PAGE in wanted and parts["page"] != same[0])]:
+            yield SUITE, partial(check_suite, files[name], folder / f"cases of {name}")
     for name, check in ((HEAP, check_heap), (SCRIPTS, check_scripts), (OWN, check_own)):
         if name in wanted:
-            yield name, check(modules)
+            yield name, partial(check, files["page"], files.get("small"))
 
 
 def _run(words: argparse.Namespace, progress: Progress) -> None:
-    """Looks at the words and at node, and tells a line for each check."""
     cli.refuse_to_check(words)
     node_words()
     if words.ready:
         return
     with tempfile.TemporaryDirectory(prefix="vga-page-tests-") as name:
-        begun = time.monotonic()
-        checks = [("browser", check_browser())] if words.browser else _checks(words, progress, Path(name))
-        for check, told in checks:
-            print(f"{check}: {told} ({time.monotonic() - begun:.0f} s)", flush=True)
-            begun = time.monotonic()
+        for check, work in [("browser", check_browser)] if words.browser else _checks(words, progress, Path(name)):
+            make_check(check, work)
 
 
 # Runs a command line, and answers its exit status.

@@ -1,16 +1,25 @@
-"""Node, and what the page's own scripts do in it: their tests, and the check of the examples; the page in a browser."""
+"""What node does with the page's module and scripts: suite, heap, tests, examples; and the page in a browser."""
 
 from __future__ import annotations
 
+import hashlib
 import json
+import os
 import re
 import shutil
+from concurrent.futures import ThreadPoolExecutor
 from pathlib import Path
-from typing import Any, Mapping, NamedTuple, Optional, Sequence
+from threading import Event
+from typing import Any, Mapping, Optional, Sequence
 
+from library_tests.compilers import run
+from vga_report.cases import Case, read_cases
 from vga_report.debugging import PAGE
-from vga_report.processes import MEBIBYTE, captured, tested
+from vga_report.processes import MEBIBYTE, Limits, captured, ended_well, run_command
+from vga_report.program import PROGRAM
+from vga_report.running import said_lines
 from vga_report.trouble import Trouble, Wrong
+from vga_report.words import SUITE
 
 NODE, PACKAGE = "node", "nodejs"
 # The first version that has memories of 64-bit addresses, by a flag where they are an experiment.
@@ -23,7 +32,7 @@ MOST_SECONDS, BROWSER_SECONDS = 300, 400
 TESTS = PAGE.parent / "tests"
 # What is done with the page in a browser: by each control of it, and as the tutorial says.
 BROWSER, TUTORIAL = (TESTS / f"{name}.mjs" for name in ("browser", "tutorial"))
-HEAP, OWN = (Path(__file__).resolve().parent / name for name in ("heap.mjs", "own.mjs"))
+HEAP, OWN, DRIVER = (Path(__file__).resolve().parent / f"{name}.mjs" for name in ("heap", "own", "suite"))
 # How a file tells that it has tests.
 IS_TEST = 'from "node:test"'
 SCRIPT = re.compile(r'<script type="module">\n(.*?)</script>', re.S)
@@ -35,13 +44,16 @@ CHROMIUM = ("chromium", "chromium-browser", "google-chrome")
 MODULE, BUILT, SMALL = "ZAKLIMOT_MODULE", "ZAKLIMOT_PAGE", "ZAKLIMOT_SMALL_MODULE"
 # So much memory the small module has: enough for two cards, and not for three.
 SMALL_MEMORY = 16 * MEBIBYTE
-
-
-class Modules(NamedTuple):
-    """The files of a module, and of one whose memory is fixed, where there is one."""
-
-    module: Path
-    small: Optional[Path] = None
+# What a run of the program may take.
+LIMITS = Limits(60, 256 * MEBIBYTE)
+# Reports of so many bytes are kept, so that the line which differs can be told.
+MOST_KEPT = 1 << 16
+# What the program says before a fault.
+SAID = "vga: "
+# The way that each case without a bad line is run in.
+STEPS = "steps, all at once"
+# So many cases are told that differ.
+MOST_TOLD = 20
 
 
 def _answer(words: Sequence[str]) -> str:
@@ -70,8 +82,7 @@ def run_node(
     seconds: int = MOST_SECONDS,
 ) -> str:
     """What a script writes that ends well within so many seconds; else a Wrong tells what it said."""
-    done = tested([*node_words(), *words], seconds=seconds, environment=environment)
-    return done.output.decode("utf-8", "replace")
+    return run([*node_words(), *words], seconds=seconds, environment=environment)
 
 
 def check_syntax(page: bytes, folder: Path) -> str:
@@ -85,50 +96,34 @@ def check_syntax(page: bytes, folder: Path) -> str:
     return f"a script of {len(found[0]):,} characters, as node takes it"
 
 
-def test_files(folder: Path) -> list[Path]:
-    """The files of a folder that node runs as tests."""
+def check_scripts(module: Path, small: Optional[Path], folder: Path = TESTS) -> str:
+    """The tests of a folder in node, of which each passes, and none is left out; the small module has fixed memory."""
     files = sorted(path for path in folder.glob("*.mjs") if path.name != BROWSER.name)
-    return [path for path in files if IS_TEST in path.read_text("utf-8")]
-
-
-def counted(said: str) -> str:
-    """What node tells of its tests, of which each has passed, and none is left out."""
-    counts = {name: int(count) for name, count in COUNT.findall(said)}
-    others = {name: count for name, count in counts.items() if name != "pass" and count}
-    if others or not counts.get("pass"):
-        raise Wrong(f"the page's tests in node: {counts}")
-    return f"{counts['pass']} tests of the page's scripts pass"
-
-
-def check_scripts(modules: Modules) -> str:
-    """The page's tests in node."""
-    files = test_files(TESTS)
+    files = [path for path in files if IS_TEST in path.read_text("utf-8")]
     if not files:
-        raise Wrong(f"there are no tests in {TESTS}")
-    environment = {MODULE: str(modules.module), BUILT: str(PAGE)}
-    if modules.small is not None:
-        environment[SMALL] = str(modules.small)
-    return counted(run_node(["--test", "--test-reporter", REPORTER, *files], environment))
+        raise Wrong(f"there are no tests in {folder}")
+    environment = {MODULE: str(module), BUILT: str(PAGE), **({} if small is None else {SMALL: str(small)})}
+    counts = dict(COUNT.findall(run_node(["--test", "--test-reporter", REPORTER, *files], environment)))
+    passed = counts.pop("pass", "0")
+    if passed == "0" or set(counts.values()) != {"0"}:
+        raise Wrong(f"the page's tests in node: {passed} pass, {counts}")
+    return f"{passed} tests of the page's scripts pass"
 
 
-def check_own(modules: Modules) -> str:
+def check_own(module: Path, _: Optional[Path] = None) -> str:
     """The page's check of its examples, over its module: each answers as by `zak_run`, and as expected."""
-    return agreed(json.loads(run_node([OWN, modules.module, PAGE])))
-
-
-def agreed(told: dict[str, Any]) -> str:
-    """What the page's check of its examples tells, where each of them agrees."""
+    told = json.loads(run_node([OWN, module, PAGE]))
     if told["differ"] or not (told["agree"] and told["expected"]):
         lines = [f"  {line}" for line in told["lines"]]
         raise Wrong("\n".join(["the page's check of its examples:", *lines]))
     return f"{told['agree']} examples answer as by zak_run, {told['expected']} answers as expected"
 
 
-def check_heap(modules: Modules) -> str:
+def check_heap(module: Path, small: Optional[Path]) -> str:
     """The module's heap: blocks at random don't overlap, and calls say where memory is spent, and go on."""
-    if modules.small is None:
+    if small is None:
         return "left out: --module has none of fixed memory"
-    told = json.loads(run_node([HEAP, modules.module, modules.small]))
+    told = json.loads(run_node([HEAP, module, small]))
     grown, cards = told["grown"] // MEBIBYTE, told["cards"]
     spent = f"where memory is spent after {cards} card{'s' * (cards != 1)}, calls say so and go on"
     return f"{told['rounds']:,} times a block is taken or given back, in {grown} MiB; {spent}"
@@ -143,3 +138,61 @@ def check_browser() -> str:
         raise Trouble(f"it is not in the path: install the package {CHROMIUM[0]}", CHROMIUM[0])
     told = [run_node([file], {BUILT: str(PAGE)}, BROWSER_SECONDS) for file in (BROWSER, TUTORIAL)]
     return "".join(told).strip().replace("\n", "; ")
+
+
+def _native(case: Case, folder: Path) -> dict[str, Any]:
+    """A case as the module is to run it: its files, and the sum of the report that the program writes."""
+    folder.mkdir()
+    script, report, messages = (folder / name for name in ("script", "report", "said"))
+    script.write_bytes(case.script() if case.is_bytes else case.stopped_script())
+    words = [str(PROGRAM), "run" if case.is_bytes else "go", str(script), "--fonts", str(case.fonts)]
+    outcome = run_command(words, report, messages, LIMITS, Event())
+    if outcome.status is None:
+        raise Trouble(f"{case.name}: {outcome.reason}", str(PROGRAM))
+    if outcome.status:
+        report.write_text(said_lines(messages)[-1].removeprefix(SAID) + "\n", "ascii")
+    length = report.stat().st_size
+    told = {
+        "name": case.name, "isBytes": case.is_bytes, "script": str(script), "fonts": str(case.fonts),
+        "length": length, "sha256": hashlib.sha256(report.read_bytes()).hexdigest(),
+        **({} if case.is_bytes else _assembled(script)),
+    }
+    if length <= MOST_KEPT:
+        return {**told, "report": str(report)}
+    # Of long reports with pictures the sum is enough.
+    report.unlink()
+    return told
+
+
+def _assembled(text: Path) -> dict[str, str]:
+    """The files of a text's bytes, and of the text that the program prints of these; none of a bad text."""
+    made, printed = text.with_suffix(".bin"), text.with_suffix(".dis")
+    if captured([PROGRAM, "asm", text, made]).status:
+        return {}
+    printed.write_bytes(ended_well([PROGRAM, "dis", made]).output)
+    return {"assembled": str(made), "printed": str(printed)}
+
+
+def check_suite(module: Path, folder: Path) -> str:
+    """Each case answers in each way what the program writes; what was run is told."""
+    if not os.access(PROGRAM, os.X_OK):
+        raise Trouble("the program isn't built: (cd crates/vga && rt run -- --help) builds it", str(PROGRAM))
+    cases = read_cases(str(SUITE))
+    folder.mkdir()
+    with ThreadPoolExecutor(os.cpu_count() or 1) as pool:
+        told = list(pool.map(_native, cases, (folder / str(number) for number in range(len(cases)))))
+    listed = folder / "cases.json"
+    listed.write_text(json.dumps(told), "utf-8")
+    return judged(json.loads(run_node([DRIVER, module, listed])), len(cases))
+
+
+def judged(answer: dict[str, Any], count: int) -> str:
+    """What the driver tells, where each way has run its cases and none of them differs."""
+    wrong = answer["wrong"]
+    if wrong:
+        lines = [f"  {one['name']}, by {one['way']}: {one['reason']}" for one in wrong[:MOST_TOLD]]
+        raise Wrong("\n".join([f"{len(wrong)} reports differ from the program's", *lines]))
+    ways: dict[str, int] = answer["ways"]
+    if not (ways.get("bytes") and ways.get(STEPS)) or min(ways.values()) == 0 or ways["bytes"] > count:
+        raise Wrong(f"too few cases were run: {ways}")
+    return "; ".join(f"by {way} {number}" for way, number in ways.items()) + f"; of {count} cases"

@@ -3,79 +3,35 @@
 from __future__ import annotations
 
 import base64
-import gzip
-import json
 import shutil
 import unittest
 from functools import partial
 from pathlib import Path
 from unittest import mock
 
-from page_tests import built, scripts, suite
 from page_tests import command as tests_command
+from page_tests import scripts
 from vga_report.version import HEADER, calls_of
 from vga_page import command, page, wasm
-from vga_page.page import (
-    DATA, SCRIPT, STYLE, Sources, about, data_of, examples, joined, make_page, packed, page_text,
-)
+from vga_page.page import DATA, SCRIPT, STYLE, Sources, about, joined, make_page, packed, page_text
 from vga_page.retargeting import LAYOUTS, TRIPLES, retargeted
-from vga_page.wasm import check_module, exports_of, kit_of, with_kit
-from vga_report.trouble import TROUBLE, Wrong
+from vga_page.wasm import check_module, with_kit
+from vga_report.trouble import Wrong
 from vga_report.debugging import page_data
 
-from .tools import Folder, call, hold, hold_refused, refused
+from .tools import Folder, call, hold, hold_refused, hold_undone, refused
 
 FRAME = f"<!DOCTYPE html>\n{STYLE}\n{DATA}\n{SCRIPT}\n"
 
 
 class Bundling(unittest.TestCase):
-    def test_a_module_stands_after_those_that_it_imports(self) -> None:
-        told = joined({
-            "a.js": 'import { c } from "./c.js";\nexport const a = c + 1;\n',
-            "b.js": ('import { a } from "./a.js";\nimport { c } from "./c.js";\n\nexport class B {\n  c = a + c;\n}\n'),
-            "c.js": "export const c = 1;\n",
-            "main.js": 'import { B } from "./b.js";\nimport { a } from "./a.js";\n\nnew B(a);\n',
-        })
-        self.assertEqual(told, (
-            "// c.js\nconst c = 1;\n\n// a.js\nconst a = c + 1;\n\n"
-            "// b.js\nclass B {\n  c = a + c;\n}\n\n// main.js\nnew B(a);\n"
-        ))
-
-    def test_the_order_of_files_is_not_seen(self) -> None:
-        sources = {
-            "main.js": 'import { x } from "./x.js";\nimport { y } from "./y.js";\nx(y);\n',
-            "x.js": "export function x() {}\n", "y.js": "export async function y() {}\n",
-        }
-        self.assertEqual(joined(sources), joined(dict(reversed(sources.items()))))
-
-    def test_names_at_the_top_level_differ(self) -> None:
-        def with_names(first: str, second: str) -> dict[str, str]:
-            main = f'import {{ z }} from "./z.js";\nz();\n{first}\n'
-            return {"main.js": main, "z.js": f"export const z = 1;\n{second}\n"}
-
-        hold(self, partial(refused, joined), (
-            *((with_names(first, second), "main.js:3: a is a name at the top level of z.js too") for first, second in (
-                ("let a = 1;", "const a = 2;"), ("function a() {}", "let b, a;"),
-                ("class a {}", "async function a() {}"),
-                ("const b = 1, a = 2;", "function* a() {}"), ("const a = [];", "var a;"),
-            )),
-            ({"main.js": "let a;\nfunction a() {}\n"}, "main.js:2: a is declared in line 1 too"),
-        ))
-        # Names that are not at the top level may be the same.
-        joined(with_names("function b() {\n  const a = 1;\n}", "function d() {\n  const a = 2;\n}"))
-
     def test_what_is_not_as_a_module_is_to_be(self) -> None:
         others = {"a.js": "export const a = 1;\n"}
         hold_refused(self, joined, (({"main.js": f"\n{line}\n", **others}, f"^main.js:2: .*{told}") for line, told in (
-            ('import a from "./a.js";', "an import is a line"),
             ('import * as a from "./a.js";', "an import is a line"),
-            ('import { a as b } from "./a.js";', "an import is a line"),
-            ('import { a } from "a";', "an import is a line"),
-            ("import {", "an import is a line"), ('import "./a.js";', "an import is a line"),
-            ("export default 1;", "`export` stands before"), ("export { a };", "`export` stands before"),
-            ("export let a = 1;", "`export` stands before"),
+            ('import { a as b } from "./a.js";', "an import is a line"), ("import {", "an import is a line"),
+            ("export { a };", "`export` stands before"), ("export const [a] = b;", "`export` stands before"),
             ('  await import("./a.js");', "by a line at the top alone"),
-            ("const { a } = b;", "is declared by itself"), ("export const [a] = b;", "is declared by itself"),
             ('const a = "</script>";', "the end of a script"), ("// <!-- a", "the end of a script"),
         )))
 
@@ -97,16 +53,14 @@ def small_sources(script: str = "start();\n", style: str = "p {}\n") -> Sources:
 
 
 class Pages(unittest.TestCase):
-    def test_each_part_has_its_place(self) -> None:
-        data = {"open": None, "text": "</script><!-- <script>"}
-        text = page_text(small_sources(), data)
-        self.assertEqual(text, (
-            "<!DOCTYPE html>\n<style>\np {}\n</style>\n"
-            '<script type="application/json" id="zaklimot-data">'
-            '{"open":null,"text":"\\u003c/script>\\u003c!-- \\u003cscript>"}</script>\n'
-            '<script type="module">\n// main.js\nstart();\n</script>\n'
-        ))
-        self.assertEqual(page_data(text), data)
+    def test_the_page_as_built(self) -> None:
+        # It holds the order of modules, the place of each part, and what the page is given.
+        built = tests_command.built_page()
+        module = tests_command.module_in(built)
+        self.assertRegex(tests_command.check_built(module, built), "its module is the one that the crate makes$")
+        self.assertRegex(check_module(module), r"^[\d,]+ bytes, \d+ calls, no imports, no table$")
+        # No time is in what is packed.
+        self.assertEqual(packed(b"module")[4:8], bytes(4))
 
     def test_a_frame_that_lacks_a_place(self) -> None:
         frames = (FRAME.replace(STYLE, ""), FRAME + DATA, FRAME.replace(SCRIPT, ""))
@@ -115,12 +69,6 @@ class Pages(unittest.TestCase):
             (small_sources(style="a::after { content: '</Style>' }"), "style.css: "),
         ))
 
-    def test_it_is_the_same_each_time(self) -> None:
-        pages = {make_page(b"module", small_sources()) for _ in range(2)}
-        self.assertEqual(len(pages), 1)
-        packing = packed(b"module")
-        self.assertEqual((gzip.decompress(packing), packing[4:8]), (b"module", bytes(4)))
-
     def test_a_page_that_is_too_large(self) -> None:
         length = len(make_page(b"", small_sources("")))
         fits = "x" * (page.MOST_BYTES - length)
@@ -128,29 +76,10 @@ class Pages(unittest.TestCase):
         told = refused(make_page, b"", small_sources(f"{fits}x\n"))
         self.assertEqual(told, "zaklimot.html: it would have 400,001 bytes, and 400,000 are the most")
 
-    def test_what_it_is_given(self) -> None:
-        data = data_of(b"module")
-        self.assertEqual(gzip.decompress(base64.b64decode(data["module"])), b"module")
-        self.assertEqual(len(base64.b64decode(data["fonts"])), 9728)
-        self.assertEqual((data["pages"], data["open"]), ("../docs/", None))
-        given = json.loads(gzip.decompress(base64.b64decode(data["examples"])))
-        self.assertEqual(given, examples())
-        names = [one["name"] for one in given]
-        self.assertEqual(names, sorted(names))
-        self.assertTrue({"text-by-services", "raster-bands"} <= set(names))
-        told = {one["name"]: one["about"] for one in given}
-        self.assertEqual(told["driver-test"], "")
-        self.assertEqual(told["text-by-services"], "A screen of text by the video services alone, in ten steps.")
-        self.assertGreater(sum(map(bool, told.values())), 14)
-
     def test_what_an_example_is_about(self) -> None:
         hold(self, about, (
-            ("; A screen. Numbers are\n; hexadecimal.\n\nframe\n", "A screen."),
-            ("; A screen\n; of text.\nframe ; a picture\n", "A screen of text."),
-            ("frame\nout 3C2 3 ; memory on\n; more.\n", ""), ("; A bar: red! More.\n", "A bar: red!"),
-            ("\n; one\n\n; two\n", "one"),
-            ("frame\n", ""),
-            ("", ""),
+            ("; A screen. Numbers are\n; hexadecimal.\n\nframe\n", "A screen."), ("\n; one\n\n; two\n", "one"),
+            ("; A screen\n; of text.\nframe ; a picture\n", "A screen of text."), ("frame\n; more.\n", ""), ("", ""),
         ))
 
 
@@ -177,13 +106,13 @@ attributes #7 = {{ nounwind "probe-stack"="inline-asm" "stack-probe-size"="4096"
 class Retargeting(unittest.TestCase):
     def test_an_export_gets_a_wrapper(self) -> None:
         text = retargeted(NATIVE)
-        self.assertIn(f'target triple = "{TRIPLES[1]}"', text)
-        inner = 'define internal noundef i32 @"rattle::export zak_open"(ptr noundef %card, ptr noundef %0, i64'
-        self.assertIn(inner, text)
-        self.assertIn('%answer = call i32 @"rattle::export zak_open"(ptr %card, ptr %0, i64 %length)', text)
-        self.assertIn('"wasm-export-name"="zak_open"', text)
-        self.assertIn('"wasm-export-name"="page_take"', text)
-        self.assertIn('attributes #7 = { nounwind "no-builtin-bcmp"', text)
+        for part in (
+            f'target triple = "{TRIPLES[1]}"', 'attributes #7 = { nounwind "no-builtin-bcmp"',
+            'define internal noundef i32 @"rattle::export zak_open"(ptr noundef %card, ptr noundef %0, i64',
+            '%answer = call i32 @"rattle::export zak_open"(ptr %card, ptr %0, i64 %length)',
+            '"wasm-export-name"="zak_open"', '"wasm-export-name"="page_take"',
+        ):
+            self.assertIn(part, text)
         self.assertNotIn("x86", text)
         self.assertNotIn('"wasm-export-name"="inside"', text)
 
@@ -221,12 +150,6 @@ class Modules(unittest.TestCase):
     calls = calls_of(HEADER.read_text("ascii"))
     right = [*calls, "page_take", "page_give"]
 
-    def test_one_that_is_right(self) -> None:
-        module = module_of(self.right)
-        told = f"{len(module):,} bytes, {len(self.calls)} calls, no imports, no table"
-        self.assertEqual(check_module(module), told)
-        self.assertEqual([*exports_of(module)], [*self.right, "memory", "__heap_base"])
-
     def test_what_is_otherwise(self) -> None:
         hold_refused(self, check_module, (
             (module_of(self.right, (2, b"\0")), "it has imports"),
@@ -239,99 +162,66 @@ class Modules(unittest.TestCase):
             (module_of(self.right)[:-1], "it is cut off"), (b"\x7fELF", "it is no WebAssembly module"),
         ))
 
-    def test_the_kit_that_made_it(self) -> None:
-        module = module_of(self.right)
-        self.assertEqual(kit_of(module), "")
-        self.assertEqual(kit_of(with_kit(module, "kit 1")), "kit 1")
-        told = [check_module(one).partition("bytes")[2] for one in (with_kit(module, "kit 1"), module)]
-        self.assertEqual(told[0], told[1])
-
 
 class Tests(Folder):
     """That a page is made around a module, and that the page's tests can fail."""
 
     def test_a_module_that_was_made_already(self) -> None:
         self.patch(mock.patch.object(command, "read_sources", small_sources))
-        module, made = Path(self.write("module", module_of(Modules.right))), self.folder / "page"
+        module, made = Path(self.write("module", with_kit(module_of(Modules.right), "kit 1"))), self.folder / "page"
         status, output, _ = call(command.main, "make", made, "--module", module)
-        self.assertEqual((status, built.module_in(made.read_bytes())), (0, module.read_bytes()))
+        self.assertEqual((status, tests_command.module_in(made.read_bytes())), (0, module.read_bytes()))
         self.assertIn(f"{made}: {made.stat().st_size:,} bytes; its module has", output)
 
     def test_a_page_of_other_sources(self) -> None:
         module, other = (with_kit(module_of(Modules.right), kit) for kit in ("one", "other"))
-        with mock.patch.object(built, "read_sources", small_sources):
-            made = make_page(module, small_sources())
-            self.assertTrue(built.check_built(module, made)[1])
-            self.assertFalse(built.check_built(other, made)[1])
-            wrong = with_kit(module_of(Modules.right, (1, b"\0")), "one")
-            other_page = make_page(module, small_sources("end();\n"))
-            data = page_data(made.decode("utf-8"))
-            other_data, no_data = (
-                page_text(small_sources(), {**data, "examples": examples}).encode("utf-8")
-                for examples in (base64.b64encode(packed(b"[]")).decode("ascii"), "AAAA")
-            )
-            for module_under_test, page_under_test in (
-                (wrong, made), (module, other_page), (module, other_data), (module, no_data),
-            ):
-                self.assertRaises(Wrong, built.check_built, module_under_test, page_under_test)
+        self.patch(mock.patch.object(tests_command, "read_sources", small_sources))
+        made = make_page(module, small_sources())
+        self.assertRegex(tests_command.check_built(other, made), "of another kit, one: the suite judges that$")
+        data, empty = page_data(made.decode("utf-8")), base64.b64encode(packed(b"[]")).decode("ascii")
+        hold_refused(self, tests_command.check_built, (
+            (with_kit(module_of(Modules.right, (1, b"\0")), "one"), made, "is not the one that the crate makes"),
+            (module, make_page(module, small_sources("end();\n")), "is not the page that its sources make, from line 8 on"),
+            *((module, page_text(small_sources(), {**data, "examples": examples}).encode("utf-8"), told)
+              for examples, told in ((empty, "other data .* examples;"), ("AAAA", "is not packed as it"))),
+        ))
 
-    def test_two_modules_that_differ(self) -> None:
+    def test_what_is_wrong(self) -> None:
+        ways, wrong = {"bytes": 2, scripts.STEPS: 2}, [{"name": "n", "way": "w", "reason": "r"}]
+        told = f"by bytes 2; by {scripts.STEPS} 2; of 2 cases"
+        self.assertEqual(scripts.judged({"ways": ways, "wrong": []}, 2), told)
+        hold_refused(self, lambda *answer: scripts.judged(dict(zip(("ways", "wrong"), answer)), 2), (
+            (ways, wrong, "\n  n, by w: r$"), ({**ways, "text": 0}, [], "^too few cases were run"),
+        ))
         module = module_of(Modules.right)
         self.assertIn("the same twice", tests_command.check_modules([module, module]))
-        self.assertRaises(Wrong, tests_command.check_modules, [module, with_kit(module, "kit")])
-
-    def test_reports_that_differ_and_cases_that_were_not_run(self) -> None:
-        ways = {"bytes": 2, "text": 1, "steps, all at once": 2}
-        told = suite.judged({"ways": ways, "wrong": []}, 2)
-        self.assertEqual(told, "by bytes 2; by text 1; by steps, all at once 2; of 2 cases")
-        one = {"name": "n", "way": "bytes", "reason": "r"}
-        for answer in (
-            {"ways": ways, "wrong": [one]}, {"ways": {}, "wrong": []}, {"ways": {**ways, "text": 0}, "wrong": []},
-        ):
-            with self.subTest(answer), self.assertRaises(Wrong):
-                suite.judged(answer, 2)
-
-    def test_what_node_tells(self) -> None:
-        for mark in ("ℹ", "\x1b[34mℹ"):
-            told = scripts.counted(f"{mark} pass 3\n{mark} fail 0\n{mark} skipped 0\n")
-            self.assertEqual(told, "3 tests of the page's scripts pass")
-        for said in ("ℹ pass 3\nℹ fail 1\n", "ℹ pass 3\nℹ skipped 1\n", "ℹ pass 0\n", ""):
-            with self.subTest(said), self.assertRaises(Wrong):
-                scripts.counted(said)
+        hold_refused(self, tests_command.check_modules, [([module, with_kit(module, "kit")], "two modules")])
+        told = '{"agree": 2, "differ": 1, "expected": 3, "lines": ["a: r"]}'
+        with mock.patch.object(scripts, "run_node", return_value=told):
+            self.assertRaisesRegex(Wrong, "\n  a: r$", scripts.check_own, Path("module"))
 
     @unittest.skipIf(shutil.which(scripts.NODE) is None, "node is lacking")
-    def test_those_of_nodes_tests_that_fail_are_named(self) -> None:
+    def test_nodes_tests_pass_or_are_named(self) -> None:
         front = 'import test from "node:test";\n'
         others = "".join(f'test("other {number}", () => {{}});\n' for number in range(100))
-        words = ["--test", "--test-reporter", scripts.REPORTER]
-        with self.assertRaises(Wrong) as raised:
-            scripts.run_node([*words, self.write("one.mjs", f'{front}test("bad", () => {{ throw Error("why"); }});\n{others}')])
-        self.assertRegex(str(raised.exception), r"(?s)failing tests:.*bad.*why")
-        told = scripts.counted(scripts.run_node([*words, self.write("one.mjs", front + others)]))
+        bad = f'{front}test("bad", () => {{ throw Error("why"); }});\n{others}'
+        # What runs in a browser, and what has no test, is left out.
+        self.write("browser.mjs", bad)
+        self.write("helper.mjs", "throw Error();")
+        for text, told in (
+            (bad, "(?s)failing tests:.*bad.*why"),
+            (f'{front}test.skip("left out", () => {{}});\n{others}', "100 pass, .*'skipped': '1'"),
+        ):
+            self.write("one.mjs", text)
+            self.assertRaisesRegex(Wrong, told, scripts.check_scripts, Path("module"), None, self.folder)
+        self.write("one.mjs", front + others)
+        told = scripts.check_scripts(Path("module"), None, self.folder)
         self.assertEqual(told, "100 tests of the page's scripts pass")
-
-    def test_what_the_page_tells_of_its_examples(self) -> None:
-        told = {"agree": 2, "differ": 0, "expected": 3, "lines": ["a: right", "b: right"]}
-        self.assertEqual(scripts.agreed(told), "2 examples answer as by zak_run, 3 answers as expected")
-        for other in ({"differ": 1}, {"agree": 0}, {"expected": 0}):
-            with self.subTest(other), self.assertRaises(Wrong) as raised:
-                scripts.agreed({**told, **other})
-            self.assertIn("\n  a: right\n", str(raised.exception))
 
     def test_node_that_is_lacking_or_too_old(self) -> None:
         with mock.patch("shutil.which", return_value=None):
-            told = refused(scripts.node_words)
-        self.assertEqual(told, "node: it is not in the path: install the package nodejs")
-        old = mock.patch.object(scripts, "_answer", return_value="v18.19.0")
-        with mock.patch("shutil.which", return_value="node"), old:
+            told = "^vga-page-tests: node: it is not in the path: install the package nodejs\n"
+            hold_undone(self, call(tests_command.main), told)
+        with mock.patch.multiple(scripts, shutil=mock.Mock(), _answer=lambda _: "v18.19.0"):
             told = refused(scripts.node_words)
         self.assertEqual(told, "node: it is v18.19.0, and the tests need 20 or newer: the package nodejs")
-        with mock.patch("shutil.which", return_value=None):
-            status, _, said = call(tests_command.main)
-        self.assertEqual((status, said[:22]), (TROUBLE, "vga-page-tests: node: "))
-
-    def test_the_files_of_tests(self) -> None:
-        text = 'import test from "node:test";\n'
-        for file, content in (("a.mjs", text), ("browser.mjs", text), ("b.mjs", "")):
-            self.write(file, content)
-        self.assertEqual([path.name for path in scripts.test_files(self.folder)], ["a.mjs"])

@@ -1,4 +1,4 @@
-"""The library for C: what its header says, where its files lie, what a release holds, and that its tests can fail.
+"""The library for C: its header, its files, also for another processor; the packages; releases; that tests can fail.
 
 A release has the same bytes whatever the order and the time, from a commit alone.
 """
@@ -6,34 +6,34 @@ A release has the same bytes whatever the order and the time, from a commit alon
 import hashlib
 import io
 import os
-import posixpath
 import re
 import shutil
+import subprocess
+import sys
 import tarfile
+import tempfile
 import unittest
 import zipfile
 from pathlib import Path
 from typing import Iterator
 from unittest import mock
 
-from library_tests import compilers
-from library_tests.compilers import COMPILERS
-from library_tests.examples import SIXTEEN, bars, colours_script
-from library_tests.header import LAYOUT, OBJECTS, names_in
-from library_tests.programs import expect
-from library_tests.suite import judged
-from vga_library import making, toolchain
-from vga_library.making import MOVING, Place, cmake_text, cmake_version_text, package_text
-from vga_library.targets import X86_64
-from vga_release import command, gathering
-from vga_release.gathering import FRONT, INSTALL, LINKS, MADE_OF, PATHS, Pages, made_of, settled, wheel_of
-from vga_release.packing import Commit, Entry, File, pack
+from library_tests import bindings, checks, compilers
+from library_tests.compilers import run
+from vga_library import command, making, toolchain
+from vga_library.making import MOVING, Place, described
+from vga_library.toolchain import AARCH64, HEAP, HEAP_OPTIONS, TARGETS, X86_64
+from vga_release import command as release
+from vga_release.command import FRONT, INSTALL, LINKS, MADE_OF, PATHS, Commit, Entry, File, settled
 from vga_report import TOP, crates
-from vga_report.processes import Done
+from vga_report.cases import read_cases
+from vga_report.processes import PACKAGES, Done
+from vga_report.progress import Progress
 from vga_report.trouble import Trouble, Wrong
 from vga_report.version import HEADER, Version, calls_of, version, version_of, without_comments
+from vga_report.words import SUITE
 
-from .test_pages import anchors, prose
+from .test_pages import broken
 from .tools import Folder, call, ended, hold, hold_undone, refused
 
 TEXT = HEADER.read_text("ascii")
@@ -45,22 +45,19 @@ ENTRIES: dict[str, Entry] = {
     "z/lib/b.so.1": File(b"library"), "z/lib/b.so": "b.so.1", "z/bin/vga": File(b"program", True), "z/a": File(b""),
 }
 COMMIT = Commit("0123abcd", 1_700_000_000)
+# A program that notes its words; and one that takes blocks of memory in each way.
+FAKE = Path(__file__).with_name("noting.sh").read_text("ascii")
+TAKING = Path(__file__).with_name("taking.c")
 
 
 class Header(unittest.TestCase):
-    def test_its_version(self) -> None:
+    def test_its_version_and_its_calls(self) -> None:
         self.assertEqual(version_of("#define ZAK_API_MAJOR 3 /* x */\n#define ZAK_API_MINOR 14\n"), Version(3, 14))
-        self.assertEqual(str(version_of(TEXT)), f"{version_of(TEXT).major}.{version_of(TEXT).minor}")
-        with self.assertRaises(Trouble):
-            version_of("#define ZAK_API_MAJOR 3\n")
-
-    def test_its_calls(self) -> None:
+        self.assertRaises(Trouble, version_of, "#define ZAK_API_MAJOR 3\n")
         text = "/* zak_status zak_old(int); */\nzak_status zak_open(int a,\n    int b);\nuint32_t zak_version(void);\n"
         self.assertEqual(calls_of(text), ["zak_open", "zak_version"])
-        calls = calls_of(TEXT)
-        self.assertEqual(len(calls), len(set(calls)))
-        # Each name of a call stands in a line that was read as one.
-        self.assertEqual(set(calls), set(re.findall(r"\b(zak_\w+)\(", without_comments(TEXT))))
+        # Each name of a call stands once in a line that was read as one.
+        self.assertEqual(sorted(calls_of(TEXT)), sorted(set(re.findall(r"\b(zak_\w+)\(", without_comments(TEXT)))))
 
     def test_refusals_are_their_numbers(self) -> None:
         numbers = {int(number) for number in REFUSAL.findall((TOP / "docs" / "REPORT.md").read_text())}
@@ -68,37 +65,23 @@ class Header(unittest.TestCase):
         self.assertEqual(numbers, {status for status in statuses if 0 < status < 20})
 
     def test_each_struct_has_asserts(self) -> None:
-        asserted = set(re.findall(r"TAKES\((zak_\w+), ", LAYOUT.read_text("ascii")))
+        asserted = set(re.findall(r"TAKES\((zak_\w+), ", checks.LAYOUT.read_text("ascii")))
         self.assertEqual(asserted, {*STRUCT.findall(TEXT), "zak_status"})
 
 
 class Making(unittest.TestCase):
-    def test_where_files_are_laid(self) -> None:
-        self.assertEqual(Place("/usr", stage="stage").folder("lib"), Path("stage/usr/lib"))
-        self.assertEqual(Place("/usr").folder("lib"), Path("/usr/lib"))
-        self.assertEqual(Place("kit").folder("include"), Path("kit/include"))
-
-    def test_what_packages_read(self) -> None:
-        text = package_text("/usr", "lib/x", Version(1, 2))
-        self.assertIn("prefix=/usr\nlibdir=${prefix}/lib/x\n", text)
-        self.assertIn("fonts=${prefix}/share/zaklimot/zaklimot.fnt\n", text)
-        self.assertIn("Version: 1.2\n", text)
-        self.assertIn("prefix=${pcfiledir}/../..\n", package_text(MOVING, "lib", Version(1, 2)))
-        self.assertIn("prefix=${pcfiledir}/../../..\n", package_text(MOVING, "lib/x", Version(1, 2)))
-
-    def test_what_cmake_reads(self) -> None:
-        text = cmake_text("lib/x", Version(1, 2))
-        self.assertIn('"${CMAKE_CURRENT_LIST_DIR}/../../../.." ABSOLUTE', text)
-        self.assertIn('"${_zaklimot_prefix}/lib/x/libzaklimot.so.1.2"\n    IMPORTED_SONAME "libzaklimot.so.1"', text)
-        told = cmake_version_text(Version(1, 2))
-        self.assertIn('set(PACKAGE_VERSION "1.2")', told)
-        for whole in (text, told):
-            self.assertNotIn("@", whole)
+    def test_what_packages_and_cmake_read(self) -> None:
+        package, cmake, told = described("/usr", "lib/x", Version(1, 2)).values()
+        for text, part in (
+            (package, "prefix=/usr\nlibdir=${prefix}/lib/x\n"), (package, "Version: 1.2\n"),
+            (next(iter(described(MOVING, "lib/x", version()).values())), "prefix=${pcfiledir}/../../..\n"),
+            (cmake, '"${CMAKE_CURRENT_LIST_DIR}/../../../.." ABSOLUTE'), (told, 'set(PACKAGE_VERSION "1.2")'),
+            (cmake, '"${_zaklimot_prefix}/lib/x/libzaklimot.so.1.2"\n    IMPORTED_SONAME "libzaklimot.so.1"'),
+        ):
+            self.assertIn(part, text)
 
     def test_crates_below_stand_lowest_first(self) -> None:
         below = crates.below("vga_c")
-        self.assertEqual(below[0], "vga_bits")
-        self.assertEqual(len(below), len(set(below)))
         for place, name in enumerate(below):
             self.assertLessEqual(set(crates.below(name)), set(below[:place]), name)
 
@@ -120,159 +103,155 @@ class Made(Folder):
         folder = self.folder / "crates" / "vga_c" / "out" / "made"
         self.patch(mock.patch.multiple(making, TOP=self.folder, FOLDER=folder, below=lambda _: ["low"]))
 
+    def test_no_source_is_laid_over_itself(self) -> None:
+        header = Path(self.write("include/zaklimot.h", TEXT))
+        with mock.patch.multiple(making, HEADER=header, run=lambda *_: ""):
+            told = refused(making.make_library, Path("a"), Path("b"), Place(str(self.folder)), making.MOVING)
+        self.assertEqual((told, header.exists()), (f"{header}: it is read as {header}, so it isn't written", True))
+
     def test_the_same_sources_and_others(self) -> None:
         self.assertIsNone(making.kept("llvm", X86_64))
         kept = making.keep("llvm", X86_64, *self.parts)
         self.assertEqual([path.read_text() for path in kept], ["one.a", "two.a"])
-        self.assertEqual(making.kept("llvm", X86_64), kept)
         self.assertIsNone(making.kept("rattle", X86_64))
-        # Other sources, and other archives.
-        self.low.write_text("changed")
-        self.assertIsNone(making.kept("llvm", X86_64))
-        self.low.write_text("low")
-        self.assertEqual(making.kept("llvm", X86_64), kept)
-        kept[0].write_text("changed")
-        self.assertIsNone(making.kept("llvm", X86_64))
+        # Another source, another archive, and one source more.
+        for path in (self.low, kept[0], self.low.with_name("more.rt")):
+            self.assertEqual(making.kept("llvm", X86_64), kept)
+            before = path.read_text() if path.exists() else None
+            path.write_text("changed")
+            self.assertIsNone(making.kept("llvm", X86_64), path)
+            path.unlink() if before is None else path.write_text(before)
         kept[0].unlink()
-        self.assertIsNone(making.kept("llvm", X86_64))
-        # A new source is another too.
-        making.keep("llvm", X86_64, *self.parts)
-        self.assertIsNotNone(making.kept("llvm", X86_64))
-        self.low.with_name("more.rt").write_text("")
         self.assertIsNone(making.kept("llvm", X86_64))
 
 
 class Page(unittest.TestCase):
-    def test_its_program_is_the_example(self) -> None:
-        self.assertIn((TOP / "examples" / "c" / "picture.c").read_text("ascii"), PAGE.read_text("utf-8"))
-
-    def test_its_functions_are_those_of_the_examples(self) -> None:
-        for name, begins in (
-            ("core", "static void take_frame(void)\n{"), ("core", "static void settle(void)\n{"),
-            ("debugger", "/* Takes the next steps,"), ("debugger", "static void back("),
-            ("script", "zak_status script_assemble("),
+    def test_its_programs_are_those_that_are_tried(self) -> None:
+        text = PAGE.read_text("utf-8")
+        for name, begins, end in (
+            ("picture.c", "", ""), ("core.c", "static void take_frame(void)\n{", "\n}\n"),
+            ("core.c", "static void settle(void)\n{", "\n}\n"), ("debugger.c", "/* Takes the next steps,", "\n}\n"),
+            ("debugger.c", "static void back(", "\n}\n"), ("script.c", "zak_status script_assemble(", "\n}\n"),
         ):
-            source = (TOP / "examples" / "c" / f"{name}.c").read_text("ascii")
+            source = (TOP / "examples" / "c" / name).read_text("ascii")
             function = source[source.index(begins):]
-            self.assertIn(function[:function.index("\n}\n") + 3], PAGE.read_text("utf-8"), begins)
-
-    def test_its_lines_of_cpp_are_those_that_are_tried(self) -> None:
-        found = re.search(r"^  ```cpp\n(.*?)^  ```$", PAGE.read_text("utf-8"), re.M | re.S)
-        assert found is not None
-        tried = [line.strip() for line in OBJECTS.read_text("ascii").splitlines()]
-        self.assertEqual([line for line in found[1].splitlines() if line.strip() not in tried], [])
+            self.assertIn(function[:function.index(end) + len(end)] if end else function, text, begins)
+        lines = "".join(re.findall(r"^  ```cpp\n(.*?)^  ```$", text, re.M | re.S)).splitlines()
+        tried = [line.strip() for line in checks.OBJECTS.read_text("ascii").splitlines()]
+        self.assertEqual((len(lines), [line for line in lines if line.strip() not in tried]), (5, []))
 
     def test_its_version_is_the_header_s(self) -> None:
-        told = version_of(TEXT)
-        self.assertIn(f"this is version {told}.", " ".join(PAGE.read_text("utf-8").split()))
-        for page in (PAGE, TOP / gathering.PAGE):
-            self.assertEqual(set(re.findall(r"zaklimot-(\d+\.\d+)-", page.read_text("utf-8"))), {str(told)}, page.name)
+        self.assertIn(f"this is version {version()}.", " ".join(PAGE.read_text("utf-8").split()))
+        for page in (PAGE, TOP / release.PAGE):
+            told = set(re.findall(r"zaklimot-(\d+\.\d+)-", page.read_text("utf-8")))
+            self.assertEqual(told, {str(version())}, page.name)
 
-    def test_each_call_has_its_function_in_cpp(self) -> None:
+    def test_each_call_is_named_and_has_its_function_in_cpp(self) -> None:
+        page, functions = PAGE.read_text("utf-8"), HEADER.with_suffix(".hpp").read_text("ascii")
+        self.assertEqual([name for name in calls_of(TEXT) if name not in page], [])
         # Dumps, slices, lines and the print of a script are the C header's alone.
-        lacking = {name for name in calls_of(TEXT) if not re.search(rf"\b{name}\b", HEADER.with_suffix(".hpp").read_text("ascii"))}
+        lacking = {name for name in calls_of(TEXT) if not re.search(rf"\b{name}\b", functions)}
         self.assertEqual({name.partition("_show_")[0] for name in lacking}, {
             "zak", "zak_version", "zak_frame_lines", "zak_run_on", "zak_print",
         })
 
-    def test_each_call_is_named(self) -> None:
-        page = PAGE.read_text("utf-8")
-        self.assertEqual([name for name in calls_of(TEXT) if name not in page], [])
 
+class Checks(Folder):
+    """That the library's tests can fail."""
 
-class Checks(unittest.TestCase):
-    def test_names_of_objects(self) -> None:
-        table = "\nzaklimot.o:\n                 U malloc\n0000000000000010 T zak_open\n 0 w __gmon_start__\n U f@GLIBC_2\n"
-        self.assertEqual(names_in(table), ({"zak_open"}, {"malloc", "__gmon_start__", "f"}))
+    def test_names_and_texts_that_differ(self) -> None:
+        told = f"soname: [libzaklimot.so.{version().major}] Flags: NOW GNU_RELRO"
+        with mock.patch.object(checks, "run", lambda words: told if words[0] == "readelf" else "zak_open\n"):
+            built = compilers.Built("given", self.folder, self.folder / "crates.a")
+            self.assertRaisesRegex(Wrong, "^libzaklimot.a: seen and not in", checks.check_names, built, self.folder)
+        wanted = checks.LAYOUT.with_name("threads.txt").read_text("ascii")
+        checks.expect("threads", wanted)
+        self.assertRaises(Wrong, checks.expect, "threads", wanted.replace("alike", "differ", 1))
 
-    def test_a_case_that_differs_is_wrong(self) -> None:
-        def told(*answers: str) -> dict[str, object]:
-            return {"rules": [{"cases": [{"name": f"n{at}", "answer": one} for at, one in enumerate(answers)]}]}
-
-        self.assertEqual(judged(told("agrees", "skipped"), {"n1"}), "1 cases agree, 1 of bytes can't be stopped")
-        self.assertEqual(judged(told("agrees", "agrees"), set()), "2 cases agree")
-        for answers in (["agrees", "differs"], ["agrees", "failed"], ["skipped", "agrees"], ["agrees", "skipped", "skipped"], []):
-            with self.subTest(answers), self.assertRaises(Wrong):
-                judged(told(*answers), {"n1"})
-
-    def test_another_text_is_wrong(self) -> None:
-        wanted = LAYOUT.with_name("threads.txt").read_text("ascii")
-        expect("threads", wanted)
-        with self.assertRaises(Wrong):
-            expect("threads", wanted.replace("alike", "differ", 1))
+    def test_cases_that_do_not_agree(self) -> None:
+        count, built = len(read_cases(str(SUITE))), compilers.Built("given", Path("kit"), Path("crates.a"), AARCH64)
+        captured, running = mock.Mock(), mock.Mock()
+        self.patch(mock.patch.object(checks, "captured", captured), mock.patch.object(compilers, "run", running))
+        for way, skipped in (("suite", 1), ("sliced", 0)):
+            wanted = f"{count} cases: {count - skipped} agree{', 1 skipped' * skipped}"
+            captured.return_value = Done(0, f"a\n{wanted}\n".encode(), b"")
+            self.assertEqual(checks.check_cases(way, built, Path("made")), wanted)
+            captured.return_value = Done(0, f"           n1: step 3\n{count} cases: 1 differ\n".encode(), b"")
+            with self.assertRaisesRegex(Wrong, rf"^not `{wanted}`:\n +n1: step 3\n"):
+                checks.check_cases(way, built, Path("made"))
+        # The programs of another processor are built by its compiler, and run in the emulator.
+        self.assertEqual(running.call_args[0][0][0], "aarch64-linux-gnu-gcc")
+        front = "env ASAN_OPTIONS=detect_leaks=0 qemu-aarch64 -L /usr/aarch64-linux-gnu made/harness-given "
+        self.assertIn(f"{front}{{script}} {{fonts}} {{until}}", captured.call_args_list[0][0][0])
 
     def test_what_is_lacking_is_told_with_its_package(self) -> None:
-        with mock.patch("shutil.which", return_value=None):
-            told = compilers.lacking(X86_64)
-        for name in (*(compiler.c for compiler in COMPILERS), "nm", "objcopy"):
-            self.assertTrue(any(line.startswith(f"{name}: install the package ") for line in told), name)
-        with mock.patch.object(compilers, "_has_sanitizers", return_value=False):
-            told = compilers.lacking(X86_64)
-        self.assertTrue(all("install the package" in line for line in told) and told)
-
-    def test_what_the_first_program_and_the_core_draw(self) -> None:
-        lines = colours_script().splitlines()
-        self.assertEqual(lines[:2] + lines[-2:], ["int ax=13", "put A0000 0", "put AF9FF FF", "frame"])
-        self.assertEqual((len(bars()), bars()[-3:].hex().upper()), (3 * 640 * 480, SIXTEEN[15]))
+        self.patch(mock.patch.object(compilers, "_has_sanitizers", return_value=False))
+        with mock.patch("shutil.which", lambda name: None if name[-2:] in ("nm", "64") else name):
+            told = [line for target in TARGETS.values() for line in compilers.lacking(target)]
+        self.assertEqual(told, [
+            "nm: install the package binutils", "the sanitizers of gcc: install the package libgcc-12-dev",
+            "the sanitizers of clang: install the package libclang-rt-dev",
+            "aarch64-linux-gnu-nm: install the package binutils-aarch64-linux-gnu",
+            "qemu-aarch64: install the package qemu-user",
+        ])
 
 
-def packed(entries: dict[str, Entry]) -> bytes:
-    stream = io.BytesIO()
-    pack(stream, entries, COMMIT.time)
-    return stream.getvalue()
-
-
-class Parts(unittest.TestCase):
+class Parts(Folder):
     """The archive, and what goes into it."""
 
-    def test_a_change_is_seen_and_the_order_of_files_is_not(self) -> None:
-        self.assertEqual(packed(ENTRIES), packed(dict(reversed(ENTRIES.items()))))
-        self.assertNotEqual(packed(ENTRIES), packed({**ENTRIES, "z/a": File(b"x")}))
+    def packed(self, entries: dict[str, Entry]) -> tuple[Path, str]:
+        """The archive of a release of these, and what is told of its sum."""
+        given = self.write("given", "built")
+        made = {"clean_commit": lambda: COMMIT, "release_entries": lambda *_: entries, "check_program": lambda _: None}
+        with mock.patch.multiple(release, **made):
+            words = ["--program", given, "--archive", given, "--archive-aarch64", given]
+            status, output, said = call(release.main, self.folder, *words)
+        archive, sums = map(Path, output.splitlines())
+        self.assertEqual((status, said), (0, ""))
+        return archive, sums.read_text("ascii")
 
-    def test_what_the_archive_tells(self) -> None:
-        with tarfile.open(fileobj=io.BytesIO(packed(ENTRIES))) as archive:
-            members = archive.getmembers()
-            content = archive.extractfile("z/bin/vga")
+    def test_what_the_archive_and_its_checksum_tell(self) -> None:
+        front = f"zaklimot-{version()}-x86_64-linux"
+        archive, told = self.packed(ENTRIES)
+        self.assertEqual(told, f"{hashlib.sha256(archive.read_bytes()).hexdigest()}  {front}.tar.gz\n")
+        self.assertEqual(self.packed(dict(reversed(ENTRIES.items()))), (archive, told))
+        with tarfile.open(archive) as opened:
+            members, content = opened.getmembers(), opened.extractfile(f"{front}/z/bin/vga")
             assert content is not None
             self.assertEqual(content.read(), b"program")
-        names = [member.name for member in members]
-        self.assertEqual(names, ["z", "z/a", "z/bin", "z/bin/vga", "z/lib", "z/lib/b.so", "z/lib/b.so.1"])
+        names = ["", "/z", "/z/a", "/z/bin", "/z/bin/vga", "/z/lib", "/z/lib/b.so", "/z/lib/b.so.1"]
+        self.assertEqual([member.name for member in members], [f"{front}{name}" for name in names])
         owners = {(member.uid, member.gid, member.uname, member.gname, member.mtime) for member in members}
         self.assertEqual(owners, {(0, 0, "", "", COMMIT.time)})
         self.assertEqual([oct(member.mode) for member in members if member.isfile()], ["0o644", "0o755", "0o644"])
         self.assertEqual([member.linkname for member in members if member.issym()], ["b.so.1"])
 
-    def test_what_it_is_made_of(self) -> None:
-        text = made_of(COMMIT, "kit", ENTRIES).content.decode("ascii")
-        self.assertTrue(text.startswith("commit 0123abcd\ntoolchain kit\nsha256 "))
-        self.assertEqual(re.findall(r"^sha256 [0-9a-f]{64} (\S+)$", text, re.M), ["z/a", "z/bin/vga", "z/lib/b.so.1"])
-
-    def test_its_page_tells_all_of_it(self) -> None:
-        page = (TOP / gathering.PAGE).read_text("utf-8")
-        self.assertIn(f"zaklimot-{version()}-x86_64-linux.tar.gz", page)
-        self.assertIn(f"zaklimot-{version()}-py3-none-linux_x86_64.whl", page)
-        self.assertIn(f"## {version()}\n", (TOP / "CHANGELOG.md").read_text("utf-8"))
+    def test_its_page_and_the_news_tell_of_it(self) -> None:
+        name = f"zaklimot-{version()}"
+        page = (TOP / release.PAGE).read_text("utf-8")
+        for end in ("x86_64-linux.tar.gz", "py3-none-linux_x86_64.whl"):
+            self.assertIn(f"{name}-{end}", page)
         self.assertEqual([path for path in PATHS if not (TOP / path).exists()], [])
-        self.assertEqual(command.release_name(), f"zaklimot-{version()}-x86_64-linux")
+        self.assertIn(f"## {version()}\n", (TOP / "CHANGELOG.md").read_text("utf-8"))
 
     def test_the_links_of_pages(self) -> None:
-        pages = Pages(["docs/A.md", "README.md", "src/low/x.rs"], {"docs/B.md": "README.md"})
-        hold(self, lambda page, text: pages.settled(text, page), (
-            ("docs/C.md", "[a](A.md#c) ![b](../src/low)", "[a](A.md#c) ![b](../src/low)"),
+        front, others = release.PAGE, {"docs/A.md": File(b""), "src/low/x.rs": File(b"")}
+        hold(self, lambda page, text: settled({**others, page: File(text)})[release.MOVED.get(page, page)].content, (
+            ("docs/C.md", b"[a](A.md#c) ![b](../src/low)", b"[a](A.md#c) ![b](../src/low)"),
             # Links to what is not there are words.
-            ("docs/C.md", "[of\ntwo](../src/high/) and `x`", "of\ntwo and `x`"),
+            ("docs/C.md", b"[of\ntwo](../src/high/) and `x`", b"of\ntwo and `x`"),
             # Pages may lie elsewhere.
-            ("docs/C.md", "[b](B.md#d)", "[b](../README.md#d)"),
-            ("docs/B.md", "[a](A.md) [c](#e) [f](https://g.h/)", "[a](docs/A.md) [c](#e) [f](https://g.h/)"),
+            (FRONT, b"[a](docs/A.md) [b](README.md#d)", b"[a](A.md) [b](README.md#d)"),
+            (front, b"[a](../../docs/A.md) [c](#e) [f](https://g.h/)", b"[a](docs/A.md) [c](#e) [f](https://g.h/)"),
             # What stands between fences stays.
-            ("docs/C.md", "```\n[a](Z.md)\n```\n[b](Z.md)\n```\n[c](Z.md)\n```\n",
-             "```\n[a](Z.md)\n```\nb\n```\n[c](Z.md)\n```\n"),
+            ("docs/C.md", b"```\n[a](Z.md)\n```\n[b](Z.md)\n```\n[c](Z.md)\n```\n",
+             b"```\n[a](Z.md)\n```\nb\n```\n[c](Z.md)\n```\n"),
         ))
 
     def test_what_is_changed_is_no_release(self) -> None:
         with mock.patch("vga_report.processes.captured", return_value=Done(0, b" M README.md\n", b"")):
             told = "^vga-release: a release is made from a commit, and this is changed: M README.md\n$"
-            hold_undone(self, call(command.main, "release"), told)
+            hold_undone(self, call(release.main, "release"), told)
 
 
 def sources() -> dict[str, Entry]:
@@ -289,35 +268,25 @@ def sources() -> dict[str, Entry]:
     return {**entries, **LINKS}
 
 
-class Whole(unittest.TestCase):
+class Whole(Folder):
     """All pages of a release, as who has unpacked it reads them."""
 
-    @classmethod
-    def setUpClass(cls) -> None:
-        cls.entries = settled(sources())
-        cls.places = {"."} | {str(path) for place in cls.entries for path in (Path(place), *Path(place).parents)}
-        cls.pages = {
-            place: entry.content.decode("utf-8")
-            for place, entry in cls.entries.items() if place.endswith(".md") and isinstance(entry, File)
-        }
-
-    def test_the_front_page(self) -> None:
-        self.assertTrue(self.pages[FRONT].startswith("# Zaklimot: a release\n"))
-        self.assertTrue(self.pages[f"docs/{FRONT}"].startswith("# Zaklimot\n"))
-        self.assertNotIn(gathering.PAGE, self.pages)
-        self.assertGreater(len(self.pages), 30)
+    def setUp(self) -> None:
+        super().setUp()
+        self.pages = {}
+        for place, entry in settled(sources()).items():
+            (self.folder / place).parent.mkdir(parents=True, exist_ok=True)
+            if isinstance(entry, str):
+                (self.folder / place).symlink_to(entry)
+            elif self.write(place, entry.content) and place.endswith(".md"):
+                self.pages[place] = entry.content.decode("utf-8")
 
     def test_each_link_leads_to_what_is_there(self) -> None:
-        found = {page: anchors(text) for page, text in self.pages.items()}
-        links = [
-            (page, posixpath.normpath(posixpath.join(posixpath.dirname(page), place)) if place else page, anchor)
-            for page, text in self.pages.items()
-            for place, anchor in re.findall(r"\]\((?!https?:)([^()\s#]*)(?:#([^()\s]+))?\)", "\n".join(prose(text)))
-        ]
-        self.assertIn((FRONT, "docs/LIBRARY.md", "a-release"), links)
-        self.assertIn(("docs/LIBRARY.md", f"docs/{FRONT}", "build-it"), links)
-        self.assertEqual([link for link in links if link[1] not in self.places], [])
-        self.assertEqual([link for link in links if link[2] and link[2] not in found.get(link[1], ())], [])
+        self.assertTrue(self.pages[FRONT].startswith("# Zaklimot: a release\n"))
+        self.assertTrue(self.pages[f"docs/{FRONT}"].startswith("# Zaklimot\n"))
+        self.assertIn("(docs/LIBRARY.md#a-release)", self.pages[FRONT])
+        self.assertTrue(len(self.pages) > 30 and (self.folder / "share/man/man1/vga.1").exists())
+        hold(self, lambda page: broken(self.folder / page, self.pages[page]), ((page, []) for page in self.pages))
 
     def test_each_command_is_there_or_told_to_be_elsewhere(self) -> None:
         elsewhere = re.findall(r"`([^`]+)`", self.pages[FRONT].partition("These prove, build or test")[2].partition("\n\n")[0])
@@ -327,12 +296,11 @@ class Whole(unittest.TestCase):
             made = {Path(name).name for name in re.findall(r" -o (\S+)", text)}
             for name in commands_of(text):
                 with self.subTest(page=page, command=name):
-                    is_there = name in self.places or Path(name).name in made
+                    is_there = (self.folder / name).exists() or Path(name).name in made
                     self.assertTrue(is_there or any(name.startswith(told) for told in elsewhere))
         # What is told to be elsewhere is not here.
-        for name in (name for name in elsewhere if name.startswith("tools/")):
-            self.assertNotIn(name, self.places)
-            self.assertTrue((TOP / name).exists(), name)
+        others = [name for name in elsewhere if name.startswith("tools/")]
+        self.assertEqual({((self.folder / name).exists(), (TOP / name).exists()) for name in others}, {(False, True)})
 
 
 # What may stand before a program of the repository, or before the folder of its tests.
@@ -347,44 +315,6 @@ def commands_of(text: str) -> Iterator[str]:
             yield found[1]
         elif re.match(r"\(cd crates/|rt ", line):
             yield line.strip("(")
-
-
-class Packed(Folder):
-    def test_the_wheel_has_the_library(self) -> None:
-        files = {place: entry for place, entry in sources().items() if isinstance(entry, File)}
-        for place in ("lib/libzaklimot.so", "share/zaklimot/zaklimot.fnt"):
-            self.write(f"library/{place}", place)
-        made = []
-        for number in "12":
-            (self.folder / number).mkdir()
-            made.append(wheel_of(files, self.folder / "library", self.folder / number, X86_64))
-        self.assertEqual(made[0].read_bytes(), made[1].read_bytes())
-        self.assertEqual(made[0].name, f"zaklimot-{version()}-py3-none-linux_x86_64.whl")
-        with zipfile.ZipFile(made[0]) as wheel:
-            self.assertEqual(wheel.read("zaklimot/carried/libzaklimot.so"), b"lib/libzaklimot.so")
-            self.assertIn("zaklimot/format/table.py", wheel.namelist())
-
-    def test_the_archive_and_its_checksum(self) -> None:
-        given = self.write("given", "built")
-        made = {"clean_commit": lambda: COMMIT, "release_entries": lambda *_: ENTRIES, "check_program": lambda _: None}
-        self.patch(mock.patch.multiple(command, **made))
-        words = ["--program", given, "--archive", given, "--archive-aarch64", given]
-        status, output, _ = call(command.main, self.folder, *words)
-        archive, sums = map(Path, output.splitlines())
-        number = hashlib.sha256(archive.read_bytes()).hexdigest()
-        self.assertEqual((status, sums.read_text("ascii")), (0, f"{number}  {archive.name}\n"))
-
-    def test_what_is_laid_is_told(self) -> None:
-        with mock.patch.object(making, "run", return_value=""):
-            laid = making.make_library(Path("a"), Path("b"), Place(str(self.folder)), making.MOVING)
-        self.assertIn(self.folder / "include" / "zaklimot.h", laid)
-        self.assertTrue((self.folder / "share" / "zaklimot" / "zaklimot.fnt").is_file())
-
-    def test_no_source_is_laid_over_itself(self) -> None:
-        header = Path(self.write("include/zaklimot.h", TEXT))
-        with mock.patch.multiple(making, HEADER=header, run=lambda *_: ""):
-            told = refused(making.make_library, Path("a"), Path("b"), Place(str(self.folder)), making.MOVING)
-        self.assertEqual((told, header.exists()), (f"{header}: it is read as {header}, so it isn't written", True))
 
 
 class Installing(Folder):
@@ -409,11 +339,9 @@ class Installing(Folder):
             self.assertEqual(self.install("--prefix", str(prefix)), (0, "".join(laid), ""))
         self.assertTrue(os.access(prefix / "bin/vga", os.X_OK))
         self.assertEqual(os.readlink(prefix / "lib/z.so"), "z.so.1")
-        self.assertEqual((prefix / "share/z/f.fnt").read_text(), "font")
-
-    def test_a_stage_stands_before_the_prefix(self) -> None:
+        # A stage stands before the prefix.
         self.assertEqual(self.install("--destdir=stage", "--prefix=/usr")[0], 0)
-        self.assertEqual((self.folder / "stage/usr/bin/vga").read_text(), "#!program")
+        self.assertEqual((self.folder / "stage/usr/share/z/f.fnt").read_text(), "font")
 
     def test_what_it_refuses(self) -> None:
         (self.folder / "full" / "bin" / "vga").mkdir(parents=True)
@@ -428,3 +356,178 @@ class Installing(Folder):
             with self.subTest(words=words):
                 hold_undone(self, self.install(*words), rf"{told}.*\n\Z")
         self.assertEqual((self.release / "bin/vga").read_text(), "#!program")
+
+
+class OtherProcessors(Folder):
+    """The library is made by programs of the cross compiler and of the toolchain that note how they are called."""
+
+    def setUp(self) -> None:
+        super().setUp()
+        self.notes, kit = self.folder / "notes", self.folder / "kit"
+        names = [f"bin/{name}" for name in ("rt", *AARCH64.programs())]
+        for name in (*names, "kit/bin/rattle"):
+            self.program(name, FAKE)
+        path = f"{self.folder / 'bin'}:{os.environ['PATH']}"
+        self.crate = self.folder / "crates" / "vga_c"
+        (self.crate / "out").mkdir(parents=True)
+        self.patch(
+            mock.patch.dict(os.environ, {"PATH": path, "NOTES": str(self.notes), "KIT": str(kit)}),
+            mock.patch.multiple(
+                toolchain, CRATE=self.crate, KEPT=self.crate / "out" / "incremental",
+                rlib=lambda name: Path(f"{name}.rlib"),
+            ),
+            mock.patch.object(making, "FOLDER", self.crate / "out" / "made"),
+        )
+
+    def noted(self) -> list[list[str]]:
+        """The words of each program that was called."""
+        return [line.split(" ") for line in self.notes.read_text("utf-8").splitlines()]
+
+    def make(self, name: str, *words: str) -> tuple[int, str, str]:
+        """How the library for the other processor is made in a folder."""
+        return call(command.main, "make", self.folder / name, "--target", "aarch64", *words)
+
+    def test_what_is_run_and_what_is_laid(self) -> None:
+        progress = mock.create_autospec(Progress, instance=True)
+        with mock.patch("vga_report.cli.Progress", return_value=progress):
+            status, told, said = self.make("kit-for-arm")
+        self.assertIn(" proving and building the library: vga_bits, crate 1 of ", progress.tell.call_args[0][0])
+        self.assertEqual((status, said), (0, ""))
+        self.assertIn(f"{self.folder}/kit-for-arm/lib/libzaklimot.so.{version()}\n", told)
+        calls, front = [words for words in self.noted() if words != ["rt", "doc"]], "aarch64-linux-gnu-"
+        self.assertEqual([words[0] for words in calls], [
+            "rt", "rattle", f"{front}gcc", f"{front}ld", f"{front}objcopy", f"{front}ar", f"{front}gcc",
+        ])
+        self.assertEqual(calls[0], ["rt", "check"])
+        self.assertEqual((calls[1][1], Path(calls[1][-1])), ("build", self.crate / "out" / "libvga_c-aarch64.a"))
+        building = dict(zip(calls[1], calls[1][1:]))
+        options = [building.get(f"--{name}") for name in ("target", "backend", "crate-type")]
+        self.assertEqual(options, ["aarch64-unknown-linux-gnu", "llvm", "staticlib"])
+        # Both the crate's archive and the memory's functions are joined.
+        self.assertEqual([Path(word).name for word in calls[3][-2:]], ["crates.a", "memory.a"])
+        self.assertIn(str(HEAP), calls[2])
+        # What was made is installed without the toolchain, but not where the memory's functions are others.
+        self.notes.unlink()
+        words = ["install", "--prefix", "/usr", "--destdir", str(self.folder / "stage"), "--target", "aarch64"]
+        self.assertEqual(call(command.main, *words)[0], 0)
+        self.assertEqual({words[0] for words in self.noted()}, set(AARCH64.programs()))
+        self.assertIsNotNone(making.kept("llvm", AARCH64))
+        with mock.patch.object(making, "HEAP", Path(__file__)):
+            self.assertIsNone(making.kept("llvm", AARCH64))
+
+    def test_what_cannot_be_made_is_told_before_the_long_work(self) -> None:
+        self.write("file", "")
+        hold_undone(self, self.make("none", "--backend", "rattle"), "aarch64: the toolchain has no compiler rattle for")
+        hold_undone(self, self.make("file"), f"^vga-library: {self.folder}/file: it is not a folder\n$")
+        for program in AARCH64.programs():
+            with self.subTest(program), mock.patch("shutil.which", lambda name: None if name == program else name):
+                told = f"^vga-library: {program}: it is not in the path: install the package {PACKAGES[program]}\n$"
+                hold_undone(self, self.make("none"), told)
+        self.assertFalse(self.notes.exists())
+        # What fails leaves no folder.
+        self.program(f"bin/{AARCH64.tool('ar')}", "#!/bin/sh\nexit 1\n")
+        hold_undone(self, self.make("none"), "aarch64-linux-gnu-ar: it ended with status 1\n")
+        self.assertFalse((self.folder / "none").exists())
+        with mock.patch.dict(os.environ, {"CC": "some-cc"}):
+            self.assertEqual(X86_64.programs(), ["some-cc", "ld", "objcopy", "ar"])
+
+    def test_what_a_release_has_of_it(self) -> None:
+        files = {place: entry for place, entry in sources().items() if isinstance(entry, release.File)}
+        archive = self.folder / "crates.a"
+        archive.touch()
+        entries = release.library_files(files, AARCH64, archive)
+        self.assertEqual({place.partition("/")[0] for place in entries}, {"aarch64"})
+        self.assertEqual(entries["aarch64/lib/libzaklimot.so"], f"libzaklimot.so.{version()}")
+        self.assertEqual(entries["aarch64/lib/libzaklimot.a"], File(b"archive\n"))
+        wheel = entries[f"aarch64/zaklimot-{version()}-py3-none-linux_aarch64.whl"]
+        assert isinstance(wheel, release.File)
+        with zipfile.ZipFile(io.BytesIO(wheel.content)) as opened:
+            self.assertEqual(opened.read("zaklimot/carried/libzaklimot.so"), b"made\n")
+            self.assertIn("zaklimot/format/table.py", opened.namelist())
+        self.assertEqual(release.library_files(files, AARCH64, archive), entries)
+        text = release.made_of(release.Commit("0123", 0), "kit", entries).content.decode("ascii")
+        self.assertRegex(text, r"(?m)^sha256 [0-9a-f]{64} aarch64/lib/libzaklimot\.a$")
+
+    @unittest.skipUnless(shutil.which("cc"), "there is no C compiler")
+    def test_what_the_heap_answers(self) -> None:
+        program = self.folder / "taking"
+        # A compiler that knows malloc would warn of so large a request.
+        self.assertEqual(ended("cc", *HEAP_OPTIONS, "-fno-builtin", TAKING, HEAP, "-o", program), (0, "", ""))
+        self.assertEqual(ended(program)[0], 0)
+
+
+class Bindings(unittest.TestCase):
+    """That the tests of the packages can fail."""
+
+    def test_what_is_wrong(self) -> None:
+        self.assertEqual(run([sys.executable, "-c", "print(7)"]), "7\n")
+        with self.assertRaisesRegex(Wrong, "it ended with status 1\n(?s:.*)no such test"):
+            run([sys.executable, "-c", "raise SystemExit('no such test')"])
+        line = "test result: ok. {} passed; 0 failed; 0 ignored\n"
+        for check, right, wrong in (
+            (bindings.check_python, "skipped 'numpy is not here'\nRan 9 tests in 1s\n", "skipped 'x'\nRan 9 tests in 1s"),
+            (bindings.check_rust, 5 * line.format(4), 5 * line.format(0)),
+        ):
+            said = mock.Mock(side_effect=[right, wrong])
+            tested = mock.Mock(side_effect=[Done(0, b"", text.encode()) for text in (right, wrong)])
+            with self.subTest(right), mock.patch.multiple(bindings, tested=tested, _cargo=said):
+                self.assertRegex(check(TOP, TOP), "^(9|20) tests")
+                self.assertRaises(Wrong, check, TOP, TOP)
+        self.assertEqual(list(bindings.programs_of_page()), [f"program_{number}" for number in range(3)])
+
+    def test_words_that_cannot_be_meant_and_what_is_lacking(self) -> None:
+        with mock.patch.object(bindings, "lacking", lambda: []):
+            for words in (["--proof", "folder"], ["--library", "no-such-folder"]):
+                hold_undone(self, call(bindings.main, *words), "^vga-bindings-tests: ")
+            self.assertEqual(call(bindings.main, "--ready"), (0, "", ""))
+        with mock.patch("shutil.which", lambda name: None if "cargo" in name else name):
+            told = "  cargo: install the package cargo\n  cargo-clippy: install the package rust-clippy\n"
+            hold_undone(self, call(bindings.main, "--ready"), f"^vga-bindings-tests: this machine lacks\n{told}")
+
+
+@unittest.skipUnless(shutil.which("rustc"), "rustc isn't installed")
+class Finding(unittest.TestCase):
+    """What the build of the crate for Rust finds, and what it says where there is no library."""
+
+    @classmethod
+    def setUpClass(cls) -> None:
+        folder = tempfile.TemporaryDirectory()
+        cls.addClassCleanup(folder.cleanup)
+        cls.folder = Path(folder.name)
+        source = TOP / "bindings" / "rust" / "zaklimot-sys" / "build.rs"
+        words = ["rustc", "--edition", "2021", "-D", "warnings", "-o", cls.folder / "build", source]
+        subprocess.run(words, check=True, timeout=120)
+        # Each of them has a file for pkg-config; the library of `empty` is not there.
+        for name in ("full", "empty"):
+            package = cls.folder / name / "lib" / "pkgconfig" / "zaklimot.pc"
+            package.parent.mkdir(parents=True)
+            package.write_text(next(iter(described("", "lib", version()).values())), "ascii")
+        (cls.folder / "full" / "lib" / "libzaklimot.a").touch()
+
+    def built(self, **names: str) -> tuple[int, str, str]:
+        """How the build ends, what it tells cargo, and what it says."""
+        return ended(self.folder / "build", env={"PATH": os.environ["PATH"], **names})
+
+    def test_what_is_found(self) -> None:
+        full = self.folder / "full"
+        for names in ({"ZAKLIMOT_DIR": str(full)}, {"PKG_CONFIG_PATH": f"/no-such-folder:{full}/lib/pkgconfig"}):
+            with self.subTest(names):
+                status, told, said = self.built(**names)
+                self.assertEqual((status, said), (0, ""))
+                self.assertIn("cargo:rustc-link-lib=static=zaklimot\n", told)
+                folders = dict(line.partition("=")[::2] for line in told.splitlines())
+                self.assertTrue(os.path.samefile(folders["cargo:rustc-link-search"].partition("=")[2], full / "lib"))
+
+    def test_without_a_library_each_way_to_one_is_told(self) -> None:
+        empty, ways = str(self.folder / "empty"), ("a release", "./install.sh", "tools/vga-library install", "PKG_CONFIG_PATH")
+        for names, begins in (
+            ({"PKG_CONFIG_PATH": f"{empty}/lib/pkgconfig"}, "there is no library libzaklimot.\n"),
+            ({"ZAKLIMOT_DIR": empty}, f"ZAKLIMOT_DIR is {empty}, and there is no lib/libzaklimot.a or .so.\n"),
+            ({"ZAKLIMOT_DIR": "kit"}, "ZAKLIMOT_DIR is kit, and a path is to begin with a slash.\n"),
+        ):
+            with self.subTest(names):
+                status, told, said = self.built(**names)
+                self.assertEqual((status, said[:len(begins)]), (1, begins))
+                self.assertNotIn("rustc-link", told)
+                for way in (*ways, "tools/vga-library make kit", "set ZAKLIMOT_DIR"):
+                    self.assertIn(way, said)

@@ -66,10 +66,8 @@ class Pages(Fake):
         return reader
 
     def frames(self, page: str) -> list[dict[str, object]]:
-        found = re.search(r'<script type="application/json" id="frames">(.*?)</script>', page)
-        assert found is not None
-        frames: list[dict[str, object]] = json.loads(found[1])
-        return frames
+        (found,) = re.findall(r'<script type="application/json" id="frames">(.*?)</script>', page)
+        return json.loads(found)
 
     def test_a_run(self) -> None:
         page, told = self.folder / "page.html", "6 steps, 1 refused, 1 picture, 4 of 4 answers as expected\n"

@@ -14,8 +14,6 @@ from .tools import BLACK, TOP, Folder, ppm, report, run_tool
 
 # Each tool may take so much memory, in bytes.
 MEMORY = 1 << 30
-# Where a completion lies below the folder of a manual.
-FISH = "share/fish/vendor_completions.d/vga.fish"
 PICTURE, OTHER = ppm(9, 1, BLACK * 9), ppm(9, 1, b"\x3f\0\0" * 9)
 # A floppy's image with what a run has left.
 IMAGE = machine(b"frame\n")[0].run()
@@ -29,7 +27,7 @@ for number in range(1, {PICTURES + 1} if sys.argv[1] == "go" else 1):
 """
 FILES: dict[str, str | bytes] = {
     "r": report(PICTURE), "r2": report(OTHER), "i": PICTURE, "s.vga": "frame\n", "m": IMAGE,
-    "t": "- w p 3C4 02 1\n", "empty/notes": "", "made/share": "", f"full/{FISH}/file": "",
+    "t": "- w p 3C4 02 1\n", "empty/notes": "",
     "ok": report("ok", PICTURE), "none": report("ok"), "move.vga": "frame\nmove\n", "font": bytes(9727),
     "sizes": report(PICTURE, ppm(1, 1, BLACK)), "end.vga": "version 2\nend\n", "cut": b"VGAS\1\1",
 }
@@ -71,11 +69,6 @@ REFUSED = {
     "report scripts {d}/empty": "the folder has files, and none of them is to be lost",
     "report run {d}/empty": "it has no script: their names end with .vga or .bin",
     "report pictures {r} {r}": "vga-report: {r}: it is not a folder\n",
-    "manual make {s} --vga {p}": "vga-manual: {s}: it is not a folder\n",
-    "manual make {d}/made --vga {p}": "vga-manual: {d}/made/share: it is not a folder\n",
-    "manual make {d}/full --vga {p}": f"vga-manual: {{d}}/full/{FISH}: it is a folder\n",
-    "manual make {o} --vga /bin/true": "vga-manual: /bin/true --help:1: its usage does not begin with `vga`\n",
-    "manual make  --vga {p}": "vga-manual: the name of a file is empty\n",
     "report text ": "vga-report: the name of a file is empty\n",
     "report run  --vga {p}": "vga-report: the name of a file is empty\n",
     "trace convert {t} ": "the name of a file is empty",
@@ -161,7 +154,7 @@ REFUSED = {
         "vga-picture: {i}: the image has 9x1 dots, and mode 12 has 640x480: "
         "--scale stretches it, --fit keeps its shape\n",
     "picture script {i} - --mode 3 --fonts {t}": "vga-picture: {t}: a font file has 9,728 bytes, and this has 15\n",
-    "trace record {d}/full --vga {p} -- -cdrom x": "it has files: name a new folder",
+    "trace record {d}/empty --vga {p} -- -cdrom x": "it has files: name a new folder",
     "trace record {o} --vga {p}": "qemu needs words after `--`",
     "trace record {o} --key 2:": "'2:' is no key of qemu's",
     "trace record {o} --key x:ret": "'x' is no number of seconds",
@@ -235,7 +228,6 @@ READ_AND_WRITTEN = [
     ("floppy make {in} {out}", "frame\n", "out"),
     ("floppy read {in} {out}", IMAGE, "out"),
     ("page make {out} --module {in}", "module", "out"),
-    ("manual make {d} --vga {in}", PROGRAM, FISH),
 ]
 
 

@@ -4,6 +4,7 @@ import argparse
 import os
 import tempfile
 from pathlib import Path
+from typing import Optional
 
 from vga_report import cli
 from vga_report.cli import add
@@ -14,11 +15,17 @@ from vga_report.streams import check_folder, to_read
 from vga_report.trouble import Trouble
 
 from .making import MOVING, Place, keep, kept, make_library
-from .targets import BACKENDS, TARGETS, X86_64, Target
-from .toolchain import ARCHIVE, built_archive, memory_part
+from .toolchain import ARCHIVE, BACKENDS, TARGETS, X86_64, Target, built_archive, memory_part
 
 # Where files go that a package names no other place for.
 USUAL_PREFIX = "/usr/local"
+
+
+def check_given(*paths: Optional[str]) -> None:
+    """Ends the work where one of these is given and is no file."""
+    for path in filter(None, paths):
+        if not os.path.isfile(path):
+            raise Trouble("there is no such file", path)
 
 
 def _add_archive(parser: argparse.ArgumentParser) -> None:
@@ -49,10 +56,7 @@ def _parser() -> argparse.ArgumentParser:
 def _parts(
     words: argparse.Namespace, target: Target, takes_made: bool, progress: Progress, folder: Path
 ) -> tuple[Path, Path]:
-    """The crate's archive, given or made before of the same sources, or proved and built now; and its memory's part.
-
-    What goes once the library is laid lies in the folder.
-    """
+    """The crate's archive, given, or made before of the same sources, or proved and built now; its memory's part."""
     if words.archive is not None:
         return Path(words.archive), memory_part(target, folder)
     found = kept(words.backend, target) if takes_made else None
@@ -64,22 +68,14 @@ def _parts(
     return keep(words.backend, target, *parts)
 
 
-def _wanted_target(words: argparse.Namespace) -> Target:
-    """The processor that is named, once all is there that makes the library for it."""
+def _lay(words: argparse.Namespace, place: Place, prefix: str, progress: Progress, takes_made: bool = False) -> None:
+    # What is wrong with words, programs and folders is told before the long work.
+    check_given(words.archive)
     target = TARGETS[words.target]
     if words.archive is None and words.backend not in target.backends:
         raise Trouble(f"the toolchain has no compiler {words.backend} for it", target.name)
     for name in target.programs():
         check_program(name)
-    return target
-
-
-def _lay(words: argparse.Namespace, place: Place, prefix: str, progress: Progress, takes_made: bool = False) -> None:
-    """Makes the library, and tells its files."""
-    if words.archive is not None and not os.path.isfile(words.archive):
-        raise Trouble("there is no such file", words.archive)
-    # What is wrong with words, programs and folders is told before the long work.
-    target = _wanted_target(words)
     for name in ("include", place.library_folder, "share"):
         check_folder(place.folder(name))
     with tempfile.TemporaryDirectory(prefix="vga-library-") as folder:

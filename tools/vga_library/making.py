@@ -16,8 +16,7 @@ from vga_report.processes import run
 from vga_report.streams import filled, refuse_input, to_read
 from vga_report.version import HEADER, Version, version
 
-from .targets import X86_64, Target
-from .toolchain import CRATE, HEAP
+from .toolchain import CRATE, HEAP, X86_64, Target
 
 NAME = "zaklimot"
 # The name by which CMake finds it, and the files that it reads, with places for what is made.
@@ -52,27 +51,20 @@ class Place(NamedTuple):
         return Path(self.stage) / PurePosixPath(self.prefix).relative_to("/") / name
 
 
-def _upwards(library_folder: str, below: str) -> str:
-    """The way from a folder below that of the libraries to the prefix."""
-    return "/".join([".."] * len(PurePosixPath(library_folder, below).parts))
+def described(prefix: str, library_folder: str, told: Version) -> dict[str, str]:
+    """What `pkg-config` and CMake read, by the names of the files below the folder of libraries.
 
-
-def package_text(prefix: str, library_folder: str, told: Version) -> str:
-    """What `pkg-config` reads."""
-    moving = "${pcfiledir}/" + _upwards(library_folder, "pkgconfig")
-    return filled(PACKAGE, PREFIX=prefix or moving, LIBRARY_FOLDER=library_folder, VERSION=str(told))
-
-
-def cmake_text(library_folder: str, told: Version) -> str:
-    """What CMake's `find_package` reads. It finds the files from its own place, wherever that is."""
-    upwards = _upwards(library_folder, f"cmake/{CMAKE_NAME}")
-    numbers = {"VERSION": str(told), "MAJOR": str(told.major)}
-    return filled(CMAKE / "config.cmake.in", UPWARDS=upwards, LIBRARY_FOLDER=library_folder, **numbers)
-
-
-def cmake_version_text(told: Version) -> str:
-    """What `find_package` asks for the version: equal major numbers fit, and a minor one that is not lower."""
-    return filled(CMAKE / "version.cmake.in", VERSION=str(told), MAJOR=str(told.major))
+    CMake finds the library from its files' own place, wherever that is, and so does `pkg-config` where it is MOVING.
+    """
+    cmake, version_words = f"cmake/{CMAKE_NAME}", {"VERSION": str(told), "MAJOR": str(told.major)}
+    upwards, moving = ("/".join([".."] * len(Path(library_folder, name).parts)) for name in (cmake, "pkgconfig"))
+    prefix = prefix or "${pcfiledir}/" + moving
+    return {
+        f"pkgconfig/{NAME}.pc": filled(PACKAGE, PREFIX=prefix, LIBRARY_FOLDER=library_folder, VERSION=str(told)),
+        f"{cmake}/{CMAKE_NAME}Config.cmake":
+            filled(CMAKE / "config.cmake.in", UPWARDS=upwards, LIBRARY_FOLDER=library_folder, **version_words),
+        f"{cmake}/{CMAKE_NAME}ConfigVersion.cmake": filled(CMAKE / "version.cmake.in", **version_words),
+    }
 
 
 def joined_object(archive: Path, memory: Path, folder: Path, target: Target) -> Path:
@@ -103,13 +95,8 @@ def make_library(archive: Path, memory: Path, place: Place, prefix: str, target:
     """
     told = version()
     include, libraries = place.folder("include"), place.folder(place.library_folder)
-    packages, share = libraries / "pkgconfig", place.folder(f"share/{NAME}")
-    cmake = libraries / "cmake" / CMAKE_NAME
-    texts = {
-        packages / f"{NAME}.pc": package_text(prefix, place.library_folder, told),
-        cmake / f"{CMAKE_NAME}Config.cmake": cmake_text(place.library_folder, told),
-        cmake / f"{CMAKE_NAME}ConfigVersion.cmake": cmake_version_text(told),
-    }
+    share = place.folder(f"share/{NAME}")
+    texts = {libraries / file: text for file, text in described(prefix, place.library_folder, told).items()}
     with tempfile.TemporaryDirectory(prefix="vga-library-") as name:
         made = Path(name) / "lib"
         made.mkdir()
@@ -137,7 +124,6 @@ def make_library(archive: Path, memory: Path, place: Place, prefix: str, target:
 
 
 def _sources() -> Iterator[Path]:
-    """The files that the library's crate is made of, and those of the crates below it."""
     yield TOP / "crates.txt"
     for name in [*below(CRATE.name), CRATE.name]:
         for entry in sorted((TOP / "crates" / name).iterdir()):
@@ -154,7 +140,6 @@ def made_of(backend: str, target: Target, parts: Iterable[Path]) -> str:
 
 
 def _parts(target: Target) -> tuple[Path, Path]:
-    """Where both parts are kept."""
     return FOLDER / target.name / CRATES, FOLDER / target.name / MEMORY
 
 

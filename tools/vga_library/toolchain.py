@@ -1,4 +1,4 @@
-"""What the library is joined of: the crate's archive for a processor, and the functions that take its memory.
+"""The processors that the library is made for, and what it is joined of: the crate's archive, and its memory's part.
 
 Right behind the gate the archive is made over the libraries that `rt ci` proved and built: `rt lib`
 does not take these, and would prove all crates once more. So its calls of the compiler are made
@@ -11,14 +11,12 @@ from __future__ import annotations
 
 import os
 from pathlib import Path
-from typing import Optional
+from typing import NamedTuple, Optional
 
 from vga_report import TOP
 from vga_report.crates import below, uses
 from vga_report.processes import Hearer, run
 from vga_report.trouble import Trouble
-
-from .targets import BACKENDS, X86_64, Target
 
 CRATE = TOP / "crates" / "vga_c"
 ARCHIVE = CRATE / "out" / "libvga_c.a"
@@ -31,6 +29,37 @@ HEAP = Path(__file__).resolve().parent / "heap.c"
 HEAP_OPTIONS = ("-std=c99", "-O2", "-fPIC", "-Wall", "-Wextra", "-Werror")
 # Where `rt check` keeps its work.
 KEPT = CRATE / "out" / "incremental"
+# Rattle's compilers: LLVM, and one that is written in Rattle.
+BACKENDS = ("llvm", "rattle")
+
+
+class Target(NamedTuple):
+    """A processor with Linux: its name, Rattle's name of it, and the compilers of Rattle that a kit has for it.
+
+    `prefix` begins the names of the programs that make files for it; it is empty where they are the machine's own.
+    """
+
+    name: str
+    triple: str
+    backends: tuple[str, ...]
+    prefix: str = ""
+
+    def tool(self, name: str) -> str:
+        """The program of this name that makes files for it."""
+        return f"{self.prefix}{name}"
+
+    def compiler(self) -> str:
+        """Its C compiler; for the machine's own processor as packagers name one."""
+        return self.tool("gcc") if self.prefix else os.environ.get("CC") or "cc"
+
+    def programs(self) -> list[str]:
+        """All that is run to make the library for it, but for Rattle's own."""
+        return [self.compiler(), *map(self.tool, ("ld", "objcopy", "ar"))]
+
+
+X86_64 = Target("x86_64", "x86_64-unknown-linux-gnu", BACKENDS)
+AARCH64 = Target("aarch64", "aarch64-unknown-linux-gnu", BACKENDS[:1], "aarch64-linux-gnu-")
+TARGETS = {target.name: target for target in (X86_64, AARCH64)}
 
 
 def kit_folder() -> Path:
@@ -38,16 +67,9 @@ def kit_folder() -> Path:
     return Path(run(["rt", "doc"]).strip()).parent
 
 
-def kit_archive() -> Path:
-    """The kit's functions that a static library of Rattle takes its memory by."""
-    return kit_folder() / "c" / "liblibc_c.a"
-
-
-def proved_archive(backend: str, heard: Optional[Hearer] = None) -> Path:
-    """The crate's archive, proved and built by one of the two compilers. What is kept of its proof makes it quick."""
-    flags = [] if backend == BACKENDS[0] else ["--backend", backend]
-    run(["rt", "lib", *flags], CRATE, heard)
-    return ARCHIVE
+def kit_line() -> str:
+    """The line by which the kit tells what it is."""
+    return run(["rt", "version"]).strip()
 
 
 def rlib(name: str) -> Path:
@@ -59,7 +81,6 @@ def rlib(name: str) -> Path:
 
 
 def _libraries(kit: Path) -> list[str | Path]:
-    """The words that name the libraries of the kit and of the repository."""
     own = below(CRATE.name)
     words: list[str | Path] = []
     for name in [ALWAYS, *(name for name in uses()[CRATE.name] if name not in uses())]:
@@ -96,7 +117,8 @@ def gated_archive(backend: str, kept: Path, made: Path, target: Target = X86_64)
 def built_archive(backend: str, target: Target, heard: Optional[Hearer] = None) -> Path:
     """The crate's archive for a processor, proved and built. What is kept of its proof makes it quick."""
     if target == X86_64:
-        return proved_archive(backend, heard)
+        run(["rt", "lib", *([] if backend == BACKENDS[0] else ["--backend", backend])], CRATE, heard)
+        return ARCHIVE
     # `rt lib` builds for the kit's own processor alone. The compiler proves the crate for the other one too.
     run(["rt", "check"], CRATE, heard)
     return gated_archive(backend, KEPT, CRATE / "out" / f"lib{CRATE.name}-{target.name}.a", target)
@@ -105,7 +127,7 @@ def built_archive(backend: str, target: Target, heard: Optional[Hearer] = None) 
 def memory_part(target: Target, folder: Path) -> Path:
     """The functions that the crate takes its memory by: the kit's, or a file that is made in the folder."""
     if target == X86_64:
-        return kit_archive()
+        return kit_folder() / "c" / "liblibc_c.a"
     made = folder / "heap.o"
     run([target.compiler(), *HEAP_OPTIONS, "-c", HEAP, "-o", made])
     return made

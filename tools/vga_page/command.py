@@ -4,11 +4,10 @@ from __future__ import annotations
 
 import argparse
 
-from vga_report.crates import phases
 from vga_report import cli
 from vga_report.processes import MEBIBYTE
 from vga_report.progress import Progress
-from vga_report.streams import STANDARD, check_file, reading, to_read, write_file
+from vga_report.streams import STANDARD, check_file, read_at_most, to_read, write_file
 from vga_report.trouble import Trouble
 from vga_report.words import number_to
 
@@ -20,7 +19,6 @@ MOST_MEBIBYTES = 4096
 
 
 def _mebibytes(word: str) -> int:
-    """Reads a number of MiB; how many bytes they are."""
     return number_to(MOST_MEBIBYTES)(word) * MEBIBYTE
 
 
@@ -47,16 +45,15 @@ def _parser() -> argparse.ArgumentParser:
 
 
 def _made_module(words: argparse.Namespace, progress: Progress) -> bytes:
-    """The module, as it is given or made, held to what the page relies on."""
+    cli.refuse_to_check(words)
+    if words.module is not None and words.gated:
+        raise Trouble("--module takes a module as it is, so --gated proves nothing")
+    check_file(words.file)
     if words.module is not None:
-        with reading(words.module) as stream:
-            module = stream.read(MOST_MODULE + 1)
+        module = read_at_most(words.module, MOST_MODULE)
         check_module(module)
         return module
-    try:
-        return made_modules(phases(progress), words.gated, words.proof, [words.memory])[0][0]
-    finally:
-        progress.clear()
+    return made_modules(words, progress, [words.memory])[0][0]
 
 
 def _write(path: str, data: bytes, told: str) -> None:
@@ -69,24 +66,14 @@ def _write(path: str, data: bytes, told: str) -> None:
 def _make(words: argparse.Namespace, progress: Progress) -> None:
     # What is wrong with the sources is told before the long work; none of them is written.
     sources = read_sources()
-    _check_words(words)
     module = _made_module(words, progress)
     page = make_page(module, sources)
     _write(words.file, page, f"{len(page):,} bytes; its module has {check_module(module)}")
 
 
 def _module(words: argparse.Namespace, progress: Progress) -> None:
-    _check_words(words)
     module = _made_module(words, progress)
     _write(words.file, module, check_module(module))
-
-
-def _check_words(words: argparse.Namespace) -> None:
-    """Ends the work where words contradict one another."""
-    cli.refuse_to_check(words)
-    if words.module is not None and words.gated:
-        raise Trouble("--module takes a module as it is, so --gated proves nothing")
-    check_file(words.file)
 
 
 # Runs a command line, and answers its exit status.

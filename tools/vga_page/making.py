@@ -2,21 +2,22 @@
 
 from __future__ import annotations
 
+import argparse
 import shlex
 import tempfile
 from pathlib import Path
 from typing import Callable, Optional, Sequence
 
-from vga_library.toolchain import CRATE, kit_folder, proving_words
-from vga_report.processes import Hearer, ended_well, run
+from vga_library.toolchain import CRATE, KEPT, kit_folder, kit_line, proving_words
+from vga_report.crates import phases
+from vga_report.processes import Hearer, ended_well
+from vga_report.progress import Progress
 from vga_report.trouble import Trouble
 
 from .retargeting import CPU, WASM, retargeted
 from .wasm import check_module, with_kit
 
 HEAP = Path(__file__).resolve().parent / "heap.c"
-# Where `rt check` keeps its work, from the crate's folder.
-KEPT = Path("out") / "incremental"
 # As Rattle calls clang for this target.
 TARGET = (
     f"--target={WASM}", f"-mcpu={CPU}",
@@ -31,26 +32,18 @@ C = ("-O2", "-std=c17", "-ffreestanding", "-nostdinc", "-Wall", "-Wextra")
 PROVED = "logic=proved "
 # A clang that keeps the LLVM module which Rattle hands to it. Of the object for x86-64 nothing is used.
 KEEPER = "#!/bin/sh\n/bin/cp module.bc {kept} && : > module.o\n"
-# Tells a phase of the work, and answers what hears the programs that do it.
-Phase = Callable[[str], Optional[Hearer]]
-
-
-def kit_line() -> str:
-    """The line by which a kit tells what it is."""
-    return run(["rt", "version"]).strip()
 
 
 class Maker:
-    """Makes modules in a folder, with the toolchain of a kit."""
+    """Makes modules in a folder, with the toolchain of a kit; a phase of that has what hears its programs."""
 
-    def __init__(self, folder: Path, phase: Phase) -> None:
+    def __init__(self, folder: Path, phase: Callable[[str], Hearer]) -> None:
         self._folder = folder
         self._phase = phase
         self._kit = kit_folder()
         self._tools = self._kit / "toolchain" / "bin"
 
     def _run(self, phase: str, words: Sequence[str | Path], folder: Optional[Path] = None) -> str:
-        """Runs a program of a phase, and answers all that it says."""
         done = ended_well(words, folder, self._phase(phase))
         return (done.output + done.errors).decode("utf-8", "replace")
 
@@ -93,7 +86,6 @@ class Maker:
         return text.read_text("utf-8")
 
     def _archive(self, text: str, folder: Path) -> Path:
-        """The archive for wasm64 of an LLVM module's text and of the heap."""
         source, archive = folder / "wasm.ll", folder / "wasm.a"
         objects = [folder / "wasm.o", folder / "heap.o"]
         source.write_text(text, "utf-8")
@@ -104,7 +96,6 @@ class Maker:
         return archive
 
     def _linked(self, archive: Path, memory: Optional[int]) -> bytes:
-        """The WebAssembly module of an archive."""
         module = archive.with_name("linked.wasm")
         words = ["--target", WASM, "--toolchain", self._kit / "toolchain"]
         words += [] if memory is None else ["--memory", str(memory)]
@@ -125,14 +116,15 @@ class Maker:
 
 
 def made_modules(
-    phase: Phase, is_gated: bool = False, proof: Optional[Path] = None,
-    memories: Sequence[Optional[int]] = (None,), times: int = 1,
+    words: argparse.Namespace, progress: Progress, memories: Sequence[Optional[int]], times: int = 1
 ) -> list[list[bytes]]:
     """Proves the crate once, and makes its modules so many times, one for each size of memory.
 
-    Gated, the crates below are those that `rt ci` left; a folder keeps the crate's own proof.
+    By --gated of the words the crates below are those that `rt ci` left; the folder of --proof keeps the crate's own.
     """
     with tempfile.TemporaryDirectory(prefix="vga-page-") as name:
-        maker = Maker(Path(name), phase)
-        building = maker.prove((proof or Path(name) / "proof").absolute() if is_gated else None)
-        return [maker.modules(building, memories) for _ in range(times)]
+        maker = Maker(Path(name), phases(progress))
+        building = maker.prove((words.proof or Path(name) / "proof").absolute() if words.gated else None)
+        made = [maker.modules(building, memories) for _ in range(times)]
+    progress.clear()
+    return made

@@ -33,12 +33,9 @@ LEVEL = 9
 SENTENCE = re.compile(r"(.+?[.!?])(?: |$)")
 ENTRY = "main.js"
 IMPORT = re.compile(r'import \{ ?([\w$]+(?:, [\w$]+)*),? ?\} from "\./([\w.-]+\.js)";')
-EXPORT = re.compile(r"export (?=(?:async function|function|class|const)\b)")
-DECLARED = re.compile(r"(?:export )?(?:(?:async )?function\s*\*?\s*|class |const |let |var )([\w$]+)")
-# Several names without a bracket, a quote or a comment between them: `let first = 0, last;`
-SEVERAL = re.compile(r"(?:export )?(?:const|let|var) ([^()\[\]{}\"'`/]+);")
-# A name that is taken apart would not be seen here.
-TAKEN_APART = re.compile(r"(?:export )?(?:const|let|var) *[\[{]")
+EXPORT = re.compile(r"export (?=(?:async function\*?|function\*?|class|const) ([\w$]+))")
+# Several names without a bracket, a quote or a comment between them: `export const first = 0, last = 1;`
+SEVERAL = re.compile(r"export const ([^()\[\]{}\"'`/]+);")
 # An import at any other place would look for a file.
 DYNAMIC = re.compile(r"\bimport\s*\(|\bimport\.meta\b")
 # What a browser takes for the end of a page's script, or for a comment that hides it.
@@ -46,35 +43,18 @@ ENDING = re.compile(r"</script|<!--", re.I)
 
 
 class Module(NamedTuple):
-    """A module: its text without import lines and `export`, what it imports, and its top-level names.
-
-    What it imports are names by the module that exports them; a top-level name has the number of its line.
-    """
+    """A module: its text without import lines and `export`; what it imports, names by modules; and what it exports."""
 
     name: str
     text: str
     imports: Mapping[str, tuple[str, ...]]
     exported: frozenset[str]
-    names: Mapping[str, int]
-
-
-def _names_of(line: str, name: str, number: int) -> list[str]:
-    """The names that a line at the top level declares."""
-    if TAKEN_APART.match(line):
-        reason = "a name at the top level is declared by itself, and not taken out of a value"
-        raise Trouble(reason, name, number)
-    several = SEVERAL.match(line)
-    if several is not None:
-        return [part.partition("=")[0].strip() for part in several[1].split(",")]
-    found = DECLARED.match(line)
-    return [] if found is None else [found[1]]
 
 
 def read_module(name: str, text: str) -> Module:
     """Reads a module; a Trouble names the line that doesn't have the form above."""
     lines: list[str] = []
     imports: dict[str, tuple[str, ...]] = {}
-    names: dict[str, int] = {}
     exported: set[str] = set()
     for number, line in enumerate(text.split("\n"), 1):
         if ENDING.search(line):
@@ -88,16 +68,14 @@ def read_module(name: str, text: str) -> Module:
                 raise Trouble('an import is a line such as: import { a, b } from "./other.js";', name, number)
             imports[found[2]] = (*imports.get(found[2], ()), *found[1].split(", "))
             continue
-        declared = _names_of(line, name, number)
         if re.match(r"export\b", line):
-            if not EXPORT.match(line) or not declared:
+            shown = EXPORT.match(line)
+            if shown is None:
                 raise Trouble("`export` stands before function, class or const", name, number)
-            exported.update(declared)
-        for one in declared:
-            if names.setdefault(one, number) != number:
-                raise Trouble(f"{one} is declared in line {names[one]} too", name, number)
-        lines.append(EXPORT.sub("", line) if line.startswith("export ") else line)
-    return Module(name, "\n".join(lines).strip("\n") + "\n", imports, frozenset(exported), names)
+            several = SEVERAL.match(line)
+            exported.update([shown[1]] if several is None else re.findall(r"(?:^|, *)([\w$]+) *=", several[1]))
+        lines.append(EXPORT.sub("", line))
+    return Module(name, "\n".join(lines).strip("\n") + "\n", imports, frozenset(exported))
 
 
 def ordered(modules: Mapping[str, Module]) -> list[Module]:
@@ -129,13 +107,8 @@ def ordered(modules: Mapping[str, Module]) -> list[Module]:
 
 
 def joined(sources: Mapping[str, str]) -> str:
-    """One script of modules, which are given by their names. Names at the top level of two modules must differ."""
+    """One script of modules, which are given by their names. Node finds names that two of them declare."""
     modules = ordered({name: read_module(name, text) for name, text in sources.items()})
-    owners: dict[str, str] = {}
-    for module in modules:
-        for one, number in module.names.items():
-            if owners.setdefault(one, module.name) != module.name:
-                raise Trouble(f"{one} is a name at the top level of {owners[one]} too", module.name, number)
     return "\n".join(f"// {module.name}\n{module.text}" for module in modules)
 
 

@@ -83,7 +83,6 @@ def _refuse_unknown(text: str) -> None:
 
 
 def _with_target(text: str) -> str:
-    """The module with the other target's layout, triple and attributes."""
     for word, (old, new) in (("datalayout", LAYOUTS), ("triple", TRIPLES)):
         line = f'target {word} = "{old}"'
         if text.count(line) != 1:

@@ -3,7 +3,7 @@
 from __future__ import annotations
 
 import io
-from typing import Iterator
+from typing import BinaryIO, Iterator
 
 from vga_report.version import HEADER, calls_of
 from vga_report.trouble import Trouble
@@ -21,45 +21,30 @@ IS_64 = 4
 MOST_MODULE = 16 << 20
 
 
-class _Reader(io.BytesIO):
-    """Reads a module's numbers and names."""
-
-    def byte(self) -> int:
-        return self.taken(1)[0]
-
-    def taken(self, count: int) -> bytes:
-        """The next bytes, so many."""
-        data = self.read(min(count, MOST_MODULE))
-        if len(data) < count:
-            raise Trouble("it is cut off", "the module")
-        return data
-
-    def number(self) -> int:
-        """A number in LEB128."""
-        value = shift = 0
-        while True:
-            byte = self.byte()
-            value |= (byte & 127) << shift
-            shift += 7
-            if byte < 128:
-                return value
-
-    def name(self) -> str:
-        return self.taken(self.number()).decode("utf-8", "replace")
+def _taken(stream: BinaryIO, count: int) -> bytes:
+    data = stream.read(min(count, MOST_MODULE))
+    if len(data) < count:
+        raise Trouble("it is cut off", "the module")
+    return data
 
 
-def _all_sections(module: bytes) -> Iterator[tuple[int, bytes]]:
-    """The sections of a module in their order: their numbers, and their bytes."""
+def _number(stream: BinaryIO) -> int:
+    """A number in LEB128."""
+    value = shift = 0
+    while True:
+        (byte,) = _taken(stream, 1)
+        value |= (byte & 127) << shift
+        shift += 7
+        if byte < 128:
+            return value
+
+
+def _sections(module: bytes) -> Iterator[tuple[int, bytes]]:
     if not module.startswith(MAGIC):
         raise Trouble("it is no WebAssembly module", "the module")
-    reader = _Reader(module[len(MAGIC):])
-    while number := reader.read(1):
-        yield number[0], reader.taken(reader.number())
-
-
-def sections(module: bytes) -> dict[int, bytes]:
-    """The sections of a module by their numbers, but for those of tools."""
-    return {number: data for number, data in _all_sections(module) if number != CUSTOM}
+    stream = io.BytesIO(module[len(MAGIC):])
+    while number := stream.read(1):
+        yield number[0], _taken(stream, _number(stream))
 
 
 def with_kit(module: bytes, kit: str) -> bytes:
@@ -73,18 +58,18 @@ def with_kit(module: bytes, kit: str) -> bytes:
 def kit_of(module: bytes) -> str:
     """The kit that has made a module; nothing where it doesn't tell."""
     begin = bytes([len(KIT)]) + KIT
-    found = [data for number, data in _all_sections(module) if number == CUSTOM and data.startswith(begin)]
+    found = [data for number, data in _sections(module) if number == CUSTOM and data.startswith(begin)]
     return found[-1][len(begin):].decode("ascii", "replace") if found else ""
 
 
-def exports_of(module: bytes) -> dict[str, int]:
-    """The names that a module exports, in its order, each with its kind: 0 is a function."""
-    reader, found = _Reader(sections(module).get(EXPORTS, b"\0")), {}
-    for _ in range(reader.number()):
-        name = reader.name()
-        found[name] = reader.byte()
+def exports_of(section: bytes) -> dict[str, int]:
+    """The names that a section of exports has, in its order, each with its kind: 0 is a function."""
+    stream, found = io.BytesIO(section), {}
+    for _ in range(_number(stream)):
+        name = _taken(stream, _number(stream)).decode("utf-8", "replace")
+        (found[name],) = _taken(stream, 1)
         # Its place among others of its kind.
-        reader.number()
+        _number(stream)
     return found
 
 
@@ -95,13 +80,13 @@ def check_module(module: bytes) -> str:
     """
     if len(module) > MOST_MODULE:
         raise Trouble(f"it has more than {MOST_MODULE:,} bytes", "the module")
-    found = sections(module)
+    found = dict(_sections(module))
     for number, what in ((IMPORTS, "imports"), (TABLES, "a table"), (ELEMENTS, "elements of a table")):
         if number in found:
             raise Trouble(f"it has {what}, which it must not have", "the module")
     if not found.get(MEMORIES, b"")[1:2] or not found[MEMORIES][1] & IS_64:
         raise Trouble("its memory is not one of 64-bit addresses", "the module")
-    exports = exports_of(module)
+    exports = exports_of(found.get(EXPORTS, b"\0"))
     calls = set(calls_of(HEADER.read_text("ascii")))
     shown = {name for name, kind in exports.items() if kind == FUNCTION} - OWN
     lacking, more = sorted((calls - shown) | (OWN - exports.keys())), sorted(exports.keys() - calls - OWN)

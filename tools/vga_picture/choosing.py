@@ -3,8 +3,10 @@
 from collections import Counter
 from typing import Iterator, Sequence
 
-from .nearest import WEIGHTS, Colour, Nearest, distance
-
+# Red, green and blue, six bits each.
+Colour = tuple[int, int, int]
+# How the eye weighs a difference of red, of green and of blue.
+WEIGHTS = (2, 4, 1)
 # Colours, each with how many dots have it.
 Box = list[tuple[Colour, int]]
 # Where an image has more colours than this, those that differ in their low bits alone are first taken as one.
@@ -13,6 +15,53 @@ MANY = 4096
 EXCHANGES, MOVES = 8, 6
 # A colour that more than seven of eight dots of its box have is taken as it is.
 PLAIN = 7
+
+
+def distance(one: Sequence[int], other: Sequence[int]) -> int:
+    """How far two colours are from each other: a weighted sum of squares."""
+    red, green, blue = one[0] - other[0], one[1] - other[1], one[2] - other[2]
+    return WEIGHTS[0] * red * red + WEIGHTS[1] * green * green + WEIGHTS[2] * blue * blue
+
+
+class Nearest:
+    """The number of the nearest of some colours; of several the first.
+
+    A search begins at the colour that was nearest to one close by, and looks at those around it alone: where another
+    is twice as far from it as the colour that is looked for, that one can't be nearer. Distances are squares, so
+    twice as far is four times.
+    """
+
+    def __init__(self, colours: Sequence[Colour]) -> None:
+        self._colours = colours
+        self._known: dict[Colour, int] = {}
+        self._begins: dict[Colour, int] = {}
+        self._around: dict[int, list[tuple[int, int, Colour]]] = {}
+
+    def __call__(self, colour: Colour) -> int:
+        """The number for a colour, whose components may be any integers."""
+        number = self._known.get(colour)
+        if number is None:
+            red, green, blue = colour
+            close = red >> 2, green >> 2, blue >> 2
+            number = self._begins[close] = self._known[colour] = self._search(colour, self._begins.get(close, 0))
+        return number
+
+    def _search(self, colour: Colour, first: int) -> int:
+        least = distance(colour, self._colours[first])
+        best = least, first
+        for far, number, other in self._neighbours(first):
+            if far > 4 * least:
+                break
+            best = min(best, (distance(colour, other), number))
+        return best[1]
+
+    def _neighbours(self, number: int) -> list[tuple[int, int, Colour]]:
+        if number not in self._around:
+            own = self._colours[number]
+            self._around[number] = sorted(
+                (distance(own, colour), other, colour) for other, colour in enumerate(self._colours) if other != number
+            )
+        return self._around[number]
 
 
 def middle_colours(counts: Counter[Colour], most: int) -> list[Colour]:
@@ -98,7 +147,6 @@ def _cut_boxes(counts: Counter[Colour], most: int) -> list[Box]:
 
 
 def _boxes_of(counts: Counter[Colour], chosen: Sequence[Colour]) -> list[Box]:
-    """For each of some colours those that are nearest to it."""
     nearest = Nearest(chosen)
     boxes: list[Box] = [[] for _ in chosen]
     for colour, count in counts.items():
@@ -107,15 +155,11 @@ def _boxes_of(counts: Counter[Colour], chosen: Sequence[Colour]) -> list[Box]:
 
 
 def _lost(box: Box, middle: Colour) -> int:
-    """How far the dots of a box are from a colour that stands for them."""
     return sum(count * distance(colour, middle) for colour, count in box)
 
 
 def _refined(counts: Counter[Colour], chosen: list[Colour]) -> list[Colour]:
-    """Colours that are moved into the middle of those that are nearest to them, again and again.
-
-    So none moves far. Those that save little are put where most is lost, as long as all is nearer then.
-    """
+    """Colours in the middle of those that are nearest to them; those that save little are put where most is lost."""
     best, least = chosen, -1
     for _ in range(EXCHANGES):
         for _ in range(MOVES):

@@ -5,13 +5,13 @@ from __future__ import annotations
 from collections import Counter
 from dataclasses import dataclass
 from enum import Enum
-from typing import Callable, Iterable, Iterator, Mapping, Sequence
+from itertools import chain
+from typing import Callable, Iterable, Iterator, Sequence
 
 from vga_report.images import Image
 from vga_report.trouble import Trouble
 
-from .choosing import middle_colours, outer_colours
-from .nearest import Colour, Nearest, distance
+from .choosing import Colour, Nearest, distance, middle_colours, outer_colours
 
 Row = Sequence[Colour]
 MOST = 63
@@ -34,8 +34,6 @@ class Fewer(Enum):
 class Indexed:
     """An image whose dots are numbers of its colours; the colour of the most dots is number 0."""
 
-    width: int
-    height: int
     colours: tuple[Colour, ...]
     rows: tuple[bytes, ...]
 
@@ -45,26 +43,15 @@ class Indexed:
         for colour, number in zip(self.colours, numbers):
             colours[number] = colour
         table = bytes(numbers) + bytes(256 - len(numbers))
-        return Indexed(self.width, self.height, tuple(colours), tuple(row.translate(table) for row in self.rows))
+        return Indexed(tuple(colours), tuple(row.translate(table) for row in self.rows))
 
 
 def six_bits(image: Image) -> list[list[Colour]]:
     """The dots of an image, six bits a component: of eight bits the six high ones."""
     shift = 0 if image.most == MOST else 2
     table = bytes(value >> shift if value >> shift <= MOST else MOST for value in range(256))
-    # Rows that are alike are one list.
-    parts = {row: row.translate(table) for row in set(image.rows)}
-    known = {row: list(zip(dots[::3], dots[1::3], dots[2::3])) for row, dots in parts.items()}
-    return [known[row] for row in image.rows]
-
-
-def counted(rows: Sequence[Row]) -> Counter[Colour]:
-    """How many dots have each colour."""
-    times, counts = Counter(map(id, rows)), Counter[Colour]()
-    for row in {id(row): row for row in rows}.values():
-        for colour, count in Counter(row).items():
-            counts[colour] += count * times[id(row)]
-    return counts
+    rows = (row.translate(table) for row in image.rows)
+    return [list(zip(row[::3], row[1::3], row[2::3])) for row in rows]
 
 
 def _clamped(value: int) -> int:
@@ -78,16 +65,14 @@ def _spread(colours: Sequence[Colour]) -> float:
 
 
 def _ordered(rows: Sequence[Row], colours: Sequence[Colour]) -> Iterator[bytes]:
-    """Rows by the ordered dither: a dot is made brighter or darker by its place, as far as colours lie apart.
-
-    A dot whose colour is there keeps it.
-    """
+    """Rows by the ordered dither: a dot is made brighter or darker by its place, as far as colours lie apart."""
     nearest, own = Nearest(colours), {colour: number for number, colour in enumerate(colours)}
     spread = _spread(colours)
     for y, row in enumerate(rows):
         steps = [round(((2 * order + 1) / 32 - 0.5) * spread) for order in ORDERED[y % 4]]
         made = bytearray(len(row))
         for x, dot in enumerate(row):
+            # A dot whose colour is there keeps it.
             step, number = steps[x % 4], own.get(dot)
             if number is None:
                 red, green, blue = dot
@@ -118,15 +103,8 @@ def _floyd(rows: Sequence[Row], colours: Sequence[Colour]) -> Iterator[bytes]:
 
 
 def _nearest(rows: Sequence[Row], colours: Sequence[Colour]) -> Iterator[bytes]:
-    """Rows of the nearest colours."""
     nearest = Nearest(colours)
-    return _by_table(rows, {colour: nearest(colour) for colour in counted(rows)})
-
-
-def _by_table(rows: Sequence[Row], numbers: Mapping[Colour, int]) -> Iterator[bytes]:
-    """Rows of numbers, one for each colour."""
-    made = {id(row): bytes(map(numbers.__getitem__, row)) for row in {id(row): row for row in rows}.values()}
-    return (made[id(row)] for row in rows)
+    return (bytes(map(nearest, row)) for row in rows)
 
 
 WAYS: dict[Fewer, Callable[[Sequence[Row], Sequence[Colour]], Iterable[bytes]]] = {
@@ -168,22 +146,23 @@ def _seen(rows: Sequence[Row], colours: Sequence[Colour], made: Iterable[bytes])
 
 def indexed(rows: Sequence[Row], most: int, fewer: Fewer, name: str) -> tuple[Indexed, int]:
     """The image of these dots in so many colours at most, and how many it had; a Trouble where more are refused."""
-    counts = counted(rows)
-    colours = [colour for colour, _ in sorted(counts.items(), key=lambda entry: (-entry[1], entry[0]))]
+    counts = Counter(chain.from_iterable(rows))
+    colours = list(counts)
     if len(colours) <= most:
-        made = list(_by_table(rows, {colour: number for number, colour in enumerate(colours)}))
+        numbers = {colour: number for number, colour in enumerate(colours)}
+        made = [bytes(map(numbers.__getitem__, row)) for row in rows]
     elif fewer is Fewer.REFUSED:
         told = f"it has {len(colours):,} colours of six bits a component, and the mode {most}"
         raise Trouble(f"{told}: --nearest takes the nearest of {most}, --dither mixes them", name)
     else:
         colours = _chosen(rows, counts, most, fewer)
         made = list(WAYS[fewer](rows, colours))
-    return _by_frequency(len(rows[0]), colours, made), len(counts)
+    return _by_frequency(colours, made), len(counts)
 
 
-def _by_frequency(width: int, colours: Sequence[Colour], rows: Sequence[bytes]) -> Indexed:
+def _by_frequency(colours: Sequence[Colour], rows: Sequence[bytes]) -> Indexed:
     """An image with its colours in the order of how many dots they have; colours without one are left out."""
     counts = Counter(b"".join(rows))
     order = sorted(counts, key=lambda number: (-counts[number], colours[number]))
     table = bytes.maketrans(bytes(order), bytes(range(len(order))))
-    return Indexed(width, len(rows), tuple(colours[old] for old in order), tuple(row.translate(table) for row in rows))
+    return Indexed(tuple(colours[old] for old in order), tuple(row.translate(table) for row in rows))

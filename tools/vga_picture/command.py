@@ -7,7 +7,7 @@ import sys
 
 from vga_report import cli
 from vga_report.cli import add
-from vga_report.images import image_bytes
+from vga_report.images import image_bytes, image_of
 from vga_report.output import counted, name_of, refuse_twice
 from vga_report.png import save_png
 from vga_report.program import FONTS
@@ -19,8 +19,7 @@ from zaklimot.format import MOST_BYTES
 from .cells import font_of
 from .colours import Fewer, indexed, six_bits
 from .drawing import Drawn, draw_pixels, draw_text
-from .fitting import Fit, fitted, read_image
-from .mode import LINES, MODES, Kind, text_of
+from .mode import LINES, MODES, MOST_DOTS, Fit, Kind, fitted, text_of
 from .steps import write_script
 
 WAYS = {
@@ -66,7 +65,6 @@ def _parser() -> argparse.ArgumentParser:
 
 
 def _drawn(words: argparse.Namespace, progress: Progress) -> tuple[Drawn, str]:
-    """The parts of the script, and what was done to the image."""
     mode, name = MODES[words.mode], name_of(words.image)
     if words.bars is not None and words.fit is not Fit.FIT:
         raise Trouble("--bars is the colour of the bars that --fit makes")
@@ -77,7 +75,7 @@ def _drawn(words: argparse.Namespace, progress: Progress) -> tuple[Drawn, str]:
         font = font_of(read_at_most(words.fonts, MOST_BYTES), mode.cell_height, name_of(words.fonts))
     elif words.rows or words.own_glyphs:
         raise Trouble("--rows and --own-glyphs are of text, which is mode 3")
-    image = read_image(image_bytes(words.image), name)
+    image = image_of(image_bytes(words.image), name, MOST_DOTS)
     image, size = fitted(image, mode, words.fit, words.bars or bytes(3), name)
     made, count = indexed(six_bits(image), len(mode.entries), words.fewer, name)
     told = f"{size}, {counted(len(made.colours), 'colour')}"
@@ -94,7 +92,6 @@ def _drawn(words: argparse.Namespace, progress: Progress) -> tuple[Drawn, str]:
 
 
 def _script(words: argparse.Namespace, progress: Progress) -> None:
-    """Makes a script, and says what it has."""
     if words.picture is not None and os.path.realpath(words.script) == os.path.realpath(words.picture):
         raise Trouble("the script and its picture are to be two files", words.script)
     drawn, told = _drawn(words, progress)
@@ -103,8 +100,9 @@ def _script(words: argparse.Namespace, progress: Progress) -> None:
         # Told before the script goes to standard output.
         refuse_input(words.picture)
     # The script takes its place once the picture has taken its own, so that neither is written alone.
+    answer = f"picture {drawn.picture.size} {drawn.picture.sum}"
     with writing(words.script) as stream:
-        figures = write_script(stream, drawn.parts, drawn.answer, not words.bytes)
+        figures = write_script(stream, drawn.parts, answer, not words.bytes)
         if words.picture is not None:
             save_png(words.picture, drawn.picture)
     line = f"mode {words.mode}: {told}{drawn.told}; {figures}"

@@ -1,81 +1,65 @@
 """A script that draws an image: its parts, and the picture that its frame is to show."""
 
-from dataclasses import dataclass
-from typing import Callable, Iterator, Sequence
+from typing import Callable, Iterable, Iterator, NamedTuple, Sequence
 
-from vga_trace.step import FRAME, Step
+from zaklimot import format
 from zaklimot.format import Picture
 
-from .cells import cells_of, put_cells, rows_of, typed_cells
+from .cells import cells_of, loading, own_glyphs, put_cells, rows_of, typed_cells, with_glyphs
+from .choosing import Colour
 from .colours import Indexed
-from .glyphs import loading, own_glyphs, with_glyphs
 from .mode import Kind, Mode
-from .nearest import Colour
-from .screen import Areas, PlaneScreen, Screen
-from .steps import Part, Service
+from .screen import Areas, best_numbers, drawn
+from .steps import Item, Part, runs, service
 
 # Cycles of a mode set: of registers and palette, of the glyphs of text, of memory that is cleared.
 SET_CYCLES, GLYPH_CYCLES, TEXT_CYCLES, GRAPHICS_CYCLES = 896, 4112, 32768, 65536
 NO_CURSOR = 0x2000
 
 
-@dataclass(frozen=True)
-class Drawn:
+class Drawn(NamedTuple):
     """The parts of a script, the picture that its frame shows, and what else is told of it."""
 
     parts: list[Part]
     picture: Picture
     told: str = ""
 
-    @property
-    def answer(self) -> str:
-        """What the frame is expected to answer."""
-        return f"picture {self.picture.size} {self.picture.sum}"
 
-
-def _colours(colours: Sequence[Colour], mode: Mode) -> Iterator[Service]:
+def _colours(colours: Sequence[Colour], mode: Mode) -> Iterator[Item]:
     """The entries of the DAC that the palette names for these colours, as many at a time as stand side by side."""
-    first = 0
-    for number in range(1, len(colours) + 1):
-        if number == len(colours) or mode.entries[number] != mode.entries[number - 1] + 1:
-            block = bytes(part for colour in colours[first:number] for part in colour)
-            yield Service(1 + len(block), 0x1012, mode.entries[first], number - first, 0, block)
-            first = number
+    parts = iter(colours)
+    for run in runs(mode.entries[:len(colours)]):
+        block = bytes(part for _ in run for part in next(parts))
+        yield service(1 + len(block), 0x1012, run.start, len(run), block=block)
 
 
 def _drawn(
-    parts: Sequence[Part], rows: Sequence[bytes], colours: Sequence[Colour], mode: Mode, told: str = ""
+    mode: Mode, colours: Sequence[Colour], count: int, parts: Iterable[Part], rows: Sequence[bytes], told: str = ""
 ) -> Drawn:
-    """A script with its frame, in whose picture each pixel is as many dots wide and high as the mode shows it."""
+    """A script: mode, colours, its parts, and its frame, whose picture has each pixel as wide and high as the mode."""
+    note = f"A picture of {mode.width} by {mode.height} pixels and {count} colours, in mode {mode.name}"
+    note += ", made by vga-picture. Numbers are hexadecimal, but the count of `repeat`."
+    cycles = SET_CYCLES + (GLYPH_CYCLES + TEXT_CYCLES if mode.kind is Kind.CELLS else GRAPHICS_CYCLES)
+    begin = Part(note, [service(cycles, mode.number)])
+    palette = Part("Its colours, six bits a component", list(_colours(colours, mode)))
+    frame = Part("The picture", [Item(format.Step("frame"), 0)])
     dots = [bytes(colour) * mode.across for colour in colours]
     lines = (mode.down * b"".join(map(dots.__getitem__, row)) for row in rows)
     picture = Picture.of_dots(mode.width * mode.across, mode.height * mode.down, b"".join(lines))
-    return Drawn([*parts, Part("The picture", [Step(FRAME)])], picture, told)
-
-
-def _begin(mode: Mode, colours: Sequence[Colour], count: int) -> list[Part]:
-    """The mode and the colours."""
-    note = f"A picture of {mode.width} by {mode.height} pixels and {count} colours, in mode {mode.name}, made by vga-picture."
-    cycles = SET_CYCLES + (GLYPH_CYCLES + TEXT_CYCLES if mode.kind is Kind.CELLS else GRAPHICS_CYCLES)
-    return [
-        Part(f"{note} Numbers are hexadecimal, but the count of `repeat`.", [Service(cycles, mode.number)]),
-        Part("Its colours, six bits a component", list(_colours(colours, mode))),
-    ]
+    return Drawn([begin, palette, *(part for part in parts if part.items), frame], picture, told)
 
 
 def draw_pixels(image: Indexed, mode: Mode, is_short: bool) -> Drawn:
     """A script for a graphics mode. A short one has areas by the video BIOS first."""
-    screen = PlaneScreen(mode) if mode.kind is Kind.PLANES else Screen(mode)
     count = len(image.colours)
-    image = screen.numbered(image)
-    parts = _begin(mode, image.colours, count)
-    areas = Areas(screen, image.rows) if is_short else None
-    parts += areas.parts() if areas else []
-    have = [bytes(row) for row in areas.have] if areas else [bytes(mode.width)] * mode.height
-    steps = screen.drawn(have, image.rows)
-    if steps:
-        parts.append(Part(f"{len(steps)} cycles for {'the rest' if areas else 'the pixels'}", steps))
-    return _drawn(parts, image.rows, image.colours, mode)
+    if mode.kind is Kind.PLANES:
+        numbers = best_numbers(image.rows, count)
+        image = image.renumbered(numbers, max(numbers) + 1)
+    areas = Areas(mode, image.rows)
+    parts = list(areas.parts()) if is_short else []
+    steps = drawn(mode, [bytes(row) for row in areas.have], image.rows)
+    parts.append(Part(f"{len(steps)} cycles for {'the rest' if is_short else 'the pixels'}", steps))
+    return _drawn(mode, image.colours, count, parts, image.rows)
 
 
 def draw_text(
@@ -88,14 +72,13 @@ def draw_text(
         glyphs = own_glyphs(image, mode, cells)
         font = with_glyphs(font, glyphs)
         cells, told = cells_of(image, mode, font, tell), f", {len(glyphs):,} glyphs of its own"
-    parts = _begin(mode, image.colours, len(image.colours))
-    loads = list(loading(mode, glyphs))
-    if loads:
-        parts.append(Part(f"Text of {mode.rows} rows, and {len(glyphs)} glyphs of its own", loads))
-    # In frames 16 to 31 of 32 a blinking character is away, and its background has three bits.
-    parts.append(Part("No blinking, but bright backgrounds; no cursor", [Service(6, 0x1003), Service(4, 0x0100, 0, NO_CURSOR)]))
-    steps = typed_cells(cells, mode.columns) if is_short else put_cells(cells)
-    if steps:
-        parts.append(Part("The cells: a character and its attribute", steps))
     told = f", {sum(cell.error == 0 for cell in cells):,} of {len(cells):,} cells fit{told}"
-    return _drawn(parts, rows_of(cells, mode, font), image.colours, mode, told)
+    # In frames 16 to 31 of 32 a blinking character is away, and its background has three bits.
+    calls = [service(6, 0x1003), service(4, 0x0100, 0, NO_CURSOR)]
+    steps = typed_cells(cells, mode.columns) if is_short else put_cells(cells)
+    parts = [
+        Part(f"Text of {mode.rows} rows, and {len(glyphs)} glyphs of its own", list(loading(mode, glyphs))),
+        Part("No blinking, but bright backgrounds; no cursor", calls),
+        Part("The cells: a character and its attribute", steps),
+    ]
+    return _drawn(mode, image.colours, len(image.colours), parts, rows_of(cells, mode, font), told)

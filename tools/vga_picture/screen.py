@@ -1,84 +1,160 @@
-"""Screens of pixels: what their memory is to hold, and the steps that write it.
+"""Screens of pixels, cleared by their mode set: what their memory is to hold, and the steps that write it.
+
+Pixels of sixteen colours have a bit in each of four planes. A write goes to the planes of a map mask, and is a byte to
+the low address, one to the high address, or a word to both. Bits are not masked, and nothing is read: each write stores
+what it has. All words of an image share one order of masks, those of more planes first, so that each mask is set once.
 
 A shorter script takes more cycles: the video BIOS draws areas of one colour, and rows of cells that are alike. Pixels
 are looked at in cells then, as the BIOS has them: eight columns for a character, and so many lines as it is high.
 """
 
-from itertools import takewhile
-from typing import Iterator, Optional, Sequence
+from __future__ import annotations
 
-from vga_trace.step import Step
+from collections import Counter
+from functools import lru_cache
+from itertools import chain, combinations, takewhile
+from typing import Iterator, Mapping, Optional, Sequence
 
-from .colours import Indexed
-from .mode import Mode
-from .planes import ALL_PLANES, WINDOW, Rows, best_numbers, drawing, is_all_planes, map_mask, planes_of, put_steps
-from .steps import Item, Part, Repeat, Service
+from vga_trace.rebuilding import ALL_PLANES, map_mask, masks_of
+from vga_trace.rebuilding import FIRST_ADDRESS as WINDOW
+from vga_trace.state import PLANES
+from zaklimot import format
+
+from .mode import Kind, Mode
+from .steps import Item, Part, service
 
 Cell = tuple[bytes, ...]
+# A window of cells: its column and row, and how many columns and rows it has.
+Window = tuple[int, int, int, int]
 CELL_WIDTH = 8
 # Bytes that a block must save: what its words would have saved in common with those beside it.
 LEAST_SAVED = 32
+# Masks in the order in which they are written: all planes, which a mode set leaves; then those of three, of two, of one.
+MASKS = tuple(sorted(range(1, 16), key=lambda mask: (-bin(mask).count("1"), mask)))
+# The two bytes of a word in each plane.
+Word = tuple[bytes, ...]
+# Writes: the planes that each reaches, which of the word's addresses, from 0 on, and the bytes for these.
+Writes = list[tuple[int, int, bytes]]
+NUMBERS = 16
+# Pixels of a word.
+WORD = 16
+# Numbers as colours get them at first, that of the most dots before: one bit or all of them cost least beside another.
+FIRST_NUMBERS = (0, 15, 1, 2, 4, 8, 3, 5, 6, 9, 10, 12, 7, 11, 13, 14)
+# So many kinds of words decide on the numbers.
+MOST_SETS = 400
+DIGITS = tuple(bytes(48 + (number >> plane & 1) for number in range(256)) for plane in range(PLANES))
+
+# Pixels of rows, each the number of a colour.
+Rows = Sequence[bytes]
+Planes = tuple[bytes, ...]
 
 
-class Screen:
-    """A screen of pixels, cleared by its mode set: of 256 colours, a byte for each pixel by chain 4."""
-
-    def __init__(self, mode: Mode) -> None:
-        self.mode = mode
-
-    def numbered(self, image: Indexed) -> Indexed:
-        """The image with the numbers of colours that are drawn in few cycles."""
-        return image
-
-    def drawn(self, have: Rows, want: Rows) -> list[Step]:
-        """The steps that make rows others, from the map mask on that a mode set leaves."""
-        written = {}
-        for y, (old, new) in enumerate(zip(have, want)):
-            if old != new:
-                start = y * self.mode.width
-                written.update({start + x: new[x] for x in range(len(new)) if old[x] != new[x]})
-        return list(put_steps(WINDOW, written))
-
-    def restored(self, steps: Sequence[Step]) -> list[Item]:
-        """Steps, and then what it takes to have that map mask again."""
-        return list(steps)
-
-    def window_cycles(self, columns: int, rows: int, blank: int) -> int:
-        """Cycles of function 06 or 07 on a window of cells, of whose rows so many become blank."""
-        return 64 * columns * (2 * (rows - blank) + blank)
+def planes_of(rows: Rows) -> Planes:
+    """The four planes of rows of pixels, each a number of four bits; eight pixels to a byte, the leftmost in bit 7."""
+    length = len(rows[0]) // 8
+    return tuple(b"".join(int(row.translate(digits), 2).to_bytes(length, "big") for row in rows) for digits in DIGITS)
 
 
-class PlaneScreen(Screen):
-    """One of sixteen colours, in four planes."""
+def put_steps(written: Mapping[int, int]) -> Iterator[Item]:
+    """Bytes by their offsets as words where two stand side by side, and else as bytes."""
+    done = -1
+    for offset in sorted(written):
+        if offset + 1 in written and offset > done:
+            done = offset + 1
+            yield Item(format.Step("putw", (WINDOW + offset, written[offset] | written[done] << 8)))
+        elif offset > done:
+            yield Item(format.Step("put", (WINDOW + offset, written[offset])))
 
-    def numbered(self, image: Indexed) -> Indexed:
-        numbers = best_numbers(image.rows, len(image.colours))
-        return image.renumbered(numbers, max(numbers) + 1)
 
-    def drawn(self, have: Rows, want: Rows) -> list[Step]:
+def drawing(have: Planes, want: Planes) -> list[Item]:
+    """The steps that make planes others, with each map mask once at most, from a map mask of all planes on."""
+    passes: dict[int, dict[int, int]] = {mask: {} for mask in MASKS}
+    for at in range(0, len(want[0]), 2):
+        old, new = (tuple(plane[at:at + 2] for plane in planes) for planes in (have, want))
+        if old != new:
+            for mask, first, data in few_writes(old, new):
+                passes[mask].update(enumerate(data, at + first))
+    steps: list[Item] = []
+    for mask in MASKS:
+        if passes[mask]:
+            steps += [Item(map_mask(mask).step)] if mask != ALL_PLANES else []
+            steps += put_steps(passes[mask])
+    return steps
+
+
+@lru_cache(maxsize=None)
+def few_writes(have: Word, want: Word) -> Writes:
+    """The writes that make one word another: one for each different word, or for each different byte if that is fewer.
+
+    A write of a word is one of a byte where the word's other byte is there already.
+    """
+    changed = [sum(1 << plane for plane in range(PLANES) if have[plane][at] != want[plane][at]) for at in (0, 1)]
+    by_bytes: Writes = [
+        (mask & changed[at], at, bytes([byte]))
+        for at in (0, 1) for byte, mask in masks_of(word[at] for word in want).items() if mask & changed[at]
+    ]
+    by_words: Writes = []
+    for word, mask in masks_of(want).items():
+        first, end = 0 if mask & changed[0] else 1, 2 if mask & changed[1] else 1
+        if first < end:
+            by_words.append((mask & (changed[0] | changed[1]), first, word[first:end]))
+    return min(by_words, by_bytes, key=len)
+
+
+def _cycles(words: Sequence[tuple[int, int]], numbers: Sequence[int]) -> int:
+    """Cycles of words, each the bits of its colours and how often it is there: of different planes but empty ones."""
+    a, b, c, d = (sum(1 << colour for colour, number in enumerate(numbers) if number & bit) for bit in (1, 2, 4, 8))
+    return sum(times * len({colours & a, colours & b, colours & c, colours & d} - {0}) for colours, times in words)
+
+
+def best_numbers(rows: Rows, count: int) -> list[int]:
+    """A number for each of so many colours, so that the words of an image take few cycles on cleared memory.
+
+    What a word takes hangs on the set of its colours alone. The numbers of two colours are exchanged as long as that
+    makes the sum less.
+    """
+    sets = Counter(bytes(sorted(set(row[at:at + WORD]))) for row in rows for at in range(0, len(row), WORD))
+    weighed = sorted(sets.items(), key=lambda entry: (-entry[1], entry[0]))[:MOST_SETS]
+    words = [(sum(1 << colour for colour in colours), times) for colours, times in weighed]
+    # Numbers behind those of the colours are free, and may be exchanged for one that is taken.
+    numbers = list(FIRST_NUMBERS)
+    least, before = _cycles(words, numbers), -1
+    while least != before:
+        before = least
+        for one, other in combinations(range(NUMBERS), 2):
+            made = list(numbers)
+            made[one], made[other] = numbers[other], numbers[one]
+            if one < count and (cycles := _cycles(words, made)) < least:
+                numbers, least = made, cycles
+    return numbers[:count]
+
+
+def drawn(mode: Mode, have: Rows, want: Rows) -> list[Item]:
+    """The steps that make rows of a mode others, from the map mask on that a mode set leaves: all planes.
+
+    In mode 13 memory has a byte for each pixel, by chain 4.
+    """
+    if mode.kind is Kind.PLANES:
         return drawing(planes_of(have), planes_of(want))
-
-    def restored(self, steps: Sequence[Step]) -> list[Item]:
-        return [*steps, *([] if is_all_planes(steps) else [map_mask(ALL_PLANES)])]
-
-    def window_cycles(self, columns: int, rows: int, blank: int) -> int:
-        return 2 * self.mode.cell_height * columns * rows + 8
+    pixels = enumerate(zip(chain.from_iterable(have), chain.from_iterable(want)))
+    return list(put_steps({offset: new for offset, (old, new) in pixels if old != new}))
 
 
-def scroll(screen: Screen, window: tuple[int, int, int, int], lines: int, colour: int = 0) -> Service:
-    """Function 07 on a window: column, row, and how many of each; 0 lines blanks all of it in a colour."""
+def scroll(mode: Mode, window: Window, lines: int, colour: int = 0) -> Item:
+    """Function 07 on a window, of whose rows so many become blank; 0 lines blanks all of it in a colour."""
     column, row, columns, rows = window
-    cycles = screen.window_cycles(columns, rows, lines or rows)
+    cycles = 2 * mode.cell_height * columns * rows + 8
+    if mode.kind is Kind.BYTES:
+        cycles = 64 * columns * (2 * rows - (lines or rows))
     function = 0x0600 if lines == 0 else 0x0700 | lines
-    return Service(cycles, function, colour << 8, row << 8 | column, row + rows - 1 << 8 | column + columns - 1)
+    return service(cycles, function, colour << 8, row << 8 | column, row + rows - 1 << 8 | column + columns - 1)
 
 
 class Areas:
     """The memory of a screen while areas of it are drawn: what it holds, and what it is to hold."""
 
-    def __init__(self, screen: Screen, want: Rows) -> None:
-        mode = screen.mode
-        self._screen = screen
+    def __init__(self, mode: Mode, want: Rows) -> None:
+        self._mode = mode
         self._height = mode.cell_height
         self._want = want
         self.have = [bytearray(mode.width) for _ in want]
@@ -93,14 +169,11 @@ class Areas:
     def parts(self) -> Iterator[Part]:
         """Steps for the areas, which are drawn then."""
         rectangles = list(self._rectangles())
-        if rectangles:
-            yield Part(f"{len(rectangles)} areas of one colour", rectangles)
+        yield Part(f"{len(rectangles)} areas of one colour", rectangles)
         bands = list(self._bands())
-        if bands:
-            yield Part(f"{len(bands)} times rows of cells that are alike: go down by a row, draw the first", bands)
+        yield Part(f"{len(bands)} times rows of cells that are alike: go down by a row, draw the first", bands)
 
-    def _finish(self, window: tuple[int, int, int, int]) -> None:
-        """Takes a window of cells as drawn."""
+    def _finish(self, window: Window) -> None:
         column, row, columns, rows = window
         left, right = CELL_WIDTH * column, CELL_WIDTH * (column + columns)
         for y in range(self._height * row, self._height * (row + rows)):
@@ -129,10 +202,10 @@ class Areas:
                 continue
             columns = sum(1 for _ in takewhile(lambda other: other == cell, self._cells[row][column:]))
             window = (column, row, columns, self._rows_alike(column, row, columns))
-            yield scroll(self._screen, window, 0, colour)
+            yield scroll(self._mode, window, 0, colour)
             self._finish(window)
 
-    def _bands(self) -> Iterator[Repeat]:
+    def _bands(self) -> Iterator[Item]:
         """Rows of cells that are alike, as wide as the first cell's go down, where a block of them is shorter."""
         for column, row, _ in self._places():
             rows = self._rows_alike(column, row, 1)
@@ -153,7 +226,7 @@ class Areas:
             columns = columns if cells[0] == self._blank else count
         return columns
 
-    def _band(self, window: tuple[int, int, int, int]) -> tuple[Repeat, int]:
+    def _band(self, window: Window) -> tuple[Item, int]:
         """A block that draws a window, and how many bytes it is shorter than its rows one by one."""
         column, row, columns, rows = window
         left, right = CELL_WIDTH * column, CELL_WIDTH * (column + columns)
@@ -161,6 +234,10 @@ class Areas:
         want = list(have)
         for y in range(self._height * row, self._height * (row + 1)):
             want[y] = have[y][:left] + self._want[y][left:right] + have[y][right:]
-        steps = self._screen.drawn(have, want)
-        block = Repeat(rows, (scroll(self._screen, window, 1), *self._screen.restored(steps)))  # type: ignore[arg-type]
-        return block, rows * sum(step.step.size for step in steps) - block.step.size
+        steps = drawn(self._mode, have, want)
+        # The map mask is what it was when the block begins again.
+        masks = [Item(map_mask(ALL_PLANES).step)] if any(item.step.name == "outw" for item in steps) else []
+        items = [scroll(self._mode, window, 1), *steps, *masks]
+        block = format.Block(rows, tuple(item.step for item in items))
+        saved = rows * sum(item.step.size for item in steps) - block.size
+        return Item(block, rows * sum(item.cycles for item in items)), saved

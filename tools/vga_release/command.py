@@ -1,27 +1,224 @@
-"""The words of the command line, what the command does, and how it ends."""
+"""The words of the command line, and what a release holds: files of the commit, what is built, the wheel, and pages.
+
+Their links lead to what is in it. The archive hangs on nothing but its files and the commit's time.
+"""
 
 import argparse
+import gzip
 import hashlib
-import os
-from pathlib import Path
+import io
+import posixpath
+import re
+import sys
+import tarfile
+import tempfile
+from functools import partial
+from pathlib import Path, PurePosixPath
+from typing import AbstractSet, BinaryIO, Mapping, Match, NamedTuple, Optional, Sequence, Union
 
+from vga_library.command import check_given
+from vga_library.making import MOVING, Place, make_library
+from vga_library.toolchain import AARCH64, BACKENDS, X86_64, Target, built_archive, kit_line, memory_part
 from vga_report import TOP, cli
-from vga_report.version import version
 from vga_report.crates import phases
-from vga_library.targets import AARCH64, BACKENDS, X86_64, Target
-from vga_library.toolchain import built_archive
-from vga_report.processes import Hearer, check_program, run
+from vga_report.processes import check_program, ended_well, run
 from vga_report.progress import Progress
 from vga_report.streams import check_folder, to_read, write_file, writing
 from vga_report.trouble import Trouble
-
-from .gathering import release_entries
-from .packing import clean_commit, pack
+from vga_report.version import version
 
 PROGRAM = TOP / "crates" / "vga"
 MACHINE = "x86_64-linux"
 # The file beside the archive, which `sha256sum --check` reads.
 SUM = "sha256"
+EXECUTABLE = 0o100
+PLAIN, RUN = 0o644, 0o755
+LEVEL = 9
+
+
+class File(NamedTuple):
+    """A file of a release."""
+
+    content: bytes
+    is_executable: bool = False
+
+
+# A file, or where a link leads.
+Entry = Union[File, str]
+
+
+class Commit(NamedTuple):
+    """A commit's number, and its time in seconds since 1970."""
+
+    number: str
+    time: int
+
+
+# The tools that need no toolchain: the command of each, and its package.
+TOOLS = tuple(f"tools/vga{mark}{name}" for name in ("floppy", "fuzz", "picture", "report", "trace") for mark in "-_")
+# The front page of a release is this one, and the repository's lies beside the other pages.
+PAGE, FRONT = "tools/vga_release/README.md", "README.md"
+# What of the commit goes into a release, where it lies in the repository.
+PATHS = (
+    "CHANGELOG.md", "LICENSE", FRONT, PAGE, "SECURITY.md", "bindings", "crates/vga_suite/data", "docs", "examples", "fonts",
+    "include", "page/zaklimot.html", "share", "tools/README.md", *TOOLS,
+)
+MOVED = {PAGE: FRONT, FRONT: f"docs/{FRONT}"}
+INSTALL = "install.sh"
+# Other names of what is built, so that the commands of all pages run in a release as they stand.
+LINKS: Mapping[str, Entry] = {
+    "crates/vga/out/vga": "../../../bin/vga",
+    "kit/include": "../include", "kit/lib": "../lib", "kit/share": "../share",
+}
+MADE_OF = "MADE-OF"
+SCRIPTS = "scripts"
+PACKAGE = "bindings/python"
+# What the package is made of, where it lies in the repository.
+SOURCES = (PACKAGE, "fonts")
+# The package's own backend makes the wheel, as it does for pip.
+MAKING = "import sys, building; building.build_wheel(sys.argv[1])"
+# What stands between fences, which has no links; or a link or an image that leads to a file of the repository.
+LINK = re.compile(
+    r"^```.*?^```$"
+    r"|(?P<mark>!?)\[(?P<text>[^\[\]]*)\]\((?!https?:|#)(?P<place>[^()\s#]+)(?P<anchor>#[^()\s]*)?\)",
+    re.M | re.S,
+)
+
+
+def laid_files(folder: Path) -> dict[str, Entry]:
+    """The files and the links below a folder, by their places in it."""
+    return {
+        str(path.relative_to(folder)): str(path.readlink()) if path.is_symlink() else File(path.read_bytes())
+        for path in sorted(folder.rglob("*")) if path.is_symlink() or path.is_file()
+    }
+
+
+def library_files(files: Mapping[str, File], target: Target, archive: Path) -> dict[str, Entry]:
+    """The library for a processor as it is laid into a folder, and the wheel with it.
+
+    They lie in a folder of the processor's name, but for those of the program's own processor.
+    """
+    with tempfile.TemporaryDirectory(prefix="vga-release-") as name:
+        library, making = Path(name) / "library", Path(name) / "wheel"
+        making.mkdir()
+        make_library(archive, memory_part(target, Path(name)), Place(str(library)), MOVING, target)
+        wheel = wheel_of(files, library, making, target)
+        made = {wheel.name: File(wheel.read_bytes()), **laid_files(library)}
+    return made if target == X86_64 else {f"{target.name}/{place}": entry for place, entry in made.items()}
+
+
+def suite_scripts() -> dict[str, Entry]:
+    """The suite's scripts, each whole, as `vga-report scripts` writes them."""
+    with tempfile.TemporaryDirectory(prefix="vga-release-") as name:
+        run([sys.executable, TOP / "tools" / "vga-report", "scripts", Path(name) / SCRIPTS])
+        return laid_files(Path(name))
+
+
+def settled(entries: Mapping[str, Entry]) -> dict[str, Entry]:
+    """All that is in a release, by its place there: pages lead to no more than that."""
+    moved = [MOVED.get(place, place) for place in entries]
+    places = {str(place) for name in moved for place in (name, *PurePosixPath(name).parents)}
+    done: dict[str, Entry] = {}
+    for place, entry in entries.items():
+        if place.endswith(".md") and isinstance(entry, File):
+            entry = File(LINK.sub(partial(_link, place, places), entry.content.decode("utf-8")).encode("utf-8"))
+        done[MOVED.get(place, place)] = entry
+    return done
+
+
+def made_of(commit: Commit, toolchain: str, built: Mapping[str, Entry]) -> File:
+    """The commit, the toolchain, and a checksum of each file that was built."""
+    sums = (
+        f"sha256 {hashlib.sha256(entry.content).hexdigest()} {path}\n"
+        for path, entry in sorted(built.items()) if isinstance(entry, File)
+    )
+    return File((f"commit {commit.number}\ntoolchain {toolchain}\n" + "".join(sums)).encode("ascii"))
+
+
+def release_entries(commit: Commit, program: Path, archives: Mapping[Target, Path]) -> dict[str, Entry]:
+    """All files of a release: among those that are built the program, and a library and a wheel for each processor."""
+    files, built = files_of(commit, PATHS), dict[str, Entry]({"bin/vga": File(program.read_bytes(), True)})
+    for target, archive in archives.items():
+        built.update(library_files(files, target, archive))
+    install = File((Path(__file__).parent / INSTALL).read_bytes(), True)
+    entries = {**files, **suite_scripts(), **built, **LINKS, INSTALL: install}
+    return settled({**entries, MADE_OF: made_of(commit, kit_line(), built)})
+
+
+def wheel_of(files: Mapping[str, File], library: Path, folder: Path, target: Target) -> Path:
+    """Makes the wheel for a processor in a folder, of these files of the repository and a folder of the library's."""
+    for place, file in files.items():
+        if place.startswith(tuple(f"{source}/" for source in SOURCES)):
+            laid = folder / "sources" / place
+            laid.parent.mkdir(parents=True, exist_ok=True)
+            laid.write_bytes(file.content)
+    made = folder / "made"
+    made.mkdir()
+    # As where Python itself is built for another processor.
+    environment = {"ZAKLIMOT_DIR": str(library), "_PYTHON_HOST_PLATFORM": f"linux-{target.name}"}
+    # With -B Python leaves nothing beside the sources, which would go into the wheel.
+    run([sys.executable, "-B", "-c", MAKING, made], folder / "sources" / PACKAGE, environment=environment)
+    return next(made.iterdir())
+
+
+def _link(page: str, places: AbstractSet[str], found: Match[str]) -> str:
+    """A link of a page of the repository, as it is in a release that has these places: words, if it leads elsewhere."""
+    if found["place"] is None:
+        return found[0]
+    target = posixpath.normpath(posixpath.join(posixpath.dirname(page), found["place"]))
+    place = MOVED.get(target, target)
+    if place not in places:
+        return found["text"]
+    folder = posixpath.dirname(MOVED.get(page, page)) or "."
+    return f"{found['mark']}[{found['text']}]({posixpath.relpath(place, folder)}{found['anchor'] or ''})"
+
+
+def clean_commit() -> Commit:
+    """The commit that is checked out. Where a file differs from it, there is none to make a release from."""
+    changed = _git("status", "--porcelain", "--untracked-files=no").decode("utf-8", "replace").split("\n")[0]
+    if changed:
+        raise Trouble(f"a release is made from a commit, and this is changed: {changed.strip()}")
+    number, time = _git("log", "-1", "--format=%H %ct").decode("ascii").split()
+    return Commit(number, int(time))
+
+
+def files_of(commit: Commit, paths: Sequence[str]) -> dict[str, File]:
+    """The files of a commit below these paths."""
+    files: dict[str, File] = {}
+    with tarfile.open(fileobj=io.BytesIO(_git("archive", "--format=tar", commit.number, "--", *paths))) as archive:
+        for member in archive.getmembers():
+            stream = archive.extractfile(member) if member.isfile() else None
+            if stream is not None:
+                files[member.name] = File(stream.read(), bool(member.mode & EXECUTABLE))
+    return files
+
+
+def _git(*words: str) -> bytes:
+    return ended_well(["git", "-C", str(TOP), *words]).output
+
+
+def _member(name: str, entry: Optional[Entry], time: int) -> tarfile.TarInfo:
+    """What an archive tells of a file, a link, or a folder, which has no entry: no owner, and the commit's time."""
+    made = tarfile.TarInfo(name)
+    made.mtime, made.mode = time, RUN
+    if isinstance(entry, File):
+        made.size, made.mode = len(entry.content), RUN if entry.is_executable else PLAIN
+    elif entry is None:
+        made.type = tarfile.DIRTYPE
+    else:
+        made.type, made.linkname = tarfile.SYMTYPE, entry
+    return made
+
+
+def pack(stream: BinaryIO, entries: Mapping[str, Entry], time: int) -> None:
+    """Writes the archive: names in order, each folder before what lies in it."""
+    folders = {str(folder) for path in entries for folder in PurePosixPath(path).parents} - {"."}
+    with gzip.GzipFile(filename="", mode="wb", compresslevel=LEVEL, fileobj=stream, mtime=time) as packed:
+        with tarfile.open(fileobj=packed, mode="w", format=tarfile.PAX_FORMAT) as archive:
+            for name in sorted({*entries, *folders}):
+                entry = entries.get(name)
+                content = io.BytesIO(entry.content) if isinstance(entry, File) else None
+                archive.addfile(_member(name, entry, time), content)
 
 
 def _parser() -> argparse.ArgumentParser:
@@ -36,29 +233,12 @@ def _parser() -> argparse.ArgumentParser:
     return parser
 
 
-def release_name() -> str:
-    """What the archive is called, and the folder that it holds."""
-    return f"zaklimot-{version()}-{MACHINE}"
-
-
-def _proved_program(heard: Hearer) -> Path:
-    """The program, proved and built. What is kept of its proof makes it quick."""
-    run(["rt", "run", "--", "--help"], PROGRAM, heard)
-    return PROGRAM / "out" / "vga"
-
-
-def _check_words(words: argparse.Namespace) -> None:
-    """What is wrong with the words is told before the long work."""
-    for given in (words.program, words.archive, words.archive_aarch64):
-        if given is not None and not os.path.isfile(given):
-            raise Trouble("there is no such file", given)
-    check_folder(words.folder)
-
-
 def _built(words: argparse.Namespace, progress: Progress) -> tuple[Path, dict[Target, Path]]:
-    """The program, and the crate's archive for each processor: given, or proved and built now."""
     tell = phases(progress)
-    program = Path(words.program or _proved_program(tell("proving and building the program")))
+    if words.program is None:
+        # What is kept of its proof makes it quick.
+        run(["rt", "run", "--", "--help"], PROGRAM, tell("proving and building the program"))
+    program = Path(words.program or PROGRAM / "out" / "vga")
     archives = {}
     for target, given in ((X86_64, words.archive), (AARCH64, words.archive_aarch64)):
         heard = tell(f"proving and building the library for {target.name}")
@@ -68,9 +248,10 @@ def _built(words: argparse.Namespace, progress: Progress) -> tuple[Path, dict[Ta
 
 
 def _release(words: argparse.Namespace, progress: Progress) -> None:
-    """Makes the archive and the file of its checksum, and tells their names."""
-    _check_words(words)
-    commit, name = clean_commit(), release_name()
+    check_given(words.program, words.archive, words.archive_aarch64)
+    check_folder(words.folder)
+    # What the archive is called, and the folder that it holds.
+    commit, name = clean_commit(), f"zaklimot-{version()}-{MACHINE}"
     for program in (*X86_64.programs(), *AARCH64.programs()):
         check_program(program)
     entries = release_entries(commit, *_built(words, progress))

@@ -57,13 +57,18 @@ def image_bytes(path: str) -> bytes:
     return read_at_most(path, MOST_BYTES)
 
 
-def image_of(data: bytes, name: str) -> Image:
-    """The image that a file holds."""
+def image_of(data: bytes, name: str, most: int = MOST_DOTS) -> Image:
+    """The image that a file holds. One of more dots than the most is told before it is unpacked."""
     if data.startswith(SIGNATURE):
-        return _png(data, name)
+        return _png(data, name, most)
     if data.startswith(b"P6"):
-        return _ppm(data, name)
+        return _ppm(data, name, most)
     raise Trouble("this is neither a PNG nor a PPM of the kind P6", name)
+
+
+def _check_dots(width: int, height: int, most: int, name: str) -> None:
+    if width * height > most:
+        raise Trouble(f"the image has {width}x{height} dots, and {most:,} are the most", name)
 
 
 def _spread(parts: Sequence[bytes]) -> bytes:
@@ -74,11 +79,12 @@ def _spread(parts: Sequence[bytes]) -> bytes:
     return bytes(row)
 
 
-def _ppm(data: bytes, name: str) -> Image:
+def _ppm(data: bytes, name: str, most_dots: int) -> Image:
     found = PPM.match(data)
     if found is None:
         raise Trouble("the header of the PPM is damaged", name)
     width, height, most = (int(number) for number in found.groups())
+    _check_dots(width, height, most_dots, name)
     if most not in (63, 255):
         raise Trouble(f"the components go to {most}; 63 and 255 can be read", name)
     dots = data[found.end():found.end() + 3 * width * height]
@@ -101,13 +107,14 @@ def _chunks(data: bytes, name: str) -> Iterator[tuple[bytes, bytes]]:
     raise Trouble("the PNG is damaged", name)
 
 
-def _png(data: bytes, name: str) -> Image:
+def _png(data: bytes, name: str, most: int) -> Image:
     chunks = list(_chunks(data, name))
     head = next((body for kind, body in chunks if kind == b"IHDR"), b"")
     if len(head) != 13:
         raise Trouble("the PNG is damaged", name)
     width, height, depth, colour, _, _, interlace = struct.unpack(">IIBBBBB", head)
-    if colour not in SAMPLES or depth not in (1, 2, 4, 8, 16) or not 0 < width * height <= MOST_DOTS:
+    _check_dots(width, height, most, name)
+    if colour not in SAMPLES or depth not in (1, 2, 4, 8, 16) or not width * height:
         raise Trouble(f"a PNG of this form can't be read: {width}x{height}, depth {depth}, colour type {colour}", name)
     if interlace:
         raise Trouble("an interlaced PNG can't be read: save it without interlace", name)

@@ -31,11 +31,13 @@ MOST_MESSAGE = 1 << 20
 # So much of what a program says at last is told, and so much of each of its streams is kept.
 MOST_SAID, MOST_KEPT = 2000, 1 << 24
 # Where each program comes from that may be lacking: the toolchain's, and those of Debian's packages.
+BINUTILS, CROSS = ("ld", "objcopy", "objdump", "ar", "nm", "readelf"), "aarch64-linux-gnu"
 PACKAGES = {
-    "ld": "binutils", "objcopy": "binutils", "ar": "binutils", "nm": "binutils", "cc": "gcc", "gcc": "gcc",
-    "node": "nodejs", "qemu-system-x86_64": "qemu-system-x86",
-    **{f"aarch64-linux-gnu-{name}": "binutils-aarch64-linux-gnu" for name in ("ld", "objcopy", "ar")},
-    "aarch64-linux-gnu-gcc": "gcc-aarch64-linux-gnu",
+    **dict.fromkeys(BINUTILS, "binutils"), **{f"{CROSS}-{name}": f"binutils-{CROSS}" for name in BINUTILS},
+    "cc": "gcc", "gcc": "gcc", "g++": "g++", "clang": "clang", "clang++": "clang",
+    f"{CROSS}-gcc": f"gcc-{CROSS}", f"{CROSS}-g++": f"g++-{CROSS}",
+    "node": "nodejs", "qemu-system-x86_64": "qemu-system-x86", "qemu-aarch64": "qemu-user",
+    "python3": "python3", "cargo": "cargo", "rustc": "rustc", "rustdoc": "rustc", "cargo-clippy": "rust-clippy",
 }
 SOURCES = {
     "rt": "it is the command of the Rattle toolchain, which README.md tells of under \"Build it\"",

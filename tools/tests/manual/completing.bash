@@ -1,7 +1,10 @@
-# Completes the last of the words after the file's name.
+# Prints what bash offers at the end of each of the lines that follow the completion's file, with bars between words.
 source "$1" || exit
 shift
-COMP_WORDS=("$@")
-COMP_CWORD=$(($# - 1))
-_vga
-printf '%s\n' "${COMPREPLY[@]}"
+for line in "$@"; do
+    IFS=' ' read -r -a COMP_WORDS <<< "$line"
+    [[ $line == *' ' ]] && COMP_WORDS+=('')
+    COMP_CWORD=$((${#COMP_WORDS[@]} - 1))
+    _vga
+    (IFS='|' && printf '%s\n' "${COMPREPLY[*]}")
+done
