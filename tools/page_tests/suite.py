@@ -13,7 +13,7 @@ from typing import Any
 from vga_report.cases import Case, read_cases
 from vga_report.processes import MEBIBYTE, Limits, captured, ended_well, run_command
 from vga_report.program import PROGRAM
-from vga_report.running import said_lines
+from vga_report.suite import said_lines
 from vga_report.trouble import Trouble, Wrong
 from vga_report.words import SUITE
 

@@ -29,7 +29,7 @@ from vga_floppy.table import reset_steps, table_for
 from vga_floppy.table_page import FIRST_MARK, LAST_MARK
 from vga_report.cases import read_cases
 from vga_report.processes import started
-from vga_report.script import script_of
+from vga_report.faults import script_of
 from vga_report.words import SUITE
 from vga_trace.state import State
 from vga_trace.step import IN, OUT, Step

@@ -10,7 +10,7 @@ from typing import Optional
 
 from vga_report.images import image_of
 from vga_report.png import MARK, Shape, write_png
-from vga_report.timing import USUAL, Timing
+from vga_report.registers import USUAL, Registers
 from zaklimot.format import Picture, parse_text
 
 from .test_command import PICTURE, run
@@ -100,11 +100,11 @@ class Animations(Folder):
             ("int ax=3;out 3C2 6F", None),
         ]:
             with self.subTest(steps):
-                timing = Timing()
+                registers = Registers()
                 for step in parse_text(steps.replace(";", "\n")).steps():
-                    timing.take(step)
-                self.assertEqual(timing.speed(), speed)
-                self.assertAlmostEqual(timing.frame(), speed[0] / speed[1] if speed else USUAL)
+                    registers.take(step)
+                self.assertEqual(registers.speed(), speed)
+                self.assertAlmostEqual(registers.frame(), speed[0] / speed[1] if speed else USUAL)
 
 
 def shown(picture: Picture, shape: Shape = Shape(), other: Optional[Picture] = None) -> tuple[int, int, list[bytes]]:

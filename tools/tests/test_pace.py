@@ -14,7 +14,7 @@ from vga_report.expecting import dumps_in
 from vga_report.listing import Row, made_row
 from vga_report.mistakes import text_of
 from vga_report.progress import Progress
-from vga_report.script import expected_in
+from vga_report.expecting import expected_in
 from vga_report.trouble import Trouble
 from vga_report.words import parser
 from zaklimot.format import (

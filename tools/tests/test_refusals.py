@@ -7,7 +7,7 @@ from pathlib import Path
 from typing import Sequence
 
 from vga_report import TOP
-from vga_report.faults import Files, explained
+from vga_report.faults import explained
 from vga_report.mistakes import mistake_in
 from vga_report.refusals import OF_CALLS, State, why_refused
 from zaklimot.format import REFUSALS, Answer
@@ -102,7 +102,7 @@ class Mistakes(unittest.TestCase):
 class Faults(Folder):
     def told(self, fault: str, data: bytes, fonts: bytes = bytes(9728)) -> str:
         """What is told of a fault of these files."""
-        return explained("vga: " + fault, Files(self.write("s", data), self.write("f", fonts)))
+        return explained("vga: " + fault, self.write("s", data), self.write("f", fonts))
 
     def test_what_is_told(self) -> None:
         length, most = "bytes, and 9,728 are right", "16,777,216 bytes are the most"
@@ -138,4 +138,4 @@ class Faults(Folder):
         ):
             make()
             with self.subTest(reason):
-                self.assertEqual(explained("vga: F8 ReadFault", Files(script, fonts)), f"{path}: F8 ReadFault: {reason}")
+                self.assertEqual(explained("vga: F8 ReadFault", script, fonts), f"{path}: F8 ReadFault: {reason}")

@@ -73,15 +73,14 @@ class Case(NamedTuple):
 
     def place_of(self, number: int) -> str:
         """A step with the file and the line where it stands; empty where it stands in no text."""
-        if self.is_bytes or number < 1:
+        steps = [] if self.is_bytes or number < 1 else list(islice(steps_in(BytesIO(self.script())), number - 1, number))
+        if not steps:
             return ""
-        for file in (self.front, self.source):
-            steps = list(steps_in(BytesIO(bytes_of(file, MOST_BYTES)))) if file else []
-            if number <= len(steps):
-                step = steps[number - 1]
-                return printable(f"`{step.words[:MOST_WORDS]}`, {file.relative_to(self.folder)}:{step.number}")
-            number -= len(steps)
-        return ""
+        lines = bytes_of(self.front, MOST_BYTES).count(b"\n") if self.front else 0
+        file, line = self.source, steps[0].number - lines
+        if self.front and line < 1:
+            file, line = self.front, steps[0].number
+        return printable(f"`{steps[0].words[:MOST_WORDS]}`, {file.relative_to(self.folder)}:{line}")
 
     def expects_fault(self) -> bool:
         """Whether the script has a mistake, or another fault ends the run before its first step."""
@@ -166,12 +165,6 @@ def read_cases(path: str) -> list[Case]:
     folder = Path(".") if path == STANDARD else Path(path).parent
     lines = read_at_most(path, MOST_BYTES).decode("utf-8", "replace").splitlines()
     return list(_cases(lines, folder.absolute(), shown_name(path, "standard input")))
-
-
-def chosen_cases(cases: list[Case], wanted: Sequence[str], unwanted: Sequence[str]) -> list[Case]:
-    """The cases whose names begin with a wanted word, or all, but for those that begin with an unwanted one."""
-    fronts, others = tuple(wanted) or "", tuple(unwanted)
-    return [case for case in cases if case.name.startswith(fronts) and not case.name.startswith(others)]
 
 
 def _cases(lines: list[str], folder: Path, name: str) -> Iterator[Case]:

@@ -7,16 +7,17 @@ from __future__ import annotations
 
 import hashlib
 import re
+from functools import lru_cache
 from itertools import zip_longest
-from typing import Iterator, Sequence
+from typing import Iterator, Optional, Sequence
 
 from zaklimot.format import BLOCK_LINES, READING, REGISTERS, Answer
 
 from .mistakes import text_of
-from .script import expected_in
 from .trouble import Trouble
 
-ANY = "*"
+# What a comment begins with that tells the answer which is expected; and what any answer meets.
+MARK, MARK_BYTE, ANY = "=", ord("="), "*"
 # What a line begins with that has a line of a dump, below the step that is to answer it.
 DUMPED = ";|"
 # A line that may be without a step, by its first letter, which may be that of a block's lines: its words and its comment.
@@ -45,6 +46,17 @@ COLOURS = ("red", "green", "blue")
 _ROW = re.compile(r"(?:(seq|crtc|gfx|attr) (\S+)(?: [id])?|(row|entry) ([0-9A-F]{2})|plane ([0-3]) ([0-9A-F]{4})):")
 # So many differences of a dump are named.
 MOST_NAMED = 8
+
+
+def expected_in(comment: bytes) -> Optional[str]:
+    """The answer that a comment expects: what stands behind `=`, up to another `;`."""
+    return _marked(comment) if MARK_BYTE in comment else None
+
+
+@lru_cache(4096)
+def _marked(comment: bytes) -> Optional[str]:
+    text = text_of(comment).strip()
+    return " ".join(text[len(MARK):].partition(";")[0].split()) if text.startswith(MARK) else None
 
 
 def answer_of(step: Answer) -> str:

@@ -13,13 +13,13 @@ from zaklimot.format import STATE, Answer, count_in, is_bytes, places_in, steps_
 from zaklimot.format.report import VALUE
 
 from .expecting import ANY, answer_of, dumps_in, is_as_expected, what_differs
-from .faults import Files, explained
+from .faults import explained
 from .processes import IS_POSIX
 from .program import Built, Limited, Tried
 from .progress import Progress
 from .refusals import State
 from .report import Report
-from .script import expected_in
+from .expecting import expected_in
 from .trouble import Trouble
 
 HEADING = "step as understood"
@@ -27,6 +27,8 @@ HEADING = "step as understood"
 PAUSE = 0.2
 # A script of bytes with no step has so many.
 EMPTY = 5
+# The place of a step that stands on no line of the script.
+NO_PLACE = None, b""
 # The widest column of steps; what is longer has its end cut off.
 MOST_WORDS = 47
 RANGE = re.compile(r"([0-9]{1,10})(?:-([0-9]{1,10}))?")
@@ -78,30 +80,23 @@ KINDS: dict[str, Callable[[Row], bool]] = {
 }
 
 
-class Choice:
-    """Which steps are shown: all, or those of some numbers and kinds."""
+def chosen(text: str) -> Callable[[Row], bool]:
+    """Which steps `--only` shows with this text: those of some numbers and kinds."""
+    kinds = list(map(_kind, text.split(",")))
+    return lambda row: any(is_meant(row) for is_meant in kinds)
 
-    def __init__(self, text: Optional[str]) -> None:
-        self._ranges: list[tuple[int, int]] = []
-        self._kinds: list[Callable[[Row], bool]] = []
-        self.has_all = text is None
-        for word in () if text is None else text.split(","):
-            found = RANGE.fullmatch(word)
-            if found is not None:
-                first, last = int(found[1]), int(found[2] or found[1])
-                if not 1 <= first <= last:
-                    reason = "steps are counted from 1" if not first else f"the range ends before it begins: {last}-{first}?"
-                    raise Trouble(f"--only {word}: {reason}")
-                self._ranges.append((first, last))
-            elif word in KINDS:
-                self._kinds.append(KINDS[word])
-            else:
-                raise Trouble(f"--only has numbers of steps, as 10-20, and {', '.join(KINDS)}, and not '{word}'")
 
-    def has(self, row: Row) -> bool:
-        """Whether a step is shown."""
-        has_number = any(first <= row.step.number <= last for first, last in self._ranges)
-        return self.has_all or has_number or any(is_meant(row) for is_meant in self._kinds)
+def _kind(word: str) -> Callable[[Row], bool]:
+    found = RANGE.fullmatch(word)
+    if found is None and word not in KINDS:
+        raise Trouble(f"--only has numbers of steps, as 10-20, and {', '.join(KINDS)}, and not '{word}'")
+    if found is None:
+        return KINDS[word]
+    first, last = int(found[1]), int(found[2] or found[1])
+    if not 1 <= first <= last:
+        reason = "steps are counted from 1" if not first else f"the range ends before it begins: {last}-{first}?"
+        raise Trouble(f"--only {word}: {reason}")
+    return lambda row: first <= row.step.number <= last
 
 
 class Script:
@@ -111,35 +106,30 @@ class Script:
     """
 
     def __init__(self, path: str, data: bytes, program: Union[Built, Tried], shown: str, printed: BinaryIO) -> None:
-        self.path = Path(path)
+        self._path = path
         self.shown = shown
         self.is_bytes = is_bytes(data)
         self._text = None if self.is_bytes else io.BytesIO(data)
         self._dumps = {} if self.is_bytes else dumps_in(data, shown)
         self._program = program
-        program.print_steps(self.path, self.is_bytes, printed)
+        program.print_steps(Path(path), self.is_bytes, printed)
         understood = count_in(printed)
         meant = understood if self._text is None else count_in(self._text)
         # Without a line for each step there is no telling which is which; the words are then those of the text.
         self._printed = printed if understood == meant else None
         # How many steps it means; None where that isn't known, of bytes that the program doesn't print.
-        self.count: Optional[int] = meant if meant or not self.is_bytes or len(data) <= EMPTY else None
-        self.width = min(max(len(HEADING), self._longest()), MOST_WORDS)
+        self._count: Optional[int] = meant if meant or not self.is_bytes or len(data) <= EMPTY else None
+        printed.seek(0)
+        lengths = map(len, printed) if self._printed is not None else (len(words) + 1 for words, _ in self._steps())
+        longest = max(lengths, default=1) - 1
+        self.width = min(max(len(HEADING), longest), MOST_WORDS)
 
-    def _longest(self) -> int:
-        """The length of the longest step."""
-        if self._printed is None:
-            return max((len(words) for words, _ in self._steps()), default=0)
-        self._printed.seek(0)
-        return max(map(len, self._printed), default=1) - 1
-
-    def _steps(self) -> Iterator[tuple[str, tuple[int, bytes]]]:
+    def _steps(self) -> Iterator[tuple[str, tuple[Optional[int], bytes]]]:
         """The steps: each one's words as they were understood, with the number of its line and its comment."""
         if self._printed is None:
             assert self._text is not None
             return ((line.words, (line.number, line.comment)) for line in steps_in(self._text))
-        places = zip(count(1), repeat(b"")) if self._text is None else places_in(self._text)
-        return zip(words_in(self._printed), places)
+        return zip(words_in(self._printed), zip(count(1), repeat(b"")) if self._text is None else places_in(self._text))
 
     def rows(
         self, fonts: str, until: Optional[int], progress: Progress, is_strict: bool, tells_why: bool
@@ -159,31 +149,30 @@ class Script:
     def _rows(
         self, fonts: str, until: Optional[int], progress: Progress, is_strict: bool, tells_why: bool
     ) -> Iterator[Row]:
+        # Behind the last step there are the dumps of a stopped run. Steps that aren't known have no words.
         dumps = () if until is None else STATE
-        state = State() if tells_why else None
-        is_told, taken = progress.is_wanted, 0
-        with self._program.running(self.path, fonts, until, self.is_bytes) as outcome:
+        unknown = repeat(("", NO_PLACE)) if self._count is None else ()
+        meant = chain(islice(self._steps(), until), ((dump, NO_PLACE) for dump in dumps), unknown)
+        wanted = None if self._count is None else (self._count if until is None else min(until, self._count)) + len(dumps)
+        state, dump_of, is_told = State() if tells_why else None, self._dumps.get, progress.is_wanted
+        with self._program.running(Path(self._path), fonts, until, self.is_bytes) as outcome:
             _wait_for(outcome.report, self.shown, progress)
             report = Report(outcome.report, "the report", progress)  # type: ignore[arg-type]
-            steps, dump_of = self._begun(report.steps(), fonts), self._dumps.get
-            for (words, (number, comment)), step in zip(islice(self._steps(), until), steps):
+            steps = self._begun(report.steps(), fonts)
+            for (words, (number, comment)), step in zip(meant, steps):
                 if is_told and progress.is_due():
-                    progress.tell(f"{self.shown}: step {step.number} of {self.count}")
-                taken = step.number
+                    progress.tell(f"{self.shown}: step {step.number} of {self._count}")
                 expected = expected_in(comment) if comment else None
                 why = "" if state is None else state.why_of(words, step)
                 yield made_row((step, words, number, expected, dump_of(number, ()), why, is_strict))
-            for step in steps:
-                if step.number <= taken + len(dumps):
-                    # Behind the last there are the dumps of a stopped run.
-                    yield Row(step, dumps[step.number - taken - 1], is_strict=is_strict)
-                elif self.count is not None:
-                    raise Trouble(f"the report goes on after the last step, {taken + len(dumps)}", self.shown)
-                else:
-                    yield Row(step, "", is_strict=is_strict)
+            if next(steps, None) is not None:
+                raise Trouble(f"the report goes on after the last step, {wanted}", self.shown)
         if outcome.status:
             raise self._trouble(outcome.fault, fonts)
-        self._check_end(report.count, until, len(dumps))
+        if wanted is None:
+            raise Trouble("the program prints none of its steps, so there is no telling which were answered", self.shown)
+        if report.count < wanted:
+            raise Trouble(f"the report ends after {report.count:,} of {wanted:,} steps", self.shown)
 
     def _begun(self, steps: Iterator[Answer], fonts: str) -> Iterator[Answer]:
         """The answers of a report; a Trouble where a fault stands in its place."""
@@ -194,15 +183,7 @@ class Script:
 
     def _trouble(self, fault: str, fonts: str) -> Trouble:
         """A fault of the program's, with its reason."""
-        return Trouble(explained(fault, Files(str(self.path), fonts)).replace(str(self.path), self.shown))
-
-    def _check_end(self, answered: int, until: Optional[int], dumps: int) -> None:
-        """Ends the work where a report ends before its script."""
-        if self.count is None:
-            raise Trouble("the program prints none of its steps, so there is no telling which were answered", self.shown)
-        wanted = (self.count if until is None else min(until, self.count)) + dumps
-        if answered < wanted:
-            raise Trouble(f"the report ends after {answered:,} of {wanted:,} steps", self.shown)
+        return Trouble(explained(fault, self._path, fonts).replace(self._path, self.shown))
 
 
 def _wait_for(report: BinaryIO, shown: str, progress: Progress) -> None:

@@ -18,7 +18,7 @@ from . import TOP
 from .crates import phases
 from .processes import ENDING, check_program, run, started
 from .progress import Progress
-from .script import script_of
+from .faults import script_of
 from .streams import bytes_of, to_read
 from .trouble import Trouble
 

@@ -5,44 +5,28 @@ The state is what the steps that were done have left, as far as a script tells i
 """
 
 from functools import lru_cache, partial
-from typing import Callable, Collection, Optional, Sequence
+from typing import Callable, Optional
 
 from zaklimot.format import MOST_ADVANCE, REGISTERS, Answer, Step, parse_line
 
-from .timing import MODES, bytes_written
+from .registers import ATTRIBUTES, COUNTS, CRT, GRAPHICS, INDEX_PORTS, MODES, SEQUENCER, Registers
 
 WINDOWS = ((0xA0000, 0xBFFFF), (0xA0000, 0xAFFFF), (0xB0000, 0xB7FFF), (0xB8000, 0xBFFFF))
 READ_ALONE, CRT_PORTS = {0x3C1, 0x3CA, 0x3CC}, {0x3B4, 0x3B5, 0x3BA, 0x3D4, 0x3D5, 0x3DA}
 READ_AND_WRITTEN = {0x3C0, 0x3C2, 0x3C3, 0x3C4, 0x3C5, 0x3C6, 0x3C7, 0x3C8, 0x3C9, 0x3CE, 0x3CF}
 LEFT_OUT = {0x3C2: "input status 0", 0x3C3: "subsystem enable", 0x3C7: "the DAC state", 0x3CA: "feature control"}
 CYCLES = {name + width for name in ("out", "in", "put", "get") for width in ("", "w")}
-SEQUENCER, GRAPHICS, CRT, ATTRIBUTES = "sequencer", "graphics controller", "CRT controller", "attribute controller"
-# How many registers a group has, and the bits of its index.
-COUNTS = {SEQUENCER: (5, 7), GRAPHICS: (9, 15), CRT: (25, 31), ATTRIBUTES: (21, 31)}
-INDEX_PORTS = {0x3C4: SEQUENCER, 0x3CE: GRAPHICS, 0x3B4: CRT, 0x3D4: CRT}
 # How the steps begin that may change what refusals hang on: `out`, `in` and `int`.
 CHANGING = "oOiI"
-# The ports that change what refusals hang on when they are written, and input status 1, which does so when it is read.
-WRITTEN, STATUS_PORTS = {*INDEX_PORTS, 0x3C0, 0x3C2, 0x3CF}, {0x3BA, 0x3DA}
-# The memory map that a mode set leaves in graphics controller 6; other modes have that of A0000.
-MAPS = {3: 3, 7: 2}
 
 
-class State:
+class State(Registers):
     """What steps have left of the adapter, as far as refusals hang on it."""
 
     def __init__(self) -> None:
-        self.misc = self.map = 0
-        self.mode: Optional[int] = None
-        self.indexes = dict.fromkeys(COUNTS, 0)
-        self._is_data = False
+        super().__init__()
         # Why a step is refused now: the same steps come again and again.
         self.why = lru_cache(1000)(partial(why_refused, state=self))
-
-    @property
-    def base(self) -> int:
-        """The port of the CRT controller's index."""
-        return 0x3D4 if self.misc & 1 else 0x3B4
 
     def why_of(self, words: str, answer: Answer) -> str:
         """Why a step was refused, by its answer; nothing of a step that was done, which is taken."""
@@ -50,34 +34,11 @@ class State:
         refusal = answer.refusal if answer.answer[0] == "E" else 0
         if refusal:
             return self.why(words, refusal)
-        change = _change_of(words) if words[0] in CHANGING else None
-        if change is not None:
+        step = step_of(words) if words[:1] in CHANGING else None
+        if step is not None:
             self.why.cache_clear()
-            change(self)
+            self.take(step)
         return ""
-
-    def set_mode(self, mode: int) -> None:
-        """Takes a mode set."""
-        self.mode, self.misc, self.map, self._is_data = mode, MODES[mode][0], MAPS.get(mode, 1), False
-
-    def read_status(self, ports: Collection[int]) -> None:
-        """Takes a read of ports, of which input status 1 may be one."""
-        self._is_data = self._is_data and self.base + 6 not in ports
-
-    def write(self, written: Sequence[tuple[int, int]]) -> None:
-        """Takes bytes that were written to ports."""
-        for port, value in written:
-            group = INDEX_PORTS.get(port)
-            if group is not None:
-                self.indexes[group] = value & COUNTS[group][1]
-            elif port == 0x3C2:
-                self.misc = value
-            elif port == 0x3C0:
-                if not self._is_data:
-                    self.indexes[ATTRIBUTES] = value & COUNTS[ATTRIBUTES][1]
-                self._is_data = not self._is_data
-            elif port == 0x3CF and self.indexes[GRAPHICS] == 6:
-                self.map = value >> 2 & 3
 
 
 def why_refused(words: str, number: int, state: State) -> str:
@@ -107,22 +68,6 @@ def step_of(words: str) -> Optional[Step]:
         return None
 
 
-@lru_cache(4096)
-def _change_of(words: str) -> Optional[Callable[[State], None]]:
-    """What a step changes of the state, where it may change it; None where it can't."""
-    step = step_of(words)
-    if step is None:
-        return None
-    name, numbers, _ = step
-    if name == "int":
-        return partial(State.set_mode, mode=numbers[0] & 0x7F) if numbers[0] >> 8 == 0 and numbers[0] & 0x7F in MODES else None
-    if name in ("in", "inw"):
-        ports = {numbers[0], numbers[0] + (name == "inw")} & STATUS_PORTS
-        return partial(State.read_status, ports=ports) if ports else None
-    written = [(port, value) for port, value in bytes_written(step) if port in WRITTEN]
-    return partial(State.write, written=written) if written else None
-
-
 def _not_decoded(step: Step, state: State) -> Optional[str]:
     name, place = step.name, step.numbers[0]
     is_memory, is_write = name.startswith(("put", "get")), name.startswith("out")
@@ -134,11 +79,10 @@ def _not_decoded(step: Step, state: State) -> Optional[str]:
 
 
 def _port_not_decoded(port: int, is_write: bool, state: State) -> Optional[str]:
-    """Why a port is not decoded; None where it is."""
     if port in CRT_PORTS:
         if port & 0xFF0 == state.base & 0xFF0:
             return None
-        bit = f"since bit 0 of miscellaneous output is {state.misc & 1}"
+        bit = f"since bit 0 of miscellaneous output is {(state.misc or 0) & 1}"
         return f"The CRT controller is at {state.base:03X} now, {bit}. There, port {port:03X} is {port ^ 0x60:03X}."
     if port in READ_ALONE:
         return f"Port {port:03X} can be read, and not written." if is_write else None
@@ -146,8 +90,7 @@ def _port_not_decoded(port: int, is_write: bool, state: State) -> Optional[str]:
 
 
 def _address_not_decoded(address: int, state: State) -> Optional[str]:
-    """Why an address is not decoded; None where it is."""
-    if not state.misc & 2:
+    if not (state.misc or 0) & 2:
         return "Display memory is off: enable RAM, bit 1 of miscellaneous output, is 0."
     first, last = WINDOWS[state.map]
     if first <= address <= last:
@@ -166,7 +109,6 @@ def _not_in_profile(step: Step, state: State) -> Optional[str]:
 
 
 def _port_not_in_profile(port: int, value: Optional[int], state: State, picked: Optional[int] = None) -> Optional[str]:
-    """Why a cycle of a port is out of the profile; None where it is not."""
     if value is not None and port & 0xF0F == 0x30A and port != 0x3CA:
         return "Feature control is left out of the adapter."
     if port in LEFT_OUT and (value is None or port == 0x3C3):

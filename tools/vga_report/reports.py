@@ -14,9 +14,9 @@ from .page import Page
 from .png import Animation, Shape, save_png
 from .progress import Progress
 from .report import Comparison, Difference, Expected, Report, told_dots
-from .script import read_script, script_of
+from .faults import read_script, script_of
 from .streams import STANDARD, check_folder, reading, write_file, writing
-from .timing import USUAL, Timing
+from .registers import USUAL, Registers
 from .trouble import Trouble
 
 # Dots or lines that stand so often, as they are told.
@@ -98,16 +98,17 @@ def delays_of(script: Optional[str]) -> Callable[[int], float]:
     """How long the frame of a step lasts, with the whole frames that an advance passes over behind it, as a script tells it."""
     if script is None:
         return lambda number: USUAL
-    timing, frames, last, dots = Timing(), {}, 0, 0
+    registers, frames, last, dots = Registers(), {}, 0, 0
     name = name_of(script)
     for number, step in enumerate(script_of(read_script(script), name).steps(), 1):
-        timing.take(step)
+        registers.take(step)
         if step.name == "advance" and step.numbers[0] <= MOST_ADVANCE:
             dots += step.numbers[0]
         if step.name == "frame":
-            if last:
-                frames[last] += timing.passed(dots)
-            frames[number], last, dots = timing.frame(), number, 0
+            speed = registers.speed()
+            if last and speed:
+                frames[last] += dots // speed[0] * speed[0] / speed[1]
+            frames[number], last, dots = registers.frame(), number, 0
 
     def delay(number: int) -> float:
         if number not in frames:

@@ -5,23 +5,23 @@ import os
 import shutil
 import sys
 import tempfile
-from contextlib import ExitStack, contextmanager
+from contextlib import contextmanager
 from pathlib import Path
-from typing import BinaryIO, Iterator, Optional, Union, cast
+from typing import BinaryIO, Iterator, Union, cast
 
 from zaklimot.format import Picture
 
 from .debugging import debug_page, link_to
-from .listing import Choice, Row, Script, heading, listed
+from .listing import Row, Script, chosen, heading, listed
 from .output import AGREED, DIFFERED, counted, name_of, teller, write
 from .page import Page
 from .png import Shape, block_lines, save_png
 from .program import Built, Tried, build_program, found_program
 from .progress import Progress
-from .script import read_script
+from .faults import read_script
 from .several import run_several, watched
 from .streams import STANDARD, check_file, check_folder, write_file, write_over
-from .tally import Blessing, Tally, Told, told_in
+from .tally import Blessing, Tally, tallied
 from .trouble import Trouble
 
 # So many reasons of refusals are told once each, and then again.
@@ -35,38 +35,29 @@ LOST_TEXT = (
 
 
 @contextmanager
-def _script_file(path: str) -> Iterator[tuple[str, bytes]]:
-    """The path and the bytes of a script; one of a pipe becomes a file, since it is read more than once."""
-    if path not in (STANDARD, "") and (os.path.isdir(path) or not os.path.exists(path)):
-        # The program says what is wrong with it.
-        yield path, b""
-        return
-    data = read_script(path)
-    # The program's own standard input is another one than that which `/dev/stdin` names here.
-    if os.path.isfile(path) and not path.startswith(("/dev/", "/proc/")) and _is_text(path):
-        yield path, data
-        return
+def _files(script: str, fonts: str) -> Iterator[tuple[str, bytes, str]]:
+    """The path and the bytes of a script, and the path of its font file, by names that the program takes.
+
+    The script of a pipe becomes a file, since it is read more than once. What is wrong with a name the program says.
+    """
+    is_there = script in (STANDARD, "") or os.path.exists(script) and not os.path.isdir(script)
+    data = read_script(script) if is_there else b""
     with tempfile.TemporaryDirectory(prefix="vga-report-") as folder:
-        copy = Path(folder) / "script"
-        copy.write_bytes(data)
-        yield str(copy), data
+        # The program's own standard input is another one than that which `/dev/stdin` names here.
+        is_file = os.path.isfile(script) and not script.startswith(("/dev/", "/proc/"))
+        if is_there and not (is_file and _is_text(script)):
+            script = os.path.join(folder, "script")
+            Path(script).write_bytes(data)
+        if not _is_text(fonts):
+            link = Path(folder) / "fonts"
+            link.symlink_to(os.path.abspath(fonts))
+            fonts = str(link)
+        yield script, data, fonts
 
 
 def _is_text(name: str) -> bool:
     """Whether a name is one that the program takes: it reads its words as UTF-8."""
     return not any("\ud800" <= letter <= "\udfff" for letter in name)
-
-
-@contextmanager
-def _font_file(path: str) -> Iterator[str]:
-    """The path of a font file, by a name that the program takes."""
-    if _is_text(path):
-        yield path
-        return
-    with tempfile.TemporaryDirectory(prefix="vga-report-") as folder:
-        link = Path(folder) / "fonts"
-        link.symlink_to(os.path.abspath(path))
-        yield str(link)
 
 
 def _contradictions(words: argparse.Namespace) -> dict[str, object]:
@@ -127,57 +118,46 @@ def run(words: argparse.Namespace, progress: Progress) -> int:
 
 
 def _run_script(words: argparse.Namespace, progress: Progress) -> int:
-    """Runs one script."""
+    """Runs one script, and shows what was chosen of it."""
     if words.debug is not None and words.html is None:
         _write_debug_page(words, read_script(words.script))
         return AGREED
-    choice = Choice(words.only)
+    is_shown = None if words.only is None else chosen(words.only)
     program: Union[Built, Tried] = Tried() if words.try_ else Built(found_program(words.vga))
-    tally = Tally(name_of(words.script))
-    with told_in(words.json, tally) as told:
-        return _run_by(words, progress, program, choice, tally, told)
-
-
-def _run_by(
-    words: argparse.Namespace, progress: Progress, program: Union[Built, Tried], choice: Choice, tally: Tally,
-    told: Optional[Told],
-) -> int:
-    """Runs a script by a program, and shows what was chosen of it."""
     shower = _Shower(words, progress)
-    with ExitStack() as stack:
-        path, data = stack.enter_context(_script_file(words.script))
-        fonts = stack.enter_context(_font_file(words.fonts))
-        printed = stack.enter_context(tempfile.TemporaryFile())
-        if words.debug is not None and os.path.isfile(path):
-            _write_debug_page(words, data)
-        script = Script(path, data, program, name_of(words.script), cast(BinaryIO, printed))
-        if script.is_bytes and script.shown.endswith(TEXT_NAME):
-            sys.stderr.write(LOST_TEXT.format(script.shown))
-        if script.is_bytes and (words.bless or words.diff):
-            raise Trouble("a script of bytes has no comments for answers", words.script)
-        blessing = Blessing(data) if words.bless or words.diff else None
-        tells_why = shower.tells_why or told is not None
-        for row in script.rows(fonts, words.until, progress, words.strict, tells_why):
-            if not tally.steps:
-                shower.begin(script)
-            is_wrong = tally.count(row)
-            if blessing is not None:
-                blessing.take(row)
-            if told is not None:
-                told.add(row)
-            if choice.has_all or choice.has(row):
-                shower.show(row, is_wrong)
-        progress.clear()
+    with tallied(name_of(words.script), words.json) as tally:
+        with _files(words.script, words.fonts) as (path, data, fonts), tempfile.TemporaryFile() as printed:
+            if words.debug is not None and os.path.isfile(path):
+                _write_debug_page(words, data)
+            script = Script(path, data, program, tally.shown, cast(BinaryIO, printed))
+            _heed_bytes(words, script)
+            blessing = Blessing(data) if words.bless or words.diff else None
+            tells_why = shower.tells_why or words.json is not None
+            for row in script.rows(fonts, words.until, progress, words.strict, tells_why):
+                if not tally.steps:
+                    shower.begin(script.width)
+                is_wrong = tally.count(row)
+                if blessing is not None:
+                    blessing.take(row)
+                if is_shown is None or is_shown(row):
+                    shower.show(row, is_wrong)
+            progress.clear()
         if blessing is not None and words.bless:
             return _bless(words, blessing)
-    if told is not None:
-        told.end(tally)
-    shower.end(script, tally)
-    if blessing is not None and not words.bless:
-        write(blessing.difference(tally.shown))
-    else:
-        _tell_tally(tally, words)
+        shower.end(tally)
+        if blessing is not None:
+            write(blessing.difference(tally.shown))
+        else:
+            _tell_tally(tally, words)
     return DIFFERED if tally.wrong else AGREED
+
+
+def _heed_bytes(words: argparse.Namespace, script: Script) -> None:
+    """Tells what is lost where a script is bytes."""
+    if script.is_bytes and script.shown.endswith(TEXT_NAME):
+        sys.stderr.write(LOST_TEXT.format(script.shown))
+    if script.is_bytes and (words.bless or words.diff):
+        raise Trouble("a script of bytes has no comments for answers", words.script)
 
 
 def _tell_tally(tally: Tally, words: argparse.Namespace) -> None:
@@ -201,13 +181,13 @@ class _Shower:
         self._whys: set[str] = set()
         self._width = 0
 
-    def begin(self, script: Script) -> None:
-        """Shows what stands above the first step."""
-        self._width = script.width
+    def begin(self, width: int) -> None:
+        """Shows what stands above the first step. The steps have a column of this width."""
+        self._width = width
         if self._words.pictures is not None:
             os.makedirs(self._words.pictures, exist_ok=True)
         if self._is_listed:
-            write(heading(script.width) + "\n")
+            write(heading(width) + "\n")
 
     def show(self, row: Row, is_wrong: bool) -> None:
         """Shows a step, and writes its picture where that is wanted, with its path; why it was refused is told once."""
@@ -218,22 +198,20 @@ class _Shower:
         elif self._is_listed:
             if self._progress.is_wanted:
                 self._progress.clear()
-            why = row.why
-            if why and why in self._whys:
-                why = ""
-            elif why and len(self._whys) < MOST_WHYS:
+            why = "" if row.why in self._whys else row.why
+            if why and len(self._whys) < MOST_WHYS:
                 self._whys.add(why)
             write(listed(row, is_wrong, self._width, path and f"  {path}", why))
             if words.show and isinstance(picture, Picture):
                 columns = shutil.get_terminal_size((80, 24)).columns
                 write("".join(line + "\n" for line in block_lines(picture, columns)))
 
-    def end(self, script: Script, tally: Tally) -> None:
+    def end(self, tally: Tally) -> None:
         """Writes the page, where one is wanted."""
         words = self._words
         if words.html:
             link = None if words.debug is None else link_to(words.debug, words.html) + _fragment(words)
-            write_file(words.html, self._page.text(script.shown, tally.text(), link).encode("utf-8", "replace"))
+            write_file(words.html, self._page.text(tally.shown, tally.text(), link).encode("utf-8", "replace"))
 
 
 def _saved_picture(row: Row, words: argparse.Namespace) -> str:

@@ -3,7 +3,7 @@
 import difflib
 import json
 import tempfile
-from contextlib import contextmanager
+from contextlib import contextmanager, nullcontext
 from typing import Any, BinaryIO, Iterator, Optional
 
 from zaklimot.format.table import OK
@@ -12,7 +12,7 @@ from .expecting import ANY, DUMPED, answer_of, is_worth_telling
 from .listing import Row
 from .mistakes import text_of
 from .output import counted
-from .script import MARK, expected_in
+from .expecting import MARK, expected_in
 from .streams import writing
 from .trouble import Trouble
 
@@ -21,18 +21,28 @@ MOST_TOLD = 1 << 20
 
 
 class Tally:
-    """What was seen of a run."""
+    """What was seen of a run: counted, and told as JSON into a stream, if one is given, as the steps come.
 
-    def __init__(self, shown: str) -> None:
+    The JSON is one object, whose last members are the counts, and the trouble of a run that isn't whole.
+    """
+
+    COUNTS = ("steps", "refused", "pictures", "expected", "met", "wrong")
+
+    def __init__(self, shown: str, stream: Optional[BinaryIO] = None) -> None:
         self.shown = shown
         self.steps = self.pictures = self.refused = self.expected = self.met = self.wrong = 0
         # The answers that differ may be as many as the steps.
         self._told = tempfile.SpooledTemporaryFile(MOST_TOLD)
+        self._stream = stream
+        if stream is not None:
+            stream.write(json.dumps({"script": shown})[:-1].encode("ascii") + b', "answers": [')
 
     def count(self, row: Row) -> bool:
         """Counts a step, and tells whether another answer was expected."""
         step, expected = row.step, row.expected
         self.steps += 1
+        if self._stream is not None:
+            self._stream.write((b",\n" if self.steps > 1 else b"\n") + json.dumps(_told(row)).encode("ascii"))
         if expected is None and step.answer == OK:
             # Of most steps there is nothing more to count.
             return False
@@ -61,49 +71,38 @@ class Tally:
             parts.append(f"{self.met} of {self.expected} answers as expected")
         return ", ".join(parts)
 
+    def end(self, trouble: Optional[Trouble]) -> None:
+        """Ends the JSON."""
+        if self._stream is not None:
+            counts = {name: getattr(self, name) for name in self.COUNTS}
+            ended = json.dumps({**counts, "trouble": None if trouble is None else str(trouble)})
+            self._stream.write(b"\n], " + ended[1:].encode("ascii") + b"\n")
 
-class Told:
-    """A run as JSON, which is written as the steps come: one object, whose last members are the counts and the trouble."""
 
-    def __init__(self, stream: BinaryIO, script: str) -> None:
-        self._stream = stream
-        self._between = b"\n"
-        stream.write(json.dumps({"script": script})[:-1].encode("ascii") + b', "answers": [')
-
-    def add(self, row: Row) -> None:
-        """Adds a step, with its picture's digest, and why it was refused."""
-        step = row.step
-        told: dict[str, Any] = {"step": step.number, "line": row.line, "words": row.words, "answer": answer_of(step)}
-        told.update({"lines": list(step.lines)} if step.others else {})
-        if step.picture is not None:
-            told["picture"] = {"size": step.picture.size, "md5": step.picture.sum}
-        told.update({"refused": step.answer, "why": row.why} if step.is_refused else {})
-        if row.expected is not None or row.is_wrong:
-            told.update({"expected": row.expected, "met": not row.is_wrong})
-        self._stream.write(self._between + json.dumps(told).encode("ascii"))
-        self._between = b",\n"
-
-    def end(self, tally: Tally, trouble: Optional[str] = None) -> None:
-        """Ends the object: with the counts, and with what ended the run if it isn't whole."""
-        counts = {name: getattr(tally, name) for name in ("steps", "refused", "pictures", "expected", "met", "wrong")}
-        self._stream.write(b"\n], " + json.dumps({**counts, "trouble": trouble})[1:].encode("ascii") + b"\n")
+def _told(row: Row) -> dict[str, Any]:
+    """A step for machines, with its picture's digest, and why it was refused."""
+    step = row.step
+    told: dict[str, Any] = {"step": step.number, "line": row.line, "words": row.words, "answer": answer_of(step)}
+    told.update({"lines": list(step.lines)} if step.others else {})
+    if step.picture is not None:
+        told["picture"] = {"size": step.picture.size, "md5": step.picture.sum}
+    told.update({"refused": step.answer, "why": row.why} if step.is_refused else {})
+    if row.expected is not None or row.is_wrong:
+        told.update({"expected": row.expected, "met": not row.is_wrong})
+    return told
 
 
 @contextmanager
-def told_in(path: Optional[str], tally: Tally) -> Iterator[Optional[Told]]:
-    """A run's JSON in a file, where one is named; whoever gets it ends it, unless a trouble does."""
-    if path is None:
-        yield None
-        return
+def tallied(shown: str, path: Optional[str]) -> Iterator[Tally]:
+    """The tally of a run, whose JSON goes into a file, where one is named: whole, also where a trouble ends the run."""
     trouble: Optional[Trouble] = None
-    with writing(path) as stream:
-        told = Told(stream, tally.shown)
+    with nullcontext() if path is None else writing(path) as stream:
+        tally = Tally(shown, stream)
         try:
-            yield told
+            yield tally
         except Trouble as raised:
-            # What is written is whole, also of a script that can't be run to its end.
             trouble = raised
-            told.end(tally, str(trouble))
+        tally.end(trouble)
     if trouble is not None:
         raise trouble
 
