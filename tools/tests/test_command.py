@@ -12,12 +12,7 @@ import unittest
 from functools import partial
 from pathlib import Path
 
-from vga_report.cases import Case, read_cases
-from zaklimot.format import MOST_BYTES
-
-from .tools import (
-    BLACK, RED, TOOLS, WHITE, Folder, begin, ended, hold, hold_undone, png_rows, ppm, refused, report, run_tool,
-)
+from .tools import BLACK, RED, TOOLS, WHITE, Folder, begin, ended, hold, hold_undone, png_rows, ppm, report, run_tool
 
 PROGRAM = TOOLS / "vga-report"
 ADAPTER = shlex.join([sys.executable, str(TOOLS / "tests" / "adapter.py")]) + " {script}"
@@ -207,6 +202,65 @@ SUITES: list[tuple[tuple[tuple[str, ...], ...], str, list[str]]] = [
     ((("\nget 1\n", "1 FF\n2 55\n", "front front\nc/0"), ("get 1\n", "1 55\n2 FF\n")), "", [
         "c/0: step 2: FF, not 55 (`get 1`, c/0.vga:2)\n", "c/1: step 1: FF, not 55 (`get 0`, front:2)\n",
     ]),
+    # Bytes want a command of their own, and one that stops where a case does.
+    ((("69 6E 20 33 43 43 ; in 3CC\n", "1 02\n", "bytes c/0"),), "", [
+        "c/0: the script is bytes, and --bytes has no command\n", "\n1 case: 1 skipped\n",
+    ]),
+    ((("66 72 61 6D 65 0A 66 0A ; frame, f", "1 ragged\n", "bytes c/0 until 1"),), f"--bytes '{ADAPTER}'", [
+        "c/0: the command of --bytes has no {until}\n",
+    ]),
+    ((("66 72 61 6D 65 0A 66 0A ; frame, f", "1 ragged\n", "bytes c/0 until 1"),
+      ("69 6E 20 33 43 43 ; in 3CC\n", "1 02\n", "bytes c/1"), ("get 0\n", "1 55\n")), f"--bytes '{ADAPTER} {{fonts}} {{until}}'", [
+        "c/0: 1 of 1 steps are skipped, the others agree\n", "  agrees   in 3CC\n",
+    ]),
+    # What can't stop a run gets a script that ends with the dumps.
+    ((("get 0\nget 0\nget 0\n", "1 FF\n2 FF\n3 regs\n4 beam\n5 latches\n6 bda\n", "c/0 until 2"),
+      ("get 0\n", "1 55\n")), "", ["  agrees   c/0\n"]),
+    # A machine gets no step that is to be refused.
+    ((("get A0000\nout 3C2 01\ncrash\nget A0000\n", "1 FF\n2 ok\n3 E1 NotDecoded\n4 55\n"),
+      ("version 2\nrepeat 2\nget A0000\nend\ncrash\n", "1 FF\n2 FF\n3 E4 BadFunction\n")), "--machine", [
+        "c/0: 2 of 4 steps are skipped, the others agree\n", "c/1: 1 of 3 steps are skipped, the others agree\n",
+    ]),
+]
+# Lists of cases with their files, the words of `scripts`, and what is written: files, or a reason.
+DUMPS, EDGES = "show regs\nshow beam\nshow latches\nshow bda\n", "; Comment\n\nout 3C2 01 ; more\n\t\r\n  frame\nframe"
+BLOCK, BIG, LISTED = "version 2 ; a block\nrepeat 2\nget A0000\nend\n", "\0" * 16_777_217, "{folder}/list:2: "
+HANDED: list[tuple[str, dict[str, str], str, dict[str, str] | str]] = [
+    ("# Heading\n\nfonts two.fnt\nfront front\na/one until 2\nfront none\nwrong a/one\nwrong a/one until 2\nbytes b/two\n",
+     {"front": "out 3C2 01\n", "a/one.vga": "frame\nframe\n", "a/one.txt": "1 ok\n", "b/two.hex": "; x\n56 47\t4a*3\n00*2 ; 11\n",
+      "b/two.txt": "F2 BadMagic\n"}, "",
+     {"a/one.vga": f"out 3C2 01\nframe\n{DUMPS}", "b/two.bin": "VGJJJ\0\0", "fonts/two.fnt": "12",
+      "list.txt": "a/one.vga fonts/two.fnt\nb/two.bin fonts/two.fnt\n"}),
+    # Fonts of one name in two folders.
+    ("fonts two.fnt\none\nfonts x/two.fnt\ntwo\n", {"one.vga": "", "two.vga": "", "x/two.fnt": "3"}, "",
+     {"one.vga": "", "two.vga": "", "fonts/two.fnt": "12", "fonts/1-two.fnt": "3",
+      "list.txt": "one.vga fonts/two.fnt\ntwo.vga fonts/1-two.fnt\n"}),
+    *((line, {"one.txt": "1 ok\n", **files}, "", {"one.vga": wanted, "list.txt": "one.vga -\n"}) for line, files, wanted in (
+        ("one\n", {"one.vga": "; \u00e9\nframe\n"}, "; \u00e9\nframe\n"),
+        # A script with a mistake stays whole.
+        ("one until 0\n", {"one.vga": "fram\n", "one.txt": "F7 BadLine(1)\n" + 999 * "x"}, "fram\n"),
+        # A run that is stopped shows the state, and a front counts among its steps.
+        *((f"one until {steps}\n", {"one.vga": EDGES}, front + DUMPS) for steps, front in (
+            (0, "; Comment\n\n"), (1, "; Comment\n\nout 3C2 01 ; more\n\t\r\n"), (2, EDGES[:-5]),
+            (3, EDGES + "\n"), (9, EDGES + "\n"),
+        )),
+        ("front f\none until 2\n", {"f": "frame\n", "one.vga": "in 3CC\nin 3CD\n"}, f"frame\nin 3CC\n{DUMPS}"),
+    )),
+    # A machine gets what stands before a refusal. A block of which each step is taken is its to repeat.
+    ("one\ntwo\nthree\nfour\n", {
+        "one.vga": "get A0000\nout 3C2 01\ncrash\n", "one.txt": "1 FF\n2 ok\n3 E1 NotDecoded\n", "two.vga": BLOCK + "crash\n",
+        "two.txt": "1 FF\n2 FF\n3 E4 BadFunction\n", "three.vga": "frame\n", "three.txt": "1 ragged\n", "four.vga": BLOCK,
+        "four.txt": "1 FF\n2 FF\n"}, "--machine",
+     {"one.vga": "get A0000\nout 3C2 01\n", "two.vga": "get A0000\nget A0000\n", "four.vga": BLOCK,
+      "list.txt": "one.vga -\ntwo.vga -\nfour.vga -\n"}),
+    # What can't be meant.
+    *((f"fonts zero.fnt\n{line}\n", {}, "", f"{LISTED}no case: '{line}'") for line in ("a b", "a until", "a until x", "bytes a b")),
+    *((f"fonts zero.fnt\n{name}\n", {}, "", f"{LISTED}a case outside the list's folder: '{name}'")
+      for name in ("../one", "/one", "a/../../one")),
+    *(("bytes one\n", {"one.hex": f"56\n{word}\n"}, "", "{folder}/one.hex:2: " + f"'{word}' is no byte")
+      for word in ("5", "567", "GG", "56*", "56*0", "56*x")),
+    ("one\n", {"one.vga": ""}, "--only x", "{folder}/list: no case has a name as --only and --except want it"),
+    ("fonts big.fnt\none\n", {"one.vga": "", "big.fnt": BIG}, "", "{folder}/big.fnt: it has more than 16,777,216 bytes"),
 ]
 
 
@@ -272,28 +326,14 @@ class Suite(Folder):
                 self.lines = ["fonts two.fnt"]
                 for number, case in enumerate(cases):
                     self.case(f"c/{number}", *case)
-                status, output, _ = self.run_suite(*words.split())
+                status, output, _ = self.run_suite(*shlex.split(words))
                 self.assertEqual(status, 1)
                 for text in wanted:
                     self.assertIn(text, output)
 
-    def test_a_machine_gets_no_step_that_is_to_be_refused(self) -> None:
-        self.case("a/one", "get A0000\nout 3C2 01\ncrash\nget A0000\n", "1 FF\n2 ok\n3 E1 NotDecoded\n4 55\n")
-        self.case("a/two", "version 2\nrepeat 2\nget A0000\nend\ncrash\n", "1 FF\n2 FF\n3 E4 BadFunction\n")
-        self.case("a/three", "frame\n", "1 ragged\n")
-        block = "version 2 ; a block\nrepeat 2\nget A0000\nend\n"
-        self.case("a/four", block, "1 FF\n2 FF\n")
-        output = self.run_suite("--machine")[1]
-        self.assertIn("a/one: 2 of 4 steps are skipped, the others agree\n", output)
-        self.assertIn("a/two: 1 of 3 steps are skipped, the others agree\n", output)
-        scripts = self.folder / "scripts"
-        done = run("scripts", scripts, "--list", self.folder / "list.txt", "--machine")
-        self.assertEqual((done[0], done[2]), (0, ""))
-        self.assertEqual((scripts / "a" / "one.vga").read_text(), "get A0000\nout 3C2 01\n")
-        self.assertEqual((scripts / "a" / "two.vga").read_text(), "get A0000\nget A0000\n")
-        self.assertFalse((scripts / "a" / "three.vga").exists())
-        # A block of which each step is taken is the machine's to repeat.
-        self.assertEqual((scripts / "a" / "four.vga").read_text(), block)
+    def test_a_run_that_is_stopped_by_its_command(self) -> None:
+        self.case("a/one", "get 0\nget 0\nget 0\n", "1 FF\n2 FF\n", "a/one until 2")
+        self.assertEqual(self.run_suite(command=ADAPTER + " {fonts} {until}")[0], 0)
 
     def test_answers_that_are_compared_are_counted(self) -> None:
         self.case("a/one", "out 3C2 01\nget A0000\nframe\nget A0000\nget A0000\n", "1 ok\n2 55\n3 ragged\n4 FF\n5 55\n")
@@ -301,38 +341,28 @@ class Suite(Folder):
         self.assertEqual((case["steps"], case["skipped"], case["answers"], case["differing"], case["step"]), (5, 1, 3, 2, 2))
 
     def test_scripts_as_they_are_handed_over(self) -> None:
-        self.write("front", "out 3C2 01\n")
-        self.lines.append("front front")
-        self.case("a/one", "frame\nframe\n", "1 ok\n", "a/one until 2")
-        self.case("b/two", "56*2", "F2 BadMagic\n", "bytes b/two")
-        path, folder = self.write("list.txt", "\n".join(self.lines) + "\n"), self.folder / "scripts"
-        names = f"{folder / 'a/one.vga'}\n{folder / 'b/two.bin'}\n{folder / 'list.txt'}\n".encode()
-        self.assertEqual(run("scripts", folder, "--list", path), (0, names, ""))
-        dumps = b"show regs\nshow beam\nshow latches\nshow bda\n"
-        self.assertEqual((folder / "a/one.vga").read_bytes(), b"out 3C2 01\nframe\n" + dumps)
-        self.assertEqual((folder / "b/two.bin").read_bytes(), b"VV")
-        self.assertEqual((folder / "list.txt").read_text(), "a/one.vga fonts/two.fnt\nb/two.bin fonts/two.fnt\n")
-        self.assertEqual((folder / "fonts/two.fnt").read_bytes(), b"12")
+        for number, (listed, files, words, wanted) in enumerate(HANDED):
+            with self.subTest(listed, files=[*files]):
+                for name, text in {"list": listed, **files}.items():
+                    self.write(name, text)
+                folder = self.folder / str(number)
+                status, output, said = run("scripts", folder, "--list", self.folder / "list", *words.split())
+                if isinstance(wanted, str):
+                    self.assertEqual((status, said), (2, f"vga-report: {wanted.format(folder=self.folder)}\n"))
+                    continue
+                made = {str(path.relative_to(folder)): path.read_bytes().decode() for path in folder.rglob("*") if path.is_file()}
+                self.assertEqual((status, made, said), (0, wanted, ""))
+                named = [str(folder / name) for name in made if not name.startswith("fonts/")]
+                self.assertEqual(sorted(output.decode().splitlines()), sorted(named))
 
-    def test_scripts_of_bytes_want_a_command_of_their_own(self) -> None:
-        self.case("a/one", "69 6E 20 33 43 43 ; in 3CC\n", "1 02\n", "bytes a/one")
-        status, output, _ = self.run_suite()
-        self.assertEqual((status, output.splitlines()[-1]), (1, "1 case: 1 skipped"))
-        status, output, _ = self.run_suite("--bytes", ADAPTER + " {fonts}")
-        self.assertEqual((status, output.splitlines()[-1]), (0, "1 case: 1 agree"))
-
-    def test_runs_that_are_stopped(self) -> None:
-        dumps = "3 regs\n4 beam\n5 latches\n6 bda\n"
-        self.case("a/one", "get 0\nget 0\nget 0\n", "1 FF\n2 FF\n" + dumps, "a/one until 2")
-        self.case("a/two", "66 72 61 6D 65 0A 66 0A ; frame, f", "1 ragged\n", "bytes a/two until 1")
-        output = self.run_suite("--bytes", ADAPTER)[1]
-        self.assertIn("  agrees   a/one\n", output)
-        self.assertIn("a/two: the command of --bytes has no {until}\n", output)
-        self.write("a/one.txt", "1 FF\n2 FF\n")
-        command = ADAPTER + " {fonts} {until}"
-        output = self.run_suite("--bytes", command, command=command)[1]
-        self.assertIn("  agrees   a/one\n", output)
-        self.assertIn("a/two: 1 of 1 steps are skipped, the others agree\n", output)
+    def test_the_rule_is_the_first_line_of_the_first_comment(self) -> None:
+        for text, rule in (
+            ("; The rule.\n; More.\nframe\n", "The rule."), ("frame ; Behind.\n", "Behind."), ("frame\n", "a"),
+            (";\n;  Zw\u00f6lf. \n", "Zw\u00f6lf."), ("; \x1b[2Jbad\n", "?[2Jbad"),
+        ):
+            self.lines = []
+            self.case("a", text, "1 ok\n")
+            self.assertEqual(self.run_suite(command="true {script}")[1].splitlines()[1][11:], rule)
 
     def test_reports_that_lie_ready(self) -> None:
         self.case("a/one", "get A0000\n", "1 55\n")
@@ -395,89 +425,3 @@ class Suite(Folder):
         ]:
             with self.subTest(words):
                 self.assertIn(f"\n{cases}: ", self.run_suite(*words)[1])
-        message = f"vga-report: {self.folder / 'list.txt'}: no case has a name as --only and --except want it\n"
-        self.assertEqual(self.run_suite("--only", "a/", "--except", "a"), (2, "", message))
-
-    def test_a_font_has_a_limit(self) -> None:
-        self.write("one.vga", "frame\n")
-        font = Path(self.write("big.fnt", ""))
-        os.truncate(font, MOST_BYTES + 1)
-        path = self.write("list.txt", "fonts big.fnt\none\n")
-        message = f"vga-report: {font}: it has more than {MOST_BYTES:,} bytes\n"
-        written = f"{self.folder / 'new' / 'one.vga'}\n".encode()
-        self.assertEqual(run("scripts", self.folder / "new", "--list", path), (2, written, message))
-
-
-class Cases(Folder):
-    """What a list says of its cases: their files, their scripts and their rules."""
-
-    def cases(self, text: str) -> list[Case]:
-        return read_cases(self.write("list.txt", text))
-
-    def test_each_kind_of_line(self) -> None:
-        cases = self.cases(
-            "# Heading\n\nfonts zero.fnt\na/one\na/two until 5\nwrong a/three\nwrong a/three until 2\n"
-            "front text.vga\na/four\nfront none\nfonts other.fnt\nbytes b/five\nbytes b/six until 0\n"
-        )
-        zero, other, front = self.folder / "zero.fnt", self.folder / "other.fnt", self.folder / "text.vga"
-        self.assertEqual(
-            [(case.name, case.fonts, case.front, case.until, case.is_bytes) for case in cases],
-            [
-                ("a/one", zero, None, None, False), ("a/two", zero, None, 5, False),
-                ("a/four", zero, front, None, False), ("b/five", other, None, None, True),
-                ("b/six", other, None, 0, True),
-            ],
-        )
-        self.assertEqual([case.group for case in cases], ["a", "a", "a", "b", "b"])
-
-    def script(self, line: str, **files: str) -> bytes:
-        """The script of the only case of a list."""
-        self.write("one.txt", "1 ok\n")
-        for name, text in files.items():
-            self.write(name.replace("_", "."), text)
-        return self.cases(line)[-1].stopped_script()
-
-    def test_the_bytes_that_a_case_stands_for(self) -> None:
-        dumps = b"show regs\nshow beam\nshow latches\nshow bda\n"
-        text = "; Comment\n\nout 3C2 01 ; more\n\t\r\n  frame\nframe"
-        hold(self, lambda line, files: self.script(line, **files), [
-            ("one\n", {"one_vga": "; é\nframe\n"}, "; é\nframe\n".encode()),
-            ("front f\none\n", {"f": "out 3C2 01\n", "one_vga": "frame\n"}, b"out 3C2 01\nframe\n"),
-            # A script with a mistake stays whole.
-            ("one until 0\n", {"one_vga": "fram\n", "one_txt": "F7 BadLine(1)\n"}, b"fram\n"),
-            ("bytes one\n", {"one_hex": "; x\n56 47\t4a*3\n00*2 ; 11\n"}, b"VGJJJ\0\0"),
-            # A run that is stopped shows the state, and a front counts among its steps.
-            *((f"one until {steps}\n", {"one_vga": text}, front + dumps) for steps, front in (
-                (0, b"; Comment\n\n"), (1, b"; Comment\n\nout 3C2 01 ; more\n\t\r\n"), (2, text.encode()[:-5]),
-                (3, text.encode() + b"\n"), (9, text.encode() + b"\n"),
-            )),
-            ("front f\none until 2\n", {"f": "frame\n", "one_vga": "in 3CC\nin 3CD\n"}, b"frame\nin 3CC\n" + dumps),
-        ])
-
-    def test_a_fault_is_looked_for_in_the_first_line(self) -> None:
-        self.write("one.vga", "frame\n")
-        report = Path(self.write("one.txt", "F7 BadLine(1)\n"))
-        case = self.cases("one\n")[0]
-        os.truncate(report, 1 << 40)
-        self.assertTrue(case.expects_fault())
-
-    def test_lines_and_digits_that_are_none(self) -> None:
-        listed, digits = self.folder / "list.txt", self.folder / "one.hex"
-        hold(self, lambda line, files: refused(lambda: self.script(line, **files)), [
-            *((f"fonts zero.fnt\n{line}\n", {}, f"{listed}:2: no case: '{line}'")
-              for line in ("a b", "a until", "a until x", "bytes a b")),
-            *((f"fonts zero.fnt\n{name}\n", {}, f"{listed}:2: a case outside the list's folder: '{name}'")
-              for name in ("../one", "/one", "a/../../one")),
-            *(("bytes one\n", {"one_hex": f"56\n{word}\n"}, f"{digits}:2: '{word}' is no byte")
-              for word in ("5", "567", "GG", "56*", "56*0", "56*x")),
-        ])
-
-    def test_the_first_line_of_the_first_comment(self) -> None:
-        def rule(text: str) -> str:
-            self.write("one.vga", text)
-            return self.cases("one\n")[0].rule()
-
-        hold(self, rule, [
-            ("; The rule.\n; More.\nframe\n", "The rule."), ("frame ; Behind.\n", "Behind."), ("frame\n", "one"),
-            (";\n;  Zwölf. \n", "Zwölf."), ("; \x1b[2Jbad\n", "?[2Jbad"),
-        ])

@@ -2,6 +2,7 @@
 
 from __future__ import annotations
 
+import contextlib
 import io
 import json
 import os
@@ -10,26 +11,26 @@ import resource
 import signal
 import sys
 import unittest
+import warnings
 from concurrent.futures import ThreadPoolExecutor
 from functools import partial
+from itertools import product
 from pathlib import Path
 from unittest import mock
 from xml.etree import ElementTree
 
 from vga_report import program
-from vga_report.expecting import answer_of, handed_in, is_as_expected, is_worth_telling
+from vga_report.expecting import answer_of, dumps_in, expected_in, is_as_expected
 from vga_report.listing import chosen
+from vga_report.mistakes import text_of
 from vga_report.program import Tried, build_program
 from vga_report.progress import Progress
 from vga_report.report import Report
-from vga_report.expecting import expected_in
-from vga_report.tally import blessed_line
-from zaklimot.format import Answer, count_in, steps_in
+from vga_report.words import parser
+from zaklimot.format import Answer, count_in, lines_in, places_in, steps_in, words_in
 
 from .test_command import run
-from .tools import (
-    BLACK, EXAMPLES, RED, TOP, Folder, begin, hold, hold_refused, ppm, refused, run_texts, run_tool, stream,
-)
+from .tools import BLACK, EXAMPLES, RED, TOP, Folder, begin, ended, hold, hold_refused, ppm, refused, stream, want_program
 
 # A program that understands texts of a few steps: `asm` copies, `dis` prints in upper case, `go` answers by the name.
 FAKE = """import sys
@@ -75,11 +76,14 @@ class Fake(Folder):
         self.assertIn(old, text)
         self.vga.write_text(text.replace(old, new))
 
-    def run_script(self, *words: str | bytes, path: str | bytes = "", given: bytes = b"") -> tuple[int, str, str]:
-        """Exit status, output and standard error of a run in the folder, of the script above or of another one."""
-        words = ("run", path or self.path, "--vga", str(self.vga), *words)
+    def run_tool(self, *words: str | bytes, given: bytes = b"") -> tuple[int, str, str]:
+        """Exit status, output and standard error of the tool in the folder."""
         status, output, said = run(*words, given=given, prepare=lambda: os.chdir(self.folder))
         return status, output.decode(), said
+
+    def run_script(self, *words: str | bytes, path: str | bytes = "", given: bytes = b"") -> tuple[int, str, str]:
+        """The same of a run of the script above or of another one."""
+        return self.run_tool("run", path or self.path, "--vga", str(self.vga), *words, given=given)
 
     def run_text(self, text: str | bytes, *words: str) -> tuple[int, str, str]:
         """The same of the script `t.vga` with this text."""
@@ -128,6 +132,7 @@ class Listings(Fake):
         ])
         message = "vga-report: --only has numbers of steps, as 10-20, and refused, read, pictures, dumps, differs, and not 'x'\n"
         self.assertEqual(self.run_script("--only", "x"), (2, "", message))
+        hold_refused(self, chosen, ((text, "^--only ") for text in ("", "1-", "a-b", "1,,2", "0", "5-2", "0-3")))
 
     def test_a_stopped_run_shows_the_state(self) -> None:
         for path, steps in ((self.path, 2), (self.write("none.vga", "; no step\n"), 0)):
@@ -210,14 +215,15 @@ class Listings(Fake):
         return status, output, (self.folder / "t.vga").read_bytes().decode()
 
     def test_answers_are_written_in(self) -> None:
-        text = "out 3C2 1\nget 0\r\nget 1 ; = 55 ; the byte\nget 2 ; = *\nint ax=3\nin 3DA  ; \u00e9\n"
+        text = "out 3C2 1\nget 0\r\nget 1 ; = 55 ; the byte\nget 2 ; = *\nint ax=3\nin 3DA  ; \u00e9\nint\n"
         whole = (
             "out 3C2 1\nget 0 ; = E6\r\nget 1 ; = E6 ; the byte\nget 2 ; = *\nint ax=3\n"
-            "in 3DA  ; = E1 NotDecoded ; \u00e9\n"
+            "in 3DA  ; = E1 NotDecoded ; \u00e9\nint ; = ax=0003 bx=0000 cx=0000 dx=0000\n"
         )
         # What is met stays as it is.
         met = "frame ; = picture 9x1\nin 3DA ; = e1 notdecoded\nshow regs ; = 2 lines...\nint ; = ax=0003\n"
-        told = "t.vga:2: nothing -> E6\nt.vga:3: 55 -> E6\nt.vga:6: nothing -> E1 NotDecoded\nt.vga: 3 answers "
+        told = "t.vga:2: nothing -> E6\nt.vga:3: 55 -> E6\nt.vga:6: nothing -> E1 NotDecoded\n"
+        told += "t.vga:7: nothing -> ax=0003 bx=0000 cx=0000 dx=0000\nt.vga: 4 answers "
         hold(self, self.blessed, (
             (text, "--dry-run", (0, f"{told}would be written\n", text)), (text, (0, f"{told}written\n", whole)),
             *((good, (0, "t.vga: 0 answers written\n", good)) for good in (whole, met)),
@@ -309,8 +315,27 @@ class Expectations(unittest.TestCase):
         hold(self, lambda comment: expected_in(comment.encode()), [
             ("= 55", "55"), (" =55 ; more", "55"), ("55", None), ("= E6  WrongKind", "E6 WrongKind"), ("=", ""),
         ])
-        self.assertEqual([line.number for line in steps_in(io.BytesIO(b"; a\n\nframe ; =\n \t\r\nframe"))], [3, 5])
-        self.assertEqual(blessed_line("frame", "ok"), "frame ; = ok")
+
+    def test_dumps(self) -> None:
+        hold(self, lambda text: dumps_in(text.encode(), "t"), [
+            ("frame\n;| a\n ;| b \nframe\n;| c\n", {1: ("a", "b"), 4: ("c",)}), ("; x\n;| a\nframe\n\n;| b\n", {}),
+            ("version 2\nREPEAT 2\n;| a\nframe ; x\n;| b\nend\n;| c\n", {4: ("b",)}),
+            ("ret\v2 ; = 5\n\t\r\n", {}), ("\xe9 ; = 5\n;| 1", {1: ("1",)}),
+        ])
+
+    def test_lines_of_any_bytes(self) -> None:
+        for parts in product((b"out 3C4 02", b"  in\t3da", b"\xff", b"\v", b"\f", b" ", b"\r", b";", b"; = 5", b"\n"), repeat=4):
+            text = b"".join(parts)
+            fronts = [(at, line.partition(b";")) for at, line in enumerate(text.split(b"\n"), 1)]
+            wanted = [
+                (at, " ".join(map(text_of, words)), comment) for at, (front, _, comment) in fronts
+                if (words := re.findall(rb"[^ \t\r]+", front))
+            ]
+            lines = [(*line[:2], line[2].rstrip(b"\n")) for line in lines_in(io.BytesIO(text))]
+            self.assertEqual(lines, wanted, text)
+            for whole in (text, b"version 2\n" + text):
+                places = [(line.number, line.comment) for line in steps_in(io.BytesIO(whole))]
+                self.assertEqual(list(places_in(io.BytesIO(whole))), places, whole)
 
     def test_blocks(self) -> None:
         def steps(text: str) -> list[tuple[int, str]]:
@@ -325,37 +350,62 @@ class Expectations(unittest.TestCase):
         long = "version 2\nrepeat 3\n" + "".join(f"in {at:X}\n" for at in range(5000)) + "end\nframe\n"
         once = [(at + 3, f"in {at:X}") for at in range(5000)]
         self.assertEqual(steps(long), [*once, *once, *once, (5004, "frame")])
-        for some in (text, long, "frame\nin 3DA ; repeat 2\n", "", "version 2\nrepeat 7\nend\n"):
+        for some in (text, long, "frame\nin 3DA ; repeat 2\n", "", "version 2\nrepeat 7\nend\n", "; a\n \t\r\n ; b\nframe"):
             self.assertEqual(count_in(io.BytesIO(some.encode())), len(steps(some)))
-
-    def test_what_is_worth_telling(self) -> None:
-        self.assertEqual(handed_in("int ax=3 dx=12"), "ax=0003 bx=0000 cx=0000 dx=0012")
-        hold(self, lambda answer, words: is_worth_telling(Answer(1, 1, answer), words), [
-            ("ok", "out 3C2 1", False), ("55", "get 0", True), ("ax=0003 bx=0000 cx=0000 dx=0000", "int ax=3", False),
-            ("ax=0300 bx=0000 cx=0D0E dx=0000", "int ax=300", True),
-        ])
-
-    def test_choices(self) -> None:
-        pass
-        hold_refused(self, chosen, ((text, "^--only ") for text in ("", "1-", "a-b", "1,,2", "0", "5-2", "0-3")))
+        printed = "version 2\nIN 3DA\nrepeat 2\nFRAME\nend\n"
+        self.assertEqual(list(words_in(io.BytesIO(printed.encode()))), [words for _, words in steps(printed)])
 
 
 class Examples(unittest.TestCase):
-    """Each example answers what its comments expect."""
+    def test_each_answers_what_its_comments_expect(self) -> None:
+        want_program()
+        status, output, said = run("run", EXAMPLES, "--jobs", "4")
+        self.assertEqual((status, said), (0, ""))
+        *lines, last = output.decode().splitlines()
+        self.assertGreater(int(last.split(" scripts, 0 differ")[0]), 22)
+        for line in lines:
+            self.assertRegex(line, r", ([1-9]\d*) of \1 answers as expected$")
 
-    def test_each_example(self) -> None:
-        texts = {path.stem: path.read_bytes() for path in sorted(EXAMPLES.rglob("*.vga"))}
-        self.assertGreater(len(texts), 22)
-        for name, ran in run_texts(texts).items():
-            self.assertEqual((ran.status, ran.said), (0, ""), name)
-            lines = list(steps_in(io.BytesIO(texts[name])))
-            steps = list(Report(stream(ran.report), name).steps())
-            self.assertEqual(len(steps), len(lines), name)
-            expected = [(step, line, expected_in(line.comment)) for step, line in zip(steps, lines) if expected_in(line.comment)]
-            self.assertTrue(expected, name)
-            for step, line, wanted in expected:
-                with self.subTest(f"{name}:{line.number}"):
-                    self.assertTrue(is_as_expected(step, wanted or "", line.name), answer_of(step))
+
+class Calls(Fake):
+    """What a step takes doesn't grow unseen: its calls are counted, since seconds are never alike."""
+
+    # The Python functions that a plain step, and one that is refused, call at most, and what they call of Python's own.
+    MOST = 30
+
+    def calls(self, text: str) -> int:
+        """How many calls a run makes with its listing."""
+        words = parser().parse_args(["run", self.write("long.vga", text), "--vga", str(self.vga)])
+        count = 0
+
+        def take(_: object, event: str, __: object) -> None:
+            nonlocal count
+            count += event in ("call", "c_call")
+
+        with open(self.folder / "out", "w") as output, contextlib.redirect_stdout(output), warnings.catch_warnings():
+            # A tool's process ends at once, and closes its files so.
+            warnings.simplefilter("ignore", ResourceWarning)
+            sys.setprofile(take)
+            try:
+                words.job(words, Progress(False))
+            finally:
+                sys.setprofile(None)
+        return count
+
+    def test_of_a_step(self) -> None:
+        for line in ("out 3c4 2\n", "put b8000 55\n", "get 0 ; a comment\n", "in 3da\n"):
+            few, many = self.calls(line * 100), self.calls(line * 600)
+            with self.subTest(line, calls=(many - few) / 500):
+                self.assertTrue(10 < (many - few) / 500 < self.MOST)
+
+
+class Benchmarks(unittest.TestCase):
+    def test_what_is_missing_is_told_before_they_begin(self) -> None:
+        nothing = "/dev/null/none"
+        hold(self, lambda name: ended(sys.executable, TOP / "bench" / name, nothing), (
+            ("bench.py", (2, "", f"bench.py: {nothing}: there is no such program; README.md tells how to build it\n")),
+            ("library.py", (2, "", f"library.py: {nothing} has no library: tools/vga-library make {nothing}\n")),
+        ))
 
 
 class Several(Fake):
@@ -386,7 +436,7 @@ class Several(Fake):
 
     def test_a_name_that_looks_like_an_option(self) -> None:
         (self.tests / "-c.vga").write_text("frame\n")
-        status, output, _ = run_tool("vga-report", "run", ".", "--vga", self.vga, prepare=lambda: os.chdir(self.tests))
+        status, output, _ = run("run", ".", "--vga", self.vga, prepare=lambda: os.chdir(self.tests))
         self.assertEqual((status, output.split(b"\n")[0]), (1, b"-c.vga: 1 step, 1 picture"))
 
     def test_for_machines(self) -> None:
