@@ -1,6 +1,7 @@
 """Runs other programs: each in a group of its own, within limits, and all that it has started ends with it."""
 
 import ctypes
+import math
 import os
 import shutil
 import signal
@@ -12,7 +13,7 @@ import time
 from concurrent.futures import ThreadPoolExecutor
 from contextlib import contextmanager, suppress
 from pathlib import Path
-from threading import Event, Thread
+from threading import Event
 from typing import Any, BinaryIO, Callable, Iterable, Iterator, Mapping, NamedTuple, Optional, Sequence, TypeVar, Union
 
 from .trouble import Trouble, Wrong
@@ -24,12 +25,10 @@ FIRST_PAUSE, LONGEST_PAUSE = 0.0005, 0.05
 DRAINING = 5
 # Seconds for a program to end what it has started in groups of its own, once it is asked to.
 ENDING = 5
-CHUNK = 1 << 16
 MEBIBYTE = 1 << 20
-# A message of a command may have so many bytes; more of it is dropped.
-MOST_MESSAGE = 1 << 20
-# So much of what a program says at last is told, and so much of each of its streams is kept.
-MOST_SAID, MOST_KEPT = 2000, 1 << 24
+# So much of what a program says at last is told, and so much may a program write whose output is kept.
+MOST_SAID, MOST_KEPT = 2000, 1 << 28
+TOO_LONG = "the command took too long"
 # Where each program comes from that may be lacking: the toolchain's, and those of Debian's packages.
 PACKAGES = {
     "ld": "binutils", "objcopy": "binutils", "ar": "binutils", "nm": "binutils", "cc": "gcc", "gcc": "gcc",
@@ -122,10 +121,11 @@ def end(process: subprocess.Popen[bytes], asking: float = 0) -> None:
 
 
 class Limits(NamedTuple):
-    """What a command may take: seconds, and bytes on its standard output."""
+    """What a command may take: seconds, and bytes on its standard output; more bytes of messages than it may are dropped."""
 
     seconds: float = 60
     output: int = 256 * MEBIBYTE
+    messages: int = MEBIBYTE
 
 
 class Outcome(NamedTuple):
@@ -135,91 +135,46 @@ class Outcome(NamedTuple):
     reason: str = ""
 
 
-class _Tail:
-    """The last part of what came over a stream."""
-
-    def __init__(self) -> None:
-        self.kept = bytearray()
-
-    def take(self, chunk: bytes) -> None:
-        """Takes what has come."""
-        self.kept += chunk
-        del self.kept[:-MOST_KEPT]
-
-    def last_line(self) -> str:
-        """The last whole line."""
-        lines = bytes(self.kept[-MOST_SAID:]).rpartition(b"\n")[0].splitlines()
-        return lines[-1].decode("utf-8", "replace").strip() if lines else ""
-
-
-class _Front:
-    """What came over a stream, in a file up to a limit; what is more is dropped."""
-
-    def __init__(self, file: BinaryIO, limit: int) -> None:
-        self._file = file
-        self._left = limit
-        self.is_full = False
-
-    def take(self, chunk: bytes) -> None:
-        """Takes what has come."""
-        self._file.write(chunk[:self._left])
-        self.is_full = self.is_full or len(chunk) > self._left
-        self._left -= min(self._left, len(chunk))
-
-
-def _drain(source: BinaryIO, take: Callable[[bytes], None], troubles: list[OSError]) -> None:
-    """Takes what a program writes, until all that could write it has ended."""
-    try:
-        with source:
-            for chunk in iter(lambda: os.read(source.fileno(), CHUNK), b""):
-                take(chunk)
-    except OSError as error:
-        troubles.append(error)
-
-
-def _followed(
-    words: Words, takes: Sequence[Callable[[bytes], None]], heed: Callable[[], str], asking: float = 0, **given: Any
+def followed(
+    words: Words, output: Path, messages: Path, limits: Limits, heed: Callable[[], str], asking: float = 0, **given: Any
 ) -> Outcome:
-    """Runs a program to its end, or until `heed` tells why it is to end; what it writes and says is taken meanwhile."""
-    troubles: list[OSError] = []
-    with started(words, asking, stdout=subprocess.PIPE, stderr=subprocess.PIPE, **given) as process:
-        streams = process.stdout, process.stderr
-        # They are the drains' to close: what is left in them is read once the group has ended.
-        process.stdout = process.stderr = None
-        drains = [Thread(target=_drain, args=(*both, troubles), daemon=True) for both in zip(streams, takes)]
-        for drain in drains:
-            drain.start()
-        reason, pause = "", FIRST_PAUSE
-        while not (reason or _has_ended(process)):
-            time.sleep(pause)
-            pause = min(2 * pause, LONGEST_PAUSE)
-            reason = heed() or "".join(map(str, troubles[:1]))
-    for drain in drains:
-        drain.join(DRAINING)
-    if troubles:
-        raise Trouble(f"what it writes can't be kept: {troubles[0]}", str(words[0]))
-    return Outcome(process.returncode, reason)
+    """Runs a program to its end, to a limit, or until `heed` tells why it is to end.
+
+    What it writes and says stands in two files then. Its whole process group has ended, however it ended itself.
+    """
+    until, too_much = time.monotonic() + limits.seconds, f"the command wrote more than {limits.output // MEBIBYTE} MiB"
+    with open(output, "wb") as written, open(messages, "ab") as said:
+        said.truncate(0)
+
+        def reason() -> str:
+            if _size(said) > limits.messages:
+                said.truncate(limits.messages)
+            if _size(written) > limits.output:
+                return too_much
+            return TOO_LONG if time.monotonic() >= until else heed()
+
+        with started(words, asking, stdout=written, stderr=said, **given) as process:
+            ended, pause = "", FIRST_PAUSE
+            while not (ended or _has_ended(process)):
+                time.sleep(pause)
+                pause = min(2 * pause, LONGEST_PAUSE)
+                ended = reason()
+        if reason() == too_much:
+            written.truncate(limits.output)
+            ended = too_much
+    return Outcome(None if ended else process.returncode, ended)
+
+
+def _size(file: BinaryIO) -> int:
+    return os.fstat(file.fileno()).st_size
 
 
 def run_command(words: Words, output: Path, messages: Path, limits: Limits, is_ended: Event) -> Outcome:
-    """Runs a command with nothing on standard input. What it writes and says stands in two files then.
+    """Runs a command with nothing on standard input, until it ends, or the event or a limit ends it.
 
-    Its whole process group has ended afterwards, however it ended itself.
+    What it writes and says stands in two files then.
     """
-    until, too_much = time.monotonic() + limits.seconds, f"the command wrote more than {limits.output // MEBIBYTE} MiB"
-    with open(output, "wb") as written, open(messages, "wb") as told:
-        report, said = _Front(written, limits.output), _Front(told, MOST_MESSAGE)
-
-        def heed() -> str:
-            if report.is_full:
-                return too_much
-            if time.monotonic() >= until:
-                return "the command took too long"
-            return "the suite was ended" if is_ended.is_set() else ""
-
-        outcome = _followed(words, (report.take, said.take), heed)
-    reason = outcome.reason or (too_much if report.is_full else "")
-    return Outcome(None if reason else outcome.status, reason)
+    return followed(words, output, messages, limits, lambda: "the suite was ended" if is_ended.is_set() else "")
 
 
 @contextmanager
@@ -268,33 +223,39 @@ def check_program(name: str, instead: str = "") -> None:
 
 def captured(
     words: Words, folder: Optional[Path] = None, heard: Optional[Hearer] = None, seconds: Optional[float] = None,
-    environment: Optional[Mapping[str, str]] = None, given: Optional[bytes] = None,
+    environment: Optional[Mapping[str, str]] = None, given: bytes = b"",
 ) -> Done:
-    """Runs a program to its end, and answers its status and what it writes; a Failed where it takes longer than it may.
+    """Runs a program to its end, and answers its status and what it writes; a Failed where it takes more than it may.
 
     Its temporary files lie in a folder of their own, which goes with them.
     """
-    name, until = str(words[0]), None if seconds is None else time.monotonic() + seconds
-    output, errors = _Tail(), _Tail()
-
-    def heed() -> str:
-        if until is not None and time.monotonic() > until:
-            raise Failed(f"it had not ended after {seconds:.0f} seconds", name)
-        if heard is not None:
-            heard(errors.last_line() or output.last_line())
-        return ""
-
     with tempfile.TemporaryDirectory(prefix="vga-tool-") as temporary, tempfile.TemporaryFile() as file:
-        file.write(given or b"")
+        file.write(given)
         file.seek(0)
+        output, errors = Path(temporary, "output"), Path(temporary, "errors")
+
+        def hear() -> str:
+            if heard is not None:
+                heard(_last_line(errors) or _last_line(output))
+            return ""
+
         variables = {**os.environ, "TMPDIR": temporary, **(environment or {})}
-        takes = output.take, errors.take
-        outcome = _followed(words, takes, heed, ENDING, cwd=folder, env=variables, stdin=file)
-    if heard is not None:
+        limits = Limits(seconds or math.inf, MOST_KEPT, MOST_KEPT)
+        outcome = followed(words, output, errors, limits, hear, ENDING, cwd=folder, env=variables, stdin=file)
         # What it said at last is heard of a program too that has ended at once.
-        heard(errors.last_line() or output.last_line())
-    assert outcome.status is not None
-    return Done(outcome.status, bytes(output.kept), bytes(errors.kept))
+        hear()
+        if outcome.status is None:
+            told = f"it had not ended after {seconds:.0f} seconds" if outcome.reason == TOO_LONG else outcome.reason
+            raise Failed(told, str(words[0]))
+        return Done(outcome.status, output.read_bytes(), errors.read_bytes())
+
+
+def _last_line(path: Path) -> str:
+    """The last whole line of what a program has written so far."""
+    with open(path, "rb") as stream:
+        stream.seek(max(0, _size(stream) - MOST_SAID))
+        lines = stream.read(MOST_SAID).rpartition(b"\n")[0].splitlines()
+    return lines[-1].decode("utf-8", "replace").strip() if lines else ""
 
 
 def run(words: Words, folder: Optional[Path] = None, heard: Optional[Hearer] = None, **given: Any) -> str:

@@ -21,8 +21,8 @@ from .trouble import Trouble
 
 OK_STEPS = re.compile(r"([1-9][0-9]*)-([1-9][0-9]*) ok")
 STEP = re.compile(r"([1-9][0-9]*) (.+)")
-PICTURE = re.compile(r"(picture ([0-9]+)) (([1-9][0-9]*)x([1-9][0-9]*))( ([0-9a-f]{32}))?")
-RUN = re.compile(r"([0-9A-F]{6})(\*([1-9][0-9]{0,6}))?")
+PICTURE = re.compile(r"(picture ([0-9]+)) (([1-9][0-9]*)x([1-9][0-9]*))(?: ([0-9a-f]{32}))?")
+RUN = re.compile(r"([0-9A-F]{6})(?:\*([1-9][0-9]{0,6}))?")
 END = "the end"
 DONE = "ok"
 
@@ -63,40 +63,29 @@ class Expected:
         self._name = name
         self._line = 0
         self._number = 0
-        # The line that was read last and isn't used yet.
-        self._waiting: Optional[str] = None
 
     def steps(self) -> Iterator[Answer]:
         """The steps in their order."""
-        for text in iter(self._next_line, None):
-            alike = OK_STEPS.fullmatch(text)
+        text = self._next_line()
+        while text is not None:
+            alike, found = OK_STEPS.fullmatch(text), STEP.fullmatch(text)
             if alike is not None:
                 yield from self._ok_steps(int(alike[1]), int(alike[2]))
+                text = self._next_line()
+            elif found is not None:
+                step, text = self._step(found)
+                yield step
+            elif self._number == 0 and FAULT.fullmatch(text):
+                yield Answer(0, self._line, text)
+                text = self._next_line()
             else:
-                yield self._step(text)
+                raise self._trouble(f"no step: '{text[:40]}'")
 
     def _ok_steps(self, first: int, last: int) -> Iterator[Answer]:
         """The steps that a line such as `1-35 ok` stands for."""
         if first > last:
             raise self._trouble(f"no steps lead from {first} to {last}")
-        for number in range(first, last + 1):
-            yield Answer(self._counted(number), self._line, "ok")
-
-    def _step(self, text: str) -> Answer:
-        """The step that begins with a line."""
-        if self._number == 0 and FAULT.fullmatch(text):
-            return Answer(0, self._line, text)
-        found = STEP.fullmatch(text)
-        if found is None:
-            raise self._trouble(f"no step: '{text[:40]}'")
-        number, line = self._counted(int(found[1])), self._line
-        picture = PICTURE.fullmatch(found[2])
-        if picture is None:
-            return Answer(number, line, found[2], tuple(self._other_lines()))
-        length, size, width, height, digest = int(picture[2]), picture[3], int(picture[4]), int(picture[5]), picture[7]
-        if digest is not None:
-            return Answer(number, line, picture[1], (), Digest(length, size, digest))
-        return Answer(number, line, picture[1], (), self._picture(length, width, height))
+        return (Answer(self._counted(number), self._line, "ok") for number in range(first, last + 1))
 
     def _counted(self, number: int) -> int:
         """A step's number, which is to be one more than the last."""
@@ -105,37 +94,41 @@ class Expected:
         self._number = number
         return number
 
-    def _other_lines(self) -> Iterator[str]:
-        """The lines up to the next step's, as a dump has them."""
-        text = self._next_line()
+    def _step(self, found: re.Match[str]) -> tuple[Answer, Optional[str]]:
+        """A step with the lines up to the next one's, as a dump has them, and that next line."""
+        step, picture = Answer(self._counted(int(found[1])), self._line, found[2]), PICTURE.fullmatch(found[2])
+        if picture is not None:
+            return self._with_picture(step, picture), self._next_line()
+        others, text = [], self._next_line()
         while text is not None and not text[:1].isdigit():
-            yield text
+            others.append(text)
             text = self._next_line()
-        self._waiting = text
+        return step._replace(others=tuple(others)), text
 
-    def _picture(self, length: int, width: int, height: int) -> Picture:
-        """The picture whose rows stand next, one a line."""
-        picture = Picture.of_dots(width, height, b"".join(self._row(width) for _ in range(height)))
-        if picture.length != length:
-            raise self._trouble(f"a picture of {picture.size} dots has {picture.length} bytes, and not {length}")
-        return picture
+    def _with_picture(self, step: Answer, found: re.Match[str]) -> Answer:
+        """The step with its picture: its digest, or its rows, which stand next, one a line."""
+        answer, length, size, width, height, digest = found.groups()
+        if digest is not None:
+            return step._replace(answer=answer, picture=Digest(int(length), size, digest))
+        rows = b"".join(self._row(int(width)) for _ in range(int(height)))
+        picture = Picture.of_dots(int(width), int(height), rows)
+        if picture.length != int(length):
+            raise self._trouble(f"a picture of {size} dots has {picture.length} bytes, and not {length}")
+        return step._replace(answer=answer, picture=picture)
 
     def _row(self, width: int) -> bytes:
         """The dots of the next line: `3F0015*9` stands for nine that are alike."""
-        text = self._next_line()
-        runs = [RUN.fullmatch(word) for word in (text or "").split(" ")]
-        dots = b"".join(bytes.fromhex(run[1]) * int(run[3] or "1") for run in runs if run is not None)
+        text = self._next_line() or ""
+        runs = [RUN.fullmatch(word) for word in text.split(" ")]
+        dots = b"".join(bytes.fromhex(run[1]) * int(run[2] or "1") for run in runs if run is not None)
         if None in runs or len(dots) != 3 * width:
-            raise self._trouble(f"no row of {width} dots: '{(text or '')[:40]}'")
+            raise self._trouble(f"no row of {width} dots: '{text[:40]}'")
         if max(dots) > 63:
             raise self._trouble("a dot has a component above 3F")
         return dots
 
     def _next_line(self) -> Optional[str]:
         """The next line without its newline; None at the end."""
-        if self._waiting is not None:
-            text, self._waiting = self._waiting, None
-            return text
         line = self._stream.readline(MOST_LINE)
         if not line:
             return None
@@ -176,27 +169,26 @@ class Difference(NamedTuple):
         return f"step {self.number}" if self.number else "the run"
 
     def answers(self) -> tuple[str, str]:
-        """Both answers, each as one line."""
+        """Both answers, each as one line: the first that differs; pictures by what tells them apart."""
         step, other = self
         if step is None or other is None:
             return END if step is None else step.answer, END if other is None else other.answer
         if step.picture is not None and other.picture is not None:
-            return _pictures(step, other)
-        line, other_line = next(
-            pair for pair in zip_longest(step.lines, other.lines, fillvalue=END) if pair[0] != pair[1]
-        )
-        if step.kind != other.kind:
-            return _with_kind(line, step), _with_kind(other_line, other)
-        return line, other_line
+            head, other_head = f"{step.answer} {step.picture.size}", f"{other.answer} {other.picture.size}"
+            if head != other_head:
+                return head, other_head
+            return f"{head} {step.picture.sum}", f"{head} {other.picture.sum}"
+        lines = zip_longest(step.lines, other.lines, fillvalue=END)
+        line, other_line = next((line, other_line) for line, other_line in lines if line != other_line)
+        if step.kind == other.kind:
+            return line, other_line
+        # A refusal looks like a byte that was read.
+        return f"{line} ({step.kind})" if step.kind else line, f"{other_line} ({other.kind})" if other.kind else other_line
 
     def pictures(self) -> Optional[tuple[Picture, Picture]]:
         """Both pictures, if both answers are pictures whose dots are at hand."""
-        if self.step is None or self.other is None:
-            return None
-        picture, other = self.step.picture, self.other.picture
-        if isinstance(picture, Picture) and isinstance(other, Picture):
-            return picture, other
-        return None
+        picture, other = (None if step is None else step.picture for step in self)
+        return (picture, other) if isinstance(picture, Picture) and isinstance(other, Picture) else None
 
     def dots(self) -> str:
         """How two pictures of one size differ; empty for all else."""
@@ -221,20 +213,6 @@ def told_dots(picture: Picture, other: Picture) -> str:
     colours = f"{picture.dot(found.x, found.y)}, not {other.dot(found.x, found.y)}"
     count = picture.width * picture.height
     return f"{found.count} of {count} dots differ, the first is dot {found.x} of row {found.y}: {colours}"
-
-
-def _with_kind(line: str, step: Answer) -> str:
-    """A line that tells a refusal from a byte that was read."""
-    return f"{line} ({step.kind})" if step.kind else line
-
-
-def _pictures(step: Answer, other: Answer) -> tuple[str, str]:
-    """Two pictures by what tells them apart: length and size, or else their sums."""
-    assert step.picture is not None and other.picture is not None
-    head, other_head = f"{step.answer} {step.picture.size}", f"{other.answer} {other.picture.size}"
-    if head != other_head:
-        return head, other_head
-    return f"{head} {step.picture.sum}", f"{other_head} {other.picture.sum}"
 
 
 @dataclass
