@@ -5,6 +5,8 @@ from __future__ import annotations
 import re
 import struct
 import zlib
+from collections import defaultdict
+from contextlib import suppress
 from typing import Iterator, NamedTuple, Sequence
 
 from zaklimot.format import Picture
@@ -14,6 +16,7 @@ from .streams import read_at_most
 from .trouble import Trouble
 
 PPM = re.compile(rb"P6(?:\s|#[^\n]*\n)+(\d{1,7})(?:\s|#[^\n]*\n)+(\d{1,7})(?:\s|#[^\n]*\n)+(\d{1,5})\s")
+DAMAGED = "the PNG is damaged"
 # An image's file has at most so many bytes.
 MOST_BYTES = 1 << 26
 # Samples of a dot, by the colour type of a PNG, and the colour type whose dots name entries of a palette.
@@ -67,7 +70,6 @@ def image_of(data: bytes, name: str) -> Image:
 
 
 def _spread(parts: Sequence[bytes]) -> bytes:
-    """Rows of red, of green and of blue as one of dots."""
     row = bytearray(3 * len(parts[0]))
     for at, part in enumerate(parts):
         row[at::3] = part
@@ -87,40 +89,34 @@ def _ppm(data: bytes, name: str) -> Image:
     return Image(width, height, tuple(dots[at:at + 3 * width] for at in range(0, len(dots), 3 * width)), most)
 
 
-def _chunks(data: bytes, name: str) -> Iterator[tuple[bytes, bytes]]:
-    at = len(SIGNATURE)
-    while at + 12 <= len(data):
-        (length,) = struct.unpack_from(">I", data, at)
-        kind, body = data[at + 4:at + 8], data[at + 8:at + 8 + length]
-        if data[at + 8 + length:at + 12 + length] != struct.pack(">I", zlib.crc32(kind + body)):
-            break
-        yield kind, body
-        if kind == b"IEND":
-            return
-        at += 12 + length
-    raise Trouble("the PNG is damaged", name)
+def _chunks(data: bytes, name: str) -> dict[bytes, bytes]:
+    """What the chunks have, by their kinds."""
+    at, parts = len(SIGNATURE), defaultdict(list)
+    while b"IEND" not in parts:
+        kind, end = data[at + 4:at + 8], at + 8 + int.from_bytes(data[at:at + 4], "big")
+        parts[kind].append(data[at + 8:end])
+        if data[end:end + 4] != struct.pack(">I", zlib.crc32(kind + parts[kind][-1])):
+            raise Trouble(DAMAGED, name)
+        at = end + 4
+    return {kind: b"".join(bodies) for kind, bodies in parts.items()}
 
 
 def _png(data: bytes, name: str) -> Image:
-    chunks = list(_chunks(data, name))
-    head = next((body for kind, body in chunks if kind == b"IHDR"), b"")
+    chunks = _chunks(data, name)
+    head, palette = chunks.get(b"IHDR", b""), chunks.get(b"PLTE", b"")
     if len(head) != 13:
-        raise Trouble("the PNG is damaged", name)
+        raise Trouble(DAMAGED, name)
     width, height, depth, colour, _, _, interlace = struct.unpack(">IIBBBBB", head)
     if colour not in SAMPLES or depth not in (1, 2, 4, 8, 16) or not 0 < width * height <= MOST_DOTS:
         raise Trouble(f"a PNG of this form can't be read: {width}x{height}, depth {depth}, colour type {colour}", name)
     if interlace:
         raise Trouble("an interlaced PNG can't be read: save it without interlace", name)
-    palette = next((body for kind, body in chunks if kind == b"PLTE"), b"")
-    bits = depth * SAMPLES[colour]
-    packed = zlib.decompressobj()
+    bits, lines = depth * SAMPLES[colour], b""
     length = (width * bits + 7) // 8
-    try:
-        lines = packed.decompress(b"".join(body for kind, body in chunks if kind == b"IDAT"), (length + 1) * height)
-    except zlib.error as error:
-        raise Trouble("the PNG is damaged", name) from error
+    with suppress(zlib.error):
+        lines = zlib.decompressobj().decompress(chunks.get(b"IDAT", b""), (length + 1) * height)
     if len(lines) != (length + 1) * height:
-        raise Trouble("the PNG is damaged", name)
+        raise Trouble(DAMAGED, name)
     rows = [
         _dots(_samples(line, width, depth, SAMPLES[colour], colour), colour, palette)
         for line in _unfiltered(lines, length, max(1, bits // 8), name)
@@ -171,7 +167,6 @@ def _samples(row: bytes, width: int, depth: int, samples: int, colour: int) -> b
 
 
 def _dots(samples: bytes, colour: int, palette: bytes) -> bytes:
-    """The dots of a row of samples, without their transparency."""
     if colour == PALETTE:
         return b"".join(palette[3 * entry:3 * entry + 3] for entry in samples)
     if colour in (0, 4):
