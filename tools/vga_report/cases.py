@@ -4,7 +4,7 @@ import re
 from io import BytesIO
 from itertools import islice, takewhile
 from pathlib import Path
-from typing import Iterator, NamedTuple, Optional, Sequence
+from typing import Iterator, NamedTuple, Optional
 
 from zaklimot.format import FAULT, MOST_BYTES, STATE, Answer, lines_in, steps_in
 from zaklimot.format.report import REFUSAL, VALUE
@@ -65,11 +65,18 @@ class Case(NamedTuple):
         return self.name
 
     def script(self) -> bytes:
-        """Its whole script: text, with what stands in front of it, or bytes."""
+        """Its whole script: text, with what stands in front of it, or bytes, where `XX*N` is N times the byte."""
         source = bytes_of(self.source, MOST_BYTES)
-        if self.is_bytes:
-            return _bytes_of(source, self.source)
-        return (bytes_of(self.front, MOST_BYTES) if self.front else b"") + source
+        if not self.is_bytes:
+            return (bytes_of(self.front, MOST_BYTES) if self.front else b"") + source
+        parts = []
+        for number, line in enumerate(source.decode("utf-8", "replace").splitlines(), 1):
+            for word in line.partition(";")[0].split():
+                found = HEX.fullmatch(word)
+                if found is None:
+                    raise Trouble(f"'{word[:20]}' is no byte", str(self.source), number)
+                parts.append(bytes.fromhex(found[1]) * int(found[3] or "1"))
+        return b"".join(parts)
 
     def place_of(self, number: int) -> str:
         """A step with the file and the line where it stands; empty where it stands in no text."""
@@ -98,22 +105,17 @@ class Case(NamedTuple):
 
     def has_answers_of_machine(self) -> bool:
         """Whether a step before the first that is to be refused has an answer that a machine can give."""
-        return not self.expects_fault() and any(
-            step.kind == VALUE or step.answer.startswith(CALLED) for step in takewhile(_is_taken, self.expected_steps())
-        )
+        steps = () if self.expects_fault() else takewhile(lambda step: step.kind != REFUSAL, self.expected_steps())
+        return any(step.kind == VALUE or step.answer.startswith(CALLED) for step in steps)
 
     def machine_script(self) -> bytes:
         """Its script for a machine: text ends before the first step that is to be refused, and bytes are whole.
 
         Text that ends so has its blocks spelt out. All other text is handed over as it stands.
         """
-        if self.is_bytes:
-            return self.script()
-        script = self.stopped_script()
-        for taken, step in enumerate(self.expected_steps()):
-            if not _is_taken(step):
-                return _front_of(script, taken)
-        return script
+        refused = None if self.is_bytes else next((step for step in self.expected_steps() if step.kind == REFUSAL), None)
+        script = self.script() if self.is_bytes else self.stopped_script()
+        return script if refused is None else _front_of(script, refused.number - 1)
 
     def handed(self, is_for_machine: bool, can_stop: bool) -> bytes:
         """Its script as a command gets it, which can stop a run or not."""
@@ -127,26 +129,9 @@ class Case(NamedTuple):
             yield from Expected(stream, str(self.expected)).steps()
 
 
-def _is_taken(step: Answer) -> bool:
-    """Whether a step is not to be refused."""
-    return step.kind != REFUSAL
-
-
 def printable(text: str, others: str = "") -> str:
     """A text that no terminal takes for more than a text. Other characters may be kept."""
     return "".join(character if character.isprintable() or character in others else "?" for character in text)
-
-
-def _bytes_of(source: bytes, path: Path) -> bytes:
-    """The bytes that digits spell: `XX*N` is N times the byte, and `;` begins a comment."""
-    parts = []
-    for number, line in enumerate(source.decode("utf-8", "replace").splitlines(), 1):
-        for word in line.partition(";")[0].split():
-            found = HEX.fullmatch(word)
-            if found is None:
-                raise Trouble(f"'{word[:20]}' is no byte", str(path), number)
-            parts.append(bytes.fromhex(found[1]) * int(found[3] or "1"))
-    return b"".join(parts)
 
 
 def _front_of(text: bytes, steps: int) -> bytes:
@@ -162,15 +147,11 @@ def _front_of(text: bytes, steps: int) -> bytes:
 
 def read_cases(path: str) -> list[Case]:
     """The cases of a list, but for those whose expected report is wrong on purpose."""
-    folder = Path(".") if path == STANDARD else Path(path).parent
-    lines = read_at_most(path, MOST_BYTES).decode("utf-8", "replace").splitlines()
-    return list(_cases(lines, folder.absolute(), shown_name(path, "standard input")))
-
-
-def _cases(lines: list[str], folder: Path, name: str) -> Iterator[Case]:
+    folder, name = (Path(".") if path == STANDARD else Path(path).parent).absolute(), shown_name(path, "standard input")
     fonts: Optional[Path] = None
     front: Optional[Path] = None
-    for number, line in enumerate(lines, 1):
+    cases = []
+    for number, line in enumerate(read_at_most(path, MOST_BYTES).decode("utf-8", "replace").splitlines(), 1):
         word, _, rest = line.strip().partition(" ")
         if not word or word.startswith("#") or word == "wrong":
             continue
@@ -185,4 +166,5 @@ def _cases(lines: list[str], folder: Path, name: str) -> Iterator[Case]:
             if ".." in Path(found["name"]).parts or Path(found["name"]).is_absolute():
                 raise Trouble(f"a case outside the list's folder: '{found['name'][:40]}'", name, number)
             until = None if found["steps"] is None else int(found["steps"])
-            yield Case(found["name"], folder, fonts, front, until, found["bytes"] is not None)
+            cases.append(Case(found["name"], folder, fonts, front, until, found["bytes"] is not None))
+    return cases

@@ -23,17 +23,6 @@ DOES = "Exit status: 0 done; 2 the work can't be done."
 JUDGES = "Exit status: 0 all is right; 1 something is wrong; 2 the work can't be done."
 
 
-class _Version(argparse.Action):
-    """Prints the release's number, and ends the tool."""
-
-    def __init__(self, option_strings: Sequence[str], dest: str) -> None:
-        super().__init__(option_strings, dest, nargs=0, help="prints the release's number")
-
-    def __call__(self, parser: argparse.ArgumentParser, *_: object) -> None:
-        sys.stdout.write(f"{parser.prog} {version()}\n")
-        parser.exit()
-
-
 class _Parser(argparse.ArgumentParser):
     """A parser that loses no trouble with what it prints, as a disk that is full."""
 
@@ -48,7 +37,7 @@ def tool_parser(name: str, does: str, example: str, page: str, statuses: str = D
         prog=name, description=does, formatter_class=argparse.RawDescriptionHelpFormatter,
         epilog=f"Example:\n  {example}\n\n{statuses}\n{page} tells more.",
     )
-    made.add_argument("--version", action=_Version)
+    made.add_argument("--version", action="version", version=f"%(prog)s {version()}", help="prints the release's number")
     return made
 
 

@@ -87,15 +87,11 @@ def is_as_expected(step: Answer, expected: str, words: str) -> bool:
     return bool(parts) and all("=" in part for part in parts) and set(parts) <= set(answer.split())
 
 
-def handed_in(words: str) -> str:
-    """The registers of a call as it hands them in, as an answer tells them."""
-    given = dict(word.lower().split("=", 1) for word in words.split() if "=" in word)
-    return " ".join(f"{name}={given.get(name, '0'):0>4}" for name in REGISTERS)
-
-
 def is_worth_telling(step: Answer, words: str) -> bool:
-    """Whether `--bless` writes an answer in: not where it is `ok`, or the registers that were handed in."""
-    return step.answer not in ("ok", "skipped") and step.answer.lower() != handed_in(words)
+    """Whether `--bless` writes an answer in: not where it is `ok`, or the registers that a call handed in."""
+    given = dict(word.lower().split("=", 1) for word in words.split() if "=" in word)
+    handed_in = " ".join(f"{name}={given.get(name, '0'):0>4}" for name in REGISTERS)
+    return step.answer not in ("ok", "skipped") and step.answer.lower() != handed_in
 
 
 def dumps_in(data: bytes, name: str) -> dict[int, tuple[str, ...]]:
@@ -121,7 +117,6 @@ def dumps_in(data: bytes, name: str) -> dict[int, tuple[str, ...]]:
 
 
 def _has_step(line: bytes) -> bool:
-    """Whether the words of a line are a step's."""
     words = line.split(None, 1)
     return bool(words) and words[0].lower().decode("latin-1") not in BLOCK_LINES
 
@@ -146,7 +141,6 @@ def differing(answer: Sequence[str], wanted: Sequence[str]) -> list[str]:
 
 
 def _in_line(line: str | None, wanted: str | None) -> Iterator[str]:
-    """What differs in a line."""
     if line == wanted:
         return
     if line is None or wanted is None:
@@ -164,7 +158,6 @@ def _in_line(line: str | None, wanted: str | None) -> Iterator[str]:
 
 
 def _place(words: Sequence[str], row: re.Match[str] | None, at: int, front: int) -> str:
-    """The name of a word of a line."""
     if row is None:
         # A line of names and values, or of four latches.
         names = [word for word in words[:at] if not re.fullmatch(r"[0-9A-F]{2,4}|[0-9]+", word)] or words[:1]

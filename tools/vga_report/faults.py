@@ -55,7 +55,11 @@ def explained(fault: str, script: str, fonts: str) -> str:
         unread = [(path, _unread(what, path)) for what, path in (("font file", fonts), ("script", script))]
         file, reason = next((one for one in unread if one[1]), (file, reason))
     elif name == "FontSize":
-        file, reason = fonts, _font_size(_read(fonts))
+        data = _read(fonts)
+        count = f"{len(data):,}" if len(data) <= MOST_BYTES else f"more than {MOST_BYTES:,}"
+        rows = f"; a font of {len(data) // 256} rows alone has so many, and a font file has those of 8, 14 and 16 rows"
+        hint = rows if len(data) in (4096, 3584, 2048) else "; it is a script of bytes" if data.startswith(MAGIC) else ""
+        file, reason = fonts, f"the font file has {count} bytes, and {FONT_BYTES:,} are right{hint}"
     elif name in FAULTS and name not in SYSTEM:
         file, reason = f"{script}:{place}" if FAULTS[name].place == "line" else script, reason_of(name, place, _read(script))
     return f"{file}: {found[0]}: {reason}"
@@ -87,20 +91,10 @@ def _read(path: str) -> bytes:
         return b""
 
 
-def _font_size(data: bytes) -> str:
-    hint = ""
-    if len(data) in (4096, 3584, 2048):
-        hint = f"; a font of {len(data) // 256} rows alone has so many, and a font file has those of 8, 14 and 16 rows"
-    elif data.startswith(MAGIC):
-        hint = "; it is a script of bytes"
-    count = f"{len(data):,}" if len(data) <= MOST_BYTES else f"more than {MOST_BYTES:,}"
-    return f"the font file has {count} bytes, and {FONT_BYTES:,} are right{hint}"
-
-
 def reason_of(name: str, place: Optional[int], data: bytes) -> str:
     """The reason of a fault of this name in the bytes of a script, as far as it is found."""
     if name == "BadLine" and place is not None:
-        return _bad_line(data, place) or UNKNOWN
+        return _bad_line(data, place)
     if name == "TooLong":
         what = "file has" if len(data) > MOST_BYTES else "steps of the text have"
         return f"the {what} more bytes, and {MOST_BYTES:,} bytes are the most"
@@ -114,18 +108,19 @@ def reason_of(name: str, place: Optional[int], data: bytes) -> str:
     if name == "TooMany":
         at = "" if place is None else f" at {place}"
         return f"with the repeat or step{at} the script means more than {MOST_STEPS:,} steps"
-    if name in ("BadStep", "Truncated") and place is not None:
-        return _bad_step(data, place) if name == "BadStep" else _truncated(data, place)
-    return UNKNOWN
+    if name == "Truncated" and place is not None:
+        if place >= len(data):
+            return "nothing stands after the magic: the version is lacking"
+        step = f"the step {OPCODES.get(data[place], '')} at offset {place}"
+        return f"{step} is cut off: the file ends after {len(data) - place} of its bytes"
+    return _bad_step(data, place) if name == "BadStep" and place is not None else UNKNOWN
 
 
-def _bad_line(data: bytes, number: int) -> Optional[str]:
+def _bad_line(data: bytes, number: int) -> str:
     lines = data.split(b"\n")
-    if not 1 <= number <= len(lines):
-        return None
     whole = _wrong_whole(data) if number == 1 else None
-    if whole is not None:
-        return whole
+    if whole is not None or not 1 <= number <= len(lines):
+        return whole or UNKNOWN
     line = text_of(lines[number - 1])
     mistake = mistake_in(line)
     shown = list(marked_lines(line, mistake or Mistake(0, 0, "")))
@@ -174,24 +169,14 @@ def _bad_step(data: bytes, place: int) -> str:
     if place >= len(data):
         return UNKNOWN
     opcode, kind = data[place], data[place + 1:place + 2]
-    ends = (REPEAT_CODE, END_CODE)
-    if opcode in ends and data[4:5] == b"\2":
+    if opcode in (REPEAT_CODE, END_CODE) and data[4:5] == b"\2":
         wrong = "counts 0 or stands in another repeat" if opcode == REPEAT_CODE else "stands outside a repeat"
         return f"the {OPCODES[opcode]} at offset {place} {wrong}"
-    if opcode not in OPCODES or opcode in ends:
-        behind = "the bytes before it may be at fault"
-        return f"at offset {place} stands {opcode:02X}, which is no opcode: 01 to {SHOWS:02X} are; {behind}"
+    front = f"at offset {place} stands"
+    if opcode not in OPCODES or opcode in (REPEAT_CODE, END_CODE):
+        return f"{front} {opcode:02X}, which is no opcode: 01 to {SHOWS:02X} are; the bytes before it may be at fault"
     if opcode == SHOWS and kind and kind[0] >= len(SHOWN):
-        last = f"{len(SHOWN) - 1:02X}"
-        return f"at offset {place} stands a show of kind {kind[0]:02X}, and the kinds are 00 to {last}"
+        return f"{front} a show of kind {kind[0]:02X}, and the kinds are 00 to {len(SHOWN) - 1:02X}"
     if opcode == SHOWS:
-        wrong = "with a plane above 3, no bytes, more than 256, or past the plane's end"
-        return f"at offset {place} stands a show plane {wrong}"
+        return f"{front} a show plane with a plane above 3, no bytes, more than 256, or past the plane's end"
     return UNKNOWN
-
-
-def _truncated(data: bytes, place: int) -> str:
-    if place >= len(data):
-        return "nothing stands after the magic: the version is lacking"
-    step = f"the step {OPCODES.get(data[place], '')} at offset {place}"
-    return f"{step} is cut off: the file ends after {len(data) - place} of its bytes"

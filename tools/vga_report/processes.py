@@ -54,12 +54,10 @@ def _signals_held() -> Iterator[None]:
     came: list[int] = []
     held: dict[int, Any] = {}
     if threading.current_thread() is threading.main_thread():
-        for name in ("SIGINT", "SIGTERM", "SIGHUP"):
-            number = getattr(signal, name, None)
-            handler = None if number is None else signal.getsignal(number)
-            if number is not None and callable(handler):
-                held[number] = handler
-                signal.signal(number, lambda number, _: came.append(number))
+        known = [getattr(signal, name) for name in ("SIGINT", "SIGTERM", "SIGHUP") if hasattr(signal, name)]
+        held = {number: handler for number in known if callable(handler := signal.getsignal(number))}
+    for number in held:
+        signal.signal(number, lambda number, _: came.append(number))
     try:
         yield
     finally:

@@ -90,14 +90,12 @@ class Registers:
                 self.indexes[ATTRIBUTES] = value & COUNTS[ATTRIBUTES][1]
             self._is_data = not self._is_data
         elif port - 1 in INDEX_PORTS:
-            self._write_data(INDEX_PORTS[port - 1], value)
-
-    def _write_data(self, group: str, value: int) -> None:
-        """Writes a register, unless it is protected; one that shapes the frame takes the place of a mode's."""
-        register = group, self.indexes[group]
-        if not (group == CRT and register[1] < 8 and self._values.get(PROTECTING, 0) & PROTECT):
-            self._values[register] = value
-            self._is_of_mode = self._is_of_mode and register not in (CLOCKING, TOTAL, LINES, OVERFLOW)
+            group = INDEX_PORTS[port - 1]
+            register = group, self.indexes[group]
+            # A register that shapes the frame takes the place of a mode's, unless it is protected.
+            if not (group == CRT and register[1] < 8 and self._values.get(PROTECTING, 0) & PROTECT):
+                self._values[register] = value
+                self._is_of_mode = self._is_of_mode and register not in (CLOCKING, TOTAL, LINES, OVERFLOW)
 
     def frame(self) -> float:
         """The seconds that a frame lasts; those of 70 a second where the script doesn't tell."""

@@ -151,22 +151,15 @@ def _written_beside(path: Path) -> Iterator[BinaryIO]:
     handle, beside = tempfile.mkstemp(prefix=f".{place.name[:100]}-", dir=place.parent)
     try:
         with open(handle, "wb") as stream:
-            os.chmod(beside, _mode_of(place))
+            # The rights are those of the file that is replaced, or of a new one.
+            mask = os.umask(0)
+            os.umask(mask)
+            os.chmod(beside, stat.S_IMODE(os.stat(place).st_mode) if place.exists() else 0o666 & ~mask)
             yield stream
         os.replace(beside, place)
     except BaseException:
         os.unlink(beside)
         raise
-
-
-def _mode_of(path: Path) -> int:
-    """The rights of the file that is replaced, or those of a new one."""
-    try:
-        return stat.S_IMODE(os.stat(path).st_mode)
-    except OSError:
-        mask = os.umask(0)
-        os.umask(mask)
-        return 0o666 & ~mask
 
 
 def write_file(path: str, data: bytes) -> None:
