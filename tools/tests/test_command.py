@@ -110,14 +110,12 @@ class Reports(Folder):
 
     def test_as_expected_and_not(self) -> None:
         def told(expected: str) -> tuple[int, bytes, str]:
-            self.write("e", expected)
-            return self.done("check three e")
+            return self.done("check three -", expected.encode())
 
         hold(self, told, [
             ("1-2 ok\n3 55\n", (0, b"three is as expected: 3 steps, 0 pictures\n", "")),
-            ("1-2 ok\n3 54\n", (1, b"three:3: step 3: 55, not 54 (e:2)\n", "")),
-            ("1-2 ok\n", (1, b"three:3: step 3: 55, not the end (e)\n", "")),
-            ("1-4 ok\n", (1, b"three:3: step 3: 55 (read), not ok (e:1)\n", "")),
+            ("1-2 ok\n3 54\n", (1, b"three:3: step 3: 55, not 54 (standard input:2)\n", "")),
+            ("1-2 ok\n", (1, b"three:3: step 3: 55, not the end (standard input)\n", "")),
         ])
 
 
@@ -302,21 +300,19 @@ class Suite(Folder):
         self.assertEqual(self.run_suite("--only", "a/four")[0], 1)
 
     def test_the_table_for_machines(self) -> None:
-        self.case("a/one", "; Memory.\nget A0000\n", "1 55\n")
+        # Answers that are compared are counted.
+        script = "; Memory.\nout 3C2 01\nget A0000\nframe\nget A0000\nget A0000\n"
+        self.case("a/one", script, "1 ok\n2 55\n3 ragged\n4 FF\n5 55\n")
         status, output, _ = self.run_suite("--json")
-        self.assertEqual(status, 1)
+        # A case is a line, with its rule.
         (line,) = [line for line in output.splitlines() if '"name": "a/one"' in line]
-        self.assertEqual(json.loads(line.rstrip("]},") + "}")["rule"], "Memory.")
+        self.assertEqual((status, json.loads(line.rstrip("]},") + "}")["rule"]), (1, "Memory."))
         self.assertEqual(json.loads(output), {
-            "command": ADAPTER + " {fonts}",
-            "cases": {"agrees": 0, "skipped": 0, "differs": 1, "failed": 0},
-            "rules": [{
-                "rule": "Memory.", "folder": "a", "answer": "differs",
-                "cases": [{
-                    "name": "a/one", "rule": "Memory.", "answer": "differs", "steps": 1, "skipped": 0, "answers": 1,
-                    "differing": 1, "step": 1, "answered": "FF", "expected": "55", "reason": "step 1: FF, not 55 (`get A0000`, a/one.vga:2)",
-                }],
-            }],
+            "command": ADAPTER + " {fonts}", "cases": {"agrees": 0, "skipped": 0, "differs": 1, "failed": 0},
+            "rules": [{"rule": "Memory.", "folder": "a", "answer": "differs", "cases": [{
+                "name": "a/one", "rule": "Memory.", "answer": "differs", "steps": 5, "skipped": 1, "answers": 3, "differing": 2,
+                "step": 2, "answered": "FF", "expected": "55", "reason": "step 2: FF, not 55 (`get A0000`, a/one.vga:3)",
+            }]}],
         })
 
     def test_what_is_told_of_cases(self) -> None:
@@ -334,11 +330,6 @@ class Suite(Folder):
     def test_a_run_that_is_stopped_by_its_command(self) -> None:
         self.case("a/one", "get 0\nget 0\nget 0\n", "1 FF\n2 FF\n", "a/one until 2")
         self.assertEqual(self.run_suite(command=ADAPTER + " {fonts} {until}")[0], 0)
-
-    def test_answers_that_are_compared_are_counted(self) -> None:
-        self.case("a/one", "out 3C2 01\nget A0000\nframe\nget A0000\nget A0000\n", "1 ok\n2 55\n3 ragged\n4 FF\n5 55\n")
-        case = json.loads(self.run_suite("--json")[1])["rules"][0]["cases"][0]
-        self.assertEqual((case["steps"], case["skipped"], case["answers"], case["differing"], case["step"]), (5, 1, 3, 2, 2))
 
     def test_scripts_as_they_are_handed_over(self) -> None:
         for number, (listed, files, words, wanted) in enumerate(HANDED):

@@ -4,10 +4,9 @@ import hashlib
 import unittest
 from typing import Iterable, Optional
 
-from vga_report.expecting import NAMES, differing
+from vga_report.expecting import differing
 from vga_report.report import Comparison, Expected, Report
 from zaklimot.format import Answer, Picture
-from zaklimot.format.answers import GROUPS
 
 from .tools import BLACK, RED, WHITE, hold, ppm, refused, report, stream
 
@@ -127,9 +126,6 @@ class Differing(unittest.TestCase):
             ("row 00:" + 40 * " 4107", "row 00:" + 40 * " 2007",
              [*(f"row 00 column {column}: 4107, not 2007" for column in range(8)), "and 32 more"]),
         ))
-
-    def test_each_register_has_a_name(self) -> None:
-        self.assertEqual({group: len(names) for group, names in NAMES.items()}, GROUPS)
 
 
 class Answers(unittest.TestCase):

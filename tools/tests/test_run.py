@@ -20,17 +20,16 @@ from unittest import mock
 from xml.etree import ElementTree
 
 from vga_report import program
-from vga_report.expecting import answer_of, dumps_in, expected_in, is_as_expected
+from vga_report.expecting import dumps_in, expected_in
 from vga_report.listing import chosen
 from vga_report.mistakes import text_of
 from vga_report.program import Tried, build_program
 from vga_report.progress import Progress
-from vga_report.report import Report
 from vga_report.words import parser
-from zaklimot.format import Answer, count_in, lines_in, places_in, steps_in, words_in
+from zaklimot.format import count_in, lines_in, places_in, steps_in, words_in
 
 from .test_command import run
-from .tools import BLACK, EXAMPLES, RED, TOP, Folder, begin, ended, hold, hold_refused, ppm, refused, stream, want_program
+from .tools import BLACK, EXAMPLES, RED, TOP, Folder, begin, ended, hold, hold_refused, ppm, refused, want_program
 
 # A program that understands texts of a few steps: `asm` copies, `dis` prints in upper case, `go` answers by the name.
 FAKE = """import sys
@@ -296,20 +295,7 @@ class Listings(Fake):
 
 
 class Expectations(unittest.TestCase):
-    def test_what_is_as_expected(self) -> None:
-        picture = next(Report(stream(b"1 picture 37\n" + ppm(9, 1, BLACK * 9) + b"\n"), "r").steps())
-        for step, name, good, bad in [
-            (Answer(1, 1, "55"), "get", ["55", "*", "5..."], ["5", "54", ""]),
-            (Answer(1, 1, "E6"), "get", ["E6", "e6"], ["E6 WrongKind"]),
-            (Answer(1, 1, "E1 NotDecoded"), "get", ["E1 NotDecoded"], ["E1", "E2"]),
-            (Answer(1, 1, "E6 WrongKind"), "int", ["E6", "E6 WrongKind"], ["E6 BadPage", "E7"]),
-            (Answer(1, 1, "ax=0300 bx=0000 cx=0D0E dx=0102"), "int", ["cx=0D0E", "dx=0102 ax=0300"], ["cx=0D0F", "cx", "ex=0"]),
-            (picture, "frame", ["picture 9x1", "picture 9x1 8f4a...", answer_of(picture)], ["picture", "picture 37", "picture 9x2"]),
-            (Answer(1, 1, "a", ("b",)), "show", ["2 lines dd8c6a395b5dd36c56d23275028f526c"], ["a", "a b", "2 lines"]),
-        ]:
-            for expected in good + bad:
-                with self.subTest((step.answer, expected)):
-                    self.assertEqual(is_as_expected(step, expected, name), expected in good)
+    """What a text expects of its steps. page/tests/expecting.mjs holds which answers meet it."""
 
     def test_comments(self) -> None:
         hold(self, lambda comment: expected_in(comment.encode()), [

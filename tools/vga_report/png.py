@@ -56,15 +56,6 @@ def _head(width: int, height: int) -> bytes:
     return SIGNATURE + head + chunk(b"sBIT", bytes([6, 6, 6]))
 
 
-def _write(stream: BinaryIO, size: tuple[int, int], rows: Iterable[bytes], shape: Shape) -> None:
-    """Writes rows of this size in a shape."""
-    new = shape.size(*size)
-    stream.write(_head(*new))
-    for part in _packed(rows, size, new):
-        stream.write(chunk(b"IDAT", part))
-    stream.write(chunk(b"IEND", b""))
-
-
 def _packed(rows: Iterable[bytes], size: tuple[int, int], new: tuple[int, int]) -> Iterator[bytes]:
     """Rows of one size as a PNG of another has them packed, in parts."""
     packer = zlib.compressobj(COMPRESSION)
@@ -90,7 +81,6 @@ def _stretched(rows: Iterable[bytes], size: tuple[int, int], new: tuple[int, int
 
 
 def _rows(picture: Picture) -> Iterator[bytes]:
-    """The rows of a picture, eight bits a component."""
     return (picture.row(y).translate(WIDENED) for y in range(picture.height))
 
 
@@ -113,7 +103,11 @@ def write_png(stream: BinaryIO, picture: Picture, shape: Shape = Shape(), other:
     if other is not None:
         width, height = max(width, other.width), max(height, other.height)
         rows = (_marked_row(picture, other, width, y) for y in range(height))
-    _write(stream, (width, height), rows, shape)
+    size = shape.size(width, height)
+    stream.write(_head(*size))
+    for part in _packed(rows, (width, height), size):
+        stream.write(chunk(b"IDAT", part))
+    stream.write(chunk(b"IEND", b""))
 
 
 def save_png(path: str, picture: Picture, shape: Shape = Shape(), other: Optional[Picture] = None) -> None:
