@@ -196,7 +196,6 @@ class Script:
         return chain([] if first is None else [first], steps)
 
     def _trouble(self, fault: str, fonts: str) -> Trouble:
-        """A fault of the program's, with its reason."""
         return Trouble(explained(fault, self._path, fonts).replace(self._path, self.shown))
 
 
@@ -320,15 +319,14 @@ def tallied(shown: str, path: Optional[str]) -> Iterator[Tally]:
 
 
 class Blessing:
-    """The expectations of a script that are not met, and the answers that have none: by the numbers of the lines."""
+    """The answers that a script is to expect, by its lines: those not met, and, if all are wanted, those of other steps."""
 
-    def __init__(self, data: bytes) -> None:
+    def __init__(self, data: bytes, is_all: bool) -> None:
         self._lines = text_of(data).split("\n")
-        # What each line's step answered: on one line, and the lines of a dump of several.
+        self._is_all = is_all
+        # What each line's step answered: on one line, and the lines of a dump of several; and which lines change.
         self._answers: dict[int, tuple[str, tuple[str, ...]]] = {}
-        # The lines that answer otherwise than expected, and those beside them for which nothing is expected.
-        self._wrong: set[int] = set()
-        self._new: set[int] = set()
+        self._changed: set[int] = set()
 
     def take(self, row: Row) -> None:
         """Takes a step's answer. That of a block's step may be another each time: then any will do."""
@@ -338,41 +336,37 @@ class Blessing:
         answered = answer_of(row.step), row.step.lines if row.step.others else ()
         if self._answers.setdefault(number, answered) != answered:
             self._answers[number] = ANY, ()
-        if row.is_wrong:
-            self._wrong.add(number)
-        elif row.expected is None:
-            self._new.add(number)
+        if row.is_wrong or self._is_all and row.expected is None:
+            self._changed.add(number)
 
-    def changes(self, is_all: bool = True) -> Iterator[tuple[int, str, str]]:
-        """The lines that change: number, expectation before, and after; those alone that are wrong, if not all are wanted."""
+    def changes(self) -> Iterator[tuple[int, str, str]]:
+        """The lines that change: number, expectation before, and after."""
         for number, (answer, _) in self._answers.items():
-            before = expected_in(self._lines[number - 1].partition(";")[2].encode("utf-8", "surrogateescape"))
-            if number in self._wrong or is_all and number in self._new:
+            if number in self._changed:
+                before = expected_in(self._lines[number - 1].partition(";")[2].encode("utf-8", "surrogateescape"))
                 yield number, before or "", answer
 
-    def text(self, is_all: bool = True) -> str:
+    def text(self) -> str:
         """The script with the answers in it."""
-        changed = {number for number, _, _ in self.changes(is_all)}
         lines, is_dropped = [], False
         for number, line in enumerate(self._lines, 1):
             if not (is_dropped and line.strip().startswith(DUMPED)):
                 is_dropped = False
                 lines.append(line)
-            if number in changed:
+            if number in self._changed:
                 answer, dump = self._answers[number]
-                lines[-1] = blessed_line(line, answer)
+                lines[-1] = _blessed(line, answer)
                 lines += [f"{DUMPED} {part}" for part in dump]
                 is_dropped = True
         return "\n".join(lines)
 
     def difference(self, name: str) -> str:
         """What differs from the expectations, as a unified diff of the script."""
-        others = self.text(is_all=False).split("\n")
-        lines = difflib.unified_diff(self._lines, others, name, f"{name} as answered", lineterm="")
+        lines = difflib.unified_diff(self._lines, self.text().split("\n"), name, f"{name} as answered", lineterm="")
         return "".join(f"{line}\n" for line in lines)
 
 
-def blessed_line(line: str, answer: str) -> str:
+def _blessed(line: str, answer: str) -> str:
     """A line with the answer that is expected written in, before the rest of its comment."""
     ending = "\r" if line.endswith("\r") else ""
     words, _, comment = line.rstrip("\r").partition(";")

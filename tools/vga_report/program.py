@@ -126,7 +126,6 @@ class Built:
                 printed.truncate(0)
 
     def _writes(self, words: Sequence[str], output: BinaryIO) -> bool:
-        """Whether a command of the program ends well; what it writes goes into a file."""
         left = MOST_PRINTED
         with _running([self.path, *words]) as outcome:
             while chunk := outcome.report.read(CHUNK):

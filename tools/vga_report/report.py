@@ -82,7 +82,6 @@ class Expected:
                 raise self._trouble(f"no step: '{text[:40]}'")
 
     def _ok_steps(self, first: int, last: int) -> Iterator[Answer]:
-        """The steps that a line such as `1-35 ok` stands for."""
         if first > last:
             raise self._trouble(f"no steps lead from {first} to {last}")
         return (Answer(self._counted(number), self._line, "ok") for number in range(first, last + 1))
@@ -267,7 +266,6 @@ class Comparison:
 
 
 def _are_alike(step: Answer, other: Answer) -> bool:
-    """Whether two steps answer the same."""
     if step.number != other.number or step.answer != other.answer or step.others != other.others:
         return False
     picture, other_picture = step.picture, other.picture

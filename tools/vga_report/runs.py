@@ -94,7 +94,6 @@ def _contradictions(words: argparse.Namespace) -> dict[str, object]:
 
 
 def _refuse_words(words: argparse.Namespace) -> None:
-    """Ends the work where words contradict one another."""
     for reason, is_so in _contradictions(words).items():
         if is_so:
             raise Trouble(reason)
@@ -129,7 +128,6 @@ def run(words: argparse.Namespace, progress: Progress) -> int:
 
 
 def _run_script(words: argparse.Namespace, progress: Progress) -> int:
-    """Runs one script, and shows what was chosen of it."""
     if words.debug is not None and words.html is None:
         _write_debug_page(words, read_script(words.script))
         return AGREED
@@ -142,7 +140,7 @@ def _run_script(words: argparse.Namespace, progress: Progress) -> int:
                 _write_debug_page(words, data)
             script = Script(path, data, program, tally.shown, cast(BinaryIO, printed))
             _heed_bytes(words, script)
-            blessing = Blessing(data) if words.bless or words.diff else None
+            blessing = Blessing(data, words.bless) if words.bless or words.diff else None
             tells_why = shower.tells_why or words.json is not None
             for row in script.rows(fonts, words.until, progress, words.strict, tells_why):
                 if not tally.steps:
@@ -172,7 +170,6 @@ def _heed_bytes(words: argparse.Namespace, script: Script) -> None:
 
 
 def _tell_tally(tally: Tally, words: argparse.Namespace) -> None:
-    """Tells the answers that differ, and what was seen."""
     tell = teller(words.html, words.json)
     for line in tally.differing():
         tell(line)
@@ -288,7 +285,6 @@ def _run_several(words: argparse.Namespace, progress: Progress) -> int:
 
 
 def _scripts_in(folder: str) -> list[Path]:
-    """The scripts of a folder and of those in it, by the ends of their names."""
     return sorted(path for path in Path(folder).rglob("*") if path.suffix in ENDINGS and path.is_file())
 
 
@@ -362,6 +358,5 @@ def _watched(words: argparse.Namespace, work: Callable[[argparse.Namespace, Prog
 
 
 def _changes(words: argparse.Namespace) -> dict[str, Optional[int]]:
-    """When the files of a run were changed last."""
     files = [words.script, words.fonts, *map(str, _scripts_in(words.script))]
     return {file: os.stat(file).st_mtime_ns if os.path.exists(file) else None for file in files}

@@ -122,7 +122,6 @@ def suite(words: argparse.Namespace, progress: Progress) -> int:
 
 
 def _write_expected(words: argparse.Namespace) -> int:
-    """Writes each picture that the suite expects and has with all its dots."""
     folder = empty_folder(words.folder)
     for case in _chosen(words):
         for number, picture in _pictures_in(case.expected_steps()):
@@ -145,7 +144,6 @@ def _chosen(words: argparse.Namespace) -> list[Case]:
 
 
 def _results(words: argparse.Namespace, cases: list[Case], progress: Progress) -> list[Result]:
-    """What comes of the cases, in their order."""
     is_ended = Event()
     limits = Limits(words.timeout, words.output * MEBIBYTE)
     commands = [
@@ -203,7 +201,6 @@ def _judge(result: Result, status: int, report: Path, messages: Path) -> None:
 
 
 def _compare(result: Result, report: io.BufferedReader) -> None:
-    """Compares a report with the one that is expected."""
     comparison = result.comparison
     try:
         for difference in comparison.differences(Report(report, REPORT_NAME).steps(), result.case.expected_steps()):
@@ -311,7 +308,6 @@ def _worst(results: list[Result]) -> str:
 
 
 def _counts(results: list[Result]) -> dict[str, int]:
-    """How many cases have each answer."""
     return {answer: sum(result.answer == answer for result in results) for answer in ANSWERS}
 
 
