@@ -63,6 +63,49 @@ while len(glob.glob(sys.argv[0] + ".*")) < 2: time.sleep(0.01)
 """
 
 
+# Texts, the words of a run, its status, and what is told.
+DECODED, AT = "               No part of the adapter decodes port 0{}.\n".format, "t.vga:{}: no step stands on this line".format
+NAMES = "out, outw, in, inw, put, putw, get, getw, advance, frame, int, show, version, repeat, end"
+RUNS: list[tuple[str, str, int, list[str]]] = [
+    ("get 0 ; = 55\nget 1 ; = *\nframe ; = picture 9x2\n", "--only differs", 1, [
+        "     1      1  GET 0               E6   not 55\n", "\n3 steps, 1 picture, 1 of 3 answers as expected\n",
+        "t.vga:1: step 1: GET 0 answers E6, not 55\nt.vga:3: step 3: FRAME answers picture 9x1 ",
+    ]),
+    ("out 3C2 1 ; = ok\nout 3C2 1 ; = E1\nout 3C2 1\n", "", 1, [
+        "   ok\n     2", "   ok   not E1\n     3", "OUT 3C2 1 answers ok, not E1\n3 steps, 0 pictures, 1 of 2 answers as expected\n",
+    ]),
+    # Refusals are told once each, counted, and expected by their names.
+    ("in 60\nin 60\nin 61 ; = E1\n", "", 1, [
+        f"     1      1  IN 60               E1 NotDecoded\n{DECODED(60)}     2      2  IN 60               E1 NotDecoded\n     3",
+        f"   not E1\n{DECODED(61)}", " not E1: E1 is a byte that is read here; the refusal is written E1 NotDecoded\n",
+        "\n3 steps, 3 refused, 0 pictures, 0 of 1 answers as expected\n",
+    ]),
+    ("in 60\nin 60\n", "--html -", 0, [f"{DECODED(60).strip()}</td></tr>\n<tr"]), ("in 60\nin 61 ; = E1 NotDecoded\n", "--quiet", 0, []),
+    ("in 60\n", "--quiet --strict", 1, ["t.vga:1: step 1: IN 60 answers E1 NotDecoded, and no refusal is expected\n"]),
+    # Answers that are expected of no step.
+    ("frame\n; = 55\n", "", 2, [AT(2)]), ("version 2 ; = 1\n", "", 2, [AT(1)]), ("frame ; = *\n\t; =ok\n", "", 2, [AT(2)]),
+    ("; ======\n; = =\nout 3C2 1\n", "", 0, []),
+    # What differs as a diff.
+    ("get 0 ; = 55 ; more\nin 3DA\n", "--diff", 1, [
+        "--- t.vga\n+++ t.vga as answered\n@@ -1,3 +1,3 @@\n-get 0 ; = 55 ; more\n+get 0 ; = E6 ; more\n in 3DA\n \n",
+    ]),
+    ("in 3DA\n", "--diff --strict", 1, ["\n+in 3DA ; = E1 NotDecoded\n"]),
+    # A stopped run shows the state.
+    *((text, "--until 2", 0, [
+        f"            {1 + steps}  show regs           look\n", f"            {4 + steps}  show bda            look\n{4 + steps} steps",
+    ]) for text, steps in ((TEXT, 2), ("; no step\n", 0))),
+    # The text is lost where its file has the bytes.
+    ("VGAS\1\x0b", "", 0, [
+        "vga-report: t.vga: the file contains bytes, but has the name of a text. "
+        "If you named it twice, `vga asm` has written over the text\n",
+    ]),
+    *(("VGAS\1\x0b", words, 2, ["vga-report: t.vga: a script of bytes has no comments for answers\n"]) for words in ("--diff", "--bless")),
+    ("frame\nmove 1\n", "", 2, [
+        f"vga-report: t.vga:2: F7 BadLine(2): there is no step 'move'; the steps are {NAMES}\n  move 1\n  ^^^^\n",
+    ]),
+]
+
+
 class Fake(Folder):
     def setUp(self) -> None:
         super().setUp()
@@ -133,13 +176,6 @@ class Listings(Fake):
         self.assertEqual(self.run_script("--only", "x"), (2, "", message))
         hold_refused(self, chosen, ((text, "^--only ") for text in ("", "1-", "a-b", "1,,2", "0", "5-2", "0-3")))
 
-    def test_a_stopped_run_shows_the_state(self) -> None:
-        for path, steps in ((self.path, 2), (self.write("none.vga", "; no step\n"), 0)):
-            lines = self.run_script("--until", "2", path=path)[1].splitlines()[1 + steps:]
-            self.assertEqual(lines[0], f"            {1 + steps}  show regs           look")
-            self.assertEqual(lines[3], f"            {4 + steps}  show bda            look")
-            self.assertEqual(lines[4].partition(",")[0], f"{4 + steps} steps")
-
     def test_pictures_as_files_and_as_blocks(self) -> None:
         shown = self.run_script("--pictures", "p", "--show")[1]
         self.assertIn("  p/0004.png\n\x1b[38;2;255;0;0;48;2;255;0;0m\u2580", shown)
@@ -148,12 +184,16 @@ class Listings(Fake):
         for name in ("p", "quiet"):
             self.assertTrue((self.folder / name / "0004.png").read_bytes().startswith(b"\x89PNG"))
 
-    def test_a_fault_with_its_reason(self) -> None:
-        names = "out, outw, in, inw, put, putw, get, getw, advance, frame, int, show, version, repeat, end"
-        message = f"t.vga:2: F7 BadLine(2): there is no step 'move'; the steps are {names}\n  move 1\n  ^^^^\n"
-        self.assertEqual(self.run_text("frame\nmove 1\n"), (2, "", "vga-report: " + message))
+    def test_what_is_told(self) -> None:
+        for text, words, wanted, parts in RUNS:
+            with self.subTest(text, words=words):
+                status, output, said = self.run_text(text, *words.split())
+                self.assertEqual(status, wanted, said)
+                for part in parts:
+                    self.assertIn(part, output + said)
         status, _, said = self.run_script(path="-", given=b"move\n")
         self.assertEqual((status, said.partition(": there")[0]), (2, "vga-report: standard input:1: F7 BadLine(1)"))
+        self.assertEqual(self.run_script(path=self.write("s.bin", b"VGAS\1\x0b"))[2], "")
 
     def test_no_toolchain(self) -> None:
         told = (
@@ -174,39 +214,26 @@ class Listings(Fake):
                 self.assertRegex(refused(work, *words), "^the program's sources in Rattle are not here")
 
     def test_programs_that_do_not_do_it(self) -> None:
-        good = self.vga.read_text()
-        for text, told in (
-            (good + "sys.exit('the script can\\'t be read')\n", "the script can't be read"),
-            (good + "if words[0] == 'go': out.write(b'7 ok\\n')\n", "the report goes on after the last step, 6"),
-            ("#!/bin/true", "the report ends after 0 of 6 steps"),
-            (good.replace("[:stop], 1)", "[:2], 1)"), "the report ends after 2 of 6 steps"),
+        good, fault = self.vga.read_text(), "t.vga:2: F7 BadLine(2): refused"
+        for text, script, told in (
+            (good + "sys.exit('the script can\\'t be read')\n", TEXT, "t.vga: the script can't be read\n"),
+            (good + "if words[0] == 'go': out.write(b'7 ok\\n')\n", TEXT, "t.vga: the report goes on after the last step, 6\n"),
+            ("#!/bin/true", TEXT, "t.vga: the report ends after 0 of 6 steps\n"),
+            # A fault may stand in the place of a report.
+            *(("import sys\nif sys.argv[1] == 'go': print('F7 BadLine(2)')\n", script, fault) for script in ("frame\nint", "; a\n; b\n")),
+            (good.replace("[:stop], 1)", "[:2], 1)"), TEXT, "t.vga: the report ends after 2 of 6 steps\n"),
         ):
-            self.vga.write_text(text)
-            status, output, said = self.run_script()
-            self.assertEqual((status, said), (2, f"vga-report: {self.path}: {told}\n"))
+            self.program("vga", text)
+            status, output, said = self.run_text(script)
+            self.assertEqual((status, said[:len(told) + 12]), (2, f"vga-report: {told}"))
         self.assertIn("     4      2  GET A0000 ", output)
-        self.assertEqual(self.run_script("--until", "2")[0], 0)
-        self.assertEqual(self.run_text("; no step\n")[0], 0)
-
-    def test_a_fault_in_the_place_of_a_report(self) -> None:
-        self.program("vga", "import sys\nif sys.argv[1] == 'go': print('F7 BadLine(2)')\n")
-        told = "vga-report: t.vga:2: F7 BadLine(2): "
-        for text in ("frame\nmove\n", "; no step\n; no step\n"):
-            status, output, said = self.run_text(text)
-            self.assertEqual((status, output, said[:len(told)]), (2, "", told), text)
+        self.assertEqual((self.run_script("--until", "2")[0], self.run_text("; no step\n")[0]), (0, 0))
 
     def test_long_scripts_take_no_longer_a_step(self) -> None:
         path = self.write("long.vga", "out 3c4 02\n" * 50_000)
         little = partial(resource.setrlimit, resource.RLIMIT_CPU, (30, 30))
         output = run("run", path, "--vga", self.vga, "--only", "50000", prepare=little)[1].decode()
         self.assertEqual(output.splitlines()[1:], [" 50000  50000  OUT 3C4 02          ok", "50000 steps, 0 pictures"])
-
-    def test_answers_that_differ(self) -> None:
-        status, output, _ = self.run_text("get 0 ; = 55\nget 1 ; = *\nframe ; = picture 9x2\n", "--only", "differs")
-        self.assertEqual(status, 1)
-        self.assertIn("     1      1  GET 0               E6   not 55\n", output)
-        self.assertIn("t.vga:1: step 1: GET 0 answers E6, not 55\nt.vga:3: step 3: FRAME answers picture 9x1 ", output)
-        self.assertTrue(output.endswith("3 steps, 1 picture, 1 of 3 answers as expected\n"))
 
     def blessed(self, text: str, *words: str) -> tuple[int, str, str]:
         """Exit status and output of a run that writes answers into a script, and the script then."""
@@ -238,46 +265,6 @@ class Listings(Fake):
         self.assertEqual((status, output.split("6c: ")[1].splitlines()[0]), (1, "'b', not 'c'"))
         counts = [self.run_text(other, word)[1].count("\n-;| c\n+;| b\n") for word in ("--diff", "--bless")]
         self.assertEqual((counts, (self.folder / "t.vga").read_text()), ([1, 0], whole))
-
-    def test_refusals_are_told_counted_and_expected(self) -> None:
-        text, decoded = "in 60\nin 60\nin 61 ; = E1\n", "No part of the adapter decodes port"
-        status, output, _ = self.run_text(text)
-        self.assertEqual((status, output.count(f"{decoded} 060."), output.count("port 061")), (1, 1, 1))
-        self.assertIn(" not E1: E1 is a byte that is read here; the refusal is written E1 NotDecoded\n", output)
-        self.assertTrue(output.endswith("\n3 steps, 3 refused, 0 pictures, 0 of 1 answers as expected\n"))
-        self.assertEqual(self.run_text(text, "--html", "-")[1].count(decoded), 3)
-        text = "in 60\nin 61 ; = E1 NotDecoded\n"
-        self.assertEqual(self.run_text(text, "--quiet")[0], 0)
-        status, output, _ = self.run_text(text, "--quiet", "--strict")
-        strict = "t.vga:1: step 1: IN 60 answers E1 NotDecoded, and no refusal is expected"
-        self.assertEqual((status, output.splitlines()[0]), (1, strict))
-        status, output, _ = self.run_text("out 3C2 1 ; = ok\nout 3C2 1 ; = E1\nout 3C2 1\n")
-        self.assertEqual((status, output.count("   ok   not E1\n")), (1, 1))
-        self.assertIn("OUT 3C2 1 answers ok, not E1\n3 steps, 0 pictures, 1 of 2 answers as expected\n", output)
-
-    def test_an_answer_that_is_expected_of_no_step(self) -> None:
-        for text, line in (("frame\n; = 55\n", 2), ("version 2 ; = 1\n", 1), ("frame ; = *\n\t; =ok\n", 2)):
-            status, _, said = self.run_text(text)
-            told = f"vga-report: t.vga:{line}: no step stands on this line, so nothing answers "
-            self.assertEqual((status, said[:len(told)]), (2, told))
-        self.assertEqual(self.run_text("; ======\n; = =\nout 3C2 1\n")[0], 0)
-
-    def test_what_differs_as_a_diff(self) -> None:
-        text = "get 0 ; = 55 ; more\nin 3DA\n"
-        change = "@@ -1,3 +1,3 @@\n-get 0 ; = 55 ; more\n+get 0 ; = E6 ; more\n in 3DA\n \n"
-        self.assertEqual(self.run_text(text, "--diff")[:2], (1, f"--- t.vga\n+++ t.vga as answered\n{change}"))
-        self.assertIn("\n+in 3DA ; = E1 NotDecoded\n", self.run_text(text, "--diff", "--strict")[1])
-
-    def test_scripts_of_bytes(self) -> None:
-        self.write("s.bin", b"VGAS\x01\x0b")
-        told = "vga-report: s.bin: a script of bytes has no comments for answers\n"
-        hold(self, partial(self.run_script, path="s.bin"), (("--diff", (2, "", told)), ("--bless", (2, "", told))))
-        self.assertEqual(self.run_script(path="s.bin")[2], "")
-        # The text is lost where its file has the bytes.
-        self.assertEqual(self.run_text(b"VGAS\x01\x0b")[2], (
-            "vga-report: t.vga: the file contains bytes, but has the name of a text. "
-            "If you named it twice, `vga asm` has written over the text\n"
-        ))
 
     def test_as_json(self) -> None:
         status, output, said = self.run_text("get 0 ; = 55\nframe\nin 60\nshow regs\n", "--json", "-")

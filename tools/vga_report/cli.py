@@ -120,40 +120,19 @@ def _ending_at_signals() -> Iterator[None]:
             signal.signal(number, signal.SIG_DFL)
 
 
-def _reason(error: OSError) -> str:
-    return f"{'standard output' if error.filename is None else error.filename}: {error.strerror or error}"
-
-
-def _done(name: str, work: Callable[[], int], progress: Optional[Progress]) -> int:
-    """Does the work; what it can't do is told on standard error."""
-    try:
-        return work()
-    except BrokenPipeError:
-        raise
-    except Trouble as trouble:
-        status, reason = trouble.status, str(trouble)
-    except OSError as error:
-        status, reason = TROUBLE, _reason(error)
-    except MemoryError:
-        status, reason = TROUBLE, NO_MEMORY
-    if progress is not None:
-        progress.clear()
-    sys.stdout.flush()
-    sys.stderr.write(f"{name}: {reason}\n")
-    return status
-
-
 def run(name: str, work: Callable[[], int], progress: Optional[Progress] = None) -> int:
     """Does a tool's work, which answers its exit status; the status with which the tool is to end.
 
-    Once this returns, all is undone that the work's own `with` and `finally` undo, also where a signal ended it.
+    What it can't do is told on standard error. Once this returns, all is undone that the work's own `with` and
+    `finally` undo, also where a signal ended it.
     """
     if not open_closed_streams():
         sys.stderr.write(f"{name}: standard output: it is closed\n")
         return TROUBLE
+    status, reason = TROUBLE, ""
     try:
         with _ending_at_signals():
-            status = _done(name, work, progress)
+            status = work()
             sys.stdout.flush()
         return status
     except BrokenPipeError:
@@ -162,14 +141,29 @@ def run(name: str, work: Callable[[], int], progress: Optional[Progress] = None)
         status = INTERRUPTED
     except Ended as ended:
         status = SIGNALLED + ended.args[0]
+    except Trouble as trouble:
+        status, reason = trouble.status, str(trouble)
     except OSError as error:
-        sys.stderr.write(f"{name}: {_reason(error)}\n")
-        status = TROUBLE
+        reason = f"{'standard output' if error.filename is None else error.filename}: {error.strerror or error}"
+    except MemoryError:
+        reason = NO_MEMORY
     if progress is not None:
         progress.clear()
-    # What can't be written would fail once more when Python ends.
-    os.dup2(os.open(os.devnull, os.O_WRONLY), sys.stdout.fileno())
+    _end_output(is_kept=bool(reason))
+    if reason:
+        sys.stderr.write(f"{name}: {reason}\n")
     return status
+
+
+def _end_output(is_kept: bool) -> None:
+    """Writes what is left of standard output, or drops it: what can't be written would fail once more when Python ends."""
+    try:
+        if is_kept:
+            sys.stdout.flush()
+    except OSError:
+        is_kept = False
+    if not is_kept:
+        os.dup2(os.open(os.devnull, os.O_WRONLY), sys.stdout.fileno())
 
 
 def runner(made: Callable[[], argparse.ArgumentParser]) -> Callable[[Optional[Sequence[str]]], int]:
