@@ -8,6 +8,7 @@ from __future__ import annotations
 import hashlib
 import re
 from functools import lru_cache
+from io import BytesIO
 from itertools import zip_longest
 from typing import Iterator, Optional, Sequence
 
@@ -20,8 +21,9 @@ from .trouble import Trouble
 MARK, MARK_BYTE, ANY = "=", ord("="), "*"
 # What a line begins with that has a line of a dump, below the step that is to answer it.
 DUMPED = ";|"
-# A line that may be without a step, by its first letter, which may be that of a block's lines: its words and its comment.
-STEPLESS = re.compile(rb"\n([ \t\r\v\f%s][^;\n]*|);([^\n]*)" % "".join(name[0] + name[0].upper() for name in BLOCK_LINES).encode())
+# The lines of blocks, and what a line without a step may begin with.
+BLOCK_WORDS = {name.encode() for name in BLOCK_LINES}
+STEPLESS = b" \t\r\n\v\f;" + "".join(name[0] + name[0].upper() for name in BLOCK_LINES).encode()
 FRONT = "..."
 REFUSAL = re.compile(r"(E[1-9][0-9]?) [A-Za-z]+")
 _PALETTE = [f"palette {number:X}" for number in range(16)]
@@ -97,28 +99,20 @@ def is_worth_telling(step: Answer, words: str) -> bool:
 def dumps_in(data: bytes, name: str) -> dict[int, tuple[str, ...]]:
     """The dumps that stand whole in a text, by the lines of their steps; a Trouble where no step is to give an answer."""
     dumps: dict[int, list[str]] = {}
-    text, begin, number = b"\n" + data, 0, 0
-    # The step whose dump it is, 0 without one, and the dump's last line so far.
-    step = last = 0
-    for found in STEPLESS.finditer(text):
-        front, comment = found.groups()
-        number += text.count(b"\n", begin, found.start() + 1)
-        begin = found.start() + 1
-        if comment[:1] == b"|" and not front.strip():
-            if number != last + 1:
-                before = text[text.rfind(b"\n", 0, found.start()) + 1:found.start()]
-                step = number - 1 if _has_step(before.partition(b";")[0]) else 0
-            last = number
-            if step:
-                dumps.setdefault(step, []).append(text_of(comment[1:]).strip())
-        elif expected_in(comment) and comment.strip(b" =\t\r") and not _has_step(front):
+    step = 0
+    for number, line in enumerate(BytesIO(data) if b";" in data else (), 1):
+        if line[0] not in STEPLESS:
+            step = number
+            continue
+        front, _, comment = line.partition(b";")
+        words = front.split(None, 1)
+        if comment[:1] == b"|" and step and not words:
+            dumps.setdefault(step, []).append(text_of(comment[1:]).strip())
+            continue
+        step = number if words and words[0].lower() not in BLOCK_WORDS else 0
+        if not step and expected_in(comment) and comment.strip(b" =\t\r\n"):
             raise Trouble(f"no step stands on this line, so nothing answers {expected_in(comment)}", name, number)
     return {number: tuple(lines) for number, lines in dumps.items()}
-
-
-def _has_step(line: bytes) -> bool:
-    words = line.split(None, 1)
-    return bool(words) and words[0].lower().decode("latin-1") not in BLOCK_LINES
 
 
 def what_differs(step: Answer, expected: str, name: str, dump: tuple[str, ...]) -> list[str]:

@@ -133,12 +133,14 @@ class Outcome(NamedTuple):
     reason: str = ""
 
 
-def followed(
-    words: Words, output: Path, messages: Path, limits: Limits, heed: Callable[[], str], asking: float = 0, **given: Any
+def run_command(
+    words: Words, output: Path, messages: Path, limits: Limits, is_ended: Event, hear: Callable[[], object] = bool,
+    asking: float = 0, **given: Any,
 ) -> Outcome:
-    """Runs a program to its end, to a limit, or until `heed` tells why it is to end.
+    """Runs a command with nothing on standard input, until it ends, or the event or a limit ends it.
 
-    What it writes and says stands in two files then. Its whole process group has ended, however it ended itself.
+    What it writes and says stands in two files then; `hear` is called meanwhile. Its whole process group has ended
+    afterwards, however it ended itself. `asking` and `given` go to `started`.
     """
     until, too_much = time.monotonic() + limits.seconds, f"the command wrote more than {limits.output // MEBIBYTE} MiB"
     with open(output, "wb") as written, open(messages, "ab") as said:
@@ -149,7 +151,8 @@ def followed(
                 said.truncate(limits.messages)
             if _size(written) > limits.output:
                 return too_much
-            return TOO_LONG if time.monotonic() >= until else heed()
+            hear()
+            return TOO_LONG if time.monotonic() >= until else "the suite was ended" if is_ended.is_set() else ""
 
         with started(words, asking, stdout=written, stderr=said, **given) as process:
             ended, pause = "", FIRST_PAUSE
@@ -165,14 +168,6 @@ def followed(
 
 def _size(file: BinaryIO) -> int:
     return os.fstat(file.fileno()).st_size
-
-
-def run_command(words: Words, output: Path, messages: Path, limits: Limits, is_ended: Event) -> Outcome:
-    """Runs a command with nothing on standard input, until it ends, or the event or a limit ends it.
-
-    What it writes and says stands in two files then.
-    """
-    return followed(words, output, messages, limits, lambda: "the suite was ended" if is_ended.is_set() else "")
 
 
 @contextmanager
@@ -232,16 +227,16 @@ def captured(
         file.seek(0)
         output, errors = Path(temporary, "output"), Path(temporary, "errors")
 
-        def hear() -> str:
+        def hear() -> None:
             if heard is not None:
                 heard(_last_line(errors) or _last_line(output))
-            return ""
 
         variables = {**os.environ, "TMPDIR": temporary, **(environment or {})}
         limits = Limits(seconds or math.inf, MOST_KEPT, MOST_KEPT)
-        outcome = followed(words, output, errors, limits, hear, ENDING, cwd=folder, env=variables, stdin=file)
-        # What it said at last is heard of a program too that has ended at once.
-        hear()
+        # What a program said at last is heard too where it has ended at once.
+        outcome = run_command(
+            words, output, errors, limits, Event(), hear, ENDING, cwd=folder, env=variables, stdin=file
+        )
         if outcome.status is None:
             told = f"it had not ended after {seconds:.0f} seconds" if outcome.reason == TOO_LONG else outcome.reason
             raise Failed(told, str(words[0]))
