@@ -152,7 +152,7 @@ def run_command(
             if _size(written) > limits.output:
                 return too_much
             hear()
-            return TOO_LONG if time.monotonic() >= until else "the suite was ended" if is_ended.is_set() else ""
+            return TOO_LONG if time.monotonic() >= until else "it was ended" if is_ended.is_set() else ""
 
         with started(words, asking, stdout=written, stderr=said, **given) as process:
             ended, pause = "", FIRST_PAUSE
@@ -216,11 +216,12 @@ def check_program(name: str, instead: str = "") -> None:
 
 def captured(
     words: Words, folder: Optional[Path] = None, heard: Optional[Hearer] = None, seconds: Optional[float] = None,
-    environment: Optional[Mapping[str, str]] = None, given: bytes = b"",
+    environment: Optional[Mapping[str, str]] = None, given: bytes = b"", is_ended: Optional[Event] = None,
 ) -> Done:
-    """Runs a program to its end, and answers its status and what it writes; a Failed where it takes more than it may.
+    """Runs a program to its end, and answers its status and what it writes.
 
-    Its temporary files lie in a folder of their own, which goes with them.
+    A Failed tells that it took more than it may, or that the event has ended it. Its temporary files lie in a folder of
+    their own, which goes with them.
     """
     with tempfile.TemporaryDirectory(prefix="vga-tool-") as temporary, tempfile.TemporaryFile() as file:
         file.write(given)
@@ -235,7 +236,7 @@ def captured(
         limits = Limits(seconds or math.inf, MOST_KEPT, MOST_KEPT)
         # What a program said at last is heard too where it has ended at once.
         outcome = run_command(
-            words, output, errors, limits, Event(), hear, ENDING, cwd=folder, env=variables, stdin=file
+            words, output, errors, limits, is_ended or Event(), hear, ENDING, cwd=folder, env=variables, stdin=file
         )
         if outcome.status is None:
             told = f"it had not ended after {seconds:.0f} seconds" if outcome.reason == TOO_LONG else outcome.reason

@@ -157,7 +157,10 @@ def _run_script(words: argparse.Namespace, progress: Progress) -> int:
         if blessing is not None:
             write(blessing.difference(tally.shown))
         else:
-            _tell_tally(tally, words)
+            tell = teller(words.html, words.json)
+            for line in tally.differing():
+                tell(line)
+            tell((f"{tally.shown}: " if words.quiet else "") + tally.text() + "\n")
     return DIFFERED if tally.wrong else AGREED
 
 
@@ -167,13 +170,6 @@ def _heed_bytes(words: argparse.Namespace, script: Script) -> None:
         sys.stderr.write(LOST_TEXT.format(script.shown))
     if script.is_bytes and (words.bless or words.diff):
         raise Trouble("a script of bytes has no comments for answers", words.script)
-
-
-def _tell_tally(tally: Tally, words: argparse.Namespace) -> None:
-    tell = teller(words.html, words.json)
-    for line in tally.differing():
-        tell(line)
-    tell((f"{tally.shown}: " if words.quiet else "") + tally.text() + "\n")
 
 
 class _Shower:
@@ -199,8 +195,10 @@ class _Shower:
 
     def show(self, row: Row, is_wrong: bool) -> None:
         """Shows a step, and writes its picture where that is wanted, with its path; why it was refused is told once."""
-        picture, words = row.step.picture, self._words
-        path = "" if picture is None else _saved_picture(row, words)
+        picture, words, path = row.step.picture, self._words, ""
+        if words.pictures is not None and isinstance(picture, Picture):
+            path = os.path.join(words.pictures, f"{row.step.number:04}.png")
+            save_png(path, picture, Shape(words.scale, words.aspect))
         if words.html:
             self._page.add_row(row)
         elif self._is_listed:
@@ -220,16 +218,6 @@ class _Shower:
         if words.html:
             link = None if words.debug is None else link_to(words.debug, words.html) + _fragment(words)
             write_file(words.html, self._page.text(tally.shown, tally.text(), link).encode("utf-8", "replace"))
-
-
-def _saved_picture(row: Row, words: argparse.Namespace) -> str:
-    """The path of the step's picture, which is written; empty where there is none, or none is wanted."""
-    picture = row.step.picture
-    if words.pictures is None or not isinstance(picture, Picture):
-        return ""
-    path = os.path.join(words.pictures, f"{row.step.number:04}.png")
-    save_png(path, picture, Shape(words.scale, words.aspect))
-    return path
 
 
 def _bless(words: argparse.Namespace, blessing: Blessing) -> int:
@@ -294,13 +282,9 @@ def _runs(words: argparse.Namespace, paths: list[Path], folder: Path, progress: 
     options = ["--quiet", *(str(word) for pair in given.items() if pair[1] is not None for word in pair)]
     options += [f"--{name.rstrip('_')}" for name in ("try_", "strict", "diff") if getattr(words, name)]
 
-    def heed(_: str) -> None:
-        if is_ended.is_set():
-            raise Trouble("the run was ended")
-
     def run_one(number: int) -> Ran:
         begun, told = time.monotonic(), folder / str(number)
-        done = captured([sys.executable, TOOL, "run", "--json", told, *options, "--", paths[number]], heard=heed)
+        done = captured([sys.executable, TOOL, "run", "--json", told, *options, "--", paths[number]], is_ended=is_ended)
         output, said = (part.decode("utf-8", "replace") for part in (done.output, done.errors))
         return Ran(paths[number], done.status, output, said, time.monotonic() - begun, told)
 
