@@ -208,7 +208,8 @@ SUITES: list[tuple[tuple[tuple[str, ...], ...], str, list[str]]] = [
         "c/0: the command of --bytes has no {until}\n",
     ]),
     ((("66 72 61 6D 65 0A 66 0A ; frame, f", "1 ragged\n", "bytes c/0 until 1"),
-      ("69 6E 20 33 43 43 ; in 3CC\n", "1 02\n", "bytes c/1"), ("get 0\n", "1 55\n")), f"--bytes '{ADAPTER} {{fonts}} {{until}}'", [
+      ("69 6E 20 33 43 43 ; in 3CC\n", "1 02\n", "bytes c/1"), ("get 0\n", "1 55\n")),
+     f"--bytes '{ADAPTER} {{fonts}} {{until}}'", [
         "c/0: 1 of 1 steps are skipped, the others agree\n", "  agrees   in 3CC\n",
     ]),
     # What can't stop a run gets a script that ends with the dumps.
@@ -224,16 +225,16 @@ SUITES: list[tuple[tuple[tuple[str, ...], ...], str, list[str]]] = [
 DUMPS, EDGES = "show regs\nshow beam\nshow latches\nshow bda\n", "; Comment\n\nout 3C2 01 ; more\n\t\r\n  frame\nframe"
 BLOCK, BIG, LISTED = "version 2 ; a block\nrepeat 2\nget A0000\nend\n", "\0" * 16_777_217, "{folder}/list:2: "
 HANDED: list[tuple[str, dict[str, str], str, dict[str, str] | str]] = [
-    ("# Heading\n\nfonts two.fnt\nfront front\na/one until 2\nfront none\nwrong a/one\nwrong a/one until 2\nbytes b/two\n",
-     {"front": "out 3C2 01\n", "a/one.vga": "frame\nframe\n", "a/one.txt": "1 ok\n", "b/two.hex": "; x\n56 47\t4a*3\n00*2 ; 11\n",
-      "b/two.txt": "F2 BadMagic\n"}, "",
+    ("# Heading\n\nfonts two.fnt\nfront f\na/one until 2\nfront none\nwrong a/one\nwrong a/one until 2\nbytes b/two\n",
+     {"f": "out 3C2 01\n", "a/one.vga": "frame\nframe\n", "a/one.txt": "1 ok\n", "b/two.txt": "F2 BadMagic\n",
+      "b/two.hex": "; x\n56 47\t4a*3\n00*2 ; 11\n"}, "",
      {"a/one.vga": f"out 3C2 01\nframe\n{DUMPS}", "b/two.bin": "VGJJJ\0\0", "fonts/two.fnt": "12",
       "list.txt": "a/one.vga fonts/two.fnt\nb/two.bin fonts/two.fnt\n"}),
     # Fonts of one name in two folders.
     ("fonts two.fnt\none\nfonts x/two.fnt\ntwo\n", {"one.vga": "", "two.vga": "", "x/two.fnt": "3"}, "",
      {"one.vga": "", "two.vga": "", "fonts/two.fnt": "12", "fonts/1-two.fnt": "3",
       "list.txt": "one.vga fonts/two.fnt\ntwo.vga fonts/1-two.fnt\n"}),
-    *((line, {"one.txt": "1 ok\n", **files}, "", {"one.vga": wanted, "list.txt": "one.vga -\n"}) for line, files, wanted in (
+    *((line, {"one.txt": "1 ok\n", **files}, "", {"one.vga": made, "list.txt": "one.vga -\n"}) for line, files, made in (
         ("one\n", {"one.vga": "; \u00e9\nframe\n"}, "; \u00e9\nframe\n"),
         # A script with a mistake stays whole.
         ("one until 0\n", {"one.vga": "fram\n", "one.txt": "F7 BadLine(1)\n" + 999 * "x"}, "fram\n"),
@@ -246,19 +247,20 @@ HANDED: list[tuple[str, dict[str, str], str, dict[str, str] | str]] = [
     )),
     # A machine gets what stands before a refusal. A block of which each step is taken is its to repeat.
     ("one\ntwo\nthree\nfour\n", {
-        "one.vga": "get A0000\nout 3C2 01\ncrash\n", "one.txt": "1 FF\n2 ok\n3 E1 NotDecoded\n", "two.vga": BLOCK + "crash\n",
-        "two.txt": "1 FF\n2 FF\n3 E4 BadFunction\n", "three.vga": "frame\n", "three.txt": "1 ragged\n", "four.vga": BLOCK,
-        "four.txt": "1 FF\n2 FF\n"}, "--machine",
+        "one.vga": "get A0000\nout 3C2 01\ncrash\n", "one.txt": "1 FF\n2 ok\n3 E1 NotDecoded\n",
+        "two.vga": BLOCK + "crash\n", "two.txt": "1 FF\n2 FF\n3 E4 BadFunction\n",
+        "three.vga": "frame\n", "three.txt": "1 ragged\n", "four.vga": BLOCK, "four.txt": "1 FF\n2 FF\n"}, "--machine",
      {"one.vga": "get A0000\nout 3C2 01\n", "two.vga": "get A0000\nget A0000\n", "four.vga": BLOCK,
       "list.txt": "one.vga -\ntwo.vga -\nfour.vga -\n"}),
     # What can't be meant.
-    *((f"fonts zero.fnt\n{line}\n", {}, "", f"{LISTED}no case: '{line}'") for line in ("a b", "a until", "a until x", "bytes a b")),
+    *((f"fonts zero.fnt\n{line}\n", {}, "", f"{LISTED}no case: '{line}'")
+      for line in ("a b", "a until", "a until x", "bytes a b")),
     *((f"fonts zero.fnt\n{name}\n", {}, "", f"{LISTED}a case outside the list's folder: '{name}'")
       for name in ("../one", "/one", "a/../../one")),
     *(("bytes one\n", {"one.hex": f"56\n{word}\n"}, "", "{folder}/one.hex:2: " + f"'{word}' is no byte")
       for word in ("5", "567", "GG", "56*", "56*0", "56*x")),
     ("one\n", {"one.vga": ""}, "--only x", "{folder}/list: no case has a name as --only and --except want it"),
-    ("fonts big.fnt\none\n", {"one.vga": "", "big.fnt": BIG}, "", "{folder}/big.fnt: it has more than 16,777,216 bytes"),
+    ("fonts big\none\n", {"one.vga": "", "big": BIG}, "", "{folder}/big: it has more than 16,777,216 bytes"),
 ]
 
 
@@ -310,8 +312,9 @@ class Suite(Folder):
         self.assertEqual(json.loads(output), {
             "command": ADAPTER + " {fonts}", "cases": {"agrees": 0, "skipped": 0, "differs": 1, "failed": 0},
             "rules": [{"rule": "Memory.", "folder": "a", "answer": "differs", "cases": [{
-                "name": "a/one", "rule": "Memory.", "answer": "differs", "steps": 5, "skipped": 1, "answers": 3, "differing": 2,
-                "step": 2, "answered": "FF", "expected": "55", "reason": "step 2: FF, not 55 (`get A0000`, a/one.vga:3)",
+                "name": "a/one", "rule": "Memory.", "answer": "differs", "steps": 5, "skipped": 1, "answers": 3,
+                "differing": 2, "step": 2, "answered": "FF", "expected": "55",
+                "reason": "step 2: FF, not 55 (`get A0000`, a/one.vga:3)",
             }]}],
         })
 
@@ -341,7 +344,8 @@ class Suite(Folder):
                 if isinstance(wanted, str):
                     self.assertEqual((status, said), (2, f"vga-report: {wanted.format(folder=self.folder)}\n"))
                     continue
-                made = {str(path.relative_to(folder)): path.read_bytes().decode() for path in folder.rglob("*") if path.is_file()}
+                paths = [path for path in folder.rglob("*") if path.is_file()]
+                made = {str(path.relative_to(folder)): path.read_bytes().decode() for path in paths}
                 self.assertEqual((status, made, said), (0, wanted, ""))
                 named = [str(folder / name) for name in made if not name.startswith("fonts/")]
                 self.assertEqual(sorted(output.decode().splitlines()), sorted(named))

@@ -36,12 +36,12 @@ class Pages(Fake):
 
     def test_what_is_opened(self) -> None:
         self.write("fonts", OTHER_FONTS)
-        own, given = ("--fonts", "fonts"), b"VGAS\x01\x0b\xff"
+        own, given, coded = ("--fonts", "fonts"), b"VGAS\x01\x0b\xff", base64.b64encode
         for words, data, wanted in (
             (("-",), TEXT.encode(), {"text": TEXT, "fonts": None}),
             # Bytes of a text that are no text.
             (("-",), b"frame ; \xff\n\0\n", {"text": "frame ; \ufffd\n\0\n", "fonts": None}),
-            (("-", *own), given, {"bytes": base64.b64encode(given).decode(), "fonts": base64.b64encode(OTHER_FONTS).decode()}),
+            (("-", *own), given, {"bytes": coded(given).decode(), "fonts": coded(OTHER_FONTS).decode()}),
         ):
             status, page, said = self.debugged(*words, given=data)
             self.assertEqual((status, said), (0, ""))

@@ -87,7 +87,8 @@ class Animations(Folder):
             done = run("pictures", path, "--apng", moving, "--script", script)
             self.assertEqual(done, (0, f"{moving}: 2 frames, {seconds:.3f} seconds\n".encode(), ""))
         # One step of those that differ in size.
-        self.assertEqual(run("pictures", self.report("r", PICTURE, ppm(1, 1, RED)), "--apng", moving, "--step", "2")[0], 0)
+        self.report("r", PICTURE, ppm(1, 1, RED))
+        self.assertEqual(run("pictures", path, "--apng", moving, "--step", "2")[0], 0)
 
     def test_times_by_registers(self) -> None:
         text, wide, narrow = (404_100, 28_322_000), (359_200, 25_175_000), (179_600, 12_587_500)
@@ -136,7 +137,7 @@ class Images(unittest.TestCase):
              (8, 6, [bytes(value for x in (0, 0, 1, 2, 3, 3, 4, 5) for value in (4 * x, 0, 0))] * 6)),
             # Dots that differ are marked, also those that one picture lacks, and others are darkened.
             (picture, Shape(), other, (3, 2, [b"\x55\x55\x55" + MARK + b"\x1c\x1c\x1c", dark + dark + MARK])),
-            (wide, Shape(), high, (2, 2, [BLACK + MARK, MARK * 2])), (high, Shape(), wide, (2, 2, [BLACK + MARK, MARK * 2])),
+            *((*pair, (2, 2, [BLACK + MARK, MARK * 2])) for pair in ((wide, Shape(), high), (high, Shape(), wide))),
         ))
 
     def test_the_six_bits_are_told(self) -> None:

@@ -54,7 +54,7 @@ class Refusals(unittest.TestCase):
     def test_what_the_adapter_does_not_refuse_so(self) -> None:
         behind = state_behind(["int ax=3", "out 3C0 1F", "in 3DA", "in 3DA", "out 3C0 5"])
         hold(self, lambda words, number: why_refused(words, number, behind), [
-            *((words, number, "") for words in ("frame", "show regs", "advance 5", "int ax=3", "move 1") for number in (1, 2)),
+            *((words, at, "") for words in ("frame", "show regs", "advance 5", "int ax=3", "move 1") for at in (1, 2)),
             ("out 3C0 1F", 1, ""), ("in 3C1", 2, ""),
         ])
 

@@ -64,7 +64,7 @@ while len(glob.glob(sys.argv[0] + ".*")) < 2: time.sleep(0.01)
 
 
 # Texts, the words of a run, its status, and what is told.
-DECODED, AT = "               No part of the adapter decodes port 0{}.\n".format, "t.vga:{}: no step stands on this line".format
+DECODED = "               No part of the adapter decodes port 0{}.\n".format
 NAMES = "out, outw, in, inw, put, putw, get, getw, advance, frame, int, show, version, repeat, end"
 RUNS: list[tuple[str, str, int, list[str]]] = [
     ("get 0 ; = 55\nget 1 ; = *\nframe ; = picture 9x2\n", "--only differs", 1, [
@@ -72,18 +72,22 @@ RUNS: list[tuple[str, str, int, list[str]]] = [
         "t.vga:1: step 1: GET 0 answers E6, not 55\nt.vga:3: step 3: FRAME answers picture 9x1 ",
     ]),
     ("out 3C2 1 ; = ok\nout 3C2 1 ; = E1\nout 3C2 1\n", "", 1, [
-        "   ok\n     2", "   ok   not E1\n     3", "OUT 3C2 1 answers ok, not E1\n3 steps, 0 pictures, 1 of 2 answers as expected\n",
+        "   ok\n     2", "   ok   not E1\n     3",
+        "OUT 3C2 1 answers ok, not E1\n3 steps, 0 pictures, 1 of 2 answers as expected\n",
     ]),
     # Refusals are told once each, counted, and expected by their names.
     ("in 60\nin 60\nin 61 ; = E1\n", "", 1, [
-        f"     1      1  IN 60               E1 NotDecoded\n{DECODED(60)}     2      2  IN 60               E1 NotDecoded\n     3",
+        f"     1      1  IN 60               E1 NotDecoded\n{DECODED(60)}",
+        "     2      2  IN 60               E1 NotDecoded\n     3      3  IN 61 ",
         f"   not E1\n{DECODED(61)}", " not E1: E1 is a byte that is read here; the refusal is written E1 NotDecoded\n",
         "\n3 steps, 3 refused, 0 pictures, 0 of 1 answers as expected\n",
     ]),
-    ("in 60\nin 60\n", "--html -", 0, [f"{DECODED(60).strip()}</td></tr>\n<tr"]), ("in 60\nin 61 ; = E1 NotDecoded\n", "--quiet", 0, []),
+    ("in 60\nin 60\n", "--html -", 0, [f"{DECODED(60).strip()}</td></tr>\n<tr"]),
+    ("in 60\nin 61 ; = E1 NotDecoded\n", "--quiet", 0, []),
     ("in 60\n", "--quiet --strict", 1, ["t.vga:1: step 1: IN 60 answers E1 NotDecoded, and no refusal is expected\n"]),
     # Answers that are expected of no step.
-    ("frame\n; = 55\n", "", 2, [AT(2)]), ("version 2 ; = 1\n", "", 2, [AT(1)]), ("frame ; = *\n\t; =ok\n", "", 2, [AT(2)]),
+    *((text, "", 2, [f"t.vga:{line}: no step stands on this line, so nothing answers "])
+      for text, line in (("frame\n; = 55\n", 2), ("version 2 ; = 1\n", 1), ("frame ; = *\n\t; =ok\n", 2))),
     ("; ======\n; = =\nout 3C2 1\n", "", 0, []),
     # What differs as a diff.
     ("get 0 ; = 55 ; more\nin 3DA\n", "--diff", 1, [
@@ -92,14 +96,16 @@ RUNS: list[tuple[str, str, int, list[str]]] = [
     ("in 3DA\n", "--diff --strict", 1, ["\n+in 3DA ; = E1 NotDecoded\n"]),
     # A stopped run shows the state.
     *((text, "--until 2", 0, [
-        f"            {1 + steps}  show regs           look\n", f"            {4 + steps}  show bda            look\n{4 + steps} steps",
+        f"            {1 + steps}  show regs           look\n",
+        f"            {4 + steps}  show bda            look\n{4 + steps} steps",
     ]) for text, steps in ((TEXT, 2), ("; no step\n", 0))),
     # The text is lost where its file has the bytes.
     ("VGAS\1\x0b", "", 0, [
         "vga-report: t.vga: the file contains bytes, but has the name of a text. "
         "If you named it twice, `vga asm` has written over the text\n",
     ]),
-    *(("VGAS\1\x0b", words, 2, ["vga-report: t.vga: a script of bytes has no comments for answers\n"]) for words in ("--diff", "--bless")),
+    *(("VGAS\1\x0b", words, 2, ["vga-report: t.vga: a script of bytes has no comments for answers\n"])
+      for words in ("--diff", "--bless")),
     ("frame\nmove 1\n", "", 2, [
         f"vga-report: t.vga:2: F7 BadLine(2): there is no step 'move'; the steps are {NAMES}\n  move 1\n  ^^^^\n",
     ]),
@@ -217,10 +223,12 @@ class Listings(Fake):
         good, fault = self.vga.read_text(), "t.vga:2: F7 BadLine(2): refused"
         for text, script, told in (
             (good + "sys.exit('the script can\\'t be read')\n", TEXT, "t.vga: the script can't be read\n"),
-            (good + "if words[0] == 'go': out.write(b'7 ok\\n')\n", TEXT, "t.vga: the report goes on after the last step, 6\n"),
+            (good + "if words[0] == 'go': out.write(b'7 ok\\n')\n", TEXT,
+             "t.vga: the report goes on after the last step, 6\n"),
             ("#!/bin/true", TEXT, "t.vga: the report ends after 0 of 6 steps\n"),
             # A fault may stand in the place of a report.
-            *(("import sys\nif sys.argv[1] == 'go': print('F7 BadLine(2)')\n", script, fault) for script in ("frame\nint", "; a\n; b\n")),
+            *(("import sys\nif sys.argv[1] == 'go': print('F7 BadLine(2)')\n", script, fault)
+              for script in ("frame\nint", "; a\n; b\n")),
             (good.replace("[:stop], 1)", "[:2], 1)"), TEXT, "t.vga: the report ends after 2 of 6 steps\n"),
         ):
             self.program("vga", text)
@@ -297,8 +305,8 @@ class Expectations(unittest.TestCase):
         ])
 
     def test_lines_of_any_bytes(self) -> None:
-        for parts in product((b"out 3C4 02", b"  in\t3da", b"\xff", b"\v", b"\f", b" ", b"\r", b";", b"; = 5", b"\n"), repeat=4):
-            text = b"".join(parts)
+        pieces = b"out 3C4 02", b"  in\t3da", b"\xff", b"\v", b"\f", b" ", b"\r", b";", b"; = 5", b"\n"
+        for text in map(b"".join, product(pieces, repeat=4)):
             fronts = [(at, line.partition(b";")) for at, line in enumerate(text.split(b"\n"), 1)]
             wanted = [
                 (at, " ".join(map(text_of, words)), comment) for at, (front, _, comment) in fronts
@@ -323,7 +331,8 @@ class Expectations(unittest.TestCase):
         long = "version 2\nrepeat 3\n" + "".join(f"in {at:X}\n" for at in range(5000)) + "end\nframe\n"
         once = [(at + 3, f"in {at:X}") for at in range(5000)]
         self.assertEqual(steps(long), [*once, *once, *once, (5004, "frame")])
-        for some in (text, long, "frame\nin 3DA ; repeat 2\n", "", "version 2\nrepeat 7\nend\n", "; a\n \t\r\n ; b\nframe"):
+        others = "frame\nin 3DA ; repeat 2\n", "", "version 2\nrepeat 7\nend\n", "; a\n \t\r\n ; b\nframe"
+        for some in (text, long, *others):
             self.assertEqual(count_in(io.BytesIO(some.encode())), len(steps(some)))
         printed = "version 2\nIN 3DA\nrepeat 2\nFRAME\nend\n"
         self.assertEqual(list(words_in(io.BytesIO(printed.encode()))), [words for _, words in steps(printed)])

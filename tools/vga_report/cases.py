@@ -80,14 +80,13 @@ class Case(NamedTuple):
 
     def place_of(self, number: int) -> str:
         """A step with the file and the line where it stands; empty where it stands in no text."""
-        steps = [] if self.is_bytes or number < 1 else list(islice(steps_in(BytesIO(self.script())), number - 1, number))
-        if not steps:
+        text = b"" if self.is_bytes or number < 1 else self.script()
+        step = next(islice(steps_in(BytesIO(text)), max(number - 1, 0), None), None)
+        if step is None:
             return ""
         lines = bytes_of(self.front, MOST_BYTES).count(b"\n") if self.front else 0
-        file, line = self.source, steps[0].number - lines
-        if self.front and line < 1:
-            file, line = self.front, steps[0].number
-        return printable(f"`{steps[0].words[:MOST_WORDS]}`, {file.relative_to(self.folder)}:{line}")
+        file, line = (self.source, step.number - lines) if step.number > lines else (self.front, step.number)
+        return printable(f"`{step.words[:MOST_WORDS]}`, {file.relative_to(self.folder)}:{line}")
 
     def expects_fault(self) -> bool:
         """Whether the script has a mistake, or another fault ends the run before its first step."""
@@ -108,20 +107,17 @@ class Case(NamedTuple):
         steps = () if self.expects_fault() else takewhile(lambda step: step.kind != REFUSAL, self.expected_steps())
         return any(step.kind == VALUE or step.answer.startswith(CALLED) for step in steps)
 
-    def machine_script(self) -> bytes:
-        """Its script for a machine: text ends before the first step that is to be refused, and bytes are whole.
-
-        Text that ends so has its blocks spelt out. All other text is handed over as it stands.
-        """
-        refused = None if self.is_bytes else next((step for step in self.expected_steps() if step.kind == REFUSAL), None)
-        script = self.script() if self.is_bytes else self.stopped_script()
-        return script if refused is None else _front_of(script, refused.number - 1)
-
     def handed(self, is_for_machine: bool, can_stop: bool) -> bytes:
-        """Its script as a command gets it, which can stop a run or not."""
-        if is_for_machine:
-            return self.machine_script()
-        return self.script() if can_stop else self.stopped_script()
+        """Its script as a command gets it, which can stop a run or not.
+
+        A text for a machine ends before the first step that is to be refused, and has its blocks spelt out then. All
+        others are handed over as they stand.
+        """
+        if self.is_bytes or can_stop and not is_for_machine:
+            return self.script()
+        script, steps = self.stopped_script(), self.expected_steps() if is_for_machine else iter(())
+        refused = next((step for step in steps if step.kind == REFUSAL), None)
+        return script if refused is None else _front_of(script, refused.number - 1)
 
     def expected_steps(self) -> Iterator[Answer]:
         """The steps of the report that is expected."""

@@ -37,7 +37,8 @@ def tool_parser(name: str, does: str, example: str, page: str, statuses: str = D
         prog=name, description=does, formatter_class=argparse.RawDescriptionHelpFormatter,
         epilog=f"Example:\n  {example}\n\n{statuses}\n{page} tells more.",
     )
-    made.add_argument("--version", action="version", version=f"%(prog)s {version()}", help="prints the release's number")
+    number = f"{name} {version()}"
+    made.add_argument("--version", action="version", version=number, help="prints the release's number")
     return made
 
 
@@ -156,7 +157,7 @@ def run(name: str, work: Callable[[], int], progress: Optional[Progress] = None)
 
 
 def _end_output(is_kept: bool) -> None:
-    """Writes what is left of standard output, or drops it: what can't be written would fail once more when Python ends."""
+    """Writes what is left of standard output, or drops it: it would fail once more when Python ends."""
     try:
         if is_kept:
             sys.stdout.flush()

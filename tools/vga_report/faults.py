@@ -58,10 +58,12 @@ def explained(fault: str, script: str, fonts: str) -> str:
         data = _read(fonts)
         count = f"{len(data):,}" if len(data) <= MOST_BYTES else f"more than {MOST_BYTES:,}"
         rows = f"; a font of {len(data) // 256} rows alone has so many, and a font file has those of 8, 14 and 16 rows"
-        hint = rows if len(data) in (4096, 3584, 2048) else "; it is a script of bytes" if data.startswith(MAGIC) else ""
+        is_script = data.startswith(MAGIC)
+        hint = rows if len(data) in (4096, 3584, 2048) else "; it is a script of bytes" if is_script else ""
         file, reason = fonts, f"the font file has {count} bytes, and {FONT_BYTES:,} are right{hint}"
     elif name in FAULTS and name not in SYSTEM:
-        file, reason = f"{script}:{place}" if FAULTS[name].place == "line" else script, reason_of(name, place, _read(script))
+        file = f"{script}:{place}" if FAULTS[name].place == "line" else script
+        reason = reason_of(name, place, _read(script))
     return f"{file}: {found[0]}: {reason}"
 
 

@@ -167,7 +167,8 @@ class Script:
         dumps = () if until is None else STATE
         unknown = repeat(("", NO_PLACE)) if self._count is None else ()
         meant = chain(islice(self._steps(), until), ((dump, NO_PLACE) for dump in dumps), unknown)
-        wanted = None if self._count is None else (self._count if until is None else min(until, self._count)) + len(dumps)
+        count = self._count if until is None or self._count is None else min(until, self._count)
+        wanted = None if count is None else count + len(dumps)
         state, dump_of, is_told = State() if tells_why else None, self._dumps.get, progress.is_wanted
         with self._program.running(Path(self._path), fonts, until, self.is_bytes) as outcome:
             _wait_for(outcome.report, self.shown, progress)
@@ -319,7 +320,7 @@ def tallied(shown: str, path: Optional[str]) -> Iterator[Tally]:
 
 
 class Blessing:
-    """The answers that a script is to expect, by its lines: those not met, and, if all are wanted, those of other steps."""
+    """The answers that a script is to expect: those that were not met, and, if all are wanted, those of other steps."""
 
     def __init__(self, data: bytes, is_all: bool) -> None:
         self._lines = text_of(data).split("\n")

@@ -119,7 +119,7 @@ def end(process: subprocess.Popen[bytes], asking: float = 0) -> None:
 
 
 class Limits(NamedTuple):
-    """What a command may take: seconds, and bytes on its standard output; more bytes of messages than it may are dropped."""
+    """What a command may take: seconds, and bytes on its standard output. Of its messages so many bytes are kept."""
 
     seconds: float = 60
     output: int = 256 * MEBIBYTE

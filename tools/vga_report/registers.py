@@ -22,7 +22,7 @@ MAP = (GRAPHICS, 6)
 
 
 class Mode(NamedTuple):
-    """What a mode set leaves: miscellaneous output, the dots of a frame, the memory map, and whether the clock is halved."""
+    """What a mode set leaves: miscellaneous output, dots of a frame, memory map, and whether the clock is halved."""
 
     misc: int
     dots: int

@@ -182,7 +182,8 @@ class Difference(NamedTuple):
         if step.kind == other.kind:
             return line, other_line
         # A refusal looks like a byte that was read.
-        return f"{line} ({step.kind})" if step.kind else line, f"{other_line} ({other.kind})" if other.kind else other_line
+        kind, other_kind = (f" ({one.kind})" if one.kind else "" for one in (step, other))
+        return line + kind, other_line + other_kind
 
     def pictures(self) -> Optional[tuple[Picture, Picture]]:
         """Both pictures, if both answers are pictures whose dots are at hand."""

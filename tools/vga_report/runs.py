@@ -35,6 +35,7 @@ ENDINGS = (".vga", ".bin")
 MOST_LINES = 1 << 16
 # Seconds between two looks whether a file has changed.
 LOOK = 0.2
+Work = Callable[[argparse.Namespace, Progress], int]
 # So many reasons of refusals are told once each, and then again.
 MOST_WHYS = 1000
 # What the file of a text is called, and what is told where bytes are in it.
@@ -315,7 +316,8 @@ def _junit_text(name: str, ran: list[Ran]) -> str:
     time_of_all = f"{sum(one.seconds for one in ran):.3f}"
     suite = Element("testsuite", name=printable(name, "\n"), tests=str(len(ran)), **counts, time=time_of_all)
     for one in ran:
-        names = {"classname": printable(name, "\n"), "name": printable(str(one.script), "\n"), "time": f"{one.seconds:.3f}"}
+        case_name, seconds = printable(str(one.script), "\n"), f"{one.seconds:.3f}"
+        names = {"classname": printable(name, "\n"), "name": case_name, "time": seconds}
         case = SubElement(suite, "testcase", names)
         if one.status in kinds:
             # Characters that XML doesn't take are left out.
@@ -325,7 +327,7 @@ def _junit_text(name: str, ran: list[Ran]) -> str:
     return '<?xml version="1.0" encoding="UTF-8"?>\n' + tostring(suite, "unicode") + "\n"
 
 
-def _watched(words: argparse.Namespace, work: Callable[[argparse.Namespace, Progress], int], progress: Progress) -> NoReturn:
+def _watched(words: argparse.Namespace, work: Work, progress: Progress) -> NoReturn:
     """Does the work, and again each time that a file of it changes; the user ends it."""
     while True:
         before = _changes(words)

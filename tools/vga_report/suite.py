@@ -73,7 +73,7 @@ Rules = dict[str, dict[str, list[Result]]]
 
 
 class Command:
-    """A command with places for a case's files. One without refusals refuses no step; a machine judges no script either."""
+    """A command with places for a case's files. One without refusals refuses no step; a machine judges no script."""
 
     def __init__(self, text: str, limits: Limits, has_refusals: bool, is_machine: bool) -> None:
         try:
