@@ -7,21 +7,21 @@ import io
 import re
 from dataclasses import dataclass
 from itertools import zip_longest
-from typing import BinaryIO, Iterator, NamedTuple, Optional
+from typing import Iterator, NamedTuple, Optional
 
 from zaklimot import format
-from zaklimot.format import FAULT, Answer, Digest, Picture, ReportError
+from zaklimot.format import Answer, Picture, ReportError
 from zaklimot.format.picture import different_dots
-from zaklimot.format.report import MOST_LINE, REFUSAL, SKIPPED, TEXT
+from zaklimot.format.report import REFUSAL, SKIPPED
 
 from .output import counted
 from .progress import Progress
 from .streams import length_of
 from .trouble import Trouble
 
-OK_STEPS = re.compile(r"([1-9][0-9]*)-([1-9][0-9]*) ok")
-STEP = re.compile(r"([1-9][0-9]*) (.+)")
-PICTURE = re.compile(r"(picture ([0-9]+)) (([1-9][0-9]*)x([1-9][0-9]*))(?: ([0-9a-f]{32}))?")
+OK_STEPS = re.compile(rb"([1-9][0-9]*)-([1-9][0-9]*) ok\n")
+# A picture whose dots stand below it, a row each.
+ROWS = re.compile(r"(picture ([0-9]+)) ([1-9][0-9]*)x([1-9][0-9]*)")
 RUN = re.compile(r"([0-9A-F]{6})(?:\*([1-9][0-9]{0,6}))?")
 END = "the end"
 DONE = "ok"
@@ -55,91 +55,45 @@ class Report(format.Report):
             self._progress.tell(f"{self._name}: {share}")
 
 
-class Expected:
-    """The steps of an expected report that is read from a stream."""
+class Expected(Report):
+    """An expected report: steps that answer `ok` may be one line, and a picture the rows of its dots, or its digest."""
 
-    def __init__(self, stream: BinaryIO, name: str) -> None:
-        self._stream = stream
-        self._name = name
-        self._line = 0
-        self._number = 0
-
-    def steps(self) -> Iterator[Answer]:
-        """The steps in their order."""
-        text = self._next_line()
-        while text is not None:
-            alike, found = OK_STEPS.fullmatch(text), STEP.fullmatch(text)
-            if alike is not None:
-                yield from self._ok_steps(int(alike[1]), int(alike[2]))
-                text = self._next_line()
-            elif found is not None:
-                step, text = self._step(found)
-                yield step
-            elif self._number == 0 and FAULT.fullmatch(text):
-                yield Answer(0, self._line, text)
-                text = self._next_line()
+    def answers(self) -> Iterator[Answer]:
+        """The answers in their order; a ReportError where the report is damaged, behind those before that place."""
+        number = 1
+        for line in iter(self._next_line, b""):
+            alike = OK_STEPS.fullmatch(line)
+            if alike is None:
+                yield self._answer(number, line)
             else:
-                raise self._trouble(f"no step: '{text[:40]}'")
+                first, last = int(alike[1]), int(alike[2])
+                if not number == first <= last:
+                    raise self._error(f"steps from {number} on are to come, and not '{first}-{last} ok'")
+                yield from (Answer(number, self.line, "ok") for number in range(first, last + 1))
+                number = last
+            number += 1
 
-    def _ok_steps(self, first: int, last: int) -> Iterator[Answer]:
-        if first > last:
-            raise self._trouble(f"no steps lead from {first} to {last}")
-        return (Answer(self._counted(number), self._line, "ok") for number in range(first, last + 1))
-
-    def _counted(self, number: int) -> int:
-        """A step's number, which is to be one more than the last."""
-        if number != self._number + 1:
-            raise self._trouble(f"step {self._number + 1} is to come, and not step {number}")
-        self._number = number
-        return number
-
-    def _step(self, found: re.Match[str]) -> tuple[Answer, Optional[str]]:
-        """A step with the lines up to the next one's, as a dump has them, and that next line."""
-        step, picture = Answer(self._counted(int(found[1])), self._line, found[2]), PICTURE.fullmatch(found[2])
-        if picture is not None:
-            return self._with_picture(step, picture), self._next_line()
-        others, text = [], self._next_line()
-        while text is not None and not text[:1].isdigit():
-            others.append(text)
-            text = self._next_line()
-        return step._replace(others=tuple(others)), text
-
-    def _with_picture(self, step: Answer, found: re.Match[str]) -> Answer:
-        """The step with its picture: its digest, or its rows, which stand next, one a line."""
-        answer, length, size, width, height, digest = found.groups()
-        if digest is not None:
-            return step._replace(answer=answer, picture=Digest(int(length), size, digest))
-        rows = b"".join(self._row(int(width)) for _ in range(int(height)))
-        picture = Picture.of_dots(int(width), int(height), rows)
-        if picture.length != int(length):
-            raise self._trouble(f"a picture of {size} dots has {picture.length} bytes, and not {length}")
-        return step._replace(answer=answer, picture=picture)
+    def _picture_answer(self, number: int, answer: str) -> Answer:
+        """The answer of a picture, whose rows stand next, one a line, or whose digest stands there."""
+        found, place = ROWS.fullmatch(answer), self.line
+        if found is None:
+            return super()._picture_answer(number, answer)
+        length, width, height = map(int, found.groups()[1:])
+        picture = Picture.of_dots(width, height, b"".join(self._row(width) for _ in range(height)))
+        if picture.length != length:
+            raise self._error(f"a picture of {picture.size} dots has {picture.length} bytes, and not {length}")
+        return Answer(number, place, found[1], (), picture)
 
     def _row(self, width: int) -> bytes:
         """The dots of the next line: `3F0015*9` stands for nine that are alike."""
-        text = self._next_line() or ""
+        text = self._text_of(self._next_line())
         runs = [RUN.fullmatch(word) for word in text.split(" ")]
         dots = b"".join(bytes.fromhex(run[1]) * int(run[2] or "1") for run in runs if run is not None)
         if None in runs or len(dots) != 3 * width:
-            raise self._trouble(f"no row of {width} dots: '{text[:40]}'")
+            raise self._error(f"no row of {width} dots: '{text[:40]}'")
         if max(dots) > 63:
-            raise self._trouble("a dot has a component above 3F")
+            raise self._error("a dot has a component above 3F")
         return dots
-
-    def _next_line(self) -> Optional[str]:
-        """The next line without its newline; None at the end."""
-        line = self._stream.readline(MOST_LINE)
-        if not line:
-            return None
-        self._line += 1
-        if not line.endswith(b"\n"):
-            raise self._trouble("the line lacks its newline, or is too long")
-        if TEXT.fullmatch(line) is None:
-            raise self._trouble("the line is empty, or has bytes that no answer has")
-        return line[:-1].decode("ascii")
-
-    def _trouble(self, reason: str) -> Trouble:
-        return Trouble(reason, self._name, self._line)
 
 
 class Told(NamedTuple):
