@@ -5,16 +5,22 @@ The state is what the steps that were done have left, as far as a script tells i
 """
 
 from functools import lru_cache, partial
-from typing import Callable, Optional
+from typing import Callable, Iterator, NamedTuple, Optional
 
 from zaklimot.format import MOST_ADVANCE, REGISTERS, Answer, Step, parse_line
 
-from .registers import ATTRIBUTES, COUNTS, CRT, GRAPHICS, INDEX_PORTS, MODES, SEQUENCER, Registers
+from .registers import (
+    ATTRIBUTES, COUNTS, CRT, GRAPHICS, INDEX_PORTS, MODES, SEQUENCER, Registers, bytes_written,
+)
 
 WINDOWS = ((0xA0000, 0xBFFFF), (0xA0000, 0xAFFFF), (0xB0000, 0xB7FFF), (0xB8000, 0xBFFFF))
 READ_ALONE, CRT_PORTS = {0x3C1, 0x3CA, 0x3CC}, {0x3B4, 0x3B5, 0x3BA, 0x3D4, 0x3D5, 0x3DA}
 READ_AND_WRITTEN = {0x3C0, 0x3C2, 0x3C3, 0x3C4, 0x3C5, 0x3C6, 0x3C7, 0x3C8, 0x3C9, 0x3CE, 0x3CF}
 LEFT_OUT = {0x3C2: "input status 0", 0x3C3: "subsystem enable", 0x3C7: "the DAC state", 0x3CA: "feature control"}
+# Registers whose bit 5 is left out.
+LEFT_OUT_BITS = {
+    (GRAPHICS, 5): "graphics mode, shift register mode", (CRT, 0x14): "underline location, count by four",
+}
 CYCLES = {name + width for name in ("out", "in", "put", "get") for width in ("", "w")}
 # How the steps begin that may change what refusals hang on: `out`, `in` and `int`.
 CHANGING = "oOiI"
@@ -51,7 +57,7 @@ def why_refused(words: str, number: int, state: State) -> str:
     if number in (1, 2):
         reason = _not_decoded if number == 1 else _not_in_profile
         # Another program than the adapter's may refuse any step so.
-        return (reason(step, state) or "") if step.name in CYCLES else ""
+        return next(filter(None, (reason(cycle, state) for cycle in _cycles(step))), "")
     if step.name == "show cells" and number == 6:
         return "Cells are shown in text, and the mode is graphics."
     told = OF_CALLS.get(number)
@@ -68,47 +74,43 @@ def step_of(words: str) -> Optional[Step]:
         return None
 
 
-def _not_decoded(step: Step, state: State) -> Optional[str]:
-    name, place = step.name, step.numbers[0]
-    is_memory, is_write = name.startswith(("put", "get")), name.startswith("out")
-    for each in (place, place + 1) if name.endswith("w") else (place,):
-        reason = _address_not_decoded(each, state) if is_memory else _port_not_decoded(each, is_write, state)
-        if reason:
-            return reason
-    return None
+class Cycle(NamedTuple):
+    """A cycle of a step: its port or address, the byte that a port is written, and the index that the step has picked."""
+
+    is_memory: bool
+    place: int
+    value: Optional[int]
+    picked: Optional[int]
 
 
-def _port_not_decoded(port: int, is_write: bool, state: State) -> Optional[str]:
-    if port in CRT_PORTS:
-        if port & 0xFF0 == state.base & 0xFF0:
-            return None
-        bit = f"since bit 0 of miscellaneous output is {(state.misc or 0) & 1}"
-        return f"The CRT controller is at {state.base:03X} now, {bit}. There, port {port:03X} is {port ^ 0x60:03X}."
-    if port in READ_ALONE:
-        return f"Port {port:03X} can be read, and not written." if is_write else None
-    return None if port in READ_AND_WRITTEN else f"No part of the adapter decodes port {port:03X}."
+def _cycles(step: Step) -> Iterator[Cycle]:
+    if step.name in CYCLES:
+        written, first = dict(bytes_written(step)), step.numbers[0]
+        for place in range(first, first + 1 + step.name.endswith("w")):
+            picked = written.get(place - 1) if place - 1 in INDEX_PORTS else None
+            yield Cycle(step.name.startswith(("put", "get")), place, written.get(place), picked)
 
 
-def _address_not_decoded(address: int, state: State) -> Optional[str]:
-    if not (state.misc or 0) & 2:
-        return "Display memory is off: enable RAM, bit 1 of miscellaneous output, is 0."
+def _not_decoded(cycle: Cycle, state: State) -> str:
+    """Why a port or an address is not decoded; empty where it is."""
+    place, misc = cycle.place, state.misc or 0
     first, last = WINDOWS[state.map]
-    if first <= address <= last:
-        return None
-    decodes = f"and it decodes {first:05X} to {last:05X}. {address:05X} lies outside."
-    return f"Memory map is {state.map} (graphics controller 6, bits 3-2), {decodes}"
+    if cycle.is_memory and not misc & 2:
+        return "Display memory is off: enable RAM, bit 1 of miscellaneous output, is 0."
+    if cycle.is_memory:
+        decodes = f"and it decodes {first:05X} to {last:05X}. {place:05X} lies outside."
+        return "" if first <= place <= last else f"Memory map is {state.map} (graphics controller 6, bits 3-2), {decodes}"
+    if place in CRT_PORTS:
+        told = f"The CRT controller is at {state.base:03X} now, since bit 0 of miscellaneous output is {misc & 1}."
+        return "" if place & 0xFF0 == state.base & 0xFF0 else f"{told} There, port {place:03X} is {place ^ 0x60:03X}."
+    if place in READ_ALONE:
+        return "" if cycle.value is None else f"Port {place:03X} can be read, and not written."
+    return "" if place in READ_AND_WRITTEN else f"No part of the adapter decodes port {place:03X}."
 
 
-def _not_in_profile(step: Step, state: State) -> Optional[str]:
-    port, value = step.numbers[0], step.numbers[1] if step.name.startswith("out") else None
-    if not step.name.endswith("w"):
-        return _port_not_in_profile(port, value, state)
-    low, high = (None, None) if value is None else (value & 0xFF, value >> 8)
-    picked = low if port in INDEX_PORTS else None
-    return _port_not_in_profile(port, low, state) or _port_not_in_profile(port + 1, high, state, picked)
-
-
-def _port_not_in_profile(port: int, value: Optional[int], state: State, picked: Optional[int] = None) -> Optional[str]:
+def _not_in_profile(cycle: Cycle, state: State) -> str:
+    """Why a cycle of a port is out of the profile; empty where it is not."""
+    _, port, value, picked = cycle
     if value is not None and port & 0xF0F == 0x30A and port != 0x3CA:
         return "Feature control is left out of the adapter."
     if port in LEFT_OUT and (value is None or port == 0x3C3):
@@ -116,23 +118,16 @@ def _port_not_in_profile(port: int, value: Optional[int], state: State, picked: 
     # The group of the registers that a data port is for.
     groups = {0x3C5: SEQUENCER, 0x3CF: GRAPHICS, state.base + 1: CRT, 0x3C0: ATTRIBUTES, 0x3C1: ATTRIBUTES}
     if port not in groups:
-        return None
+        return ""
     group = groups[port]
     count, bits = COUNTS[group]
     index = state.indexes[group] if picked is None else picked & bits
     if index >= count:
         return f"The index of the {group} is {index:02X}, and its registers end at {count - 1:X}."
-    return None if value is None else _refused_value((group, index), value)
-
-
-def _refused_value(register: tuple[str, int], value: int) -> Optional[str]:
-    if register == (GRAPHICS, 5) and value & 32:
-        return "Bit 5 of graphics mode, shift register mode, is left out of the adapter, so it can't be 1."
-    if register == (CRT, 0x14) and value & 32:
-        return "Bit 5 of underline location, count by four, is left out of the adapter, so it can't be 1."
-    if register == (CRT, 0x17):
+    if value is not None and (group, index) == (CRT, 0x17):
         return "In mode control of the CRT controller bits 0 and 1 must be 1, and bits 2 and 3 must be 0."
-    return None
+    name = LEFT_OUT_BITS.get((group, index)) if value is not None and value & 32 else None
+    return f"Bit 5 of {name}, is left out of the adapter, so it can't be 1." if name else ""
 
 
 # What the refusals of calls mean, E3 to E11 and E13.
