@@ -191,9 +191,10 @@ SUITES: list[tuple[tuple[tuple[str, ...], ...], str, list[str]]] = [
         "\n3 cases: 1 agree, 2 differ\n",
     ]),
     # A command may fail.
-    ((("crash\n", "1 FF\n"), ("get 0\ncrash\n", "1 FF\n"), ("cut\n", "1 FF\n")), "--timeout 40", [
+    ((("crash\n", "1 FF\n"), ("get 0\ncrash\n", "1 FF\n"), ("cut\n", "1 FF\n"), ("get 0\ncrash\n", "1 5\n")),
+     "--timeout 40", [
         f"  failed   c/0\n           c/0: {ENDED}\n", f"  failed   c/1\n           c/1: {ENDED}\n",
-        "  failed   c/2\n           c/2: its report:1: the report ends within a line\n",
+        "  failed   c/2\n           c/2: its report:1: the report ends within a line\n", "c/3: step 1: FF (read), not 5 ",
     ]),
     ((("wait\n", "1 FF\n"),), "--timeout 1", ["  failed   c/0\n           c/0: the command took too long\n"]),
     # A step of a front is named where it stands.
@@ -389,17 +390,24 @@ class Suite(Folder):
         self.case("a/one", "frame\n", "1 picture 37 9x1\n3F0000*9\n")
         self.case("a/two", "frame\n", f"1 picture 37 9x1 {hashlib.md5(PICTURE).hexdigest()}\n")
         self.case("a/three", "frame\n", "1 ok\n")
+        self.case("a/four", "frame\n", "1 picture 37 9x1\n3F0000*4 000000*5\n2 ok\n")
         harness = self.write("harness.py", f"import sys; sys.stdout.buffer.write({report(PICTURE)!r}); print('said', file=sys.stderr)")
         kept = self.folder / "kept"
         command = f"{shlex.quote(sys.executable)} {harness} {{script}}"
         self.assertEqual(self.run_suite("--keep", kept, command=command)[0], 1)
         self.assertEqual(sorted(str(file.relative_to(kept)) for file in kept.rglob("*.*")), [
+            # Of a picture that is as expected nothing differs.
+            "a/four-0001-expected.png", "a/four-0001.png", "a/four.report", "a/four.said", "a/four.vga",
             "a/one-0001-differing.png", "a/one-0001-expected.png", "a/one-0001.png", "a/one.report", "a/one.said",
             "a/one.vga", "a/three-0001.png", "a/three.report", "a/three.said", "a/three.vga",
         ])
         self.assertEqual((kept / "a/one.report").read_bytes(), report(PICTURE))
         self.assertEqual(png_rows((kept / "a/one-0001-expected.png").read_bytes()), (9, 1, [b"\xff\0\0" * 9]))
         self.assertEqual(self.run_suite("--keep", kept, command=command)[0], 2)
+        # Messages have a limit.
+        more = self.folder / "more"
+        self.run_suite("--only", "a/one", "--timeout", "1", "--keep", more, command="sh -c 'yes >&2' {script}")
+        self.assertEqual((more / "a/one.said").stat().st_size, 1 << 20)
 
     def test_expected_pictures_without_a_program(self) -> None:
         self.case("a/one", "frame\nframe\n", f"1 picture 37 9x1\n3F0000*9\n2 picture 37 9x1 {hashlib.md5(PICTURE).hexdigest()}\n")

@@ -106,6 +106,8 @@ class Animations(Folder):
             ("out 3C2 63;outw 3C4 0101;outw 3D4 5F00;outw 3D4 BF06;outw 3D4 1F07", wide),
             ("out 3C2 67;out 3D4 0;out 3D5 5F;outw 3D4 BF06;outw 3D4 1F07;outw 3D4 8E11;outw 3D4 0000", text),
             ("int ax=3;out 3C2 6F", None),
+            # Registers 0 to 7 alone are protected.
+            ("out 3C2 67;outw 3D4 BF06;outw 3D4 1F07;outw 3D4 8E11;outw 3D4 0E11;outw 3D4 0000", (20_205, 28_322_000)),
         ])
 
 

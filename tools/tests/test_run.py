@@ -301,7 +301,7 @@ class Expectations(unittest.TestCase):
         hold(self, lambda text: dumps_in(text.encode(), "t"), [
             ("frame\n;| a\n ;| b \nframe\n;| c\n", {1: ("a", "b"), 4: ("c",)}), ("; x\n;| a\nframe\n\n;| b\n", {}),
             ("version 2\nREPEAT 2\n;| a\nframe ; x\n;| b\nend\n;| c\n", {4: ("b",)}),
-            ("ret\v2 ; = 5\n\t\r\n", {}), ("\xe9 ; = 5\n;| 1", {1: ("1",)}),
+            ("frame\n frame ;| a\n", {}), ("ret\v2 ; = 5\n\t\r\n", {}), ("\xe9 ; = 5\n;| 1", {1: ("1",)}),
         ])
 
     def test_lines_of_any_bytes(self) -> None:

@@ -130,7 +130,7 @@ def run(name: str, work: Callable[[], int], progress: Optional[Progress] = None)
     if not open_closed_streams():
         sys.stderr.write(f"{name}: standard output: it is closed\n")
         return TROUBLE
-    status, reason = TROUBLE, ""
+    reason = ""
     try:
         with _ending_at_signals():
             status = work()
@@ -145,9 +145,10 @@ def run(name: str, work: Callable[[], int], progress: Optional[Progress] = None)
     except Trouble as trouble:
         status, reason = trouble.status, str(trouble)
     except OSError as error:
-        reason = f"{'standard output' if error.filename is None else error.filename}: {error.strerror or error}"
+        name_of_file = "standard output" if error.filename is None else error.filename
+        status, reason = TROUBLE, f"{name_of_file}: {error.strerror or error}"
     except MemoryError:
-        reason = NO_MEMORY
+        status, reason = TROUBLE, NO_MEMORY
     if progress is not None:
         progress.clear()
     _end_output(is_kept=bool(reason))
