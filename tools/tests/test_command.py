@@ -194,7 +194,7 @@ SUITES: list[tuple[tuple[tuple[str, ...], ...], str, list[str]]] = [
     ((("crash\n", "1 FF\n"), ("get 0\ncrash\n", "1 FF\n"), ("cut\n", "1 FF\n"), ("get 0\ncrash\n", "1 5\n")),
      "--timeout 40", [
         f"  failed   c/0\n           c/0: {ENDED}\n", f"  failed   c/1\n           c/1: {ENDED}\n",
-        "  failed   c/2\n           c/2: its report:1: the report ends within a line\n", "c/3: step 1: FF (read), not 5 ",
+        "  failed   c/2\n           c/2: its report:1: the report ends within a line\n", "  differs  c/3\n           c/3: step 1: FF ",
     ]),
     ((("wait\n", "1 FF\n"),), "--timeout 1", ["  failed   c/0\n           c/0: the command took too long\n"]),
     # A step of a front is named where it stands.
