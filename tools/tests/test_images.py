@@ -9,7 +9,7 @@ import zlib
 from typing import Optional
 
 from vga_report.images import image_of
-from vga_report.png import MARK, Shape, write_png
+from vga_report.png import MARK, Shape, chunk, write_png
 from vga_report.registers import USUAL, Registers
 from zaklimot.format import Picture, parse_text
 
@@ -17,10 +17,6 @@ from .test_command import PICTURE, run
 from .tools import BLACK, RED, WHITE, Folder, hold, png_chunks, png_rows, ppm
 
 GREY = b"\x15\x15\x15"
-
-
-def chunk(kind: bytes, body: bytes) -> bytes:
-    return struct.pack(">I", len(body)) + kind + body + struct.pack(">I", zlib.crc32(kind + body))
 
 
 def png(width: int, height: int, lines: bytes, depth: int = 8, colour: int = 2, palette: bytes = b"", interlace: int = 0) -> bytes:

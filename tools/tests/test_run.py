@@ -2,6 +2,7 @@
 
 from __future__ import annotations
 
+import cProfile
 import contextlib
 import io
 import json
@@ -23,13 +24,12 @@ from vga_report import program
 from vga_report.expecting import dumps_in, expected_in
 from vga_report.listing import chosen
 from vga_report.mistakes import text_of
-from vga_report.program import Tried, build_program
 from vga_report.progress import Progress
 from vga_report.words import parser
 from zaklimot.format import count_in, lines_in, places_in, steps_in, words_in
 
 from .test_command import run
-from .tools import BLACK, EXAMPLES, RED, TOP, Folder, begin, ended, hold, hold_refused, ppm, refused, want_program
+from .tools import BLACK, EXAMPLES, RED, TOP, Folder, begin, ended, hold, hold_refused, ppm, want_program
 
 # A program that understands texts of a few steps: `asm` copies, `dis` prints in upper case, `go` answers by the name.
 FAKE = """import sys
@@ -201,23 +201,20 @@ class Listings(Fake):
         self.assertEqual((status, said.partition(": there")[0]), (2, "vga-report: standard input:1: F7 BadLine(1)"))
         self.assertEqual(self.run_script(path=self.write("s.bin", b"VGAS\1\x0b"))[2], "")
 
-    def test_no_toolchain(self) -> None:
+    def test_what_is_lacking_for_a_build(self) -> None:
         told = (
             "vga-report: rt: it is not in the path: it is the command of the Rattle toolchain, "
             "which README.md tells of under \"Build it\". Without it --vga runs a program that is "
             "built already, and --debug FILE writes a page that runs the script in a browser\n"
         )
-        with mock.patch.dict(os.environ, PATH=str(self.folder)):
-            self.assertEqual(run("run", self.path, "--try"), (2, b"", told))
-            with mock.patch("vga_report.program.PROGRAM", self.folder / "none"):
-                self.assertRegex(refused(build_program, Progress()), "^rt: it is not in the path: ")
         self.assertIn("## Build it\n", (TOP / "README.md").read_text("utf-8"))
-
-    def test_a_release_has_no_sources(self) -> None:
-        with mock.patch.multiple(program, CRATE=self.folder, PROGRAM=self.folder / "none"):
-            running = Tried().running(Path(self.path), self.path, None, False)
-            for work, *words in ((running.__enter__,), (build_program, Progress())):
-                self.assertRegex(refused(work, *words), "^the program's sources in Rattle are not here")
+        path, none = mock.patch.dict(os.environ, PATH=str(self.folder)), self.folder / "none"
+        with path, mock.patch.object(program, "PROGRAM", none):
+            for words in ("--try", "--build"):
+                self.assertEqual(run("run", self.path, words), (2, b"", told))
+                # A release has no sources.
+                with mock.patch.object(program, "CRATE", none):
+                    self.assertIn("the program's sources in Rattle are not here", run("run", self.path, words)[2])
 
     def test_programs_that_do_not_do_it(self) -> None:
         good, fault = self.vga.read_text(), "t.vga:2: F7 BadLine(2): refused"
@@ -358,21 +355,12 @@ class Calls(Fake):
     def calls(self, text: str) -> int:
         """How many calls a run makes with its listing."""
         words = parser().parse_args(["run", self.write("long.vga", text), "--vga", str(self.vga)])
-        count = 0
-
-        def take(_: object, event: str, __: object) -> None:
-            nonlocal count
-            count += event in ("call", "c_call")
-
+        profile = cProfile.Profile()
         with open(self.folder / "out", "w") as output, contextlib.redirect_stdout(output), warnings.catch_warnings():
             # A tool's process ends at once, and closes its files so.
             warnings.simplefilter("ignore", ResourceWarning)
-            sys.setprofile(take)
-            try:
-                words.job(words, Progress(False))
-            finally:
-                sys.setprofile(None)
-        return count
+            profile.runcall(words.job, words, Progress(False))
+        return sum(entry.callcount for entry in profile.getstats())
 
     def test_of_a_step(self) -> None:
         for line in ("out 3c4 2\n", "put b8000 55\n", "get 0 ; a comment\n", "in 3da\n"):

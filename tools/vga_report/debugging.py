@@ -7,7 +7,7 @@ import json
 import os
 import re
 from pathlib import Path
-from typing import Any, Optional
+from typing import Any
 from urllib.parse import quote
 
 from zaklimot.format import FONT_BYTES, MOST_BYTES, is_bytes

@@ -11,7 +11,7 @@ from typing import Iterator, NamedTuple, Sequence
 
 from zaklimot.format import Picture
 
-from .png import MOST_DOTS, SIGNATURE
+from .png import MOST_DOTS, SIGNATURE, stretched
 from .streams import read_at_most
 from .trouble import Trouble
 
@@ -36,18 +36,10 @@ class Image(NamedTuple):
         rows = tuple(_spread([row[part::3 * across] for part in range(3)]) for row in self.rows[::down])
         return Image(self.width // across, self.height // down, rows, self.most)
 
-    def is_repeated(self, across: int, down: int) -> bool:
-        """Whether dots that stand together so often across and down are alike."""
-        return all(self.rows[y] == self.rows[y - y % down] for y in range(self.height)) and all(
-            row[3 * at + part::3 * across] == row[part::3 * across]
-            for row in self.rows[::down] for at in range(1, across) for part in range(3)
-        )
-
     def repeated(self, across: int, down: int) -> Image:
         """The image with each dot so often across and down."""
-        rows = [b"".join(row[at:at + 3] * across for at in range(0, len(row), 3)) for row in self.rows]
-        every = tuple(row for row in rows for _ in range(down))
-        return Image(self.width * across, self.height * down, every, self.most)
+        size, new = (self.width, self.height), (self.width * across, self.height * down)
+        return Image(*new, tuple(stretched(self.rows, size, new)), self.most)
 
     def picture(self, shift: int) -> Picture:
         """The picture of six bits a component, of which so many low bits are taken off."""

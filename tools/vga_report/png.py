@@ -59,25 +59,25 @@ def _head(width: int, height: int) -> bytes:
 def _packed(rows: Iterable[bytes], size: tuple[int, int], new: tuple[int, int]) -> Iterator[bytes]:
     """Rows of one size as a PNG of another has them packed, in parts."""
     packer = zlib.compressobj(COMPRESSION)
-    for row in rows if new == size else _stretched(rows, size, new):
+    for row in rows if new == size else stretched(rows, size, new):
         packed = packer.compress(b"\0" + row)
         if packed:
             yield packed
     yield packer.flush()
 
 
-def _stretched(rows: Iterable[bytes], size: tuple[int, int], new: tuple[int, int]) -> Iterator[bytes]:
+def stretched(rows: Iterable[bytes], size: tuple[int, int], new: tuple[int, int]) -> Iterator[bytes]:
     """Rows of one size as rows of a larger one, each dot and each row repeated as often as it takes."""
     (width, height), (new_width, new_height) = size, new
     columns = [x * width // new_width for x in range(new_width)]
-    last, stretched = b"", b""
+    last, wide = b"", b""
     for y, row in enumerate(rows):
         if row != last:
             dots = [row[at:at + 3] for at in range(0, len(row), 3)]
-            last, stretched = row, row if width == new_width else b"".join(map(dots.__getitem__, columns))
+            last, wide = row, row if width == new_width else b"".join(map(dots.__getitem__, columns))
         # The new rows that this one gives: those whose number times height / new_height is y and a bit.
         for _ in range(-(-y * new_height // height), -(-(y + 1) * new_height // height)):
-            yield stretched
+            yield wide
 
 
 def _rows(picture: Picture) -> Iterator[bytes]:

@@ -3,6 +3,7 @@
 import argparse
 import os
 import sys
+from contextlib import contextmanager
 from typing import Callable, Iterator, NamedTuple, Optional, Sequence
 
 from zaklimot.format import MOST_ADVANCE, Answer, Digest, Picture
@@ -23,13 +24,18 @@ from .trouble import Trouble
 TIMES = {1: "", 2: "twice", 3: "three times", 4: "four times"}
 
 
+@contextmanager
+def _steps(path: str, progress: Optional[Progress] = None, kind: type[Report] = Report) -> Iterator[Iterator[Answer]]:
+    """The steps of a report, or of an expected one, in a file."""
+    with reading(path) as stream:
+        yield kind(stream, name_of(path), progress).steps()
+
+
 def text(words: argparse.Namespace, progress: Progress) -> int:
     """Writes a report as text."""
-    if sys.stdout.isatty():
-        # Text on a terminal shows by itself how far the work has come.
-        progress = Progress(is_wanted=False)
-    with reading(words.report) as stream, writing(STANDARD) as output:
-        for step in Report(stream, name_of(words.report), progress).steps():
+    # Text on a terminal shows by itself how far the work has come.
+    with _steps(words.report, None if sys.stdout.isatty() else progress) as steps, writing(STANDARD) as output:
+        for step in steps:
             output.write(step.text().encode("ascii"))
     return AGREED
 
@@ -65,10 +71,8 @@ def pictures(words: argparse.Namespace, progress: Progress) -> int:
     if words.folder not in (None, STANDARD):
         check_folder(words.folder)
         os.makedirs(words.folder, exist_ok=True)
-    with reading(words.report) as stream:
-        for count, (number, picture) in enumerate(
-            wanted_pictures(Report(stream, name, progress).steps(), words.step, name), 1
-        ):
+    with _steps(words.report, progress) as steps:
+        for count, (number, picture) in enumerate(wanted_pictures(steps, words.step, name), 1):
             if words.apng is None:
                 _write_picture(words, f"{number:04}", picture, shape)
             else:
@@ -127,8 +131,7 @@ def compare(words: argparse.Namespace, progress: Progress) -> int:
     comparison, count, wants_picture = Comparison(), 0, words.picture is not None
     page = Page([*names, "where they differ"], ["step", *names, "dots that differ"]) if words.html else None
     tell = teller(words.picture, words.html)
-    with reading(words.report) as stream, reading(words.other) as other_stream:
-        steps, others = Report(stream, name, progress).steps(), Report(other_stream, other_name).steps()
+    with _steps(words.report, progress) as steps, _steps(words.other) as others:
         for count, difference in enumerate(comparison.differences(steps, others), 1):
             found = difference.pictures()
             if words.all or count == 1:
@@ -165,9 +168,8 @@ def check(words: argparse.Namespace, progress: Progress) -> int:
     refuse_twice(words.report, words.expected)
     name, expected_name = name_of(words.report), name_of(words.expected)
     comparison = Comparison()
-    with reading(words.report) as stream, reading(words.expected) as expected:
-        steps = Report(stream, name, progress).steps()
-        difference = next(comparison.differences(steps, Expected(expected, expected_name).steps()), None)
+    with _steps(words.report, progress) as steps, _steps(words.expected, kind=Expected) as expected:
+        difference = next(comparison.differences(steps, expected), None)
     progress.clear()
     if difference is None:
         write(f"{name} is as expected: {comparison.text()}\n")
@@ -187,9 +189,9 @@ def _fitted(picture: Picture, image: Image) -> Optional[tuple[Image, str]]:
             return None
         factors = (times, 1) if what == "dot" else (1, times)
         if other > size:
-            if not image.is_repeated(*factors):
+            whole, image = image, image.every(*factors)
+            if image.repeated(*factors) != whole:
                 return None
-            image = image.every(*factors)
             told.append(f"the image has each {what} {TIMES[times]}")
         elif other < size:
             image = image.repeated(*factors)
@@ -237,8 +239,7 @@ def held(picture: Picture, image: Image) -> Held:
 def compare_picture(words: argparse.Namespace, progress: Progress) -> int:
     """Compares the picture of a step with an image, PNG or PPM."""
     refuse_twice(words.report, words.image)
-    with reading(words.report) as stream:
-        steps = Report(stream, name_of(words.report), progress).steps()
+    with _steps(words.report, progress) as steps:
         _, picture = next(wanted_pictures(steps, [words.step], name_of(words.report)))
     name = name_of(words.image)
     found = held(picture, image_of(image_bytes(words.image), name))
