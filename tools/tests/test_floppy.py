@@ -441,7 +441,7 @@ class Pages(Folder):
         named = set(re.findall(r"`((?:host|words|ports|crtc|attribute|dac|services|heights|graphics)/[a-z0-9-]+)`", page))
         self.assertGreater(len(named), 30)
         cases = [case for case in read_cases(str(SUITE)) if case.has_answers_of_machine()]
-        scripts = {case.name: script_of(case.machine_script(), case.name) for case in cases}
+        scripts = {case.name: script_of(case.handed(is_for_machine=True, can_stop=False), case.name) for case in cases}
         self.assertEqual(named - scripts.keys(), set())
         self.assertIn(f" {len(cases)} of them", page)
         self.assertEqual(len(image_for(scripts, "all")), images.IMAGE_SIZE)
