@@ -173,7 +173,12 @@ class Script:
         with self._program.running(Path(self._path), fonts, until, self.is_bytes) as outcome:
             _wait_for(outcome.report, self.shown, progress)
             report = Report(outcome.report, "the report", progress)  # type: ignore[arg-type]
-            steps = self._begun(report.steps(), fonts)
+            steps = report.steps()
+            first = next(steps, None)
+            if first is not None and first.number == 0:
+                # A fault stands in the place of the report.
+                raise self._trouble(first.answer, fonts)
+            steps = chain(() if first is None else (first,), steps)
             for (words, (number, comment)), step in zip(meant, steps):
                 if is_told and progress.is_due():
                     progress.tell(f"{self.shown}: step {step.number} of {self._count}")
@@ -188,13 +193,6 @@ class Script:
             raise Trouble("the program prints none of its steps, so there is no telling which were answered", self.shown)
         if report.count < wanted:
             raise Trouble(f"the report ends after {report.count:,} of {wanted:,} steps", self.shown)
-
-    def _begun(self, steps: Iterator[Answer], fonts: str) -> Iterator[Answer]:
-        """The answers of a report; a Trouble where a fault stands in its place."""
-        first = next(steps, None)
-        if first is not None and first.number == 0:
-            raise self._trouble(first.answer, fonts)
-        return chain([] if first is None else [first], steps)
 
     def _trouble(self, fault: str, fonts: str) -> Trouble:
         return Trouble(explained(fault, self._path, fonts).replace(self._path, self.shown))
