@@ -9,7 +9,7 @@ from __future__ import annotations
 import difflib
 import re
 from io import BytesIO
-from typing import Iterator, NamedTuple, Optional, Sequence
+from typing import Iterator, Optional, Sequence
 
 from zaklimot.format import (
     BLOCK, BLOCK_LINES, END, FIRST_LINE, FORMS, MOST_BLOCK, MOST_STEPS, PLANE_BYTES, REGISTERS, REPEAT, SHOWN, Field,
