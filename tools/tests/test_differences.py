@@ -93,8 +93,9 @@ class Reports(unittest.TestCase):
 
         hold(self, told, [
             ("1-3 ok\n5 ok\n", "e:2: step 4 is to come, and not '5 ok'"),
-            *((f"1 ok\n{steps} ok\n", f"e:2: steps from 2 on are to come, and not '{steps} ok'") for steps in ("3-4", "2-1")),
-            ("1 ok", "e:1: the report ends within a line"), ("; a comment\n", "e:1: step 1 is to come, and not '; a comment'"),
+            *((f"1 ok\n{steps}\n", f"e:2: steps from 2 on are to come, and not '{steps}'") for steps in ("3-4 ok", "2-1 ok")),
+            ("1 ok", "e:1: the report ends within a line"),
+            ("; a comment\n", "e:1: step 1 is to come, and not '; a comment'"),
             ("1 picture 28 3x2\n3F0000*2\n000000*3\n", "e:2: no row of 3 dots: '3F0000*2'"),
             ("1 picture 28 3x2\n3F0000*3\n", "e:3: the report ends within a line"),
             ("1 picture 28 3x2\n3F0000*3\n00 00 00\n", "e:3: no row of 3 dots: '00 00 00'"),

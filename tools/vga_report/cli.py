@@ -23,6 +23,14 @@ DOES = "Exit status: 0 done; 2 the work can't be done."
 JUDGES = "Exit status: 0 all is right; 1 something is wrong; 2 the work can't be done."
 
 
+class _Version(argparse.Action):
+    """Prints the release's number, and ends the tool. No other command wants the header."""
+
+    def __call__(self, parser: argparse.ArgumentParser, *_: object) -> None:
+        sys.stdout.write(f"{parser.prog} {version()}\n")
+        parser.exit()
+
+
 class _Parser(argparse.ArgumentParser):
     """A parser that loses no trouble with what it prints, as a disk that is full."""
 
@@ -37,8 +45,7 @@ def tool_parser(name: str, does: str, example: str, page: str, statuses: str = D
         prog=name, description=does, formatter_class=argparse.RawDescriptionHelpFormatter,
         epilog=f"Example:\n  {example}\n\n{statuses}\n{page} tells more.",
     )
-    number = f"{name} {version()}"
-    made.add_argument("--version", action="version", version=number, help="prints the release's number")
+    made.add_argument("--version", action=_Version, nargs=0, help="prints the release's number")
     return made
 
 

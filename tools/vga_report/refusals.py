@@ -75,7 +75,7 @@ def step_of(words: str) -> Optional[Step]:
 
 
 class Cycle(NamedTuple):
-    """A cycle of a step: its port or address, the byte that a port is written, and the index that the step has picked."""
+    """A cycle of a step: its port or address, the byte that is written to a port, and the index that the step picked."""
 
     is_memory: bool
     place: int
@@ -98,8 +98,8 @@ def _not_decoded(cycle: Cycle, state: State) -> str:
     if cycle.is_memory and not misc & 2:
         return "Display memory is off: enable RAM, bit 1 of miscellaneous output, is 0."
     if cycle.is_memory:
-        decodes = f"and it decodes {first:05X} to {last:05X}. {place:05X} lies outside."
-        return "" if first <= place <= last else f"Memory map is {state.map} (graphics controller 6, bits 3-2), {decodes}"
+        told = f"Memory map is {state.map} (graphics controller 6, bits 3-2), and it decodes {first:05X} to {last:05X}."
+        return "" if first <= place <= last else f"{told} {place:05X} lies outside."
     if place in CRT_PORTS:
         told = f"The CRT controller is at {state.base:03X} now, since bit 0 of miscellaneous output is {misc & 1}."
         return "" if place & 0xFF0 == state.base & 0xFF0 else f"{told} There, port {place:03X} is {place ^ 0x60:03X}."
