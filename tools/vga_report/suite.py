@@ -73,9 +73,9 @@ Rules = dict[str, dict[str, list[Result]]]
 
 
 class Command:
-    """A command with places for a case's files. One without refusals refuses no step; a machine judges no script."""
+    """A command with places for a case's files."""
 
-    def __init__(self, text: str, limits: Limits, has_refusals: bool, is_machine: bool) -> None:
+    def __init__(self, text: str) -> None:
         try:
             self._words = shlex.split(text)
         except ValueError as error:
@@ -84,9 +84,6 @@ class Command:
             raise Trouble("the command is empty")
         if not any("{script}" in word or "{name}" in word for word in self._words):
             raise Trouble(f"the command '{text}' has neither {{script}} nor {{name}}")
-        self.limits = limits
-        self.has_refusals = has_refusals
-        self.is_machine = is_machine
         self.can_stop = UNTIL in self._words
 
     def words(self, case: Case, script: Path) -> list[str]:
@@ -144,17 +141,12 @@ def _chosen(words: argparse.Namespace) -> list[Case]:
 
 
 def _results(words: argparse.Namespace, cases: list[Case], progress: Progress) -> list[Result]:
-    is_ended = Event()
-    limits = Limits(words.timeout, words.output * MEBIBYTE)
-    commands = [
-        None if given is None else Command(given, limits, words.refusals, words.machine)
-        for given in (words.command, words.bytes)
-    ]
+    is_ended, results = Event(), []
+    commands = [None if given is None else Command(given) for given in (words.command, words.bytes)]
 
     def run_one(case: Case) -> Result:
-        return _run_case(case, commands[case.is_bytes], words.keep, is_ended)
+        return _run_case(case, commands[case.is_bytes], words, is_ended)
 
-    results: list[Result] = []
     with in_parallel(run_one, cases, words.jobs, is_ended) as found:
         for result in found:
             results.append(result)
@@ -165,25 +157,26 @@ def _results(words: argparse.Namespace, cases: list[Case], progress: Progress) -
     return results
 
 
-def _run_case(case: Case, command: Optional[Command], keep: Optional[str], is_ended: Event) -> Result:
+def _run_case(case: Case, command: Optional[Command], words: argparse.Namespace, is_ended: Event) -> Result:
     """Runs a case, unless it is left out. What doesn't agree is kept in a folder, where one is given."""
     if command is None:
         return Result(case, case.rule(), SKIPPED, "the script is bytes, and --bytes has no command")
     if case.is_bytes and case.until is not None and not command.can_stop:
         return Result(case, case.rule(), SKIPPED, f"the command of --bytes has no {UNTIL}")
-    if command.is_machine and not case.has_answers_of_machine():
+    if words.machine and not case.has_answers_of_machine():
         return Result(case, case.rule(), SKIPPED, NO_ANSWERS)
-    result = Result(case, case.rule(), comparison=Comparison(command.has_refusals, command.is_machine))
+    result = Result(case, case.rule(), comparison=Comparison(words.refusals, words.machine))
+    limits = Limits(words.timeout, words.output * MEBIBYTE)
     with tempfile.TemporaryDirectory(prefix="vga-report-") as name:
         script, report, messages = (Path(name, file) for file in (f"script{case.suffix}", "report", "messages"))
-        script.write_bytes(case.handed(command.is_machine, command.can_stop))
-        outcome = run_command(command.words(case, script), report, messages, command.limits, is_ended)
+        script.write_bytes(case.handed(words.machine, command.can_stop))
+        outcome = run_command(command.words(case, script), report, messages, limits, is_ended)
         if outcome.status is None:
             result.answer, result.reason = FAILED, outcome.reason + _said_text(messages)
         else:
             _judge(result, outcome.status, report, messages)
-        if keep is not None and result.answer in (DIFFERS, FAILED):
-            _keep(Path(keep, case.name), case, {case.suffix: script, ".report": report, ".said": messages})
+        if words.keep is not None and result.answer in (DIFFERS, FAILED):
+            _keep(Path(words.keep, case.name), case, {case.suffix: script, ".report": report, ".said": messages})
     return result
 
 
