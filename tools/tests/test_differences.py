@@ -24,7 +24,7 @@ def steps_of(data: bytes) -> list[Answer]:
 def first(data: bytes, others: Iterable[Answer]) -> Optional[str]:
     """How a report differs from other answers first."""
     difference = next(Comparison().differences(iter(steps_of(data)), iter(others)), None)
-    return difference and difference.told().text
+    return difference and difference.told()
 
 
 def against(data: bytes, expected: str) -> Optional[str]:

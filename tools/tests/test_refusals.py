@@ -118,9 +118,9 @@ class Faults(Folder):
     def test_files_that_cannot_be_read(self) -> None:
         script, fonts = self.folder / "s", Path(self.write("f", bytes(9728)))
         for make, path, reason in (
-            (bool, script, "the script can't be read: there is no such file"),
-            (script.mkdir, script, "the script can't be read: it is a folder"),
-            (fonts.unlink, fonts, "the font file can't be read: there is no such file"),
+            (bool, script, "the script can't be read: No such file or directory"),
+            (script.mkdir, script, "the script can't be read: Is a directory"),
+            (fonts.unlink, fonts, "the font file can't be read: No such file or directory"),
         ):
             make()
             told = explained("vga: F8 ReadFault", str(script), str(fonts))

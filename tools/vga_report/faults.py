@@ -1,6 +1,5 @@
 """What a fault of the program means, in the file where it arose: the program judges, and this looks for the reason."""
 
-from pathlib import Path
 from typing import Optional
 
 from zaklimot.format import (
@@ -70,18 +69,11 @@ def explained(fault: str, script: str, fonts: str) -> str:
 def _unread(what: str, path: str) -> str:
     """Why a file can't be read; empty where it can."""
     try:
-        if Path(path).is_dir():
-            return f"the {what} can't be read: it is a folder"
         with open(path, "rb") as stream:
             stream.read(1)
-        return ""
-    except FileNotFoundError:
-        reason = "there is no such file"
-    except PermissionError:
-        reason = "there is no permission to read it"
     except OSError as error:
-        reason = error.strerror or str(error)
-    return f"the {what} can't be read: {reason}"
+        return f"the {what} can't be read: {error.strerror}"
+    return ""
 
 
 def _read(path: str) -> bytes:

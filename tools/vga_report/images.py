@@ -7,7 +7,7 @@ import struct
 import zlib
 from collections import defaultdict
 from contextlib import suppress
-from typing import Iterator, NamedTuple, Sequence
+from typing import Callable, Iterator, NamedTuple, Sequence
 
 from zaklimot.format import Picture
 
@@ -82,7 +82,6 @@ def _ppm(data: bytes, name: str) -> Image:
 
 
 def _chunks(data: bytes, name: str) -> dict[bytes, bytes]:
-    """What the chunks have, by their kinds."""
     at, parts = len(SIGNATURE), defaultdict(list)
     while b"IEND" not in parts:
         kind, end = data[at + 4:at + 8], at + 8 + int.from_bytes(data[at:at + 4], "big")
@@ -120,30 +119,26 @@ def _png(data: bytes, name: str) -> Image:
 
 def _unfiltered(lines: bytes, length: int, back: int, name: str) -> Iterator[bytes]:
     """The rows of a PNG without their filters; a Trouble where one has a filter that there is not."""
-    last = bytearray(length)
+    last = bytearray(back + length)
     for at in range(0, len(lines), length + 1):
-        kind, row = lines[at], bytearray(lines[at + 1:at + 1 + length])
-        if kind == 1:
-            for x in range(back, length):
-                row[x] = (row[x] + row[x - back]) & 255
-        elif kind == 2:
-            row = bytearray((a + b) & 255 for a, b in zip(row, last))
-        elif kind in (3, 4):
-            for x in range(length):
-                left = row[x - back] if x >= back else 0
-                if kind == 3:
-                    row[x] = (row[x] + (left + last[x]) // 2) & 255
-                else:
-                    row[x] = (row[x] + _paeth(left, last[x], last[x - back] if x >= back else 0)) & 255
-        elif kind:
-            raise Trouble(f"a row of the PNG has filter {kind}, and the filters are 0 to 4", name)
+        kind, row = lines[at], bytearray(back) + lines[at + 1:at + 1 + length]
+        if kind > len(FILTERS):
+            raise Trouble(f"a row of the PNG has filter {kind}, and the filters are 0 to {len(FILTERS)}", name)
+        for x in range(back, len(row) if kind else 0):
+            row[x] = (row[x] + FILTERS[kind - 1](row[x - back], last[x], last[x - back])) & 255
         last = row
-        yield bytes(row)
+        yield bytes(row[back:])
 
 
 def _paeth(left: int, above: int, corner: int) -> int:
     guess = left + above - corner
     return min((left, above, corner), key=lambda value: abs(guess - value))
+
+
+# What the filters 1 to 4 have taken off a sample: the one of the dot to the left, above, their mean, or the nearest.
+FILTERS: tuple[Callable[[int, int, int], int], ...] = (
+    lambda left, *_: left, lambda _, above, *__: above, lambda left, above, _: (left + above) // 2, _paeth,
+)
 
 
 def _samples(row: bytes, width: int, depth: int, samples: int, colour: int) -> bytes:

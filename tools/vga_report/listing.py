@@ -199,7 +199,6 @@ class Script:
 
 
 def _wait_for(report: BinaryIO, shown: str, progress: Progress) -> None:
-    """Tells how long the first answer takes, as of a program that is built first."""
     begun = time.monotonic()
     while IS_POSIX and progress.is_wanted and not select.select([report], [], [], PAUSE)[0]:
         if progress.is_due():
@@ -290,7 +289,6 @@ class Tally:
 
 
 def _told(row: Row) -> dict[str, Any]:
-    """A step for machines, with its picture's digest, and why it was refused."""
     step = row.step
     told: dict[str, Any] = {"step": step.number, "line": row.line, "words": row.words, "answer": answer_of(step)}
     told.update({"lines": list(step.lines)} if step.others else {})
@@ -366,7 +364,6 @@ class Blessing:
 
 
 def _blessed(line: str, answer: str) -> str:
-    """A line with the answer that is expected written in, before the rest of its comment."""
     ending = "\r" if line.endswith("\r") else ""
     words, _, comment = line.rstrip("\r").partition(";")
     rest = comment.strip()

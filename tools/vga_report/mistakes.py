@@ -90,7 +90,6 @@ def mistake_among_lines(data: bytes, number: int) -> Optional[str]:
 
 
 def _heed_odd_byte(word: Word) -> None:
-    """Finds a character that stands in no step, as a blank that looks like one."""
     for at, character in enumerate(word[0]):
         if not "!" <= character <= "~":
             code = f"U+{ord(character):04X}" if ord(character) < 0xDC80 else f"byte {ord(character) - 0xDC00:02X}"
@@ -129,7 +128,6 @@ def _unknown_step(word: Word) -> Mistake:
 
 
 def _heed_numbers(form: str, numbers: Sequence[Field], words: Sequence[Word], end: int) -> None:
-    """Finds the mistake in words that are to be these numbers, behind what a step begins with."""
     usage = " ".join((form, *(number.name for number in numbers)))
     for number, word in zip(numbers, words):
         (_heed_digits if number.digits else _heed_decimal)(number, word, word[0])
@@ -156,7 +154,6 @@ def _cleaned(text: str) -> Optional[str]:
 
 
 def _heed_digits(number: Field, word: Word, text: str) -> None:
-    """Finds why a word, or the part of it that is its number, is none of so many hexadecimal digits."""
     if HEX.fullmatch(text):
         if len(text) <= number.digits:
             return _heed_range(number, word, int(text, 16))
@@ -217,7 +214,6 @@ def _heed_call(words: Sequence[Word]) -> None:
 
 
 def _place_of(word: Word, behind: Sequence[Word], last: int) -> int:
-    """The place of a call's register among the registers, which is behind that of the last one."""
     found = REGISTER.fullmatch(word[0])
     name = (found[1] if found else word[0].strip("=" + PUNCTUATION)).lower()
     if found is None:
@@ -250,7 +246,6 @@ def _no_register(word: Word, name: str, behind: Sequence[Word]) -> Mistake:
 
 
 def _heed_block(words: Sequence[Word]) -> None:
-    """Finds the mistake of a call's block, which stands last."""
     if len(words) == 1:
         raise _wrong(words[0], "the block has no digits; a call without a block has no word for it")
     digits = words[1]

@@ -57,7 +57,6 @@ def _head(width: int, height: int) -> bytes:
 
 
 def _packed(rows: Iterable[bytes], size: tuple[int, int], new: tuple[int, int]) -> Iterator[bytes]:
-    """Rows of one size as a PNG of another has them packed, in parts."""
     packer = zlib.compressobj(COMPRESSION)
     for row in rows if new == size else stretched(rows, size, new):
         packed = packer.compress(b"\0" + row)
@@ -85,7 +84,6 @@ def _rows(picture: Picture) -> Iterator[bytes]:
 
 
 def _marked_row(picture: Picture, other: Picture, width: int, y: int) -> bytes:
-    """A row darkened, with the dots marked that differ or stand in one of the pictures alone."""
     if y >= picture.height or y >= other.height:
         return MARK * width
     row, other_row = picture.row(y), other.row(y)
@@ -153,7 +151,6 @@ class Animation:
 
 
 def _shrunk_row(picture: Picture, top: int, bottom: int, columns: int) -> list[list[int]]:
-    """The mean colours of a row of blocks, which cover these rows of dots."""
     rows = [picture.row(y).translate(WIDENED) for y in range(top, max(top + 1, bottom))]
     colours = []
     for column in range(columns):

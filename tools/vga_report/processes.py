@@ -245,7 +245,6 @@ def captured(
 
 
 def _last_line(path: Path) -> str:
-    """The last whole line of what a program has written so far."""
     with open(path, "rb") as stream:
         stream.seek(max(0, _size(stream) - MOST_SAID))
         lines = stream.read(MOST_SAID).rpartition(b"\n")[0].splitlines()

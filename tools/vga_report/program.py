@@ -72,7 +72,6 @@ def found_program(named: Optional[str], lacking: str = NO_PROGRAM) -> str:
 
 @contextmanager
 def _running(words: Sequence[str], asking: float = 0, **given: Any) -> Iterator[Outcome]:
-    """A command that runs, with its report as it comes."""
     with tempfile.TemporaryFile() as said:
         with started(words, asking, stdout=subprocess.PIPE, stderr=said, **given) as process:
             outcome = Outcome(cast(BinaryIO, process.stdout))
@@ -90,7 +89,6 @@ def _words(script: str, fonts: str, until: Optional[int], is_bytes: bool) -> lis
 
 
 def _crate() -> Path:
-    """The folder of the program's crate; a Trouble where its sources or `rt` are lacking."""
     if not (CRATE / "src").is_dir():
         raise Trouble(NO_SOURCES)
     check_program("rt", WITHOUT_RT)

@@ -92,7 +92,6 @@ def _cycles(step: Step) -> Iterator[Cycle]:
 
 
 def _not_decoded(cycle: Cycle, state: State) -> str:
-    """Why a port or an address is not decoded; empty where it is."""
     place, misc = cycle.place, state.misc or 0
     first, last = WINDOWS[state.map]
     if cycle.is_memory and not misc & 2:
@@ -109,7 +108,6 @@ def _not_decoded(cycle: Cycle, state: State) -> str:
 
 
 def _not_in_profile(cycle: Cycle, state: State) -> str:
-    """Why a cycle of a port is out of the profile; empty where it is not."""
     _, port, value, picked = cycle
     if value is not None and port & 0xF0F == 0x30A and port != 0x3CA:
         return "Feature control is left out of the adapter."

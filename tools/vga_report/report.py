@@ -74,7 +74,6 @@ class Expected(Report):
             number += 1
 
     def _picture_answer(self, number: int, answer: str) -> Answer:
-        """The answer of a picture, whose rows stand next, one a line, or whose digest stands there."""
         found, place = ROWS.fullmatch(answer), self.line
         if found is None:
             return super()._picture_answer(number, answer)
@@ -94,15 +93,6 @@ class Expected(Report):
         if max(dots) > 63:
             raise self._error("a dot has a component above 3F")
         return dots
-
-
-class Told(NamedTuple):
-    """What messages tell of a difference, which takes less memory than its pictures."""
-
-    number: int
-    answer: str
-    other: str
-    text: str
 
 
 class Difference(NamedTuple):
@@ -149,14 +139,14 @@ class Difference(NamedTuple):
         pictures = self.pictures()
         return told_dots(*pictures) if pictures and pictures[0].size == pictures[1].size else ""
 
-    def told(self) -> Told:
+    def told(self) -> str:
         """What messages tell of it: as a line, what the first report has in the place of what the other has."""
         answer, other = self.answers()
         text = self.dots() or f"{answer}, not {other}"
         lines = ["" if step is None else step.answer for step in self]
         if lines[0] != lines[1] == lines[0].upper():
             text += ": digits are upper case in a report"
-        return Told(self.number, answer, other, f"{self.place}: {text}")
+        return f"{self.place}: {text}"
 
 
 def told_dots(picture: Picture, other: Picture) -> str:

@@ -26,7 +26,6 @@ TIMES = {1: "", 2: "twice", 3: "three times", 4: "four times"}
 
 @contextmanager
 def _steps(path: str, progress: Optional[Progress] = None, kind: type[Report] = Report) -> Iterator[Iterator[Answer]]:
-    """The steps of a report, or of an expected one, in a file."""
     with reading(path) as stream:
         yield kind(stream, name_of(path), progress).steps()
 
@@ -175,7 +174,7 @@ def check(words: argparse.Namespace, progress: Progress) -> int:
         write(f"{name} is as expected: {comparison.text()}\n")
         return AGREED
     places = [f"{one}:{step.line}" if step else one for one, step in zip((name, expected_name), difference)]
-    write(f"{places[0]}: {difference.told().text} ({places[1]})\n")
+    write(f"{places[0]}: {difference.told()} ({places[1]})\n")
     return DIFFERED
 
 

@@ -73,7 +73,6 @@ def _is_text(name: str) -> bool:
 
 
 def _contradictions(words: argparse.Namespace) -> dict[str, object]:
-    """What is said where words contradict one another, each with whether they do so."""
     pictures, several = words.pictures or words.show, words.junit is not None or os.path.isdir(words.script)
     return {
         "--bless writes into the script, whole: it wants a file, and no --until":
@@ -112,7 +111,6 @@ def _fragment(words: argparse.Namespace) -> str:
 
 
 def _write_debug_page(words: argparse.Namespace, data: bytes) -> None:
-    """Writes the page that runs the script, and tells how it is opened."""
     write_file(words.debug, debug_page(name_of(words.script), data, words.fonts, words.debug))
     if words.debug != STANDARD:
         address = Path(words.debug).absolute().as_uri() + _fragment(words)
@@ -166,7 +164,6 @@ def _run_script(words: argparse.Namespace, progress: Progress) -> int:
 
 
 def _heed_bytes(words: argparse.Namespace, script: Script) -> None:
-    """Tells what is lost where a script is bytes."""
     if script.is_bytes and script.shown.endswith(TEXT_NAME):
         sys.stderr.write(LOST_TEXT.format(script.shown))
     if script.is_bytes and (words.bless or words.diff):
@@ -174,8 +171,6 @@ def _heed_bytes(words: argparse.Namespace, script: Script) -> None:
 
 
 class _Shower:
-    """Shows the steps of a run, as the words want it: as a listing, as a page, or not at all."""
-
     def __init__(self, words: argparse.Namespace, progress: Progress) -> None:
         self._words = words
         self._progress = progress
@@ -222,7 +217,6 @@ class _Shower:
 
 
 def _bless(words: argparse.Namespace, blessing: Blessing) -> int:
-    """Writes the answers into the script that are not as expected, each behind its step, and lists them."""
     path = words.script
     changes = list(blessing.changes())
     for number, before, after in changes:
@@ -245,7 +239,6 @@ class Ran(NamedTuple):
 
 
 def _run_several(words: argparse.Namespace, progress: Progress) -> int:
-    """Runs each script of a folder, or one, and tells of each what differs and what was seen."""
     if words.script == STANDARD:
         raise Trouble("--junit wants a file or a folder, and not standard input")
     paths = _scripts_in(words.script) if os.path.isdir(words.script) else [Path(words.script)]
@@ -278,7 +271,6 @@ def _scripts_in(folder: str) -> list[Path]:
 
 
 def _runs(words: argparse.Namespace, paths: list[Path], folder: Path, progress: Progress) -> Iterator[Ran]:
-    """What comes of the scripts, in their order, as many of them at a time as are wanted."""
     is_ended, given = Event(), {"--fonts": words.fonts, "--vga": words.vga, "--until": words.until}
     options = ["--quiet", *(str(word) for pair in given.items() if pair[1] is not None for word in pair)]
     options += [f"--{name.rstrip('_')}" for name in ("try_", "strict", "diff") if getattr(words, name)]
@@ -310,7 +302,6 @@ def _write_json(path: str, ran: list[Ran]) -> None:
 
 
 def _junit_text(name: str, ran: list[Ran]) -> str:
-    """The results as JUnit's XML: a case for each script, whose failure has the answers that differ."""
     kinds = {DIFFERED: "failure", TROUBLE: "error"}
     counts = {f"{kind}s": str(sum(one.status == status for one in ran)) for status, kind in kinds.items()}
     time_of_all = f"{sum(one.seconds for one in ran):.3f}"
@@ -328,7 +319,6 @@ def _junit_text(name: str, ran: list[Ran]) -> str:
 
 
 def _watched(words: argparse.Namespace, work: Work, progress: Progress) -> NoReturn:
-    """Does the work, and again each time that a file of it changes; the user ends it."""
     while True:
         before = _changes(words)
         try:

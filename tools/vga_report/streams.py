@@ -145,7 +145,6 @@ def _may_be_replaced(path: str) -> bool:
 
 @contextmanager
 def _written_beside(path: Path) -> Iterator[BinaryIO]:
-    """A file that takes the place of the one at a path if all goes well, and else goes away."""
     # A link stays, and its file is replaced.
     place = Path(os.path.realpath(path))
     handle, beside = tempfile.mkstemp(prefix=f".{place.name[:100]}-", dir=place.parent)

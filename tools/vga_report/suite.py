@@ -19,7 +19,7 @@ from .output import AGREED, DIFFERED, counted, name_of, write, write_name
 from .png import save_png
 from .processes import MEBIBYTE, Limits, in_parallel, run_command
 from .progress import Progress
-from .report import Comparison, Report, Told
+from .report import Comparison, Report
 from .streams import STANDARD, bytes_of, check_folder, write_file
 from .trouble import Trouble
 
@@ -42,30 +42,21 @@ SHOWN_LINES = 10
 
 @dataclass
 class Result:
-    """What came of a case: its answer, why it doesn't agree, what differs first, and what was compared."""
+    """What came of a case: its answer, why it doesn't agree, the step that differs first, and what was compared."""
 
     case: Case
     rule: str
     answer: str = AGREES
     reason: str = ""
-    difference: Optional[Told] = None
+    # For machines: its number, 0 where a fault stands in the place of steps, and both answers.
+    first: dict[str, object] = field(default_factory=dict)
     comparison: Comparison = field(default_factory=Comparison)
 
-    def text(self) -> str:
-        """Why it doesn't agree, with the step and its place; empty where it does."""
-        if self.difference is None:
-            return self.reason
-        place = self.case.place_of(self.difference.number)
-        return self.difference.text + (f" ({place})" if place else "")
-
     def told(self) -> dict[str, object]:
-        """The same for machines. The step is 0 where a fault stands in the place of steps."""
+        """The same for machines."""
         counts = {name: getattr(self.comparison, name) for name in ("steps", "skipped", "answers", "differing")}
-        told = {"name": self.case.name, "rule": self.rule, "answer": self.answer, **counts}
-        if self.difference is not None:
-            number, answered, expected, _ = self.difference
-            told.update(step=number, answered=answered, expected=expected)
-        return {**told, "reason": self.text()} if self.answer != AGREES else told
+        told = {"name": self.case.name, "rule": self.rule, "answer": self.answer, **counts, **self.first}
+        return {**told, "reason": self.reason} if self.answer != AGREES else told
 
 
 # The results of a folder's rules.
@@ -130,7 +121,6 @@ def _write_expected(words: argparse.Namespace) -> int:
 
 
 def _chosen(words: argparse.Namespace) -> list[Case]:
-    """The cases whose names begin as `--only` wants it, or all, without those of `--except`."""
     wanted, unwanted = tuple(words.only) or "", tuple(words.except_)
     cases = [
         case for case in read_cases(words.list) if case.name.startswith(wanted) and not case.name.startswith(unwanted)
@@ -158,7 +148,6 @@ def _results(words: argparse.Namespace, cases: list[Case], progress: Progress) -
 
 
 def _run_case(case: Case, command: Optional[Command], words: argparse.Namespace, is_ended: Event) -> Result:
-    """Runs a case, unless it is left out. What doesn't agree is kept in a folder, where one is given."""
     if command is None:
         return Result(case, case.rule(), SKIPPED, "the script is bytes, and --bytes has no command")
     if case.is_bytes and case.until is not None and not command.can_stop:
@@ -198,16 +187,18 @@ def _compare(result: Result, report: io.BufferedReader) -> None:
     try:
         for difference in comparison.differences(Report(report, REPORT_NAME).steps(), result.case.expected_steps()):
             # The first is told, and the others are counted.
-            result.difference = result.difference or difference.told()
+            if not result.first:
+                answered, expected = difference.answers()
+                result.first = {"step": difference.number, "answered": answered, "expected": expected}
+                place = result.case.place_of(difference.number)
+                result.answer, result.reason = DIFFERS, difference.told() + (f" ({place})" if place else "")
     except Trouble as trouble:
         if trouble.name != REPORT_NAME:
             raise
-        if result.difference is None:
+        if not result.first:
             result.answer, result.reason = FAILED, str(trouble)
             return
-    if result.difference is not None:
-        result.answer = DIFFERS
-    elif comparison.skipped:
+    if not result.first and comparison.skipped:
         result.answer = SKIPPED
         result.reason = f"{comparison.skipped} of {comparison.steps} steps are skipped, the others agree"
 
@@ -219,7 +210,6 @@ def said_lines(messages: Path) -> list[str]:
 
 
 def _said_text(messages: Path) -> str:
-    """What a command said, as the end of a message: its first and its last lines."""
     lines = said_lines(messages)
     if len(lines) > 2 * SHOWN_LINES:
         lines = [*lines[:SHOWN_LINES], f".. {len(lines) - 2 * SHOWN_LINES} lines ..", *lines[-SHOWN_LINES:]]
@@ -229,7 +219,6 @@ def _said_text(messages: Path) -> str:
 
 
 def _keep(stem: Path, case: Case, files: dict[str, Path]) -> None:
-    """Keeps the files of a case, by the ends of their names, and each of its pictures beside what is expected."""
     stem.parent.mkdir(parents=True, exist_ok=True)
     for end, file in files.items():
         write_file(f"{stem}{end}", file.read_bytes())
@@ -249,7 +238,6 @@ def _pictures_of(report: Path) -> Iterator[tuple[int, Picture]]:
 
 
 def _pictures_in(steps: Iterator[Answer]) -> Iterator[tuple[int, Picture]]:
-    """The pictures of steps that have them with all their dots, each with its step's number."""
     return ((step.number, step.picture) for step in steps if isinstance(step.picture, Picture))
 
 
@@ -288,7 +276,6 @@ def scripts(words: argparse.Namespace, progress: Progress) -> int:
 
 
 def _copied(font: Path, folder: Path, taken: Sequence[str]) -> str:
-    """Copies a font file to the scripts, and answers its name among them, which is none that is taken."""
     name = f"fonts/{font.name}"
     name = name if name not in taken else f"fonts/{len(taken) - 1}-{font.name}"
     (folder / "fonts").mkdir(exist_ok=True)
@@ -310,17 +297,15 @@ def _counts_text(results: list[Result]) -> str:
 
 
 def _group_lines(group: str, rules: dict[str, list[Result]]) -> Iterator[str]:
-    """The table of a folder: its rules, and why a case doesn't agree."""
     yield f"{group or '.'} ({_counts_text(sum(rules.values(), []))})"
     for rule, results in rules.items():
         yield f"  {_worst(results):8} {rule}"
         for result in results:
             if result.answer != AGREES:
-                yield f"           {result.case.name}: " + result.text().replace("\n", "\n           ")
+                yield f"           {result.case.name}: " + result.reason.replace("\n", "\n           ")
 
 
 def _json_text(command: str, groups: Rules, results: list[Result]) -> str:
-    """The table for machines: one JSON object, in which each case is one line, with its rule."""
     told = []
     for group, rule, some in ((group, *one) for group, rules in groups.items() for one in rules.items()):
         head = json.dumps({"rule": rule, "folder": group, "answer": _worst(some)})
