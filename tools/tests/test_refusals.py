@@ -8,7 +8,7 @@ from typing import Sequence
 from vga_report import TOP
 from vga_report.faults import explained
 from vga_report.mistakes import mistake_in
-from vga_report.refusals import OF_CALLS, State, why_refused
+from vga_report.registers import OF_CALLS, Registers, why_refused
 from zaklimot.format import REFUSALS, Answer
 
 from .tools import Folder, hold, run_texts
@@ -31,9 +31,9 @@ TEXTS = [(bytes.fromhex(row["hex"]), row["reason"]) for row in TABLE["texts"]]
 DONE = Answer(1, 1, "ok")
 
 
-def state_behind(lines: Sequence[str]) -> State:
+def state_behind(lines: Sequence[str]) -> Registers:
     """The state that steps leave."""
-    state = State()
+    state = Registers()
     for line in lines:
         state.why_of(line, DONE)
     return state

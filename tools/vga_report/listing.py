@@ -29,7 +29,7 @@ from .output import counted
 from .processes import IS_POSIX
 from .program import Built, Limited, Tried
 from .progress import Progress
-from .refusals import State
+from .registers import Registers
 from .report import Report
 from .streams import writing
 from .trouble import Trouble
@@ -169,7 +169,7 @@ class Script:
         meant = chain(islice(self._steps(), until), ((dump, NO_PLACE) for dump in dumps), unknown)
         count = self._count if until is None or self._count is None else min(until, self._count)
         wanted = None if count is None else count + len(dumps)
-        state, dump_of, is_told = State() if tells_why else None, self._dumps.get, progress.is_wanted
+        state, dump_of, is_told = Registers() if tells_why else None, self._dumps.get, progress.is_wanted
         with self._program.running(Path(self._path), fonts, until, self.is_bytes) as outcome:
             _wait_for(outcome.report, self.shown, progress)
             report = Report(outcome.report, "the report", progress)  # type: ignore[arg-type]
