@@ -26,7 +26,7 @@ class Reports(Folder):
     REPORTS = {
         "black": ("ok", ppm(9, 1, BLACK * 9)), "red": ("ok", PICTURE), "two": (PICTURE, "ok", ppm(1, 1, WHITE)),
         "high": (ppm(100, 101, BLACK * 10100),), "wide": (ppm(5000, 1, BLACK * 5000),), "read": ("ok", "E1", "00"),
-        "refused": ("ok", "E1 NotDecoded", "01"), "three": ("ok", "ok", "55"), "many": ("ok",) * 50000,
+        "refused": ("ok", "E1 NotDecoded", "01"), "three": ("ok", "ok", "55"),
         "a": ("00", PICTURE), "b": ("01", ppm(9, 1, RED * 3 + BLACK * 6)),
     }
 
@@ -59,15 +59,6 @@ class Reports(Folder):
             ("text -", b"1 ok\n3 ok\n", (2, b"1 ok\n", f"{front}step 2 is to come, and not '3 ok'\n")),
         ))
 
-    def test_a_closed_pipe_ends_it_silently(self) -> None:
-        process = begin(PROGRAM.name, "text", self.folder / "many")
-        assert process.stdout is not None and process.stderr is not None
-        with process, process.stdout, process.stderr:
-            self.assertEqual(process.stdout.readline(), b"1 ok\n")
-            process.stdout.close()
-            self.assertEqual(process.stderr.read(), b"")
-        self.assertEqual(process.returncode, 141)
-
     def test_pictures(self) -> None:
         cut = "vga-report: standard input:2: the picture of step 2 is cut off: of 37 bytes there are 35\n"
         large = "vga-report: a picture of {} dots would get {}, and 100,000,000 dots are the most\n".format
@@ -96,6 +87,9 @@ class Reports(Folder):
             ("compare red -", report("ok", PICTURE), (0, agree + b"2 steps, 1 picture\n", "")),
             ("compare read refused", (1, first, "")),
             ("compare read refused --all", (1, both, "")), ("compare read refused --picture m.png", (1, first, none)),
+            ("check three -", b"1-2 ok\n3 55\n", (0, b"three is as expected: 3 steps, 0 pictures\n", "")),
+            ("check three -", b"1-2 ok\n3 54\n", (1, b"three:3: step 3: 55, not 54 (standard input:2)\n", "")),
+            ("check three -", b"1-2 ok\n", (1, b"three:3: step 3: 55, not the end (standard input)\n", "")),
         ))
         self.assertFalse((self.folder / "m.png").exists())
 
@@ -107,16 +101,6 @@ class Reports(Folder):
         self.assertEqual(self.rows("marked.png"), (9, 1, [red * 3 + mark + BLACK * 5]))
         status, picture, said = self.done("compare a b --picture - --scale 2")
         self.assertEqual((status, png_rows(picture)[:2], said.partition("\n")[0]), (1, (18, 2), "step 1 differs"))
-
-    def test_as_expected_and_not(self) -> None:
-        def told(expected: str) -> tuple[int, bytes, str]:
-            return self.done("check three -", expected.encode())
-
-        hold(self, told, [
-            ("1-2 ok\n3 55\n", (0, b"three is as expected: 3 steps, 0 pictures\n", "")),
-            ("1-2 ok\n3 54\n", (1, b"three:3: step 3: 55, not 54 (standard input:2)\n", "")),
-            ("1-2 ok\n", (1, b"three:3: step 3: 55, not the end (standard input)\n", "")),
-        ])
 
 
 class Streams(Folder):
@@ -421,10 +405,7 @@ class Suite(Folder):
     def test_several_fronts_of_names_and_some_that_are_left_out(self) -> None:
         for name in ("a/one", "a/two", "b/one", "c/one"):
             self.case(name, "get A0000\n", "1 FF\n")
-        for words, cases in [
-            (("--only", "a/", "--only", "c/"), "3 cases"),
-            (("--except", "a/"), "2 cases"),
-            (("--only", "a/", "--except", "a/t", "--except", "b/"), "1 case"),
-        ]:
-            with self.subTest(words):
-                self.assertIn(f"\n{cases}: ", self.run_suite(*words)[1])
+        hold(self, lambda words: self.run_suite(*words.split())[1].splitlines()[-1].partition(":")[0], (
+            ("--only a/ --only c/", "3 cases"), ("--except a/", "2 cases"),
+            ("--only a/ --except a/t --except b/", "1 case"),
+        ))

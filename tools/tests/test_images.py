@@ -47,17 +47,15 @@ class ComparePicture(Folder):
             (ppm(2, 1, RED + WHITE), ppm(4, 2, (RED * 2 + WHITE * 2) * 2), (0, f"agree: 4x2, {smaller}, {six}")),
         ))
 
-    def test_differing_dots(self) -> None:
-        marked = self.folder / "marked.png"
-        status, text = self.compared(ppm(9, 1, RED * 3 + BLACK * 6), "--picture", str(marked))
-        self.assertEqual(status, 1)
-        self.assertIn("  1 of 9 dots differ, the first is dot 3 of row 0: 3F0000, not 000000\n", text)
+    def test_differing(self) -> None:
+        marked, fewer = self.folder / "marked.png", png(18, 1, b"\0" + b"\xff\0\0" * 7 + b"\x80\0\0" + bytes(30))
+        sizes = "differ: they have {} and {} dots, and neither is the other with dots repeated\n".format
+        dots = "  1 of 9 dots differ, the first is dot 3 of row 0: 3F0000, not 000000\n"
+        hold(self, self.compared, (
+            (ppm(10, 1, BLACK * 10), (1, sizes("9x1", "10x1"))), (fewer, (1, sizes("9x1", "18x1"))),
+            (ppm(9, 1, RED * 3 + BLACK * 6), "--picture", str(marked), (1, f"differ: 9x1, six bits a component\n{dots}")),
+        ))
         self.assertTrue(marked.exists())
-
-    def test_other_sizes(self) -> None:
-        text = "differ: they have 9x1 and 10x1 dots, and neither is the other with dots repeated\n"
-        self.assertEqual(self.compared(ppm(10, 1, BLACK * 10)), (1, text))
-        self.assertEqual(self.compared(png(18, 1, b"\0" + b"\xff\0\0" * 7 + b"\x80\0\0" + bytes(30)))[0], 1)
 
 
 class Animations(Folder):
@@ -70,6 +68,8 @@ class Animations(Folder):
             self.assertEqual(done, (0, f"{moving}: 2 frames, 0.031 seconds\n".encode(), ""))
         chunks = png_chunks(moving.read_bytes())
         self.assertEqual([kind for kind, _ in chunks], [b"IHDR", b"sBIT", b"acTL", b"fcTL", b"IDAT", b"fcTL", b"fdAT", b"IEND"])
+        # The dots have six bits.
+        self.assertEqual(chunks[1][1], b"\6\6\6")
         times = [struct.unpack(">IIIIIHHBB", body) for kind, body in chunks if kind == b"fcTL"]
         self.assertEqual([time[0] for time in times], [0, 1])
         # 404,100 dots of 28.322 MHz, and 420,000 of 25.175 MHz.
@@ -138,11 +138,6 @@ class Images(unittest.TestCase):
             *((*pair, (2, 2, [BLACK + MARK, MARK * 2])) for pair in ((wide, Shape(), high), (high, Shape(), wide))),
         ))
 
-    def test_the_six_bits_are_told(self) -> None:
-        stream = io.BytesIO()
-        write_png(stream, Picture.of_dots(1, 1, RED))
-        self.assertIn((b"sBIT", b"\6\6\6"), png_chunks(stream.getvalue()))
-
     def test_the_shape_of_a_monitor(self) -> None:
         hold(self, lambda scale, *size: Shape(scale, True).size(*size), [
             (1, 720, 400, (720, 540)), (1, 640, 480, (640, 480)), (1, 640, 350, (640, 480)), (1, 320, 400, (533, 400)),
@@ -162,8 +157,5 @@ class Images(unittest.TestCase):
             (png(2, 2, b"\x01" + red + b"\0\xff\xff" + b"\x02" + b"\0" * 6), [red + white] * 2),
             (png(2, 2, b"\0" + red + white + b"\x03" + b"\x80\x00\x00\x00\x80\x80"), [red + white] * 2),
             (png(2, 2, b"\0" + red + white + b"\x04" + b"\0" * 3 + b"\0" * 3), [red + white] * 2),
+            (b"P6 # a\n1\t1\n255\n\x01\x02\x03", [b"\x01\x02\x03"]),
         ])
-
-    def test_ppm(self) -> None:
-        self.assertEqual(image_of(b"P6 # a\n1\t1\n255\n\x01\x02\x03", "i").rows, (b"\x01\x02\x03",))
-        self.assertEqual(image_of(ppm(1, 1, RED), "i").most, 63)
