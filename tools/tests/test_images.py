@@ -50,10 +50,11 @@ class ComparePicture(Folder):
     def test_differing(self) -> None:
         marked, fewer = self.folder / "marked.png", png(18, 1, b"\0" + b"\xff\0\0" * 7 + b"\x80\0\0" + bytes(30))
         sizes = "differ: they have {} and {} dots, and neither is the other with dots repeated\n".format
-        dots = "  1 of 9 dots differ, the first is dot 3 of row 0: 3F0000, not 000000\n"
+        dots = "differ: 9x1, six bits a component\n"
+        dots += "  1 of 9 dots differ, the first is dot 3 of row 0: 3F0000, not 000000\n"
         hold(self, self.compared, (
             (ppm(10, 1, BLACK * 10), (1, sizes("9x1", "10x1"))), (fewer, (1, sizes("9x1", "18x1"))),
-            (ppm(9, 1, RED * 3 + BLACK * 6), "--picture", str(marked), (1, f"differ: 9x1, six bits a component\n{dots}")),
+            (ppm(9, 1, RED * 3 + BLACK * 6), "--picture", str(marked), (1, dots)),
         ))
         self.assertTrue(marked.exists())
 

@@ -29,7 +29,7 @@ from vga_report.words import parser
 from zaklimot.format import count_in, lines_in, places_in, steps_in, words_in
 
 from .test_command import run
-from .tools import BLACK, EXAMPLES, RED, TOP, Folder, begin, ended, hold, hold_refused, ppm, want_program
+from .tools import BLACK, EXAMPLES, RED, TOP, Folder, begin, ended, hold, hold_refused, hold_undone, ppm, want_program
 
 # A program that understands texts of a few steps: `asm` copies, `dis` prints in upper case, `go` answers by the name.
 FAKE = """import sys
@@ -202,19 +202,15 @@ class Listings(Fake):
         self.assertEqual(self.run_script(path=self.write("s.bin", b"VGAS\1\x0b"))[2], "")
 
     def test_what_is_lacking_for_a_build(self) -> None:
-        told = (
-            "vga-report: rt: it is not in the path: it is the command of the Rattle toolchain, "
-            "which README.md tells of under \"Build it\". Without it --vga runs a program that is "
-            "built already, and --debug FILE writes a page that runs the script in a browser\n"
-        )
         self.assertIn("## Build it\n", (TOP / "README.md").read_text("utf-8"))
-        path, none = mock.patch.dict(os.environ, PATH=str(self.folder)), self.folder / "none"
-        with path, mock.patch.object(program, "PROGRAM", none):
-            for words in ("--try", "--build"):
-                self.assertEqual(run("run", self.path, words), (2, b"", told))
-                # A release has no sources.
-                with mock.patch.object(program, "CRATE", none):
-                    self.assertIn("the program's sources in Rattle are not here", run("run", self.path, words)[2])
+        none = self.folder / "none"
+        told = '^vga-report: rt: it is not in the path: .* "Build it"\\. Without it --vga runs a '
+        self.patch(mock.patch.dict(os.environ, PATH=str(self.folder)), mock.patch.object(program, "PROGRAM", none))
+        for words in ("--try", "--build"):
+            hold_undone(self, run("run", self.path, words), told)
+            # A release has no sources.
+            with mock.patch.object(program, "CRATE", none):
+                hold_undone(self, run("run", self.path, words), "the program's sources in Rattle are not here")
 
     def test_programs_that_do_not_do_it(self) -> None:
         good, fault = self.vga.read_text(), "t.vga:2: F7 BadLine(2): refused"

@@ -280,13 +280,6 @@ class Tally:
             parts.append(f"{self.met} of {self.expected} answers as expected")
         return ", ".join(parts)
 
-    def end(self, trouble: Optional[Trouble]) -> None:
-        """Ends the JSON."""
-        if self._stream is not None:
-            counts = {name: getattr(self, name) for name in self.COUNTS}
-            ended = json.dumps({**counts, "trouble": None if trouble is None else str(trouble)})
-            self._stream.write(b"\n], " + ended[1:].encode("ascii") + b"\n")
-
 
 def _told(row: Row) -> dict[str, Any]:
     step = row.step
@@ -310,7 +303,10 @@ def tallied(shown: str, path: Optional[str]) -> Iterator[Tally]:
             yield tally
         except Trouble as raised:
             trouble = raised
-        tally.end(trouble)
+        if stream is not None:
+            counts = {name: getattr(tally, name) for name in Tally.COUNTS}
+            ended = json.dumps({**counts, "trouble": None if trouble is None else str(trouble)})
+            stream.write(b"\n], " + ended[1:].encode("ascii") + b"\n")
     if trouble is not None:
         raise trouble
 

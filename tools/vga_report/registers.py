@@ -1,4 +1,4 @@
-"""The registers on which the time of frames and refusals hang, as far as a script tells them; and why steps are refused.
+"""The registers on which the time of frames and refusals hang, as far as a script tells them; why steps are refused.
 
 The words of refusals are those of page/refusals.js; page/tests/refusals.mjs and tests/test_refusals.py hold both to the
 same cases.
@@ -175,7 +175,7 @@ def step_of(words: str) -> Optional[Step]:
 
 
 class Cycle(NamedTuple):
-    """A cycle of a step: its port or address, the byte that is written to a port, and the index that the step picked."""
+    """A cycle of a step: its port or address, the byte written to a port, and the index that the step picked."""
 
     is_memory: bool
     place: int

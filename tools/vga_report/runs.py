@@ -138,7 +138,11 @@ def _run_script(words: argparse.Namespace, progress: Progress) -> int:
             if words.debug is not None and os.path.isfile(path):
                 _write_debug_page(words, data)
             script = Script(path, data, program, tally.shown, cast(BinaryIO, printed))
-            _heed_bytes(words, script)
+            # What is lost where a script is bytes.
+            if script.is_bytes and script.shown.endswith(TEXT_NAME):
+                sys.stderr.write(LOST_TEXT.format(script.shown))
+            if script.is_bytes and (words.bless or words.diff):
+                raise Trouble("a script of bytes has no comments for answers", words.script)
             blessing = Blessing(data, words.bless) if words.bless or words.diff else None
             tells_why = shower.tells_why or words.json is not None
             for row in script.rows(fonts, words.until, progress, words.strict, tells_why):
@@ -161,13 +165,6 @@ def _run_script(words: argparse.Namespace, progress: Progress) -> int:
                 tell(line)
             tell((f"{tally.shown}: " if words.quiet else "") + tally.text() + "\n")
     return DIFFERED if tally.wrong else AGREED
-
-
-def _heed_bytes(words: argparse.Namespace, script: Script) -> None:
-    if script.is_bytes and script.shown.endswith(TEXT_NAME):
-        sys.stderr.write(LOST_TEXT.format(script.shown))
-    if script.is_bytes and (words.bless or words.diff):
-        raise Trouble("a script of bytes has no comments for answers", words.script)
 
 
 class _Shower:
