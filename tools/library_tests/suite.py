@@ -11,11 +11,10 @@ from typing import Any
 
 from vga_report import TOP
 from vga_report.cases import read_cases
-from vga_report.output import AGREED, DIFFERED
 from vga_report.suite import AGREES, SKIPPED
 from vga_report.words import SUITE
 from vga_report.processes import captured
-from vga_report.trouble import Wrong
+from vga_report.trouble import AGREED, DIFFERED, Wrong
 
 from .compilers import Built, build
 

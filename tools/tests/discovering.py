@@ -18,8 +18,8 @@ from typing import Any, Iterator, NamedTuple, Optional, Sequence
 from unittest import mock
 
 from vga_report import cli
-from vga_report.output import counted
 from vga_report.processes import captured, in_parallel
+from vga_report.streams import counted
 from vga_report.trouble import Trouble
 
 from .tools import UNBUILT

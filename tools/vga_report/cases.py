@@ -10,7 +10,7 @@ from zaklimot.format import FAULT, MOST_BYTES, STATE, Answer, lines_in, steps_in
 from zaklimot.format.report import REFUSAL, VALUE
 
 from .report import Expected
-from .streams import STANDARD, bytes_of, read_at_most, shown_name
+from .streams import STANDARD, bytes_of, name_of, read_at_most
 from .trouble import Trouble
 
 CASE = re.compile(r"(?P<bytes>bytes )?(?P<name>[^ ]+)( until (?P<steps>[0-9]+))?")
@@ -49,11 +49,6 @@ class Case(NamedTuple):
     def expected(self) -> Path:
         """The file of its expected report."""
         return self.folder / (self.name + ".txt")
-
-    @property
-    def group(self) -> str:
-        """The folder that its name begins with."""
-        return self.name.rpartition("/")[0]
 
     def rule(self) -> str:
         """The rule that it shows: the first line of its first comment, or else its name."""
@@ -143,7 +138,7 @@ def _front_of(text: bytes, steps: int) -> bytes:
 
 def read_cases(path: str) -> list[Case]:
     """The cases of a list, but for those whose expected report is wrong on purpose."""
-    folder, name = (Path(".") if path == STANDARD else Path(path).parent).absolute(), shown_name(path, "standard input")
+    folder, name = (Path(".") if path == STANDARD else Path(path).parent).absolute(), name_of(path)
     fonts: Optional[Path] = None
     front: Optional[Path] = None
     cases = []

@@ -25,13 +25,12 @@ from .expecting import (
 )
 from .faults import explained
 from .mistakes import text_of
-from .output import counted
 from .processes import IS_POSIX
 from .program import Built, Limited, Tried
 from .progress import Progress
 from .registers import Registers
 from .report import Report
-from .streams import writing
+from .streams import counted, writing
 from .trouble import Trouble
 
 HEADING = "step as understood"

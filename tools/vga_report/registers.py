@@ -157,7 +157,7 @@ def why_refused(words: str, number: int, state: Registers) -> str:
     if number in (1, 2):
         reason = _not_decoded if number == 1 else _not_in_profile
         # Another program than the adapter's may refuse any step so.
-        return next(filter(None, (reason(cycle, state) for cycle in _cycles(step))), "")
+        return next(filter(None, (reason(state, *cycle) for cycle in _cycles(step))), "")
     if step.name == "show cells" and number == 6:
         return "Cells are shown in text, and the mode is graphics."
     told = OF_CALLS.get(number)
@@ -174,41 +174,31 @@ def step_of(words: str) -> Optional[Step]:
         return None
 
 
-class Cycle(NamedTuple):
-    """A cycle of a step: its port or address, the byte written to a port, and the index that the step picked."""
-
-    is_memory: bool
-    place: int
-    value: Optional[int]
-    picked: Optional[int]
-
-
-def _cycles(step: Step) -> Iterator[Cycle]:
+def _cycles(step: Step) -> Iterator[tuple[bool, int, Optional[int], Optional[int]]]:
+    """Whether a cycle is of memory, its port or address, the byte written to a port, the index that the step picked."""
     if step.name in CYCLES:
         written, first = dict(bytes_written(step)), step.numbers[0]
         for place in range(first, first + 1 + step.name.endswith("w")):
             picked = written.get(place - 1) if place - 1 in INDEX_PORTS else None
-            yield Cycle(step.name.startswith(("put", "get")), place, written.get(place), picked)
+            yield step.name.startswith(("put", "get")), place, written.get(place), picked
 
 
-def _not_decoded(cycle: Cycle, state: Registers) -> str:
-    place, misc = cycle.place, state.misc or 0
-    first, last = WINDOWS[state.map]
-    if cycle.is_memory and not misc & 2:
+def _not_decoded(state: Registers, is_memory: bool, place: int, value: Optional[int], _: Optional[int]) -> str:
+    misc, (first, last) = state.misc or 0, WINDOWS[state.map]
+    if is_memory and not misc & 2:
         return "Display memory is off: enable RAM, bit 1 of miscellaneous output, is 0."
-    if cycle.is_memory:
+    if is_memory:
         told = f"Memory map is {state.map} (graphics controller 6, bits 3-2), and it decodes {first:05X} to {last:05X}."
         return "" if first <= place <= last else f"{told} {place:05X} lies outside."
     if place in CRT_PORTS:
         told = f"The CRT controller is at {state.base:03X} now, since bit 0 of miscellaneous output is {misc & 1}."
         return "" if place & 0xFF0 == state.base & 0xFF0 else f"{told} There, port {place:03X} is {place ^ 0x60:03X}."
     if place in READ_ALONE:
-        return "" if cycle.value is None else f"Port {place:03X} can be read, and not written."
+        return "" if value is None else f"Port {place:03X} can be read, and not written."
     return "" if place in READ_AND_WRITTEN else f"No part of the adapter decodes port {place:03X}."
 
 
-def _not_in_profile(cycle: Cycle, state: Registers) -> str:
-    _, port, value, picked = cycle
+def _not_in_profile(state: Registers, _: bool, port: int, value: Optional[int], picked: Optional[int]) -> str:
     if value is not None and port & 0xF0F == 0x30A and port != 0x3CA:
         return "Feature control is left out of the adapter."
     if port in LEFT_OUT and (value is None or port == 0x3C3):

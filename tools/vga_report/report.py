@@ -14,9 +14,8 @@ from zaklimot.format import Answer, Picture, ReportError
 from zaklimot.format.picture import different_dots
 from zaklimot.format.report import REFUSAL, SKIPPED
 
-from .output import counted
 from .progress import Progress
-from .streams import length_of
+from .streams import counted, length_of
 from .trouble import Trouble
 
 OK_STEPS = re.compile(rb"([1-9][0-9]*)-([1-9][0-9]*) ok\n")

@@ -10,15 +10,16 @@ from zaklimot.format import MOST_ADVANCE, Answer, Digest, Picture
 from zaklimot.format.picture import DifferentDots, different_dots
 
 from .images import Image, image_bytes, image_of
-from .output import AGREED, DIFFERED, name_of, refuse_twice, teller, write, write_name
 from .page import Page
 from .png import Animation, Shape, save_png
 from .progress import Progress
 from .report import Comparison, Difference, Expected, Report, told_dots
 from .faults import read_script, script_of
-from .streams import STANDARD, check_folder, reading, write_file, writing
+from .streams import (
+    STANDARD, check_folder, name_of, reading, refuse_twice, teller, write, write_file, write_name, writing,
+)
 from .registers import USUAL, Registers
-from .trouble import Trouble
+from .trouble import AGREED, DIFFERED, Trouble
 
 # Dots or lines that stand so often, as they are told.
 TIMES = {1: "", 2: "twice", 3: "three times", 4: "four times"}

@@ -19,14 +19,16 @@ from .cases import printable
 from .debugging import debug_page, link_to
 from .faults import read_script
 from .listing import Blessing, Row, Script, Tally, chosen, heading, listed, tallied
-from .output import AGREED, DIFFERED, counted, name_of, teller, write
 from .page import Page
 from .png import Shape, block_lines, save_png
 from .program import Built, Tried, build_program, found_program
 from .processes import captured, in_parallel
 from .progress import Progress
-from .streams import STANDARD, check_file, check_folder, refuse_input, to_read, write_file, write_over, writing
-from .trouble import TROUBLE, Trouble
+from .streams import (
+    STANDARD, check_file, check_folder, counted, name_of, refuse_input, teller, to_read, write, write_file, write_over,
+    writing,
+)
+from .trouble import AGREED, DIFFERED, TROUBLE, Trouble
 
 TOOL = TOP / "tools" / "vga-report"
 # How the names of a folder's scripts end.

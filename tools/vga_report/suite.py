@@ -15,13 +15,12 @@ from typing import Iterator, Optional, Sequence
 from zaklimot.format import FAULT, MOST_BYTES, Answer, Picture
 
 from .cases import Case, printable, read_cases
-from .output import AGREED, DIFFERED, counted, name_of, write, write_name
 from .png import save_png
 from .processes import MEBIBYTE, Limits, in_parallel, run_command
 from .progress import Progress
 from .report import Comparison, Report
-from .streams import STANDARD, bytes_of, check_folder, write_file
-from .trouble import Trouble
+from .streams import STANDARD, bytes_of, check_folder, counted, name_of, write, write_file, write_name
+from .trouble import AGREED, DIFFERED, Trouble
 
 AGREES, SKIPPED, DIFFERS, FAILED = "agrees", "skipped", "differs", "failed"
 # The answers from the best to the worst, as they are counted. A rule has the worst answer of its cases.
@@ -99,7 +98,7 @@ def suite(words: argparse.Namespace, progress: Progress) -> int:
     progress.clear()
     rules: Rules = {}
     for result in results:
-        rules.setdefault(result.case.group, {}).setdefault(result.rule, []).append(result)
+        rules.setdefault(result.case.name.rpartition("/")[0], {}).setdefault(result.rule, []).append(result)
     if words.json:
         write(_json_text(words.command, rules, results))
     else:
