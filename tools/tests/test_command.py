@@ -200,11 +200,6 @@ SUITES: list[tuple[tuple[tuple[str, ...], ...], str, list[str]]] = [
     # What can't stop a run gets a script that ends with the dumps.
     ((("get 0\nget 0\nget 0\n", "1 FF\n2 FF\n3 regs\n4 beam\n5 latches\n6 bda\n", "c/0 until 2"),
       ("get 0\n", "1 55\n")), "", ["  agrees   c/0\n"]),
-    # A machine gets no step that is to be refused.
-    ((("get A0000\nout 3C2 01\ncrash\nget A0000\n", "1 FF\n2 ok\n3 E1 NotDecoded\n4 55\n"),
-      ("version 2\nrepeat 2\nget A0000\nend\ncrash\n", "1 FF\n2 FF\n3 E4 BadFunction\n")), "--machine", [
-        "c/0: 2 of 4 steps are skipped, the others agree\n", "c/1: 1 of 3 steps are skipped, the others agree\n",
-    ]),
 ]
 # Lists of cases with their files, the words of `scripts`, and what is written: files, or a reason.
 DUMPS, EDGES = "show regs\nshow beam\nshow latches\nshow bda\n", "; Comment\n\nout 3C2 01 ; more\n\t\r\n  frame\nframe"

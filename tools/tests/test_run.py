@@ -118,11 +118,9 @@ class Fake(Folder):
         self.vga = Path(self.program("vga", FAKE.format(picture=ppm(9, 1, RED * 4 + BLACK * 5))))
         self.path = self.write("s.vga", TEXT)
 
-    def change_program(self, old: str, new: str) -> None:
-        """Puts something else into the program."""
-        text = self.vga.read_text()
-        self.assertIn(old, text)
-        self.vga.write_text(text.replace(old, new))
+    def begin_program(self, text: str) -> None:
+        """Has the program do this first."""
+        self.vga.write_text(self.vga.read_text().replace("import sys\n", f"import sys\n{text}", 1))
 
     def run_tool(self, *words: str | bytes, given: bytes = b"") -> tuple[int, str, str]:
         """Exit status, output and standard error of the tool in the folder."""
@@ -164,7 +162,7 @@ class Listings(Fake):
         for name, data in ((b"s\xff", TEXT), (b"f\xff", "font")):
             Path(os.fsdecode(bytes(self.folder) + b"/" + name)).write_text(data)
         # As the program does, which wants words of UTF-8.
-        self.change_program("words = sys.argv[1:]", "words = sys.argv[1:]; ' '.join(words).encode()")
+        self.begin_program("' '.join(sys.argv).encode()\n")
         hold(self, lambda path, *words: self.run_script(*words, path=path, given=TEXT.encode()), (
             ("-", listed), ("/dev/stdin", listed), (b"s\xff", "--fonts", b"f\xff", listed),
         ))
@@ -383,7 +381,7 @@ class Several(Fake):
             self.write(f"tests/{name}", text)
 
     def test_each_script_of_a_folder(self) -> None:
-        self.change_program("words = sys.argv[1:]", TOGETHER + "words = sys.argv[1:]")
+        self.begin_program(TOGETHER)
         status, output, said = self.run_script("--jobs", "2", path=str(self.tests))
         a, b = self.tests / "a.vga", self.tests / "more" / "b.vga"
         self.assertEqual((status, said), (1, ""))

@@ -26,8 +26,8 @@ DRAINING = 5
 # Seconds for a program to end what it has started in groups of its own, once it is asked to.
 ENDING = 5
 MEBIBYTE = 1 << 20
-# So much of what a program says at last is told, and so much may a program write whose output is kept.
-MOST_SAID, MOST_KEPT = 2000, 1 << 28
+# So much of what a program says at last is told, in lines and as one line; and so much of its output is kept at most.
+MOST_SAID, MOST_IN_LINE, MOST_KEPT = 2000, 600, 1 << 28
 TOO_LONG = "the command took too long"
 # Where each program comes from that may be lacking: the toolchain's, and those of Debian's packages.
 PACKAGES = {
@@ -275,10 +275,7 @@ def tested(words: Words, folder: Optional[Path] = None, **given: Any) -> Done:
         raise Wrong(str(failed)) from failed
 
 
-def said_last(path: Path, most: int = 600) -> str:
+def said_last(path: Path) -> str:
     """The end of what a program said into a file, as one line."""
-    try:
-        text = path.read_bytes()[-most:].decode("utf-8", "replace")
-    except OSError:
-        return ""
+    text = path.read_bytes()[-MOST_IN_LINE:].decode("utf-8", "replace") if path.exists() else ""
     return " ".join("".join(letter if letter.isprintable() else " " for letter in text).split())
