@@ -57,6 +57,8 @@ class ComparePicture(Folder):
             (ppm(9, 1, RED * 3 + BLACK * 6), "--picture", str(marked), (1, dots)),
         ))
         self.assertTrue(marked.exists())
+        # A component of six bits is not read as one of eight, though it would agree then.
+        self.assertEqual(self.compared(ppm(1, 1, RED), picture=ppm(1, 1, b"\x0f\0\0"))[0], 1)
 
 
 class Animations(Folder):

@@ -57,6 +57,10 @@ class Refusals(unittest.TestCase):
             *((words, at, "") for words in ("frame", "show regs", "advance 5", "int ax=3", "move 1") for at in (1, 2)),
             ("out 3C0 1F", 1, ""), ("in 3C1", 2, ""),
         ])
+        # The same step is refused for another reason once the state is another.
+        words, answer = "in 3B4", Answer(1, 1, "E1 NotDecoded")
+        told = [behind.why_of(words, answer), behind.why_of("out 3C2 66", DONE), behind.why_of(words, answer)]
+        self.assertEqual([bool(one) for one in told], [True, False, False])
 
     def test_the_program_refuses_each(self) -> None:
         ran = run_texts({case["text"]: case["text"].encode() + b"\n" for case in CASES})
