@@ -234,8 +234,6 @@ class Tally:
     The JSON is one object, whose last members are the counts, and the trouble of a run that isn't whole.
     """
 
-    COUNTS = ("steps", "refused", "pictures", "expected", "met", "wrong")
-
     def __init__(self, shown: str, stream: Optional[BinaryIO] = None) -> None:
         self.shown = shown
         self.steps = self.pictures = self.refused = self.expected = self.met = self.wrong = 0
@@ -303,7 +301,7 @@ def tallied(shown: str, path: Optional[str]) -> Iterator[Tally]:
         except Trouble as raised:
             trouble = raised
         if stream is not None:
-            counts = {name: getattr(tally, name) for name in Tally.COUNTS}
+            counts = {name: getattr(tally, name) for name in ("steps", "refused", "pictures", "expected", "met", "wrong")}
             ended = json.dumps({**counts, "trouble": None if trouble is None else str(trouble)})
             stream.write(b"\n], " + ended[1:].encode("ascii") + b"\n")
     if trouble is not None:

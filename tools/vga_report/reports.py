@@ -112,7 +112,6 @@ def delays_of(script: Optional[str]) -> Callable[[int], float]:
 
 
 def _write_picture(words: argparse.Namespace, stem: str, picture: Picture, shape: Shape) -> None:
-    """Writes one picture, and names its file on standard output unless the picture itself goes there."""
     path = words.folder
     if path != STANDARD:
         path = os.path.join(path, stem + (".ppm" if words.ppm else ".png"))

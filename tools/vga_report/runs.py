@@ -108,7 +108,6 @@ def _refuse_words(words: argparse.Namespace) -> None:
 
 
 def _fragment(words: argparse.Namespace) -> str:
-    """What an address ends with that opens the page at a step."""
     return "" if words.until is None else f"#step={words.until}"
 
 

@@ -231,7 +231,6 @@ def _keep(stem: Path, case: Case, files: dict[str, Path]) -> None:
 
 
 def _pictures_of(report: Path) -> Iterator[tuple[int, Picture]]:
-    """The pictures of a report, up to its damage if it is damaged."""
     with open(report, "rb") as stream, suppress(Trouble):
         yield from _pictures_in(Report(stream, "").steps())
 
