@@ -301,7 +301,7 @@ def tallied(shown: str, path: Optional[str]) -> Iterator[Tally]:
         except Trouble as raised:
             trouble = raised
         if stream is not None:
-            counts = {name: getattr(tally, name) for name in ("steps", "refused", "pictures", "expected", "met", "wrong")}
+            counts = {name: getattr(tally, name) for name in "steps refused pictures expected met wrong".split()}
             ended = json.dumps({**counts, "trouble": None if trouble is None else str(trouble)})
             stream.write(b"\n], " + ended[1:].encode("ascii") + b"\n")
     if trouble is not None:
