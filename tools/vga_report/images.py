@@ -124,20 +124,22 @@ def _unfiltered(lines: bytes, length: int, back: int, name: str) -> Iterator[byt
         kind, row = lines[at], bytearray(back) + lines[at + 1:at + 1 + length]
         if kind > len(FILTERS):
             raise Trouble(f"a row of the PNG has filter {kind}, and the filters are 0 to {len(FILTERS)}", name)
+        taken_off = FILTERS[kind - 1]
         for x in range(back, len(row) if kind else 0):
-            row[x] = (row[x] + FILTERS[kind - 1](row[x - back], last[x], last[x - back])) & 255
+            row[x] = row[x] + taken_off(row[x - back], last[x], last[x - back]) & 255
         last = row
         yield bytes(row[back:])
 
 
 def _paeth(left: int, above: int, corner: int) -> int:
-    guess = left + above - corner
-    return min((left, above, corner), key=lambda value: abs(guess - value))
+    # How far each is from left + above - corner.
+    far, other, both = abs(above - corner), abs(left - corner), abs(left + above - 2 * corner)
+    return left if far <= other and far <= both else above if other <= both else corner
 
 
 # What the filters 1 to 4 have taken off a sample: the one of the dot to the left, above, their mean, or the nearest.
 FILTERS: tuple[Callable[[int, int, int], int], ...] = (
-    lambda left, *_: left, lambda _, above, *__: above, lambda left, above, _: (left + above) // 2, _paeth,
+    lambda left, _, __: left, lambda _, above, __: above, lambda left, above, _: (left + above) // 2, _paeth,
 )
 
 
