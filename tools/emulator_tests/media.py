@@ -28,7 +28,7 @@ from vga_report import cli
 from vga_report.images import image_of
 from vga_report.processes import end_with_parent, started
 from vga_report.progress import Progress
-from vga_report.script import script_of
+from vga_report.faults import script_of
 from vga_report.suite import empty_folder
 from vga_report.trouble import Trouble
 from zaklimot.format import Script

@@ -13,7 +13,7 @@ from typing import Any, Sequence
 from vga_library.making import FONTS
 from vga_report import TOP
 from vga_report.cases import read_cases
-from vga_report.output import counted
+from vga_report.streams import counted
 from vga_report.processes import captured
 from vga_report.trouble import Wrong
 from vga_report.version import HEADER, calls_of, version

@@ -17,7 +17,7 @@ from vga_report.cases import Case, read_cases
 from vga_report.debugging import PAGE
 from vga_report.processes import MEBIBYTE, Limits, captured, ended_well, run_command
 from vga_report.program import PROGRAM
-from vga_report.running import said_lines
+from vga_report.suite import said_lines
 from vga_report.trouble import Trouble, Wrong
 from vga_report.words import SUITE
 

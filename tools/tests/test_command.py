@@ -12,12 +12,7 @@ import unittest
 from functools import partial
 from pathlib import Path
 
-from vga_report.cases import Case, read_cases
-from zaklimot.format import MOST_BYTES
-
-from .tools import (
-    BLACK, RED, TOOLS, WHITE, Folder, begin, ended, hold, hold_undone, png_rows, ppm, refused, report, run_tool,
-)
+from .tools import BLACK, RED, TOOLS, WHITE, Folder, begin, ended, hold, hold_undone, png_rows, ppm, report, run_tool
 
 PROGRAM = TOOLS / "vga-report"
 ADAPTER = shlex.join([sys.executable, str(TOOLS / "tests" / "adapter.py")]) + " {script}"
@@ -31,7 +26,7 @@ class Reports(Folder):
     REPORTS = {
         "black": ("ok", ppm(9, 1, BLACK * 9)), "red": ("ok", PICTURE), "two": (PICTURE, "ok", ppm(1, 1, WHITE)),
         "high": (ppm(100, 101, BLACK * 10100),), "wide": (ppm(5000, 1, BLACK * 5000),), "read": ("ok", "E1", "00"),
-        "refused": ("ok", "E1 NotDecoded", "01"), "three": ("ok", "ok", "55"), "many": ("ok",) * 50000,
+        "refused": ("ok", "E1 NotDecoded", "01"), "three": ("ok", "ok", "55"),
         "a": ("00", PICTURE), "b": ("01", ppm(9, 1, RED * 3 + BLACK * 6)),
     }
 
@@ -64,15 +59,6 @@ class Reports(Folder):
             ("text -", b"1 ok\n3 ok\n", (2, b"1 ok\n", f"{front}step 2 is to come, and not '3 ok'\n")),
         ))
 
-    def test_a_closed_pipe_ends_it_silently(self) -> None:
-        process = begin(PROGRAM.name, "text", self.folder / "many")
-        assert process.stdout is not None and process.stderr is not None
-        with process, process.stdout, process.stderr:
-            self.assertEqual(process.stdout.readline(), b"1 ok\n")
-            process.stdout.close()
-            self.assertEqual(process.stderr.read(), b"")
-        self.assertEqual(process.returncode, 141)
-
     def test_pictures(self) -> None:
         cut = "vga-report: standard input:2: the picture of step 2 is cut off: of 37 bytes there are 35\n"
         large = "vga-report: a picture of {} dots would get {}, and 100,000,000 dots are the most\n".format
@@ -101,6 +87,9 @@ class Reports(Folder):
             ("compare red -", report("ok", PICTURE), (0, agree + b"2 steps, 1 picture\n", "")),
             ("compare read refused", (1, first, "")),
             ("compare read refused --all", (1, both, "")), ("compare read refused --picture m.png", (1, first, none)),
+            ("check three -", b"1-2 ok\n3 55\n", (0, b"three is as expected: 3 steps, 0 pictures\n", "")),
+            ("check three -", b"1-2 ok\n3 54\n", (1, b"three:3: step 3: 55, not 54 (standard input:2)\n", "")),
+            ("check three -", b"1-2 ok\n", (1, b"three:3: step 3: 55, not the end (standard input)\n", "")),
         ))
         self.assertFalse((self.folder / "m.png").exists())
 
@@ -112,18 +101,6 @@ class Reports(Folder):
         self.assertEqual(self.rows("marked.png"), (9, 1, [red * 3 + mark + BLACK * 5]))
         status, picture, said = self.done("compare a b --picture - --scale 2")
         self.assertEqual((status, png_rows(picture)[:2], said.partition("\n")[0]), (1, (18, 2), "step 1 differs"))
-
-    def test_as_expected_and_not(self) -> None:
-        def told(expected: str) -> tuple[int, bytes, str]:
-            self.write("e", expected)
-            return self.done("check three e")
-
-        hold(self, told, [
-            ("1-2 ok\n3 55\n", (0, b"three is as expected: 3 steps, 0 pictures\n", "")),
-            ("1-2 ok\n3 54\n", (1, b"three:3: step 3: 55, not 54 (e:2)\n", "")),
-            ("1-2 ok\n", (1, b"three:3: step 3: 55, not the end (e)\n", "")),
-            ("1-4 ok\n", (1, b"three:3: step 3: 55 (read), not ok (e:1)\n", "")),
-        ])
 
 
 class Streams(Folder):
@@ -198,15 +175,72 @@ SUITES: list[tuple[tuple[tuple[str, ...], ...], str, list[str]]] = [
         "\n3 cases: 1 agree, 2 differ\n",
     ]),
     # A command may fail.
-    ((("crash\n", "1 FF\n"), ("get 0\ncrash\n", "1 FF\n"), ("cut\n", "1 FF\n")), "--timeout 40", [
+    ((("crash\n", "1 FF\n"), ("get 0\ncrash\n", "1 FF\n"), ("cut\n", "1 FF\n"), ("get 0\ncrash\n", "1 5\n")),
+     "--timeout 40", [
         f"  failed   c/0\n           c/0: {ENDED}\n", f"  failed   c/1\n           c/1: {ENDED}\n",
-        "  failed   c/2\n           c/2: its report:1: the report ends within a line\n",
+        "  failed   c/2\n           c/2: its report:1: the report ends within a line\n", "  differs  c/3\n           c/3: step 1: FF ",
     ]),
     ((("wait\n", "1 FF\n"),), "--timeout 1", ["  failed   c/0\n           c/0: the command took too long\n"]),
     # A step of a front is named where it stands.
     ((("\nget 1\n", "1 FF\n2 55\n", "front front\nc/0"), ("get 1\n", "1 55\n2 FF\n")), "", [
         "c/0: step 2: FF, not 55 (`get 1`, c/0.vga:2)\n", "c/1: step 1: FF, not 55 (`get 0`, front:2)\n",
     ]),
+    # Bytes want a command of their own, and one that stops where a case does.
+    ((("69 6E 20 33 43 43 ; in 3CC\n", "1 02\n", "bytes c/0"),), "", [
+        "c/0: the script is bytes, and --bytes has no command\n", "\n1 case: 1 skipped\n",
+    ]),
+    ((("66 72 61 6D 65 0A 66 0A ; frame, f", "1 ragged\n", "bytes c/0 until 1"),), f"--bytes '{ADAPTER}'", [
+        "c/0: the command of --bytes has no {until}\n",
+    ]),
+    ((("66 72 61 6D 65 0A 66 0A ; frame, f", "1 ragged\n", "bytes c/0 until 1"),
+      ("69 6E 20 33 43 43 ; in 3CC\n", "1 02\n", "bytes c/1"), ("get 0\n", "1 55\n")),
+     f"--bytes '{ADAPTER} {{fonts}} {{until}}'", [
+        "c/0: 1 of 1 steps are skipped, the others agree\n", "  agrees   in 3CC\n",
+    ]),
+    # What can't stop a run gets a script that ends with the dumps.
+    ((("get 0\nget 0\nget 0\n", "1 FF\n2 FF\n3 regs\n4 beam\n5 latches\n6 bda\n", "c/0 until 2"),
+      ("get 0\n", "1 55\n")), "", ["  agrees   c/0\n"]),
+]
+# Lists of cases with their files, the words of `scripts`, and what is written: files, or a reason.
+DUMPS, EDGES = "show regs\nshow beam\nshow latches\nshow bda\n", "; Comment\n\nout 3C2 01 ; more\n\t\r\n  frame\nframe"
+BLOCK, BIG, LISTED = "version 2 ; a block\nrepeat 2\nget A0000\nend\n", "\0" * 16_777_217, "{folder}/list:2: "
+HANDED: list[tuple[str, dict[str, str], str, dict[str, str] | str]] = [
+    ("# Heading\n\nfonts two.fnt\nfront f\na/one until 2\nfront none\nwrong a/one\nwrong a/one until 2\nbytes b/two\n",
+     {"f": "out 3C2 01\n", "a/one.vga": "frame\nframe\n", "a/one.txt": "1 ok\n", "b/two.txt": "F2 BadMagic\n",
+      "b/two.hex": "; x\n56 47\t4a*3\n00*2 ; 11\n"}, "",
+     {"a/one.vga": f"out 3C2 01\nframe\n{DUMPS}", "b/two.bin": "VGJJJ\0\0", "fonts/two.fnt": "12",
+      "list.txt": "a/one.vga fonts/two.fnt\nb/two.bin fonts/two.fnt\n"}),
+    # Fonts of one name in two folders.
+    ("fonts two.fnt\none\nfonts x/two.fnt\ntwo\n", {"one.vga": "", "two.vga": "", "x/two.fnt": "3"}, "",
+     {"one.vga": "", "two.vga": "", "fonts/two.fnt": "12", "fonts/1-two.fnt": "3",
+      "list.txt": "one.vga fonts/two.fnt\ntwo.vga fonts/1-two.fnt\n"}),
+    *((line, {"one.txt": "1 ok\n", **files}, "", {"one.vga": made, "list.txt": "one.vga -\n"}) for line, files, made in (
+        ("one\n", {"one.vga": "; \u00e9\nframe\n"}, "; \u00e9\nframe\n"),
+        # A script with a mistake stays whole.
+        ("one until 0\n", {"one.vga": "fram\n", "one.txt": "F7 BadLine(1)\n" + 999 * "x"}, "fram\n"),
+        # A run that is stopped shows the state, and a front counts among its steps.
+        *((f"one until {steps}\n", {"one.vga": EDGES}, front + DUMPS) for steps, front in (
+            (0, "; Comment\n\n"), (1, "; Comment\n\nout 3C2 01 ; more\n\t\r\n"), (2, EDGES[:-5]),
+            (3, EDGES + "\n"), (9, EDGES + "\n"),
+        )),
+        ("front f\none until 2\n", {"f": "frame\n", "one.vga": "in 3CC\nin 3CD\n"}, f"frame\nin 3CC\n{DUMPS}"),
+    )),
+    # A machine gets what stands before a refusal. A block of which each step is taken is its to repeat.
+    ("one\ntwo\nthree\nfour\n", {
+        "one.vga": "get A0000\nout 3C2 01\ncrash\n", "one.txt": "1 FF\n2 ok\n3 E1 NotDecoded\n",
+        "two.vga": BLOCK + "crash\n", "two.txt": "1 FF\n2 FF\n3 E4 BadFunction\n",
+        "three.vga": "frame\n", "three.txt": "1 ragged\n", "four.vga": BLOCK, "four.txt": "1 FF\n2 FF\n"}, "--machine",
+     {"one.vga": "get A0000\nout 3C2 01\n", "two.vga": "get A0000\nget A0000\n", "four.vga": BLOCK,
+      "list.txt": "one.vga -\ntwo.vga -\nfour.vga -\n"}),
+    # What can't be meant.
+    *((f"fonts zero.fnt\n{line}\n", {}, "", f"{LISTED}no case: '{line}'")
+      for line in ("a b", "a until", "a until x", "bytes a b")),
+    *((f"fonts zero.fnt\n{name}\n", {}, "", f"{LISTED}a case outside the list's folder: '{name}'")
+      for name in ("../one", "/one", "a/../../one")),
+    *(("bytes one\n", {"one.hex": f"56\n{word}\n"}, "", "{folder}/one.hex:2: " + f"'{word}' is no byte")
+      for word in ("5", "567", "GG", "56*", "56*0", "56*x")),
+    ("one\n", {"one.vga": ""}, "--only x", "{folder}/list: no case has a name as --only and --except want it"),
+    ("fonts big\none\n", {"one.vga": "", "big": BIG}, "", "{folder}/big: it has more than 16,777,216 bytes"),
 ]
 
 
@@ -248,21 +282,20 @@ class Suite(Folder):
         self.assertEqual(self.run_suite("--only", "a/four")[0], 1)
 
     def test_the_table_for_machines(self) -> None:
-        self.case("a/one", "; Memory.\nget A0000\n", "1 55\n")
+        # Answers that are compared are counted.
+        script = "; Memory.\nout 3C2 01\nget A0000\nframe\nget A0000\nget A0000\n"
+        self.case("a/one", script, "1 ok\n2 55\n3 ragged\n4 FF\n5 55\n")
         status, output, _ = self.run_suite("--json")
-        self.assertEqual(status, 1)
+        # A case is a line, with its rule.
         (line,) = [line for line in output.splitlines() if '"name": "a/one"' in line]
-        self.assertEqual(json.loads(line.rstrip("]},") + "}")["rule"], "Memory.")
+        self.assertEqual((status, json.loads(line.rstrip("]},") + "}")["rule"]), (1, "Memory."))
         self.assertEqual(json.loads(output), {
-            "command": ADAPTER + " {fonts}",
-            "cases": {"agrees": 0, "skipped": 0, "differs": 1, "failed": 0},
-            "rules": [{
-                "rule": "Memory.", "folder": "a", "answer": "differs",
-                "cases": [{
-                    "name": "a/one", "rule": "Memory.", "answer": "differs", "steps": 1, "skipped": 0, "answers": 1,
-                    "differing": 1, "step": 1, "answered": "FF", "expected": "55", "reason": "step 1: FF, not 55 (`get A0000`, a/one.vga:2)",
-                }],
-            }],
+            "command": ADAPTER + " {fonts}", "cases": {"agrees": 0, "skipped": 0, "differs": 1, "failed": 0},
+            "rules": [{"rule": "Memory.", "folder": "a", "answer": "differs", "cases": [{
+                "name": "a/one", "rule": "Memory.", "answer": "differs", "steps": 5, "skipped": 1, "answers": 3,
+                "differing": 2, "step": 2, "answered": "FF", "expected": "55",
+                "reason": "step 2: FF, not 55 (`get A0000`, a/one.vga:3)",
+            }]}],
         })
 
     def test_what_is_told_of_cases(self) -> None:
@@ -272,67 +305,39 @@ class Suite(Folder):
                 self.lines = ["fonts two.fnt"]
                 for number, case in enumerate(cases):
                     self.case(f"c/{number}", *case)
-                status, output, _ = self.run_suite(*words.split())
+                status, output, _ = self.run_suite(*shlex.split(words))
                 self.assertEqual(status, 1)
                 for text in wanted:
                     self.assertIn(text, output)
 
-    def test_a_machine_gets_no_step_that_is_to_be_refused(self) -> None:
-        self.case("a/one", "get A0000\nout 3C2 01\ncrash\nget A0000\n", "1 FF\n2 ok\n3 E1 NotDecoded\n4 55\n")
-        self.case("a/two", "version 2\nrepeat 2\nget A0000\nend\ncrash\n", "1 FF\n2 FF\n3 E4 BadFunction\n")
-        self.case("a/three", "frame\n", "1 ragged\n")
-        block = "version 2 ; a block\nrepeat 2\nget A0000\nend\n"
-        self.case("a/four", block, "1 FF\n2 FF\n")
-        output = self.run_suite("--machine")[1]
-        self.assertIn("a/one: 2 of 4 steps are skipped, the others agree\n", output)
-        self.assertIn("a/two: 1 of 3 steps are skipped, the others agree\n", output)
-        scripts = self.folder / "scripts"
-        done = run("scripts", scripts, "--list", self.folder / "list.txt", "--machine")
-        self.assertEqual((done[0], done[2]), (0, ""))
-        self.assertEqual((scripts / "a" / "one.vga").read_text(), "get A0000\nout 3C2 01\n")
-        self.assertEqual((scripts / "a" / "two.vga").read_text(), "get A0000\nget A0000\n")
-        self.assertFalse((scripts / "a" / "three.vga").exists())
-        # A block of which each step is taken is the machine's to repeat.
-        self.assertEqual((scripts / "a" / "four.vga").read_text(), block)
-
-    def test_answers_that_are_compared_are_counted(self) -> None:
-        self.case("a/one", "out 3C2 01\nget A0000\nframe\nget A0000\nget A0000\n", "1 ok\n2 55\n3 ragged\n4 FF\n5 55\n")
-        case = json.loads(self.run_suite("--json")[1])["rules"][0]["cases"][0]
-        self.assertEqual((case["steps"], case["skipped"], case["answers"], case["differing"], case["step"]), (5, 1, 3, 2, 2))
+    def test_a_run_that_is_stopped_by_its_command(self) -> None:
+        self.case("a/one", "get 0\nget 0\nget 0\n", "1 FF\n2 FF\n", "a/one until 2")
+        self.assertEqual(self.run_suite(command=ADAPTER + " {fonts} {until}")[0], 0)
 
     def test_scripts_as_they_are_handed_over(self) -> None:
-        self.write("front", "out 3C2 01\n")
-        self.lines.append("front front")
-        self.case("a/one", "frame\nframe\n", "1 ok\n", "a/one until 2")
-        self.case("b/two", "56*2", "F2 BadMagic\n", "bytes b/two")
-        path, folder = self.write("list.txt", "\n".join(self.lines) + "\n"), self.folder / "scripts"
-        names = f"{folder / 'a/one.vga'}\n{folder / 'b/two.bin'}\n{folder / 'list.txt'}\n".encode()
-        self.assertEqual(run("scripts", folder, "--list", path), (0, names, ""))
-        dumps = b"show regs\nshow beam\nshow latches\nshow bda\n"
-        self.assertEqual((folder / "a/one.vga").read_bytes(), b"out 3C2 01\nframe\n" + dumps)
-        self.assertEqual((folder / "b/two.bin").read_bytes(), b"VV")
-        self.assertEqual((folder / "list.txt").read_text(), "a/one.vga fonts/two.fnt\nb/two.bin fonts/two.fnt\n")
-        self.assertEqual((folder / "fonts/two.fnt").read_bytes(), b"12")
+        for number, (listed, files, words, wanted) in enumerate(HANDED):
+            with self.subTest(listed, files=[*files]):
+                for name, text in {"list": listed, **files}.items():
+                    self.write(name, text)
+                folder = self.folder / str(number)
+                status, output, said = run("scripts", folder, "--list", self.folder / "list", *words.split())
+                if isinstance(wanted, str):
+                    self.assertEqual((status, said), (2, f"vga-report: {wanted.format(folder=self.folder)}\n"))
+                    continue
+                paths = [path for path in folder.rglob("*") if path.is_file()]
+                made = {str(path.relative_to(folder)): path.read_bytes().decode() for path in paths}
+                self.assertEqual((status, made, said), (0, wanted, ""))
+                named = [str(folder / name) for name in made if not name.startswith("fonts/")]
+                self.assertEqual(sorted(output.decode().splitlines()), sorted(named))
 
-    def test_scripts_of_bytes_want_a_command_of_their_own(self) -> None:
-        self.case("a/one", "69 6E 20 33 43 43 ; in 3CC\n", "1 02\n", "bytes a/one")
-        status, output, _ = self.run_suite()
-        self.assertEqual((status, output.splitlines()[-1]), (1, "1 case: 1 skipped"))
-        status, output, _ = self.run_suite("--bytes", ADAPTER + " {fonts}")
-        self.assertEqual((status, output.splitlines()[-1]), (0, "1 case: 1 agree"))
-
-    def test_runs_that_are_stopped(self) -> None:
-        dumps = "3 regs\n4 beam\n5 latches\n6 bda\n"
-        self.case("a/one", "get 0\nget 0\nget 0\n", "1 FF\n2 FF\n" + dumps, "a/one until 2")
-        self.case("a/two", "66 72 61 6D 65 0A 66 0A ; frame, f", "1 ragged\n", "bytes a/two until 1")
-        output = self.run_suite("--bytes", ADAPTER)[1]
-        self.assertIn("  agrees   a/one\n", output)
-        self.assertIn("a/two: the command of --bytes has no {until}\n", output)
-        self.write("a/one.txt", "1 FF\n2 FF\n")
-        command = ADAPTER + " {fonts} {until}"
-        output = self.run_suite("--bytes", command, command=command)[1]
-        self.assertIn("  agrees   a/one\n", output)
-        self.assertIn("a/two: 1 of 1 steps are skipped, the others agree\n", output)
+    def test_the_rule_is_the_first_line_of_the_first_comment(self) -> None:
+        for text, rule in (
+            ("; The rule.\n; More.\nframe\n", "The rule."), ("frame ; Behind.\n", "Behind."), ("frame\n", "a"),
+            (";\n;  Zw\u00f6lf. \n", "Zw\u00f6lf."), ("; \x1b[2Jbad\n", "?[2Jbad"),
+        ):
+            self.lines = []
+            self.case("a", text, "1 ok\n")
+            self.assertEqual(self.run_suite(command="true {script}")[1].splitlines()[1][11:], rule)
 
     def test_reports_that_lie_ready(self) -> None:
         self.case("a/one", "get A0000\n", "1 55\n")
@@ -364,17 +369,24 @@ class Suite(Folder):
         self.case("a/one", "frame\n", "1 picture 37 9x1\n3F0000*9\n")
         self.case("a/two", "frame\n", f"1 picture 37 9x1 {hashlib.md5(PICTURE).hexdigest()}\n")
         self.case("a/three", "frame\n", "1 ok\n")
+        self.case("a/four", "frame\n", "1 picture 37 9x1\n3F0000*4 000000*5\n2 ok\n")
         harness = self.write("harness.py", f"import sys; sys.stdout.buffer.write({report(PICTURE)!r}); print('said', file=sys.stderr)")
         kept = self.folder / "kept"
         command = f"{shlex.quote(sys.executable)} {harness} {{script}}"
         self.assertEqual(self.run_suite("--keep", kept, command=command)[0], 1)
         self.assertEqual(sorted(str(file.relative_to(kept)) for file in kept.rglob("*.*")), [
+            # Of a picture that is as expected nothing differs.
+            "a/four-0001-expected.png", "a/four-0001.png", "a/four.report", "a/four.said", "a/four.vga",
             "a/one-0001-differing.png", "a/one-0001-expected.png", "a/one-0001.png", "a/one.report", "a/one.said",
             "a/one.vga", "a/three-0001.png", "a/three.report", "a/three.said", "a/three.vga",
         ])
         self.assertEqual((kept / "a/one.report").read_bytes(), report(PICTURE))
         self.assertEqual(png_rows((kept / "a/one-0001-expected.png").read_bytes()), (9, 1, [b"\xff\0\0" * 9]))
         self.assertEqual(self.run_suite("--keep", kept, command=command)[0], 2)
+        # Messages have a limit.
+        more = self.folder / "more"
+        self.run_suite("--only", "a/one", "--timeout", "1", "--keep", more, command="sh -c 'yes >&2' {script}")
+        self.assertEqual((more / "a/one.said").stat().st_size, 1 << 20)
 
     def test_expected_pictures_without_a_program(self) -> None:
         self.case("a/one", "frame\nframe\n", f"1 picture 37 9x1\n3F0000*9\n2 picture 37 9x1 {hashlib.md5(PICTURE).hexdigest()}\n")
@@ -388,96 +400,7 @@ class Suite(Folder):
     def test_several_fronts_of_names_and_some_that_are_left_out(self) -> None:
         for name in ("a/one", "a/two", "b/one", "c/one"):
             self.case(name, "get A0000\n", "1 FF\n")
-        for words, cases in [
-            (("--only", "a/", "--only", "c/"), "3 cases"),
-            (("--except", "a/"), "2 cases"),
-            (("--only", "a/", "--except", "a/t", "--except", "b/"), "1 case"),
-        ]:
-            with self.subTest(words):
-                self.assertIn(f"\n{cases}: ", self.run_suite(*words)[1])
-        message = f"vga-report: {self.folder / 'list.txt'}: no case has a name as --only and --except want it\n"
-        self.assertEqual(self.run_suite("--only", "a/", "--except", "a"), (2, "", message))
-
-    def test_a_font_has_a_limit(self) -> None:
-        self.write("one.vga", "frame\n")
-        font = Path(self.write("big.fnt", ""))
-        os.truncate(font, MOST_BYTES + 1)
-        path = self.write("list.txt", "fonts big.fnt\none\n")
-        message = f"vga-report: {font}: it has more than {MOST_BYTES:,} bytes\n"
-        written = f"{self.folder / 'new' / 'one.vga'}\n".encode()
-        self.assertEqual(run("scripts", self.folder / "new", "--list", path), (2, written, message))
-
-
-class Cases(Folder):
-    """What a list says of its cases: their files, their scripts and their rules."""
-
-    def cases(self, text: str) -> list[Case]:
-        return read_cases(self.write("list.txt", text))
-
-    def test_each_kind_of_line(self) -> None:
-        cases = self.cases(
-            "# Heading\n\nfonts zero.fnt\na/one\na/two until 5\nwrong a/three\nwrong a/three until 2\n"
-            "front text.vga\na/four\nfront none\nfonts other.fnt\nbytes b/five\nbytes b/six until 0\n"
-        )
-        zero, other, front = self.folder / "zero.fnt", self.folder / "other.fnt", self.folder / "text.vga"
-        self.assertEqual(
-            [(case.name, case.fonts, case.front, case.until, case.is_bytes) for case in cases],
-            [
-                ("a/one", zero, None, None, False), ("a/two", zero, None, 5, False),
-                ("a/four", zero, front, None, False), ("b/five", other, None, None, True),
-                ("b/six", other, None, 0, True),
-            ],
-        )
-        self.assertEqual([case.group for case in cases], ["a", "a", "a", "b", "b"])
-
-    def script(self, line: str, **files: str) -> bytes:
-        """The script of the only case of a list."""
-        self.write("one.txt", "1 ok\n")
-        for name, text in files.items():
-            self.write(name.replace("_", "."), text)
-        return self.cases(line)[-1].stopped_script()
-
-    def test_the_bytes_that_a_case_stands_for(self) -> None:
-        dumps = b"show regs\nshow beam\nshow latches\nshow bda\n"
-        text = "; Comment\n\nout 3C2 01 ; more\n\t\r\n  frame\nframe"
-        hold(self, lambda line, files: self.script(line, **files), [
-            ("one\n", {"one_vga": "; é\nframe\n"}, "; é\nframe\n".encode()),
-            ("front f\none\n", {"f": "out 3C2 01\n", "one_vga": "frame\n"}, b"out 3C2 01\nframe\n"),
-            # A script with a mistake stays whole.
-            ("one until 0\n", {"one_vga": "fram\n", "one_txt": "F7 BadLine(1)\n"}, b"fram\n"),
-            ("bytes one\n", {"one_hex": "; x\n56 47\t4a*3\n00*2 ; 11\n"}, b"VGJJJ\0\0"),
-            # A run that is stopped shows the state, and a front counts among its steps.
-            *((f"one until {steps}\n", {"one_vga": text}, front + dumps) for steps, front in (
-                (0, b"; Comment\n\n"), (1, b"; Comment\n\nout 3C2 01 ; more\n\t\r\n"), (2, text.encode()[:-5]),
-                (3, text.encode() + b"\n"), (9, text.encode() + b"\n"),
-            )),
-            ("front f\none until 2\n", {"f": "frame\n", "one_vga": "in 3CC\nin 3CD\n"}, b"frame\nin 3CC\n" + dumps),
-        ])
-
-    def test_a_fault_is_looked_for_in_the_first_line(self) -> None:
-        self.write("one.vga", "frame\n")
-        report = Path(self.write("one.txt", "F7 BadLine(1)\n"))
-        case = self.cases("one\n")[0]
-        os.truncate(report, 1 << 40)
-        self.assertTrue(case.expects_fault())
-
-    def test_lines_and_digits_that_are_none(self) -> None:
-        listed, digits = self.folder / "list.txt", self.folder / "one.hex"
-        hold(self, lambda line, files: refused(lambda: self.script(line, **files)), [
-            *((f"fonts zero.fnt\n{line}\n", {}, f"{listed}:2: no case: '{line}'")
-              for line in ("a b", "a until", "a until x", "bytes a b")),
-            *((f"fonts zero.fnt\n{name}\n", {}, f"{listed}:2: a case outside the list's folder: '{name}'")
-              for name in ("../one", "/one", "a/../../one")),
-            *(("bytes one\n", {"one_hex": f"56\n{word}\n"}, f"{digits}:2: '{word}' is no byte")
-              for word in ("5", "567", "GG", "56*", "56*0", "56*x")),
-        ])
-
-    def test_the_first_line_of_the_first_comment(self) -> None:
-        def rule(text: str) -> str:
-            self.write("one.vga", text)
-            return self.cases("one\n")[0].rule()
-
-        hold(self, rule, [
-            ("; The rule.\n; More.\nframe\n", "The rule."), ("frame ; Behind.\n", "Behind."), ("frame\n", "one"),
-            (";\n;  Zwölf. \n", "Zwölf."), ("; \x1b[2Jbad\n", "?[2Jbad"),
-        ])
+        hold(self, lambda words: self.run_suite(*words.split())[1].splitlines()[-1].partition(":")[0], (
+            ("--only a/ --only c/", "3 cases"), ("--except a/", "2 cases"),
+            ("--only a/ --except a/t --except b/", "1 case"),
+        ))

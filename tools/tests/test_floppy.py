@@ -29,7 +29,7 @@ from vga_floppy.table import reset_steps, table_for
 from vga_floppy.table_page import FIRST_MARK, LAST_MARK
 from vga_report.cases import read_cases
 from vga_report.processes import started
-from vga_report.script import script_of
+from vga_report.faults import script_of
 from vga_report.words import SUITE
 from vga_trace.state import State
 from vga_trace.step import IN, OUT, Step
@@ -441,7 +441,7 @@ class Pages(Folder):
         named = set(re.findall(r"`((?:host|words|ports|crtc|attribute|dac|services|heights|graphics)/[a-z0-9-]+)`", page))
         self.assertGreater(len(named), 30)
         cases = [case for case in read_cases(str(SUITE)) if case.has_answers_of_machine()]
-        scripts = {case.name: script_of(case.machine_script(), case.name) for case in cases}
+        scripts = {case.name: script_of(case.handed(is_for_machine=True, can_stop=False), case.name) for case in cases}
         self.assertEqual(named - scripts.keys(), set())
         self.assertIn(f" {len(cases)} of them", page)
         self.assertEqual(len(image_for(scripts, "all")), images.IMAGE_SIZE)

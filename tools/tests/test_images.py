@@ -9,18 +9,14 @@ import zlib
 from typing import Optional
 
 from vga_report.images import image_of
-from vga_report.png import MARK, Shape, write_png
-from vga_report.timing import USUAL, Timing
+from vga_report.png import MARK, Shape, chunk, write_png
+from vga_report.registers import USUAL, Registers
 from zaklimot.format import Picture, parse_text
 
 from .test_command import PICTURE, run
 from .tools import BLACK, RED, WHITE, Folder, hold, png_chunks, png_rows, ppm
 
 GREY = b"\x15\x15\x15"
-
-
-def chunk(kind: bytes, body: bytes) -> bytes:
-    return struct.pack(">I", len(body)) + kind + body + struct.pack(">I", zlib.crc32(kind + body))
 
 
 def png(width: int, height: int, lines: bytes, depth: int = 8, colour: int = 2, palette: bytes = b"", interlace: int = 0) -> bytes:
@@ -51,17 +47,18 @@ class ComparePicture(Folder):
             (ppm(2, 1, RED + WHITE), ppm(4, 2, (RED * 2 + WHITE * 2) * 2), (0, f"agree: 4x2, {smaller}, {six}")),
         ))
 
-    def test_differing_dots(self) -> None:
-        marked = self.folder / "marked.png"
-        status, text = self.compared(ppm(9, 1, RED * 3 + BLACK * 6), "--picture", str(marked))
-        self.assertEqual(status, 1)
-        self.assertIn("  1 of 9 dots differ, the first is dot 3 of row 0: 3F0000, not 000000\n", text)
+    def test_differing(self) -> None:
+        marked, fewer = self.folder / "marked.png", png(18, 1, b"\0" + b"\xff\0\0" * 7 + b"\x80\0\0" + bytes(30))
+        sizes = "differ: they have {} and {} dots, and neither is the other with dots repeated\n".format
+        dots = "differ: 9x1, six bits a component\n"
+        dots += "  1 of 9 dots differ, the first is dot 3 of row 0: 3F0000, not 000000\n"
+        hold(self, self.compared, (
+            (ppm(10, 1, BLACK * 10), (1, sizes("9x1", "10x1"))), (fewer, (1, sizes("9x1", "18x1"))),
+            (ppm(9, 1, RED * 3 + BLACK * 6), "--picture", str(marked), (1, dots)),
+        ))
         self.assertTrue(marked.exists())
-
-    def test_other_sizes(self) -> None:
-        text = "differ: they have 9x1 and 10x1 dots, and neither is the other with dots repeated\n"
-        self.assertEqual(self.compared(ppm(10, 1, BLACK * 10)), (1, text))
-        self.assertEqual(self.compared(png(18, 1, b"\0" + b"\xff\0\0" * 7 + b"\x80\0\0" + bytes(30)))[0], 1)
+        # A component of six bits is not read as one of eight, though it would agree then.
+        self.assertEqual(self.compared(ppm(1, 1, RED), picture=ppm(1, 1, b"\x0f\0\0"))[0], 1)
 
 
 class Animations(Folder):
@@ -74,6 +71,8 @@ class Animations(Folder):
             self.assertEqual(done, (0, f"{moving}: 2 frames, 0.031 seconds\n".encode(), ""))
         chunks = png_chunks(moving.read_bytes())
         self.assertEqual([kind for kind, _ in chunks], [b"IHDR", b"sBIT", b"acTL", b"fcTL", b"IDAT", b"fcTL", b"fdAT", b"IEND"])
+        # The dots have six bits.
+        self.assertEqual(chunks[1][1], b"\6\6\6")
         times = [struct.unpack(">IIIIIHHBB", body) for kind, body in chunks if kind == b"fcTL"]
         self.assertEqual([time[0] for time in times], [0, 1])
         # 404,100 dots of 28.322 MHz, and 420,000 of 25.175 MHz.
@@ -86,25 +85,29 @@ class Animations(Folder):
             script = self.write("s.vga", f"int ax=3\nframe\nadvance {dots}\nframe\n")
             done = run("pictures", path, "--apng", moving, "--script", script)
             self.assertEqual(done, (0, f"{moving}: 2 frames, {seconds:.3f} seconds\n".encode(), ""))
-
-    def test_one_step_of_those_that_differ_in_size(self) -> None:
-        path, moving = self.report("r", PICTURE, ppm(1, 1, RED)), str(self.folder / "m.png")
+        # One step of those that differ in size.
+        self.report("r", PICTURE, ppm(1, 1, RED))
         self.assertEqual(run("pictures", path, "--apng", moving, "--step", "2")[0], 0)
 
     def test_times_by_registers(self) -> None:
         text, wide, narrow = (404_100, 28_322_000), (359_200, 25_175_000), (179_600, 12_587_500)
-        for steps, speed in [
+
+        def speed(steps: str) -> Optional[tuple[int, float]]:
+            registers = Registers()
+            for step in parse_text(steps.replace(";", "\n")).steps():
+                registers.take(step)
+            found = registers.speed()
+            self.assertAlmostEqual(registers.frame(), found[0] / found[1] if found else USUAL)
+            return found
+
+        hold(self, speed, [
             ("", None), ("out 3C2 67", None), ("int ax=83", text), ("int ax=13", wide), ("int ax=13;int ax=d", narrow),
             ("out 3C2 63;outw 3C4 0101;outw 3D4 5F00;outw 3D4 BF06;outw 3D4 1F07", wide),
             ("out 3C2 67;out 3D4 0;out 3D5 5F;outw 3D4 BF06;outw 3D4 1F07;outw 3D4 8E11;outw 3D4 0000", text),
             ("int ax=3;out 3C2 6F", None),
-        ]:
-            with self.subTest(steps):
-                timing = Timing()
-                for step in parse_text(steps.replace(";", "\n")).steps():
-                    timing.take(step)
-                self.assertEqual(timing.speed(), speed)
-                self.assertAlmostEqual(timing.frame(), speed[0] / speed[1] if speed else USUAL)
+            # Registers 0 to 7 alone are protected.
+            ("out 3C2 67;outw 3D4 BF06;outw 3D4 1F07;outw 3D4 8E11;outw 3D4 0E11;outw 3D4 0000", (20_205, 28_322_000)),
+        ])
 
 
 def shown(picture: Picture, shape: Shape = Shape(), other: Optional[Picture] = None) -> tuple[int, int, list[bytes]]:
@@ -114,58 +117,35 @@ def shown(picture: Picture, shape: Shape = Shape(), other: Optional[Picture] = N
 
 
 class Images(unittest.TestCase):
-    def test_six_bits_become_eight(self) -> None:
-        dots = bytes(range(0, 63, 3)) + b"\x3f" + bytes([1, 2])
-        (row,) = shown(Picture.of_dots(8, 1, dots))[2]
-        self.assertEqual(row[0], 0)
-        self.assertEqual(row[21], 0xFF)
-        self.assertEqual([value >> 2 for value in row], list(dots))
-        self.assertEqual(row[22:], bytes([4, 8]))
-
-    def test_the_six_bits_are_told(self) -> None:
-        stream = io.BytesIO()
-        write_png(stream, Picture.of_dots(1, 1, RED))
-        self.assertIn(b"sBIT\x06\x06\x06", stream.getvalue())
-
-    def test_scale_repeats_dots_and_rows(self) -> None:
-        picture = Picture.of_dots(2, 2, RED + BLACK + BLACK + WHITE)
-        full = b"\xff\xff\xff"
-        red = b"\xff\x00\x00"
-        expected = [red * 3 + BLACK * 3] * 3 + [BLACK * 3 + full * 3] * 3
-        self.assertEqual(shown(picture, Shape(scale=3)), (6, 6, expected))
-
-    def test_the_shape_of_a_monitor(self) -> None:
-        hold(self, lambda size: Shape(is_monitor=True).size(*size), [
-            ((720, 400), (720, 540)),
-            ((640, 480), (640, 480)),
-            ((640, 350), (640, 480)),
-            ((320, 400), (533, 400)),
-            ((320, 200), (320, 240)),
-            ((9, 1), (9, 7)),
-        ])
-        self.assertEqual(Shape(3, True).size(720, 400), (2160, 1620))
-
-    def test_stretching_loses_no_row_and_no_column(self) -> None:
-        rows = [bytes([y, 0, 0]) * 16 for y in range(9)]
-        width, height, stretched = shown(Picture.of_dots(16, 9, b"".join(rows)), Shape(is_monitor=True))
-        self.assertEqual((width, height), (16, 12))
-        self.assertEqual([row[0] >> 2 for row in stretched], [0, 0, 1, 2, 3, 3, 4, 5, 6, 6, 7, 8])
-        row = bytes(value for x in range(6) for value in (x, 0, 0))
-        width, height, stretched = shown(Picture.of_dots(6, 6, row * 6), Shape(is_monitor=True))
-        self.assertEqual((width, height, len(stretched)), (8, 6, 6))
-        self.assertEqual([value >> 2 for value in stretched[0][::3]], [0, 0, 1, 2, 3, 3, 4, 5])
-
-    def test_dots_that_differ_are_marked_and_others_darkened(self) -> None:
+    def test_dots_that_are_repeated_stretched_and_marked(self) -> None:
+        full, red, dark = b"\xff\xff\xff", b"\xff\0\0", b"\x55\0\0"
+        four, wide, high = (Picture.of_dots(*given) for given in (
+            (2, 2, RED + BLACK + BLACK + WHITE), (2, 1, BLACK * 2), (1, 2, BLACK * 2),
+        ))
         picture = Picture.of_dots(3, 2, WHITE + BLACK + GREY + RED + RED + RED)
         other = Picture.of_dots(3, 2, WHITE + RED + GREY + RED + RED + BLACK)
-        white, grey, red = b"\x55\x55\x55", b"\x1c\x1c\x1c", b"\x55\x00\x00"
-        self.assertEqual(shown(picture, other=other), (3, 2, [white + MARK + grey, red + red + MARK]))
+        # Stretching to the shape of a monitor loses no row and no column.
+        rows = [bytes([y, 0, 0]) * 16 for y in range(9)]
+        row = bytes(value for x in range(6) for value in (x, 0, 0))
+        hold(self, shown, (
+            # Six bits become eight.
+            (Picture.of_dots(4, 1, bytes(range(10)) + b"\x3f\x20"), Shape(), None,
+             (4, 1, [bytes(4 * value for value in range(10)) + b"\xff\x82"])),
+            (four, Shape(scale=3), None, (6, 6, [red * 3 + BLACK * 3] * 3 + [BLACK * 3 + full * 3] * 3)),
+            (Picture.of_dots(16, 9, b"".join(rows)), Shape(is_monitor=True), None,
+             (16, 12, [bytes([4 * y, 0, 0]) * 16 for y in (0, 0, 1, 2, 3, 3, 4, 5, 6, 6, 7, 8)])),
+            (Picture.of_dots(6, 6, row * 6), Shape(is_monitor=True), None,
+             (8, 6, [bytes(value for x in (0, 0, 1, 2, 3, 3, 4, 5) for value in (4 * x, 0, 0))] * 6)),
+            # Dots that differ are marked, also those that one picture lacks, and others are darkened.
+            (picture, Shape(), other, (3, 2, [b"\x55\x55\x55" + MARK + b"\x1c\x1c\x1c", dark + dark + MARK])),
+            *((*pair, (2, 2, [BLACK + MARK, MARK * 2])) for pair in ((wide, Shape(), high), (high, Shape(), wide))),
+        ))
 
-    def test_what_one_picture_lacks_is_marked(self) -> None:
-        picture, other = Picture.of_dots(2, 1, BLACK * 2), Picture.of_dots(1, 2, BLACK * 2)
-        expected = (2, 2, [BLACK + MARK, MARK * 2])
-        self.assertEqual(shown(picture, other=other), expected)
-        self.assertEqual(shown(other, other=picture), expected)
+    def test_the_shape_of_a_monitor(self) -> None:
+        hold(self, lambda scale, *size: Shape(scale, True).size(*size), [
+            (1, 720, 400, (720, 540)), (1, 640, 480, (640, 480)), (1, 640, 350, (640, 480)), (1, 320, 400, (533, 400)),
+            (1, 320, 200, (320, 240)), (1, 9, 1, (9, 7)), (3, 720, 400, (2160, 1620)),
+        ])
 
     def test_forms_of_png(self) -> None:
         red, white = b"\xff\x00\x00", b"\xff\xff\xff"
@@ -180,8 +160,5 @@ class Images(unittest.TestCase):
             (png(2, 2, b"\x01" + red + b"\0\xff\xff" + b"\x02" + b"\0" * 6), [red + white] * 2),
             (png(2, 2, b"\0" + red + white + b"\x03" + b"\x80\x00\x00\x00\x80\x80"), [red + white] * 2),
             (png(2, 2, b"\0" + red + white + b"\x04" + b"\0" * 3 + b"\0" * 3), [red + white] * 2),
+            (b"P6 # a\n1\t1\n255\n\x01\x02\x03", [b"\x01\x02\x03"]),
         ])
-
-    def test_ppm(self) -> None:
-        self.assertEqual(image_of(b"P6 # a\n1\t1\n255\n\x01\x02\x03", "i").rows, (b"\x01\x02\x03",))
-        self.assertEqual(image_of(ppm(1, 1, RED), "i").most, 63)

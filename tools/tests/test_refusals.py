@@ -2,14 +2,13 @@
 
 import json
 import unittest
-from itertools import product
 from pathlib import Path
 from typing import Sequence
 
 from vga_report import TOP
-from vga_report.faults import Files, explained
+from vga_report.faults import explained
 from vga_report.mistakes import mistake_in
-from vga_report.refusals import OF_CALLS, State, why_refused
+from vga_report.registers import OF_CALLS, Registers, why_refused
 from zaklimot.format import REFUSALS, Answer
 
 from .tools import Folder, hold, run_texts
@@ -32,9 +31,9 @@ TEXTS = [(bytes.fromhex(row["hex"]), row["reason"]) for row in TABLE["texts"]]
 DONE = Answer(1, 1, "ok")
 
 
-def state_behind(lines: Sequence[str]) -> State:
+def state_behind(lines: Sequence[str]) -> Registers:
     """The state that steps leave."""
-    state = State()
+    state = Registers()
     for line in lines:
         state.why_of(line, DONE)
     return state
@@ -52,25 +51,16 @@ class Refusals(unittest.TestCase):
         self.assertEqual({case["answer"] for case in CASES}, {f"E{number} {name}" for number, name in REFUSALS.items()})
         self.assertEqual({1, 2, 12} | set(OF_CALLS), set(REFUSALS))
 
-    def test_what_an_index_hangs_on(self) -> None:
-        state = state_behind(["int ax=3", "out 3C0 1F", "in 3DA"])
-        self.assertEqual(why_refused("out 3C0 1F", 1, state), "")
-        self.assertEqual(why_refused("move 1", 1, state), "")
-        self.assertIn("The index of the attribute controller is 1F", state.why("in 3C1", 2))
-        for line in ("in 3DA", "out 3C0 5"):
-            self.assertEqual(state.why_of(line, DONE), "")
-        self.assertEqual(state.why("in 3C1", 2), "")
-
-    def test_what_changes_the_memory_map_and_the_mode(self) -> None:
-        for line in ("out 3CF 4", "outw 3CE 0406"):
-            state = state_behind(["int ax=3", "out 3CE 6", line])
-            self.assertIn("Memory map is 1 ", state.why("get B8000", 1), line)
-        # Function 01 sets no mode, whatever AL is.
-        self.assertEqual(state_behind(["int ax=3", "int ax=0112"]).mode, 3)
-
-    def test_steps_that_the_adapter_does_not_refuse_so(self) -> None:
-        for words, number in product(("frame", "show regs", "advance 5", "int ax=3"), (1, 2)):
-            self.assertEqual(why_refused(words, number, State()), "", words)
+    def test_what_the_adapter_does_not_refuse_so(self) -> None:
+        behind = state_behind(["int ax=3", "out 3C0 1F", "in 3DA", "in 3DA", "out 3C0 5"])
+        hold(self, lambda words, number: why_refused(words, number, behind), [
+            *((words, at, "") for words in ("frame", "show regs", "advance 5", "int ax=3", "move 1") for at in (1, 2)),
+            ("out 3C0 1F", 1, ""), ("in 3C1", 2, ""),
+        ])
+        # The same step is refused for another reason once the state is another.
+        words, answer = "in 3B4", Answer(1, 1, "E1 NotDecoded")
+        told = [behind.why_of(words, answer), behind.why_of("out 3C2 66", DONE), behind.why_of(words, answer)]
+        self.assertEqual([bool(one) for one in told], [True, False, False])
 
     def test_the_program_refuses_each(self) -> None:
         ran = run_texts({case["text"]: case["text"].encode() + b"\n" for case in CASES})
@@ -102,7 +92,7 @@ class Mistakes(unittest.TestCase):
 class Faults(Folder):
     def told(self, fault: str, data: bytes, fonts: bytes = bytes(9728)) -> str:
         """What is told of a fault of these files."""
-        return explained("vga: " + fault, Files(self.write("s", data), self.write("f", fonts)))
+        return explained("vga: " + fault, self.write("s", data), self.write("f", fonts))
 
     def test_what_is_told(self) -> None:
         length, most = "bytes, and 9,728 are right", "16,777,216 bytes are the most"
@@ -130,12 +120,12 @@ class Faults(Folder):
         )))
 
     def test_files_that_cannot_be_read(self) -> None:
-        script, fonts = str(self.folder / "s"), self.write("f", bytes(9728))
+        script, fonts = self.folder / "s", Path(self.write("f", bytes(9728)))
         for make, path, reason in (
-            (lambda: None, script, "the script can't be read: there is no such file"),
-            (lambda: (self.folder / "s").mkdir(), script, "the script can't be read: it is a folder"),
-            (lambda: (self.folder / "f").unlink(), fonts, "the font file can't be read: there is no such file"),
+            (bool, script, "the script can't be read: No such file or directory"),
+            (script.mkdir, script, "the script can't be read: Is a directory"),
+            (fonts.unlink, fonts, "the font file can't be read: No such file or directory"),
         ):
             make()
-            with self.subTest(reason):
-                self.assertEqual(explained("vga: F8 ReadFault", Files(script, fonts)), f"{path}: F8 ReadFault: {reason}")
+            told = explained("vga: F8 ReadFault", str(script), str(fonts))
+            self.assertEqual(told, f"{path}: F8 ReadFault: {reason}")

@@ -2,6 +2,8 @@
 
 from __future__ import annotations
 
+import cProfile
+import contextlib
 import io
 import json
 import os
@@ -10,26 +12,24 @@ import resource
 import signal
 import sys
 import unittest
+import warnings
 from concurrent.futures import ThreadPoolExecutor
 from functools import partial
+from itertools import product
 from pathlib import Path
 from unittest import mock
 from xml.etree import ElementTree
 
 from vga_report import program
-from vga_report.expecting import answer_of, handed_in, is_as_expected, is_worth_telling
-from vga_report.listing import Choice, Row
-from vga_report.program import Tried, build_program
+from vga_report.expecting import dumps_in, expected_in
+from vga_report.listing import chosen
+from vga_report.mistakes import text_of
 from vga_report.progress import Progress
-from vga_report.report import Report
-from vga_report.script import expected_in
-from vga_report.tally import blessed_line
-from zaklimot.format import Answer, count_in, steps_in
+from vga_report.words import parser
+from zaklimot.format import count_in, lines_in, places_in, steps_in, words_in
 
 from .test_command import run
-from .tools import (
-    BLACK, EXAMPLES, RED, TOP, Folder, begin, hold, hold_refused, ppm, refused, run_texts, run_tool, stream,
-)
+from .tools import BLACK, EXAMPLES, RED, TOP, Folder, begin, ended, hold, hold_refused, hold_undone, ppm, want_program
 
 # A program that understands texts of a few steps: `asm` copies, `dis` prints in upper case, `go` answers by the name.
 FAKE = """import sys
@@ -63,23 +63,73 @@ while len(glob.glob(sys.argv[0] + ".*")) < 2: time.sleep(0.01)
 """
 
 
+# Texts, the words of a run, its status, and what is told.
+DECODED = "               No part of the adapter decodes port 0{}.\n".format
+NAMES = "out, outw, in, inw, put, putw, get, getw, advance, frame, int, show, version, repeat, end"
+RUNS: list[tuple[str, str, int, list[str]]] = [
+    ("get 0 ; = 55\nget 1 ; = *\nframe ; = picture 9x2\n", "--only differs", 1, [
+        "     1      1  GET 0               E6   not 55\n", "\n3 steps, 1 picture, 1 of 3 answers as expected\n",
+        "t.vga:1: step 1: GET 0 answers E6, not 55\nt.vga:3: step 3: FRAME answers picture 9x1 ",
+    ]),
+    ("out 3C2 1 ; = ok\nout 3C2 1 ; = E1\nout 3C2 1\n", "", 1, [
+        "   ok\n     2", "   ok   not E1\n     3",
+        "OUT 3C2 1 answers ok, not E1\n3 steps, 0 pictures, 1 of 2 answers as expected\n",
+    ]),
+    # Refusals are told once each, counted, and expected by their names.
+    ("in 60\nin 60\nin 61 ; = E1\n", "", 1, [
+        f"     1      1  IN 60               E1 NotDecoded\n{DECODED(60)}",
+        "     2      2  IN 60               E1 NotDecoded\n     3      3  IN 61 ",
+        f"   not E1\n{DECODED(61)}", " not E1: E1 is a byte that is read here; the refusal is written E1 NotDecoded\n",
+        "\n3 steps, 3 refused, 0 pictures, 0 of 1 answers as expected\n",
+    ]),
+    ("in 60\nin 60\n", "--html -", 0, [f"{DECODED(60).strip()}</td></tr>\n<tr"]),
+    ("in 60\nin 61 ; = E1 NotDecoded\n", "--quiet", 0, []),
+    ("in 60\n", "--quiet --strict", 1, ["t.vga:1: step 1: IN 60 answers E1 NotDecoded, and no refusal is expected\n"]),
+    # Answers that are expected of no step.
+    *((text, "", 2, [f"t.vga:{line}: no step stands on this line, so nothing answers "])
+      for text, line in (("frame\n; = 55\n", 2), ("version 2 ; = 1\n", 1), ("frame ; = *\n\t; =ok\n", 2))),
+    ("; ======\n; = =\nout 3C2 1\n", "", 0, []),
+    # What differs as a diff.
+    ("get 0 ; = 55 ; more\nin 3DA\n", "--diff", 1, [
+        "--- t.vga\n+++ t.vga as answered\n@@ -1,3 +1,3 @@\n-get 0 ; = 55 ; more\n+get 0 ; = E6 ; more\n in 3DA\n \n",
+    ]),
+    ("in 3DA\n", "--diff --strict", 1, ["\n+in 3DA ; = E1 NotDecoded\n"]),
+    # A stopped run shows the state.
+    *((text, "--until 2", 0, [
+        f"            {1 + steps}  show regs           look\n",
+        f"            {4 + steps}  show bda            look\n{4 + steps} steps",
+    ]) for text, steps in ((TEXT, 2), ("; no step\n", 0))),
+    # The text is lost where its file has the bytes.
+    ("VGAS\1\x0b", "", 0, [
+        "vga-report: t.vga: the file contains bytes, but has the name of a text. "
+        "If you named it twice, `vga asm` has written over the text\n",
+    ]),
+    *(("VGAS\1\x0b", words, 2, ["vga-report: t.vga: a script of bytes has no comments for answers\n"])
+      for words in ("--diff", "--bless")),
+    ("frame\nmove 1\n", "", 2, [
+        f"vga-report: t.vga:2: F7 BadLine(2): there is no step 'move'; the steps are {NAMES}\n  move 1\n  ^^^^\n",
+    ]),
+]
+
+
 class Fake(Folder):
     def setUp(self) -> None:
         super().setUp()
         self.vga = Path(self.program("vga", FAKE.format(picture=ppm(9, 1, RED * 4 + BLACK * 5))))
         self.path = self.write("s.vga", TEXT)
 
-    def change_program(self, old: str, new: str) -> None:
-        """Puts something else into the program."""
-        text = self.vga.read_text()
-        self.assertIn(old, text)
-        self.vga.write_text(text.replace(old, new))
+    def begin_program(self, text: str) -> None:
+        """Has the program do this first."""
+        self.vga.write_text(self.vga.read_text().replace("import sys\n", f"import sys\n{text}", 1))
 
-    def run_script(self, *words: str | bytes, path: str | bytes = "", given: bytes = b"") -> tuple[int, str, str]:
-        """Exit status, output and standard error of a run in the folder, of the script above or of another one."""
-        words = ("run", path or self.path, "--vga", str(self.vga), *words)
+    def run_tool(self, *words: str | bytes, given: bytes = b"") -> tuple[int, str, str]:
+        """Exit status, output and standard error of the tool in the folder."""
         status, output, said = run(*words, given=given, prepare=lambda: os.chdir(self.folder))
         return status, output.decode(), said
+
+    def run_script(self, *words: str | bytes, path: str | bytes = "", given: bytes = b"") -> tuple[int, str, str]:
+        """The same of a run of the script above or of another one."""
+        return self.run_tool("run", path or self.path, "--vga", str(self.vga), *words, given=given)
 
     def run_text(self, text: str | bytes, *words: str) -> tuple[int, str, str]:
         """The same of the script `t.vga` with this text."""
@@ -112,7 +162,7 @@ class Listings(Fake):
         for name, data in ((b"s\xff", TEXT), (b"f\xff", "font")):
             Path(os.fsdecode(bytes(self.folder) + b"/" + name)).write_text(data)
         # As the program does, which wants words of UTF-8.
-        self.change_program("words = sys.argv[1:]", "words = sys.argv[1:]; ' '.join(words).encode()")
+        self.begin_program("' '.join(sys.argv).encode()\n")
         hold(self, lambda path, *words: self.run_script(*words, path=path, given=TEXT.encode()), (
             ("-", listed), ("/dev/stdin", listed), (b"s\xff", "--fonts", b"f\xff", listed),
         ))
@@ -128,13 +178,7 @@ class Listings(Fake):
         ])
         message = "vga-report: --only has numbers of steps, as 10-20, and refused, read, pictures, dumps, differs, and not 'x'\n"
         self.assertEqual(self.run_script("--only", "x"), (2, "", message))
-
-    def test_a_stopped_run_shows_the_state(self) -> None:
-        for path, steps in ((self.path, 2), (self.write("none.vga", "; no step\n"), 0)):
-            lines = self.run_script("--until", "2", path=path)[1].splitlines()[1 + steps:]
-            self.assertEqual(lines[0], f"            {1 + steps}  show regs           look")
-            self.assertEqual(lines[3], f"            {4 + steps}  show bda            look")
-            self.assertEqual(lines[4].partition(",")[0], f"{4 + steps} steps")
+        hold_refused(self, chosen, ((text, "^--only ") for text in ("", "1-", "a-b", "1,,2", "0", "5-2", "0-3")))
 
     def test_pictures_as_files_and_as_blocks(self) -> None:
         shown = self.run_script("--pictures", "p", "--show")[1]
@@ -144,52 +188,45 @@ class Listings(Fake):
         for name in ("p", "quiet"):
             self.assertTrue((self.folder / name / "0004.png").read_bytes().startswith(b"\x89PNG"))
 
-    def test_a_fault_with_its_reason(self) -> None:
-        names = "out, outw, in, inw, put, putw, get, getw, advance, frame, int, show, version, repeat, end"
-        message = f"t.vga:2: F7 BadLine(2): there is no step 'move'; the steps are {names}\n  move 1\n  ^^^^\n"
-        self.assertEqual(self.run_text("frame\nmove 1\n"), (2, "", "vga-report: " + message))
+    def test_what_is_told(self) -> None:
+        for text, words, wanted, parts in RUNS:
+            with self.subTest(text, words=words):
+                status, output, said = self.run_text(text, *words.split())
+                self.assertEqual(status, wanted, said)
+                for part in parts:
+                    self.assertIn(part, output + said)
         status, _, said = self.run_script(path="-", given=b"move\n")
         self.assertEqual((status, said.partition(": there")[0]), (2, "vga-report: standard input:1: F7 BadLine(1)"))
+        self.assertEqual(self.run_script(path=self.write("s.bin", b"VGAS\1\x0b"))[2], "")
 
-    def test_no_toolchain(self) -> None:
-        told = (
-            "vga-report: rt: it is not in the path: it is the command of the Rattle toolchain, "
-            "which README.md tells of under \"Build it\". Without it --vga runs a program that is "
-            "built already, and --debug FILE writes a page that runs the script in a browser\n"
-        )
-        with mock.patch.dict(os.environ, PATH=str(self.folder)):
-            self.assertEqual(run("run", self.path, "--try"), (2, b"", told))
-            with mock.patch("vga_report.program.PROGRAM", self.folder / "none"):
-                self.assertRegex(refused(build_program, Progress()), "^rt: it is not in the path: ")
+    def test_what_is_lacking_for_a_build(self) -> None:
         self.assertIn("## Build it\n", (TOP / "README.md").read_text("utf-8"))
-
-    def test_a_release_has_no_sources(self) -> None:
-        with mock.patch.multiple(program, CRATE=self.folder, PROGRAM=self.folder / "none"):
-            running = Tried().running(Path(self.path), self.path, None, False)
-            for work, *words in ((running.__enter__,), (build_program, Progress())):
-                self.assertRegex(refused(work, *words), "^the program's sources in Rattle are not here")
+        none = self.folder / "none"
+        told = '^vga-report: rt: it is not in the path: .* "Build it"\\. Without it --vga runs a '
+        self.patch(mock.patch.dict(os.environ, PATH=str(self.folder)), mock.patch.object(program, "PROGRAM", none))
+        for words in ("--try", "--build"):
+            hold_undone(self, run("run", self.path, words), told)
+            # A release has no sources.
+            with mock.patch.object(program, "CRATE", none):
+                hold_undone(self, run("run", self.path, words), "the program's sources in Rattle are not here")
 
     def test_programs_that_do_not_do_it(self) -> None:
-        good = self.vga.read_text()
-        for text, told in (
-            (good + "sys.exit('the script can\\'t be read')\n", "the script can't be read"),
-            (good + "if words[0] == 'go': out.write(b'7 ok\\n')\n", "the report goes on after the last step, 6"),
-            ("#!/bin/true", "the report ends after 0 of 6 steps"),
-            (good.replace("[:stop], 1)", "[:2], 1)"), "the report ends after 2 of 6 steps"),
+        good, fault = self.vga.read_text(), "t.vga:2: F7 BadLine(2): refused"
+        for text, script, told in (
+            (good + "sys.exit('the script can\\'t be read')\n", TEXT, "t.vga: the script can't be read\n"),
+            (good + "if words[0] == 'go': out.write(b'7 ok\\n')\n", TEXT,
+             "t.vga: the report goes on after the last step, 6\n"),
+            ("#!/bin/true", TEXT, "t.vga: the report ends after 0 of 6 steps\n"),
+            # A fault may stand in the place of a report.
+            *(("import sys\nif sys.argv[1] == 'go': print('F7 BadLine(2)')\n", script, fault)
+              for script in ("frame\nint", "; a\n; b\n")),
+            (good.replace("[:stop], 1)", "[:2], 1)"), TEXT, "t.vga: the report ends after 2 of 6 steps\n"),
         ):
-            self.vga.write_text(text)
-            status, output, said = self.run_script()
-            self.assertEqual((status, said), (2, f"vga-report: {self.path}: {told}\n"))
+            self.program("vga", text)
+            status, output, said = self.run_text(script)
+            self.assertEqual((status, said[:len(told) + 12]), (2, f"vga-report: {told}"))
         self.assertIn("     4      2  GET A0000 ", output)
-        self.assertEqual(self.run_script("--until", "2")[0], 0)
-        self.assertEqual(self.run_text("; no step\n")[0], 0)
-
-    def test_a_fault_in_the_place_of_a_report(self) -> None:
-        self.program("vga", "import sys\nif sys.argv[1] == 'go': print('F7 BadLine(2)')\n")
-        told = "vga-report: t.vga:2: F7 BadLine(2): "
-        for text in ("frame\nmove\n", "; no step\n; no step\n"):
-            status, output, said = self.run_text(text)
-            self.assertEqual((status, output, said[:len(told)]), (2, "", told), text)
+        self.assertEqual((self.run_script("--until", "2")[0], self.run_text("; no step\n")[0]), (0, 0))
 
     def test_long_scripts_take_no_longer_a_step(self) -> None:
         path = self.write("long.vga", "out 3c4 02\n" * 50_000)
@@ -197,27 +234,21 @@ class Listings(Fake):
         output = run("run", path, "--vga", self.vga, "--only", "50000", prepare=little)[1].decode()
         self.assertEqual(output.splitlines()[1:], [" 50000  50000  OUT 3C4 02          ok", "50000 steps, 0 pictures"])
 
-    def test_answers_that_differ(self) -> None:
-        status, output, _ = self.run_text("get 0 ; = 55\nget 1 ; = *\nframe ; = picture 9x2\n", "--only", "differs")
-        self.assertEqual(status, 1)
-        self.assertIn("     1      1  GET 0               E6   not 55\n", output)
-        self.assertIn("t.vga:1: step 1: GET 0 answers E6, not 55\nt.vga:3: step 3: FRAME answers picture 9x1 ", output)
-        self.assertTrue(output.endswith("3 steps, 1 picture, 1 of 3 answers as expected\n"))
-
     def blessed(self, text: str, *words: str) -> tuple[int, str, str]:
         """Exit status and output of a run that writes answers into a script, and the script then."""
         status, output, _ = self.run_text(text, "--bless", *words)
         return status, output, (self.folder / "t.vga").read_bytes().decode()
 
     def test_answers_are_written_in(self) -> None:
-        text = "out 3C2 1\nget 0\r\nget 1 ; = 55 ; the byte\nget 2 ; = *\nint ax=3\nin 3DA  ; \u00e9\n"
+        text = "out 3C2 1\nget 0\r\nget 1 ; = 55 ; the byte\nget 2 ; = *\nint ax=3\nin 3DA  ; \u00e9\nint\n"
         whole = (
             "out 3C2 1\nget 0 ; = E6\r\nget 1 ; = E6 ; the byte\nget 2 ; = *\nint ax=3\n"
-            "in 3DA  ; = E1 NotDecoded ; \u00e9\n"
+            "in 3DA  ; = E1 NotDecoded ; \u00e9\nint ; = ax=0003 bx=0000 cx=0000 dx=0000\n"
         )
         # What is met stays as it is.
         met = "frame ; = picture 9x1\nin 3DA ; = e1 notdecoded\nshow regs ; = 2 lines...\nint ; = ax=0003\n"
-        told = "t.vga:2: nothing -> E6\nt.vga:3: 55 -> E6\nt.vga:6: nothing -> E1 NotDecoded\nt.vga: 3 answers "
+        told = "t.vga:2: nothing -> E6\nt.vga:3: 55 -> E6\nt.vga:6: nothing -> E1 NotDecoded\n"
+        told += "t.vga:7: nothing -> ax=0003 bx=0000 cx=0000 dx=0000\nt.vga: 4 answers "
         hold(self, self.blessed, (
             (text, "--dry-run", (0, f"{told}would be written\n", text)), (text, (0, f"{told}written\n", whole)),
             *((good, (0, "t.vga: 0 answers written\n", good)) for good in (whole, met)),
@@ -233,46 +264,6 @@ class Listings(Fake):
         self.assertEqual((status, output.split("6c: ")[1].splitlines()[0]), (1, "'b', not 'c'"))
         counts = [self.run_text(other, word)[1].count("\n-;| c\n+;| b\n") for word in ("--diff", "--bless")]
         self.assertEqual((counts, (self.folder / "t.vga").read_text()), ([1, 0], whole))
-
-    def test_refusals_are_told_counted_and_expected(self) -> None:
-        text, decoded = "in 60\nin 60\nin 61 ; = E1\n", "No part of the adapter decodes port"
-        status, output, _ = self.run_text(text)
-        self.assertEqual((status, output.count(f"{decoded} 060."), output.count("port 061")), (1, 1, 1))
-        self.assertIn(" not E1: E1 is a byte that is read here; the refusal is written E1 NotDecoded\n", output)
-        self.assertTrue(output.endswith("\n3 steps, 3 refused, 0 pictures, 0 of 1 answers as expected\n"))
-        self.assertEqual(self.run_text(text, "--html", "-")[1].count(decoded), 3)
-        text = "in 60\nin 61 ; = E1 NotDecoded\n"
-        self.assertEqual(self.run_text(text, "--quiet")[0], 0)
-        status, output, _ = self.run_text(text, "--quiet", "--strict")
-        strict = "t.vga:1: step 1: IN 60 answers E1 NotDecoded, and no refusal is expected"
-        self.assertEqual((status, output.splitlines()[0]), (1, strict))
-        status, output, _ = self.run_text("out 3C2 1 ; = ok\nout 3C2 1 ; = E1\nout 3C2 1\n")
-        self.assertEqual((status, output.count("   ok   not E1\n")), (1, 1))
-        self.assertIn("OUT 3C2 1 answers ok, not E1\n3 steps, 0 pictures, 1 of 2 answers as expected\n", output)
-
-    def test_an_answer_that_is_expected_of_no_step(self) -> None:
-        for text, line in (("frame\n; = 55\n", 2), ("version 2 ; = 1\n", 1), ("frame ; = *\n\t; =ok\n", 2)):
-            status, _, said = self.run_text(text)
-            told = f"vga-report: t.vga:{line}: no step stands on this line, so nothing answers "
-            self.assertEqual((status, said[:len(told)]), (2, told))
-        self.assertEqual(self.run_text("; ======\n; = =\nout 3C2 1\n")[0], 0)
-
-    def test_what_differs_as_a_diff(self) -> None:
-        text = "get 0 ; = 55 ; more\nin 3DA\n"
-        change = "@@ -1,3 +1,3 @@\n-get 0 ; = 55 ; more\n+get 0 ; = E6 ; more\n in 3DA\n \n"
-        self.assertEqual(self.run_text(text, "--diff")[:2], (1, f"--- t.vga\n+++ t.vga as answered\n{change}"))
-        self.assertIn("\n+in 3DA ; = E1 NotDecoded\n", self.run_text(text, "--diff", "--strict")[1])
-
-    def test_scripts_of_bytes(self) -> None:
-        self.write("s.bin", b"VGAS\x01\x0b")
-        told = "vga-report: s.bin: a script of bytes has no comments for answers\n"
-        hold(self, partial(self.run_script, path="s.bin"), (("--diff", (2, "", told)), ("--bless", (2, "", told))))
-        self.assertEqual(self.run_script(path="s.bin")[2], "")
-        # The text is lost where its file has the bytes.
-        self.assertEqual(self.run_text(b"VGAS\x01\x0b")[2], (
-            "vga-report: t.vga: the file contains bytes, but has the name of a text. "
-            "If you named it twice, `vga asm` has written over the text\n"
-        ))
 
     def test_as_json(self) -> None:
         status, output, said = self.run_text("get 0 ; = 55\nframe\nin 60\nshow regs\n", "--json", "-")
@@ -290,27 +281,33 @@ class Listings(Fake):
 
 
 class Expectations(unittest.TestCase):
-    def test_what_is_as_expected(self) -> None:
-        picture = next(Report(stream(b"1 picture 37\n" + ppm(9, 1, BLACK * 9) + b"\n"), "r").steps())
-        for step, name, good, bad in [
-            (Answer(1, 1, "55"), "get", ["55", "*", "5..."], ["5", "54", ""]),
-            (Answer(1, 1, "E6"), "get", ["E6", "e6"], ["E6 WrongKind"]),
-            (Answer(1, 1, "E1 NotDecoded"), "get", ["E1 NotDecoded"], ["E1", "E2"]),
-            (Answer(1, 1, "E6 WrongKind"), "int", ["E6", "E6 WrongKind"], ["E6 BadPage", "E7"]),
-            (Answer(1, 1, "ax=0300 bx=0000 cx=0D0E dx=0102"), "int", ["cx=0D0E", "dx=0102 ax=0300"], ["cx=0D0F", "cx", "ex=0"]),
-            (picture, "frame", ["picture 9x1", "picture 9x1 8f4a...", answer_of(picture)], ["picture", "picture 37", "picture 9x2"]),
-            (Answer(1, 1, "a", ("b",)), "show", ["2 lines dd8c6a395b5dd36c56d23275028f526c"], ["a", "a b", "2 lines"]),
-        ]:
-            for expected in good + bad:
-                with self.subTest((step.answer, expected)):
-                    self.assertEqual(is_as_expected(step, expected, name), expected in good)
+    """What a text expects of its steps. page/tests/expecting.mjs holds which answers meet it."""
 
     def test_comments(self) -> None:
         hold(self, lambda comment: expected_in(comment.encode()), [
             ("= 55", "55"), (" =55 ; more", "55"), ("55", None), ("= E6  WrongKind", "E6 WrongKind"), ("=", ""),
         ])
-        self.assertEqual([line.number for line in steps_in(io.BytesIO(b"; a\n\nframe ; =\n \t\r\nframe"))], [3, 5])
-        self.assertEqual(blessed_line("frame", "ok"), "frame ; = ok")
+
+    def test_dumps(self) -> None:
+        hold(self, lambda text: dumps_in(text.encode(), "t"), [
+            ("frame\n;| a\n ;| b \nframe\n;| c\n", {1: ("a", "b"), 4: ("c",)}), ("; x\n;| a\nframe\n\n;| b\n", {}),
+            ("version 2\nREPEAT 2\n;| a\nframe ; x\n;| b\nend\n;| c\n", {4: ("b",)}),
+            ("frame\n frame ;| a\n", {}), ("ret\v2 ; = 5\n\t\r\n", {}), ("\xe9 ; = 5\n;| 1", {1: ("1",)}),
+        ])
+
+    def test_lines_of_any_bytes(self) -> None:
+        pieces = b"out 3C4 02", b"  in\t3da", b"\xff", b"\v", b"\f", b" ", b"\r", b";", b"; = 5", b"\n"
+        for text in map(b"".join, product(pieces, repeat=4)):
+            fronts = [(at, line.partition(b";")) for at, line in enumerate(text.split(b"\n"), 1)]
+            wanted = [
+                (at, " ".join(map(text_of, words)), comment) for at, (front, _, comment) in fronts
+                if (words := re.findall(rb"[^ \t\r]+", front))
+            ]
+            lines = [(*line[:2], line[2].rstrip(b"\n")) for line in lines_in(io.BytesIO(text))]
+            self.assertEqual(lines, wanted, text)
+            for whole in (text, b"version 2\n" + text):
+                places = [(line.number, line.comment) for line in steps_in(io.BytesIO(whole))]
+                self.assertEqual(list(places_in(io.BytesIO(whole))), places, whole)
 
     def test_blocks(self) -> None:
         def steps(text: str) -> list[tuple[int, str]]:
@@ -325,37 +322,55 @@ class Expectations(unittest.TestCase):
         long = "version 2\nrepeat 3\n" + "".join(f"in {at:X}\n" for at in range(5000)) + "end\nframe\n"
         once = [(at + 3, f"in {at:X}") for at in range(5000)]
         self.assertEqual(steps(long), [*once, *once, *once, (5004, "frame")])
-        for some in (text, long, "frame\nin 3DA ; repeat 2\n", "", "version 2\nrepeat 7\nend\n"):
+        others = "frame\nin 3DA ; repeat 2\n", "", "version 2\nrepeat 7\nend\n", "; a\n \t\r\n ; b\nframe"
+        for some in (text, long, *others):
             self.assertEqual(count_in(io.BytesIO(some.encode())), len(steps(some)))
-
-    def test_what_is_worth_telling(self) -> None:
-        self.assertEqual(handed_in("int ax=3 dx=12"), "ax=0003 bx=0000 cx=0000 dx=0012")
-        hold(self, lambda answer, words: is_worth_telling(Answer(1, 1, answer), words), [
-            ("ok", "out 3C2 1", False), ("55", "get 0", True), ("ax=0003 bx=0000 cx=0000 dx=0000", "int ax=3", False),
-            ("ax=0300 bx=0000 cx=0D0E dx=0000", "int ax=300", True),
-        ])
-
-    def test_choices(self) -> None:
-        self.assertTrue(Choice(None).has(Row(Answer(1, 1, "ok"), "")))
-        hold_refused(self, Choice, ((text, "^--only ") for text in ("", "1-", "a-b", "1,,2", "0", "5-2", "0-3")))
+        printed = "version 2\nIN 3DA\nrepeat 2\nFRAME\nend\n"
+        self.assertEqual(list(words_in(io.BytesIO(printed.encode()))), [words for _, words in steps(printed)])
 
 
 class Examples(unittest.TestCase):
-    """Each example answers what its comments expect."""
+    def test_each_answers_what_its_comments_expect(self) -> None:
+        want_program()
+        status, output, said = run("run", EXAMPLES, "--jobs", "4")
+        self.assertEqual((status, said), (0, ""))
+        *lines, last = output.decode().splitlines()
+        self.assertGreater(int(last.split(" scripts, 0 differ")[0]), 22)
+        for line in lines:
+            # Bytes have no comments.
+            self.assertRegex(line, r"\.bin: |, ([1-9]\d*) of \1 answers as expected$")
 
-    def test_each_example(self) -> None:
-        texts = {path.stem: path.read_bytes() for path in sorted(EXAMPLES.rglob("*.vga"))}
-        self.assertGreater(len(texts), 22)
-        for name, ran in run_texts(texts).items():
-            self.assertEqual((ran.status, ran.said), (0, ""), name)
-            lines = list(steps_in(io.BytesIO(texts[name])))
-            steps = list(Report(stream(ran.report), name).steps())
-            self.assertEqual(len(steps), len(lines), name)
-            expected = [(step, line, expected_in(line.comment)) for step, line in zip(steps, lines) if expected_in(line.comment)]
-            self.assertTrue(expected, name)
-            for step, line, wanted in expected:
-                with self.subTest(f"{name}:{line.number}"):
-                    self.assertTrue(is_as_expected(step, wanted or "", line.name), answer_of(step))
+
+class Calls(Fake):
+    """What a step takes doesn't grow unseen: its calls are counted, since seconds are never alike."""
+
+    # The Python functions that a plain step, and one that is refused, call at most, and what they call of Python's own.
+    MOST = 30
+
+    def calls(self, text: str) -> int:
+        """How many calls a run makes with its listing."""
+        words = parser().parse_args(["run", self.write("long.vga", text), "--vga", str(self.vga)])
+        profile = cProfile.Profile()
+        with open(self.folder / "out", "w") as output, contextlib.redirect_stdout(output), warnings.catch_warnings():
+            # A tool's process ends at once, and closes its files so.
+            warnings.simplefilter("ignore", ResourceWarning)
+            profile.runcall(words.job, words, Progress(False))
+        return sum(entry.callcount for entry in profile.getstats())
+
+    def test_of_a_step(self) -> None:
+        for line in ("out 3c4 2\n", "put b8000 55\n", "get 0 ; a comment\n", "in 3da\n"):
+            few, many = self.calls(line * 100), self.calls(line * 600)
+            with self.subTest(line, calls=(many - few) / 500):
+                self.assertTrue(10 < (many - few) / 500 < self.MOST)
+
+
+class Benchmarks(unittest.TestCase):
+    def test_what_is_missing_is_told_before_they_begin(self) -> None:
+        nothing = "/dev/null/none"
+        hold(self, lambda name: ended(sys.executable, TOP / "bench" / name, nothing), (
+            ("bench.py", (2, "", f"bench.py: {nothing}: there is no such program; README.md tells how to build it\n")),
+            ("library.py", (2, "", f"library.py: {nothing} has no library: tools/vga-library make {nothing}\n")),
+        ))
 
 
 class Several(Fake):
@@ -366,7 +381,7 @@ class Several(Fake):
             self.write(f"tests/{name}", text)
 
     def test_each_script_of_a_folder(self) -> None:
-        self.change_program("words = sys.argv[1:]", TOGETHER + "words = sys.argv[1:]")
+        self.begin_program(TOGETHER)
         status, output, said = self.run_script("--jobs", "2", path=str(self.tests))
         a, b = self.tests / "a.vga", self.tests / "more" / "b.vga"
         self.assertEqual((status, said), (1, ""))
@@ -386,7 +401,7 @@ class Several(Fake):
 
     def test_a_name_that_looks_like_an_option(self) -> None:
         (self.tests / "-c.vga").write_text("frame\n")
-        status, output, _ = run_tool("vga-report", "run", ".", "--vga", self.vga, prepare=lambda: os.chdir(self.tests))
+        status, output, _ = run("run", ".", "--vga", self.vga, prepare=lambda: os.chdir(self.tests))
         self.assertEqual((status, output.split(b"\n")[0]), (1, b"-c.vga: 1 step, 1 picture"))
 
     def test_for_machines(self) -> None:

@@ -5,11 +5,10 @@ import os
 
 from vga_report import cli
 from vga_report.cli import add
-from vga_report.output import name_of, refuse_twice
 from vga_report.progress import Progress
 from vga_report.png import save_png
-from vga_report.script import script_of
-from vga_report.streams import STANDARD, read_at_most, reading, to_read, write_file, writing
+from vga_report.faults import script_of
+from vga_report.streams import STANDARD, name_of, read_at_most, reading, refuse_twice, to_read, write_file, writing
 from vga_report.suite import LIST, empty_folder
 from vga_report.trouble import Trouble
 from vga_report.words import seconds

@@ -7,9 +7,8 @@ import re
 from dataclasses import dataclass
 from typing import Any, Iterator, Sequence
 
-from vga_report.output import name_of
-from vga_report.running import AGREES, DIFFERS, FAILED, SKIPPED
-from vga_report.streams import STANDARD, read_at_most, write_over
+from vga_report.suite import AGREES, DIFFERS, FAILED, SKIPPED
+from vga_report.streams import STANDARD, name_of, read_at_most, write_over
 from vga_report.trouble import Trouble
 from zaklimot.format import MOST_BYTES
 

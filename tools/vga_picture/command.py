@@ -8,11 +8,10 @@ import sys
 from vga_report import cli
 from vga_report.cli import add
 from vga_report.images import image_bytes, image_of
-from vga_report.output import counted, name_of, refuse_twice
 from vga_report.png import save_png
 from vga_report.program import FONTS
 from vga_report.progress import Progress
-from vga_report.streams import STANDARD, read_at_most, refuse_input, to_read, writing
+from vga_report.streams import STANDARD, counted, name_of, read_at_most, refuse_input, refuse_twice, to_read, writing
 from vga_report.trouble import Trouble
 from zaklimot.format import MOST_BYTES
 

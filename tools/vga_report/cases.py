@@ -4,13 +4,13 @@ import re
 from io import BytesIO
 from itertools import islice, takewhile
 from pathlib import Path
-from typing import Iterator, NamedTuple, Optional, Sequence
+from typing import Iterator, NamedTuple, Optional
 
 from zaklimot.format import FAULT, MOST_BYTES, STATE, Answer, lines_in, steps_in
 from zaklimot.format.report import REFUSAL, VALUE
 
 from .report import Expected
-from .streams import STANDARD, bytes_of, read_at_most, shown_name
+from .streams import STANDARD, bytes_of, name_of, read_at_most
 from .trouble import Trouble
 
 CASE = re.compile(r"(?P<bytes>bytes )?(?P<name>[^ ]+)( until (?P<steps>[0-9]+))?")
@@ -50,11 +50,6 @@ class Case(NamedTuple):
         """The file of its expected report."""
         return self.folder / (self.name + ".txt")
 
-    @property
-    def group(self) -> str:
-        """The folder that its name begins with."""
-        return self.name.rpartition("/")[0]
-
     def rule(self) -> str:
         """The rule that it shows: the first line of its first comment, or else its name."""
         for line in bytes_of(self.source, MOST_BYTES).splitlines():
@@ -65,23 +60,28 @@ class Case(NamedTuple):
         return self.name
 
     def script(self) -> bytes:
-        """Its whole script: text, with what stands in front of it, or bytes."""
+        """Its whole script: text, with what stands in front of it, or bytes, where `XX*N` is N times the byte."""
         source = bytes_of(self.source, MOST_BYTES)
-        if self.is_bytes:
-            return _bytes_of(source, self.source)
-        return (bytes_of(self.front, MOST_BYTES) if self.front else b"") + source
+        if not self.is_bytes:
+            return (bytes_of(self.front, MOST_BYTES) if self.front else b"") + source
+        parts = []
+        for number, line in enumerate(source.decode("utf-8", "replace").splitlines(), 1):
+            for word in line.partition(";")[0].split():
+                found = HEX.fullmatch(word)
+                if found is None:
+                    raise Trouble(f"'{word[:20]}' is no byte", str(self.source), number)
+                parts.append(bytes.fromhex(found[1]) * int(found[3] or "1"))
+        return b"".join(parts)
 
     def place_of(self, number: int) -> str:
         """A step with the file and the line where it stands; empty where it stands in no text."""
-        if self.is_bytes or number < 1:
+        text = b"" if self.is_bytes or number < 1 else self.script()
+        step = next(islice(steps_in(BytesIO(text)), max(number - 1, 0), None), None)
+        if step is None:
             return ""
-        for file in (self.front, self.source):
-            steps = list(steps_in(BytesIO(bytes_of(file, MOST_BYTES)))) if file else []
-            if number <= len(steps):
-                step = steps[number - 1]
-                return printable(f"`{step.words[:MOST_WORDS]}`, {file.relative_to(self.folder)}:{step.number}")
-            number -= len(steps)
-        return ""
+        lines = bytes_of(self.front, MOST_BYTES).count(b"\n") if self.front else 0
+        file, line = (self.source, step.number - lines) if step.number > lines else (self.front, step.number)
+        return printable(f"`{step.words[:MOST_WORDS]}`, {file.relative_to(self.folder)}:{line}")
 
     def expects_fault(self) -> bool:
         """Whether the script has a mistake, or another fault ends the run before its first step."""
@@ -99,28 +99,20 @@ class Case(NamedTuple):
 
     def has_answers_of_machine(self) -> bool:
         """Whether a step before the first that is to be refused has an answer that a machine can give."""
-        return not self.expects_fault() and any(
-            step.kind == VALUE or step.answer.startswith(CALLED) for step in takewhile(_is_taken, self.expected_steps())
-        )
-
-    def machine_script(self) -> bytes:
-        """Its script for a machine: text ends before the first step that is to be refused, and bytes are whole.
-
-        Text that ends so has its blocks spelt out. All other text is handed over as it stands.
-        """
-        if self.is_bytes:
-            return self.script()
-        script = self.stopped_script()
-        for taken, step in enumerate(self.expected_steps()):
-            if not _is_taken(step):
-                return _front_of(script, taken)
-        return script
+        steps = () if self.expects_fault() else takewhile(lambda step: step.kind != REFUSAL, self.expected_steps())
+        return any(step.kind == VALUE or step.answer.startswith(CALLED) for step in steps)
 
     def handed(self, is_for_machine: bool, can_stop: bool) -> bytes:
-        """Its script as a command gets it, which can stop a run or not."""
-        if is_for_machine:
-            return self.machine_script()
-        return self.script() if can_stop else self.stopped_script()
+        """Its script as a command gets it, which can stop a run or not.
+
+        A text for a machine ends before the first step that is to be refused, and has its blocks spelt out then. All
+        others are handed over as they stand.
+        """
+        if self.is_bytes or can_stop and not is_for_machine:
+            return self.script()
+        script, steps = self.stopped_script(), self.expected_steps() if is_for_machine else iter(())
+        refused = next((step for step in steps if step.kind == REFUSAL), None)
+        return script if refused is None else _front_of(script, refused.number - 1)
 
     def expected_steps(self) -> Iterator[Answer]:
         """The steps of the report that is expected."""
@@ -128,26 +120,9 @@ class Case(NamedTuple):
             yield from Expected(stream, str(self.expected)).steps()
 
 
-def _is_taken(step: Answer) -> bool:
-    """Whether a step is not to be refused."""
-    return step.kind != REFUSAL
-
-
 def printable(text: str, others: str = "") -> str:
     """A text that no terminal takes for more than a text. Other characters may be kept."""
     return "".join(character if character.isprintable() or character in others else "?" for character in text)
-
-
-def _bytes_of(source: bytes, path: Path) -> bytes:
-    """The bytes that digits spell: `XX*N` is N times the byte, and `;` begins a comment."""
-    parts = []
-    for number, line in enumerate(source.decode("utf-8", "replace").splitlines(), 1):
-        for word in line.partition(";")[0].split():
-            found = HEX.fullmatch(word)
-            if found is None:
-                raise Trouble(f"'{word[:20]}' is no byte", str(path), number)
-            parts.append(bytes.fromhex(found[1]) * int(found[3] or "1"))
-    return b"".join(parts)
 
 
 def _front_of(text: bytes, steps: int) -> bytes:
@@ -163,21 +138,11 @@ def _front_of(text: bytes, steps: int) -> bytes:
 
 def read_cases(path: str) -> list[Case]:
     """The cases of a list, but for those whose expected report is wrong on purpose."""
-    folder = Path(".") if path == STANDARD else Path(path).parent
-    lines = read_at_most(path, MOST_BYTES).decode("utf-8", "replace").splitlines()
-    return list(_cases(lines, folder.absolute(), shown_name(path, "standard input")))
-
-
-def chosen_cases(cases: list[Case], wanted: Sequence[str], unwanted: Sequence[str]) -> list[Case]:
-    """The cases whose names begin with a wanted word, or all, but for those that begin with an unwanted one."""
-    fronts, others = tuple(wanted) or "", tuple(unwanted)
-    return [case for case in cases if case.name.startswith(fronts) and not case.name.startswith(others)]
-
-
-def _cases(lines: list[str], folder: Path, name: str) -> Iterator[Case]:
+    folder, name = (Path(".") if path == STANDARD else Path(path).parent).absolute(), name_of(path)
     fonts: Optional[Path] = None
     front: Optional[Path] = None
-    for number, line in enumerate(lines, 1):
+    cases = []
+    for number, line in enumerate(read_at_most(path, MOST_BYTES).decode("utf-8", "replace").splitlines(), 1):
         word, _, rest = line.strip().partition(" ")
         if not word or word.startswith("#") or word == "wrong":
             continue
@@ -192,4 +157,5 @@ def _cases(lines: list[str], folder: Path, name: str) -> Iterator[Case]:
             if ".." in Path(found["name"]).parts or Path(found["name"]).is_absolute():
                 raise Trouble(f"a case outside the list's folder: '{found['name'][:40]}'", name, number)
             until = None if found["steps"] is None else int(found["steps"])
-            yield Case(found["name"], folder, fonts, front, until, found["bytes"] is not None)
+            cases.append(Case(found["name"], folder, fonts, front, until, found["bytes"] is not None))
+    return cases

@@ -24,10 +24,7 @@ JUDGES = "Exit status: 0 all is right; 1 something is wrong; 2 the work can't be
 
 
 class _Version(argparse.Action):
-    """Prints the release's number, and ends the tool."""
-
-    def __init__(self, option_strings: Sequence[str], dest: str) -> None:
-        super().__init__(option_strings, dest, nargs=0, help="prints the release's number")
+    """Prints the release's number, and ends the tool. No other command wants the header."""
 
     def __call__(self, parser: argparse.ArgumentParser, *_: object) -> None:
         sys.stdout.write(f"{parser.prog} {version()}\n")
@@ -48,7 +45,7 @@ def tool_parser(name: str, does: str, example: str, page: str, statuses: str = D
         prog=name, description=does, formatter_class=argparse.RawDescriptionHelpFormatter,
         epilog=f"Example:\n  {example}\n\n{statuses}\n{page} tells more.",
     )
-    made.add_argument("--version", action=_Version)
+    made.add_argument("--version", action=_Version, nargs=0, help="prints the release's number")
     return made
 
 
@@ -131,40 +128,19 @@ def _ending_at_signals() -> Iterator[None]:
             signal.signal(number, signal.SIG_DFL)
 
 
-def _reason(error: OSError) -> str:
-    return f"{'standard output' if error.filename is None else error.filename}: {error.strerror or error}"
-
-
-def _done(name: str, work: Callable[[], int], progress: Optional[Progress]) -> int:
-    """Does the work; what it can't do is told on standard error."""
-    try:
-        return work()
-    except BrokenPipeError:
-        raise
-    except Trouble as trouble:
-        status, reason = trouble.status, str(trouble)
-    except OSError as error:
-        status, reason = TROUBLE, _reason(error)
-    except MemoryError:
-        status, reason = TROUBLE, NO_MEMORY
-    if progress is not None:
-        progress.clear()
-    sys.stdout.flush()
-    sys.stderr.write(f"{name}: {reason}\n")
-    return status
-
-
 def run(name: str, work: Callable[[], int], progress: Optional[Progress] = None) -> int:
     """Does a tool's work, which answers its exit status; the status with which the tool is to end.
 
-    Once this returns, all is undone that the work's own `with` and `finally` undo, also where a signal ended it.
+    What it can't do is told on standard error. Once this returns, all is undone that the work's own `with` and
+    `finally` undo, also where a signal ended it.
     """
     if not open_closed_streams():
         sys.stderr.write(f"{name}: standard output: it is closed\n")
         return TROUBLE
+    reason = ""
     try:
         with _ending_at_signals():
-            status = _done(name, work, progress)
+            status = work()
             sys.stdout.flush()
         return status
     except BrokenPipeError:
@@ -173,14 +149,30 @@ def run(name: str, work: Callable[[], int], progress: Optional[Progress] = None)
         status = INTERRUPTED
     except Ended as ended:
         status = SIGNALLED + ended.args[0]
+    except Trouble as trouble:
+        status, reason = trouble.status, str(trouble)
     except OSError as error:
-        sys.stderr.write(f"{name}: {_reason(error)}\n")
-        status = TROUBLE
+        name_of_file = "standard output" if error.filename is None else error.filename
+        status, reason = TROUBLE, f"{name_of_file}: {error.strerror or error}"
+    except MemoryError:
+        status, reason = TROUBLE, NO_MEMORY
     if progress is not None:
         progress.clear()
-    # What can't be written would fail once more when Python ends.
-    os.dup2(os.open(os.devnull, os.O_WRONLY), sys.stdout.fileno())
+    _end_output(is_kept=bool(reason))
+    if reason:
+        sys.stderr.write(f"{name}: {reason}\n")
     return status
+
+
+def _end_output(is_kept: bool) -> None:
+    """Writes what is left of standard output, or drops it: it would fail once more when Python ends."""
+    try:
+        if is_kept:
+            sys.stdout.flush()
+    except OSError:
+        is_kept = False
+    if not is_kept:
+        os.dup2(os.open(os.devnull, os.O_WRONLY), sys.stdout.fileno())
 
 
 def runner(made: Callable[[], argparse.ArgumentParser]) -> Callable[[Optional[Sequence[str]]], int]:

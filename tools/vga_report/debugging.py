@@ -7,7 +7,7 @@ import json
 import os
 import re
 from pathlib import Path
-from typing import Any, Optional
+from typing import Any
 from urllib.parse import quote
 
 from zaklimot.format import FONT_BYTES, MOST_BYTES, is_bytes
@@ -38,15 +38,6 @@ def page_data(page: str) -> dict[str, Any]:
     return data
 
 
-def opened(name: str, script: bytes, fonts: Optional[bytes]) -> dict[str, Optional[str]]:
-    """What the page is told to open: a script, as text or as bytes, and its font file where it has one."""
-    in_base64 = None if fonts is None else base64.b64encode(fonts).decode("ascii")
-    if is_bytes(script):
-        return {"name": name, "bytes": base64.b64encode(script).decode("ascii"), "fonts": in_base64}
-    # A byte that is no text is wrong in a step, and means nothing in a comment.
-    return {"name": name, "text": script.decode("utf-8", "replace"), "fonts": in_base64}
-
-
 def link_to(path: str | Path, page: str) -> str:
     """The address by which a page refers to a file or a folder.
 
@@ -64,8 +55,6 @@ def debug_page(name: str, script: bytes, fonts: str, page: str) -> bytes:
     """The page that runs this script with this font file, as it is written to a file."""
     if not PAGE.exists():
         raise Trouble("the page is not built: `tools/vga-page make page/zaklimot.html` builds it", str(PAGE))
-    if len(script) > MOST_BYTES:
-        raise Trouble(f"it has more than {MOST_BYTES:,} bytes", name)
     if fonts == STANDARD:
         raise Trouble("--fonts wants a file")
     text = read_at_most(str(PAGE), MOST_PAGE).decode("utf-8")
@@ -73,8 +62,11 @@ def debug_page(name: str, script: bytes, fonts: str, page: str) -> bytes:
     font = read_at_most(fonts, MOST_BYTES)
     if len(font) != FONT_BYTES:
         raise Trouble(f"the font file has {len(font):,} bytes, and {FONT_BYTES:,} are right", fonts)
-    is_projects = font == base64.b64decode(data["fonts"])
-    data["open"] = opened(name, script, None if is_projects else font)
+    in_base64, in_text = base64.b64encode(font).decode("ascii"), script.decode("utf-8", "replace")
+    # A byte that is no text is wrong in a step, and means nothing in a comment.
+    given = {"bytes": base64.b64encode(script).decode("ascii")} if is_bytes(script) else {"text": in_text}
+    # The project's own font file is in the page.
+    data["open"] = {"name": name, **given, "fonts": None if in_base64 == data["fonts"] else in_base64}
     data["pages"] = link_to(DOCS, page) + "/"
     element = data_element(data)
     return ELEMENT.sub(lambda _: element, text).encode("utf-8")

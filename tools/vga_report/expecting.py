@@ -7,20 +7,23 @@ from __future__ import annotations
 
 import hashlib
 import re
+from functools import lru_cache
+from io import BytesIO
 from itertools import zip_longest
-from typing import Iterator, Sequence
+from typing import Iterator, Optional, Sequence
 
 from zaklimot.format import BLOCK_LINES, READING, REGISTERS, Answer
 
 from .mistakes import text_of
-from .script import expected_in
 from .trouble import Trouble
 
-ANY = "*"
+# What a comment begins with that tells the answer which is expected; and what any answer meets.
+MARK, MARK_BYTE, ANY = "=", ord("="), "*"
 # What a line begins with that has a line of a dump, below the step that is to answer it.
 DUMPED = ";|"
-# A line that may be without a step, by its first letter, which may be that of a block's lines: its words and its comment.
-STEPLESS = re.compile(rb"\n([ \t\r\v\f%s][^;\n]*|);([^\n]*)" % "".join(name[0] + name[0].upper() for name in BLOCK_LINES).encode())
+# The lines of blocks, and what a line without a step may begin with.
+BLOCK_WORDS = {name.encode() for name in BLOCK_LINES}
+STEPLESS = b" \t\r\n\v\f;" + "".join(name[0] + name[0].upper() for name in BLOCK_LINES).encode()
 FRONT = "..."
 REFUSAL = re.compile(r"(E[1-9][0-9]?) [A-Za-z]+")
 _PALETTE = [f"palette {number:X}" for number in range(16)]
@@ -45,6 +48,17 @@ COLOURS = ("red", "green", "blue")
 _ROW = re.compile(r"(?:(seq|crtc|gfx|attr) (\S+)(?: [id])?|(row|entry) ([0-9A-F]{2})|plane ([0-3]) ([0-9A-F]{4})):")
 # So many differences of a dump are named.
 MOST_NAMED = 8
+
+
+def expected_in(comment: bytes) -> Optional[str]:
+    """The answer that a comment expects: what stands behind `=`, up to another `;`."""
+    return _marked(comment) if MARK_BYTE in comment else None
+
+
+@lru_cache(4096)
+def _marked(comment: bytes) -> Optional[str]:
+    text = text_of(comment).strip()
+    return " ".join(text[len(MARK):].partition(";")[0].split()) if text.startswith(MARK) else None
 
 
 def answer_of(step: Answer) -> str:
@@ -75,43 +89,30 @@ def is_as_expected(step: Answer, expected: str, words: str) -> bool:
     return bool(parts) and all("=" in part for part in parts) and set(parts) <= set(answer.split())
 
 
-def handed_in(words: str) -> str:
-    """The registers of a call as it hands them in, as an answer tells them."""
-    given = dict(word.lower().split("=", 1) for word in words.split() if "=" in word)
-    return " ".join(f"{name}={given.get(name, '0'):0>4}" for name in REGISTERS)
-
-
 def is_worth_telling(step: Answer, words: str) -> bool:
-    """Whether `--bless` writes an answer in: not where it is `ok`, or the registers that were handed in."""
-    return step.answer not in ("ok", "skipped") and step.answer.lower() != handed_in(words)
+    """Whether `--bless` writes an answer in: not where it is `ok`, or the registers that a call handed in."""
+    given = dict(word.lower().split("=", 1) for word in words.split() if "=" in word)
+    handed_in = " ".join(f"{name}={given.get(name, '0'):0>4}" for name in REGISTERS)
+    return step.answer not in ("ok", "skipped") and step.answer.lower() != handed_in
 
 
 def dumps_in(data: bytes, name: str) -> dict[int, tuple[str, ...]]:
     """The dumps that stand whole in a text, by the lines of their steps; a Trouble where no step is to give an answer."""
     dumps: dict[int, list[str]] = {}
-    text, begin, number = b"\n" + data, 0, 0
-    # The step whose dump it is, 0 without one, and the dump's last line so far.
-    step = last = 0
-    for found in STEPLESS.finditer(text):
-        front, comment = found.groups()
-        number += text.count(b"\n", begin, found.start() + 1)
-        begin = found.start() + 1
-        if comment[:1] == b"|" and not front.strip():
-            if number != last + 1:
-                before = text[text.rfind(b"\n", 0, found.start()) + 1:found.start()]
-                step = number - 1 if _has_step(before.partition(b";")[0]) else 0
-            last = number
-            if step:
-                dumps.setdefault(step, []).append(text_of(comment[1:]).strip())
-        elif expected_in(comment) and comment.strip(b" =\t\r") and not _has_step(front):
+    step = 0
+    for number, line in enumerate(BytesIO(data) if b";" in data else (), 1):
+        if line[0] not in STEPLESS:
+            step = number
+            continue
+        front, _, comment = line.partition(b";")
+        words = front.split(None, 1)
+        if comment[:1] == b"|" and step and not words:
+            dumps.setdefault(step, []).append(text_of(comment[1:]).strip())
+            continue
+        step = number if words and words[0].lower() not in BLOCK_WORDS else 0
+        if not step and expected_in(comment) and comment.strip(b" =\t\r\n"):
             raise Trouble(f"no step stands on this line, so nothing answers {expected_in(comment)}", name, number)
     return {number: tuple(lines) for number, lines in dumps.items()}
-
-
-def _has_step(line: bytes) -> bool:
-    """Whether the words of a line are a step's."""
-    words = line.split(None, 1)
-    return bool(words) and words[0].lower().decode("latin-1") not in BLOCK_LINES
 
 
 def what_differs(step: Answer, expected: str, name: str, dump: tuple[str, ...]) -> list[str]:
@@ -134,7 +135,6 @@ def differing(answer: Sequence[str], wanted: Sequence[str]) -> list[str]:
 
 
 def _in_line(line: str | None, wanted: str | None) -> Iterator[str]:
-    """What differs in a line."""
     if line == wanted:
         return
     if line is None or wanted is None:
@@ -152,7 +152,6 @@ def _in_line(line: str | None, wanted: str | None) -> Iterator[str]:
 
 
 def _place(words: Sequence[str], row: re.Match[str] | None, at: int, front: int) -> str:
-    """The name of a word of a line."""
     if row is None:
         # A line of names and values, or of four latches.
         names = [word for word in words[:at] if not re.fullmatch(r"[0-9A-F]{2,4}|[0-9]+", word)] or words[:1]

@@ -1,12 +1,15 @@
 """What a fault of the program means, in the file where it arose: the program judges, and this looks for the reason."""
 
-from pathlib import Path
-from typing import NamedTuple, Optional
+from typing import Optional
 
-from zaklimot.format import FAULT, FAULTS, FONT_BYTES, FORMS, HEADERS, MAGIC, MOST_BYTES, MOST_STEPS, OPCODES, SHOWN
+from zaklimot.format import (
+    FAULT, FAULTS, FONT_BYTES, FORMS, HEADERS, MAGIC, MOST_BYTES, MOST_STEPS, OPCODES, SHOWN, Script, ScriptFault, read,
+)
 from zaklimot.format.table import END_CODE, REPEAT_CODE
 
 from .mistakes import Mistake, marked_lines, mistake_among_lines, mistake_in, text_of
+from .streams import read_at_most
+from .trouble import Trouble
 
 UNKNOWN = "refused, and I can't say why"
 NO_SCRIPT = "this is no script"
@@ -18,65 +21,59 @@ FOREIGN = {
 }
 CONTROLS, LOOKED_AT = set(range(32)) - set(b"\t\n\v\f\r"), 200
 SHOWS = FORMS["show regs"].opcode
-# The file, and the line of it, where a fault arose, and its reason.
-Told = tuple[str, str]
+TOO_LONG = f"F6 TooLong: a script has at most {MOST_BYTES:,} bytes"
+# What the program could not do for want of something of the system's.
+SYSTEM = {
+    "WriteFault": "what the program writes could not be written: the disk may be full",
+    "OutOfMemory": "the system gave the program no more memory",
+}
 
 
-class Files(NamedTuple):
-    """The files of a run."""
-
-    script: str
-    fonts: str
+def read_script(path: str) -> bytes:
+    """The bytes of a script's file. One that is too long is told as the program tells it."""
+    return read_at_most(path, MOST_BYTES, TOO_LONG)
 
 
-def explained(fault: str, files: Files) -> str:
-    """A fault with the file, the line and the reason, as lines of text."""
+def script_of(data: bytes, name: str) -> Script:
+    """A script read whole; a Trouble with its fault, as the program has it, and the reason, where it is no good."""
+    try:
+        return read(data)
+    except ScriptFault as fault:
+        line = fault.place if fault.fault.place == "line" else None
+        raise Trouble(f"{fault.answer}: {reason_of(fault.fault.name, fault.place, data)}", name, line) from fault
+
+
+def explained(fault: str, script: str, fonts: str) -> str:
+    """A fault of a run with the file, the line and the reason, as lines of text."""
     found = FAULT.search(fault)
     if found is None:
-        return f"{files.script}: {fault.strip() or 'the program ended without a word'}"
-    place = None if found[3] is None else int(found[3])
-    where, reason = _reason(found[2], place, files) or (files.script, UNKNOWN)
-    return f"{where}: {found[0]}: {reason}"
-
-
-def _reason(name: str, place: Optional[int], files: Files) -> Optional[Told]:
-    """Where a fault of this name arose, and its reason; None where that isn't found."""
+        return f"{script}: {fault.strip() or 'the program ended without a word'}"
+    name, place = found[2], None if found[3] is None else int(found[3])
+    file, reason = script, SYSTEM.get(name, UNKNOWN)
     if name == "ReadFault":
-        return _read_fault(files)
-    if name == "FontSize":
-        return _font_size(files.fonts, _read(files.fonts))
-    if name == "WriteFault":
-        return files.script, "what the program writes could not be written: the disk may be full"
-    if name == "OutOfMemory":
-        return files.script, "the system gave the program no more memory"
-    if name not in FAULTS:
-        return None
-    where = f"{files.script}:{place}" if FAULTS[name].place == "line" else files.script
-    return where, reason_of(name, place, _read(files.script))
+        unread = [(path, _unread(what, path)) for what, path in (("font file", fonts), ("script", script))]
+        file, reason = next((one for one in unread if one[1]), (file, reason))
+    elif name == "FontSize":
+        data = _read(fonts)
+        count = f"{len(data):,}" if len(data) <= MOST_BYTES else f"more than {MOST_BYTES:,}"
+        rows = f"; a font of {len(data) // 256} rows alone has so many, and a font file has those of 8, 14 and 16 rows"
+        is_script = data.startswith(MAGIC)
+        hint = rows if len(data) in (4096, 3584, 2048) else "; it is a script of bytes" if is_script else ""
+        file, reason = fonts, f"the font file has {count} bytes, and {FONT_BYTES:,} are right{hint}"
+    elif name in FAULTS and name not in SYSTEM:
+        file = f"{script}:{place}" if FAULTS[name].place == "line" else script
+        reason = reason_of(name, place, _read(script))
+    return f"{file}: {found[0]}: {reason}"
 
 
-def _why_unread(path: str) -> Optional[str]:
-    """Why a file can't be read, if it can't."""
+def _unread(what: str, path: str) -> str:
+    """Why a file can't be read; empty where it can."""
     try:
-        if Path(path).is_dir():
-            return "it is a folder"
         with open(path, "rb") as stream:
             stream.read(1)
-    except FileNotFoundError:
-        return "there is no such file"
-    except PermissionError:
-        return "there is no permission to read it"
     except OSError as error:
-        return error.strerror or str(error)
-    return None
-
-
-def _read_fault(files: Files) -> Optional[Told]:
-    for what, path in (("font file", files.fonts), ("script", files.script)):
-        why = _why_unread(path)
-        if why is not None:
-            return path, f"the {what} can't be read: {why}"
-    return None
+        return f"the {what} can't be read: {error.strerror}"
+    return ""
 
 
 def _read(path: str) -> bytes:
@@ -88,22 +85,10 @@ def _read(path: str) -> bytes:
         return b""
 
 
-def _font_size(path: str, data: bytes) -> Optional[Told]:
-    if len(data) == FONT_BYTES:
-        return None
-    hint = ""
-    if len(data) in (4096, 3584, 2048):
-        hint = f"; a font of {len(data) // 256} rows alone has so many, and a font file has those of 8, 14 and 16 rows"
-    elif data.startswith(MAGIC):
-        hint = "; it is a script of bytes"
-    count = f"{len(data):,}" if len(data) <= MOST_BYTES else f"more than {MOST_BYTES:,}"
-    return path, f"the font file has {count} bytes, and {FONT_BYTES:,} are right{hint}"
-
-
 def reason_of(name: str, place: Optional[int], data: bytes) -> str:
     """The reason of a fault of this name in the bytes of a script, as far as it is found."""
     if name == "BadLine" and place is not None:
-        return _bad_line(data, place) or UNKNOWN
+        return _bad_line(data, place)
     if name == "TooLong":
         what = "file has" if len(data) > MOST_BYTES else "steps of the text have"
         return f"the {what} more bytes, and {MOST_BYTES:,} bytes are the most"
@@ -117,19 +102,19 @@ def reason_of(name: str, place: Optional[int], data: bytes) -> str:
     if name == "TooMany":
         at = "" if place is None else f" at {place}"
         return f"with the repeat or step{at} the script means more than {MOST_STEPS:,} steps"
-    if name in ("BadStep", "Truncated") and place is not None:
-        return _bad_step(data, place) if name == "BadStep" else _truncated(data, place)
-    return UNKNOWN
+    if name == "Truncated" and place is not None:
+        if place >= len(data):
+            return "nothing stands after the magic: the version is lacking"
+        step = f"the step {OPCODES.get(data[place], '')} at offset {place}"
+        return f"{step} is cut off: the file ends after {len(data) - place} of its bytes"
+    return _bad_step(data, place) if name == "BadStep" and place is not None else UNKNOWN
 
 
-def _bad_line(data: bytes, number: int) -> Optional[str]:
-    """The reason of a line that is no step, with the line and a mark below the word."""
+def _bad_line(data: bytes, number: int) -> str:
     lines = data.split(b"\n")
-    if not 1 <= number <= len(lines):
-        return None
     whole = _wrong_whole(data) if number == 1 else None
-    if whole is not None:
-        return whole
+    if whole is not None or not 1 <= number <= len(lines):
+        return whole or UNKNOWN
     line = text_of(lines[number - 1])
     mistake = mistake_in(line)
     shown = list(marked_lines(line, mistake or Mistake(0, 0, "")))
@@ -178,24 +163,14 @@ def _bad_step(data: bytes, place: int) -> str:
     if place >= len(data):
         return UNKNOWN
     opcode, kind = data[place], data[place + 1:place + 2]
-    ends = (REPEAT_CODE, END_CODE)
-    if opcode in ends and data[4:5] == b"\2":
+    if opcode in (REPEAT_CODE, END_CODE) and data[4:5] == b"\2":
         wrong = "counts 0 or stands in another repeat" if opcode == REPEAT_CODE else "stands outside a repeat"
         return f"the {OPCODES[opcode]} at offset {place} {wrong}"
-    if opcode not in OPCODES or opcode in ends:
-        behind = "the bytes before it may be at fault"
-        return f"at offset {place} stands {opcode:02X}, which is no opcode: 01 to {SHOWS:02X} are; {behind}"
+    front = f"at offset {place} stands"
+    if opcode not in OPCODES or opcode in (REPEAT_CODE, END_CODE):
+        return f"{front} {opcode:02X}, which is no opcode: 01 to {SHOWS:02X} are; the bytes before it may be at fault"
     if opcode == SHOWS and kind and kind[0] >= len(SHOWN):
-        last = f"{len(SHOWN) - 1:02X}"
-        return f"at offset {place} stands a show of kind {kind[0]:02X}, and the kinds are 00 to {last}"
+        return f"{front} a show of kind {kind[0]:02X}, and the kinds are 00 to {len(SHOWN) - 1:02X}"
     if opcode == SHOWS:
-        wrong = "with a plane above 3, no bytes, more than 256, or past the plane's end"
-        return f"at offset {place} stands a show plane {wrong}"
+        return f"{front} a show plane with a plane above 3, no bytes, more than 256, or past the plane's end"
     return UNKNOWN
-
-
-def _truncated(data: bytes, place: int) -> str:
-    if place >= len(data):
-        return "nothing stands after the magic: the version is lacking"
-    step = f"the step {OPCODES.get(data[place], '')} at offset {place}"
-    return f"{step} is cut off: the file ends after {len(data) - place} of its bytes"

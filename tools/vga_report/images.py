@@ -5,15 +5,18 @@ from __future__ import annotations
 import re
 import struct
 import zlib
-from typing import Iterator, NamedTuple, Sequence
+from collections import defaultdict
+from contextlib import suppress
+from typing import Callable, Iterator, NamedTuple, Sequence
 
 from zaklimot.format import Picture
 
-from .png import MOST_DOTS, SIGNATURE
+from .png import MOST_DOTS, SIGNATURE, stretched
 from .streams import read_at_most
 from .trouble import Trouble
 
 PPM = re.compile(rb"P6(?:\s|#[^\n]*\n)+(\d{1,7})(?:\s|#[^\n]*\n)+(\d{1,7})(?:\s|#[^\n]*\n)+(\d{1,5})\s")
+DAMAGED = "the PNG is damaged"
 # An image's file has at most so many bytes.
 MOST_BYTES = 1 << 26
 # Samples of a dot, by the colour type of a PNG, and the colour type whose dots name entries of a palette.
@@ -33,18 +36,10 @@ class Image(NamedTuple):
         rows = tuple(_spread([row[part::3 * across] for part in range(3)]) for row in self.rows[::down])
         return Image(self.width // across, self.height // down, rows, self.most)
 
-    def is_repeated(self, across: int, down: int) -> bool:
-        """Whether dots that stand together so often across and down are alike."""
-        return all(self.rows[y] == self.rows[y - y % down] for y in range(self.height)) and all(
-            row[3 * at + part::3 * across] == row[part::3 * across]
-            for row in self.rows[::down] for at in range(1, across) for part in range(3)
-        )
-
     def repeated(self, across: int, down: int) -> Image:
         """The image with each dot so often across and down."""
-        rows = [b"".join(row[at:at + 3] * across for at in range(0, len(row), 3)) for row in self.rows]
-        every = tuple(row for row in rows for _ in range(down))
-        return Image(self.width * across, self.height * down, every, self.most)
+        size, new = (self.width, self.height), (self.width * across, self.height * down)
+        return Image(*new, tuple(stretched(self.rows, size, new)), self.most)
 
     def picture(self, shift: int) -> Picture:
         """The picture of six bits a component, of which so many low bits are taken off."""
@@ -72,7 +67,6 @@ def _check_dots(width: int, height: int, most: int, name: str) -> None:
 
 
 def _spread(parts: Sequence[bytes]) -> bytes:
-    """Rows of red, of green and of blue as one of dots."""
     row = bytearray(3 * len(parts[0]))
     for at, part in enumerate(parts):
         row[at::3] = part
@@ -93,41 +87,34 @@ def _ppm(data: bytes, name: str, most_dots: int) -> Image:
     return Image(width, height, tuple(dots[at:at + 3 * width] for at in range(0, len(dots), 3 * width)), most)
 
 
-def _chunks(data: bytes, name: str) -> Iterator[tuple[bytes, bytes]]:
-    at = len(SIGNATURE)
-    while at + 12 <= len(data):
-        (length,) = struct.unpack_from(">I", data, at)
-        kind, body = data[at + 4:at + 8], data[at + 8:at + 8 + length]
-        if data[at + 8 + length:at + 12 + length] != struct.pack(">I", zlib.crc32(kind + body)):
-            break
-        yield kind, body
-        if kind == b"IEND":
-            return
-        at += 12 + length
-    raise Trouble("the PNG is damaged", name)
+def _chunks(data: bytes, name: str) -> dict[bytes, bytes]:
+    at, parts = len(SIGNATURE), defaultdict(list)
+    while b"IEND" not in parts:
+        kind, end = data[at + 4:at + 8], at + 8 + int.from_bytes(data[at:at + 4], "big")
+        parts[kind].append(data[at + 8:end])
+        if data[end:end + 4] != struct.pack(">I", zlib.crc32(kind + parts[kind][-1])):
+            raise Trouble(DAMAGED, name)
+        at = end + 4
+    return {kind: b"".join(bodies) for kind, bodies in parts.items()}
 
 
 def _png(data: bytes, name: str, most: int) -> Image:
-    chunks = list(_chunks(data, name))
-    head = next((body for kind, body in chunks if kind == b"IHDR"), b"")
+    chunks = _chunks(data, name)
+    head, palette = chunks.get(b"IHDR", b""), chunks.get(b"PLTE", b"")
     if len(head) != 13:
-        raise Trouble("the PNG is damaged", name)
+        raise Trouble(DAMAGED, name)
     width, height, depth, colour, _, _, interlace = struct.unpack(">IIBBBBB", head)
     _check_dots(width, height, most, name)
     if colour not in SAMPLES or depth not in (1, 2, 4, 8, 16) or not width * height:
         raise Trouble(f"a PNG of this form can't be read: {width}x{height}, depth {depth}, colour type {colour}", name)
     if interlace:
         raise Trouble("an interlaced PNG can't be read: save it without interlace", name)
-    palette = next((body for kind, body in chunks if kind == b"PLTE"), b"")
-    bits = depth * SAMPLES[colour]
-    packed = zlib.decompressobj()
+    bits, lines = depth * SAMPLES[colour], b""
     length = (width * bits + 7) // 8
-    try:
-        lines = packed.decompress(b"".join(body for kind, body in chunks if kind == b"IDAT"), (length + 1) * height)
-    except zlib.error as error:
-        raise Trouble("the PNG is damaged", name) from error
+    with suppress(zlib.error):
+        lines = zlib.decompressobj().decompress(chunks.get(b"IDAT", b""), (length + 1) * height)
     if len(lines) != (length + 1) * height:
-        raise Trouble("the PNG is damaged", name)
+        raise Trouble(DAMAGED, name)
     rows = [
         _dots(_samples(line, width, depth, SAMPLES[colour], colour), colour, palette)
         for line in _unfiltered(lines, length, max(1, bits // 8), name)
@@ -139,30 +126,28 @@ def _png(data: bytes, name: str, most: int) -> Image:
 
 def _unfiltered(lines: bytes, length: int, back: int, name: str) -> Iterator[bytes]:
     """The rows of a PNG without their filters; a Trouble where one has a filter that there is not."""
-    last = bytearray(length)
+    last = bytearray(back + length)
     for at in range(0, len(lines), length + 1):
-        kind, row = lines[at], bytearray(lines[at + 1:at + 1 + length])
-        if kind == 1:
-            for x in range(back, length):
-                row[x] = (row[x] + row[x - back]) & 255
-        elif kind == 2:
-            row = bytearray((a + b) & 255 for a, b in zip(row, last))
-        elif kind in (3, 4):
-            for x in range(length):
-                left = row[x - back] if x >= back else 0
-                if kind == 3:
-                    row[x] = (row[x] + (left + last[x]) // 2) & 255
-                else:
-                    row[x] = (row[x] + _paeth(left, last[x], last[x - back] if x >= back else 0)) & 255
-        elif kind:
-            raise Trouble(f"a row of the PNG has filter {kind}, and the filters are 0 to 4", name)
+        kind, row = lines[at], bytearray(back) + lines[at + 1:at + 1 + length]
+        if kind > len(FILTERS):
+            raise Trouble(f"a row of the PNG has filter {kind}, and the filters are 0 to {len(FILTERS)}", name)
+        taken_off = FILTERS[kind - 1]
+        for x in range(back, len(row) if kind else 0):
+            row[x] = row[x] + taken_off(row[x - back], last[x], last[x - back]) & 255
         last = row
-        yield bytes(row)
+        yield bytes(row[back:])
 
 
 def _paeth(left: int, above: int, corner: int) -> int:
-    guess = left + above - corner
-    return min((left, above, corner), key=lambda value: abs(guess - value))
+    # How far each is from left + above - corner.
+    far, other, both = abs(above - corner), abs(left - corner), abs(left + above - 2 * corner)
+    return left if far <= other and far <= both else above if other <= both else corner
+
+
+# What the filters 1 to 4 have taken off a sample: the one of the dot to the left, above, their mean, or the nearest.
+FILTERS: tuple[Callable[[int, int, int], int], ...] = (
+    lambda left, _, __: left, lambda _, above, __: above, lambda left, above, _: (left + above) // 2, _paeth,
+)
 
 
 def _samples(row: bytes, width: int, depth: int, samples: int, colour: int) -> bytes:
@@ -178,7 +163,6 @@ def _samples(row: bytes, width: int, depth: int, samples: int, colour: int) -> b
 
 
 def _dots(samples: bytes, colour: int, palette: bytes) -> bytes:
-    """The dots of a row of samples, without their transparency."""
     if colour == PALETTE:
         return b"".join(palette[3 * entry:3 * entry + 3] for entry in samples)
     if colour in (0, 4):

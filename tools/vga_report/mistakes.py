@@ -9,7 +9,7 @@ from __future__ import annotations
 import difflib
 import re
 from io import BytesIO
-from typing import Iterator, NamedTuple, Optional, Sequence
+from typing import Iterator, Optional, Sequence
 
 from zaklimot.format import (
     BLOCK, BLOCK_LINES, END, FIRST_LINE, FORMS, MOST_BLOCK, MOST_STEPS, PLANE_BYTES, REGISTERS, REPEAT, SHOWN, Field,
@@ -31,23 +31,20 @@ SHAPES = {name: form.fields for name, form in FORMS.items() if " " not in name a
 NAMES = [*SHAPES, "int", "show", *BLOCK_LINES]
 
 
-class Word(NamedTuple):
-    """A word of a line, and where it begins."""
-
-    at: int
-    text: str
+# A word of a line, and where it begins.
+Word = re.Match[str]
 
 
-class Mistake(NamedTuple):
-    """The part of a line that is wrong, and why it is."""
+class Mistake(Exception):
+    """The part of a line that is wrong, and why it is. It is raised where it is found: nothing else is looked at."""
 
-    at: int
-    width: int
-    reason: str
+    def __init__(self, at: int, width: int, reason: str) -> None:
+        super().__init__(reason)
+        self.at, self.width, self.reason = at, width, reason
 
 
 def _wrong(word: Word, reason: str) -> Mistake:
-    return Mistake(word.at, len(word.text), reason)
+    return Mistake(word.start(), len(word[0]), reason)
 
 
 def text_of(data: bytes) -> str:
@@ -58,10 +55,15 @@ def text_of(data: bytes) -> str:
 def mistake_in(line: str) -> Optional[Mistake]:
     """Why a line is no step; None where nothing is found."""
     step = line.partition(";")[0]
-    words = [Word(found.start(), found[0]) for found in WORD.finditer(step)]
-    if not words:
-        return None
-    return next(filter(None, map(_odd_byte, words)), None) or _in_step(words, len(step.rstrip(" \t\r")))
+    words = list(WORD.finditer(step))
+    try:
+        for word in words:
+            _heed_odd_byte(word)
+        if words:
+            _heed_step(words, len(step.rstrip(" \t\r")))
+    except Mistake as mistake:
+        return mistake
+    return None
 
 
 def mistake_among_lines(data: bytes, number: int) -> Optional[str]:
@@ -87,31 +89,31 @@ def mistake_among_lines(data: bytes, number: int) -> Optional[str]:
     return f"with this repeat the script means more than {MOST_STEPS:,} steps" if has_end else "the repeat has no end"
 
 
-def _odd_byte(word: Word) -> Optional[Mistake]:
-    """A character that stands in no step, as a blank that looks like one."""
-    for at, character in enumerate(word.text):
+def _heed_odd_byte(word: Word) -> None:
+    for at, character in enumerate(word[0]):
         if not "!" <= character <= "~":
             code = f"U+{ord(character):04X}" if ord(character) < 0xDC80 else f"byte {ord(character) - 0xDC00:02X}"
             what = "that looks like a blank is none" if character.isspace() else "stands in no step"
-            return Mistake(word.at + at, 1, f"the character {code} {what}; blanks are the space and the tab")
-    return None
+            raise Mistake(word.start() + at, 1, f"the character {code} {what}; blanks are the space and the tab")
 
 
-def _in_step(words: Sequence[Word], end: int) -> Optional[Mistake]:
-    """The mistake of a line with these words, whose last ends there."""
-    name = words[0].text.lower()
-    if name == "int":
-        return _in_call(words[1:])
-    if name == "show":
-        return _in_show(words, end)
-    if name == "version" and [word.text for word in words[1:]] != ["2"]:
-        return _wrong(words[-1], f"there is no such version: write {FIRST_LINE}, or nothing for version 1")
+def _heed_step(words: Sequence[Word], end: int) -> None:
+    name = words[0][0].lower()
     numbers = BLOCK_LINES.get(name, SHAPES.get(name))
-    return _unknown_step(words[0]) if numbers is None else _in_numbers(name, numbers, words[1:], end)
+    if name == "int":
+        _heed_call(words[1:])
+    elif name == "show":
+        _heed_show(words, end)
+    elif name == "version" and [word[0] for word in words[1:]] != ["2"]:
+        raise _wrong(words[-1], f"there is no such version: write {FIRST_LINE}, or nothing for version 1")
+    elif numbers is None:
+        raise _unknown_step(words[0])
+    else:
+        _heed_numbers(name, numbers, words[1:], end)
 
 
 def _unknown_step(word: Word) -> Mistake:
-    text = word.text.lower()
+    text = word[0].lower()
     if text.startswith(COMMENT_SIGNS) or text in COMMENT_WORDS:
         return _wrong(word, "comments begin with ;")
     if text.rstrip(PUNCTUATION) in NAMES:
@@ -119,32 +121,26 @@ def _unknown_step(word: Word) -> Mistake:
     longest = sorted((name for name, numbers in SHAPES.items() if numbers), key=len, reverse=True)
     glued = next((name for name in longest if text.startswith(name)), None)
     if glued and HEX.fullmatch(text[len(glued):]) and len(text) > len(glued) + 1:
-        return _wrong(word, f"a blank stands between words: write {glued} {word.text[len(glued):]}")
+        return _wrong(word, f"a blank stands between words: write {glued} {word[0][len(glued):]}")
     near = difflib.get_close_matches(text, NAMES, 1)
     hint = f"did you mean {near[0]}?" if near else f"the steps are {', '.join(NAMES)}"
-    return _wrong(word, f"there is no step '{_short(word.text)}'; {hint}")
+    return _wrong(word, f"there is no step '{_short(word[0])}'; {hint}")
 
 
-def _in_numbers(form: str, numbers: Sequence[Field], words: Sequence[Word], end: int) -> Optional[Mistake]:
-    """The mistake in words that are to be these numbers, behind what a step begins with."""
+def _heed_numbers(form: str, numbers: Sequence[Field], words: Sequence[Word], end: int) -> None:
     usage = " ".join((form, *(number.name for number in numbers)))
     for number, word in zip(numbers, words):
-        found = _in_digits(number, word) if number.digits else _in_decimal(number, word)
-        if found is not None:
-            return found
+        (_heed_digits if number.digits else _heed_decimal)(number, word, word[0])
     if len(words) < len(numbers):
-        return Mistake(end, 1, f"{numbers[len(words)].name} is lacking: {usage}")
+        raise Mistake(end, 1, f"{numbers[len(words)].name} is lacking: {usage}")
     if len(words) > len(numbers):
-        return _word_too_many(words[len(numbers)], usage)
-    return None
+        raise _word_too_many(words[len(numbers)], usage)
 
 
 def _word_too_many(word: Word, usage: str) -> Mistake:
-    if word.text.startswith(COMMENT_SIGNS):
+    if word[0].startswith(COMMENT_SIGNS):
         return _wrong(word, "comments begin with ;")
-    if word.text.lower() in NAMES:
-        return _wrong(word, "a word too many: one step stands on a line")
-    return _wrong(word, f"a word too many: {usage}")
+    return _wrong(word, f"a word too many: {'one step stands on a line' if word[0].lower() in NAMES else usage}")
 
 
 def _cleaned(text: str) -> Optional[str]:
@@ -157,139 +153,119 @@ def _cleaned(text: str) -> Optional[str]:
     return digits if HEX.fullmatch(digits) else None
 
 
-def _in_digits(number: Field, word: Word, text: Optional[str] = None) -> Optional[Mistake]:
-    """Why a word, or the part of it that is its number, is none of so many hexadecimal digits."""
-    text = word.text if text is None else text
+def _heed_digits(number: Field, word: Word, text: str) -> None:
     if HEX.fullmatch(text):
         if len(text) <= number.digits:
-            return _past(number, word, int(text, 16))
+            return _heed_range(number, word, int(text, 16))
         cut = text.lstrip("0") or "0"
         hint = f": write {cut}" if len(cut) <= number.digits else ""
         most = "1 digit is" if number.digits == 1 else f"{number.digits} digits are"
-        return _wrong(word, f"{number.name} has {len(text)} digits, and {most} the most{hint}")
+        raise _wrong(word, f"{number.name} has {len(text)} digits, and {most} the most{hint}")
     if not text:
-        return _wrong(word, f"{number.name} has no digits")
+        raise _wrong(word, f"{number.name} has no digits")
     cleaned = _cleaned(text)
     if cleaned is not None and len(cleaned) <= number.digits:
-        return _wrong(word, f"numbers are hexadecimal digits alone: write {cleaned.upper()}")
+        raise _wrong(word, f"numbers are hexadecimal digits alone: write {cleaned.upper()}")
     if text[0] in "+-":
-        return _wrong(word, "a number has no sign")
+        raise _wrong(word, "a number has no sign")
     wrong = next(character for character in text if not HEX.fullmatch(character))
-    return _wrong(word, f"{number.name} is a hexadecimal number, and '{wrong}' is no digit of one")
+    raise _wrong(word, f"{number.name} is a hexadecimal number, and '{wrong}' is no digit of one")
 
 
-def _past(number: Field, word: Word, value: int) -> Optional[Mistake]:
-    """Why a number is out of its range."""
-    if number.least <= value <= number.most:
-        return None
-    return _wrong(word, f"{number.name} is from {number.shown(number.least)} to {number.shown(number.most)}")
+def _heed_range(number: Field, word: Word, value: int) -> None:
+    if not number.least <= value <= number.most:
+        raise _wrong(word, f"{number.name} is from {number.shown(number.least)} to {number.shown(number.most)}")
 
 
-def _in_decimal(number: Field, word: Word) -> Optional[Mistake]:
-    text = word.text
+def _heed_decimal(number: Field, word: Word, text: str) -> None:
     if text.isascii() and text.isdigit():
-        return _past(number, word, int(text) if len(text) < 100 else number.most + 1)
+        return _heed_range(number, word, int(text) if len(text) < 100 else number.most + 1)
     parted = text.strip(PUNCTUATION).replace(",", "").replace("_", "").replace("'", "")
     if parted.isdigit():
-        return _wrong(word, f"{number.name} is decimal digits alone: write {parted}")
+        raise _wrong(word, f"{number.name} is decimal digits alone: write {parted}")
     hexadecimal = _cleaned(text)
     if hexadecimal is not None:
-        return _wrong(word, f"{number.name} is decimal, and not hexadecimal: write {int(hexadecimal, 16)}")
-    if text[0] in "+-":
-        return _wrong(word, "a number has no sign")
-    return _wrong(word, f"{number.name} is a decimal number")
+        raise _wrong(word, f"{number.name} is decimal, and not hexadecimal: write {int(hexadecimal, 16)}")
+    raise _wrong(word, "a number has no sign" if text[0] in "+-" else f"{number.name} is a decimal number")
 
 
-def _in_show(words: Sequence[Word], end: int) -> Optional[Mistake]:
-    """The mistake of a dump that is asked for."""
+def _heed_show(words: Sequence[Word], end: int) -> None:
     names = ", ".join(SHOWN)
     if len(words) == 1:
-        return Mistake(end, 1, f"what is to be shown is lacking: {names}")
-    name = words[1].text.lower()
+        raise Mistake(end, 1, f"what is to be shown is lacking: {names}")
+    name = words[1][0].lower()
     if name not in SHOWN:
         near = difflib.get_close_matches(name, SHOWN, 1)
         hint = f"did you mean {near[0]}?" if near else f"there are {names}"
-        return _wrong(words[1], f"nothing of the state has the name '{_short(words[1].text)}'; {hint}")
-    found = _in_numbers(f"show {name}", SHOWN[name].fields, words[2:], end)
-    if found is None and name == "plane":
-        offset, count = int(words[3].text, 16), int(words[4].text)
+        raise _wrong(words[1], f"nothing of the state has the name '{_short(words[1][0])}'; {hint}")
+    _heed_numbers(f"show {name}", SHOWN[name].fields, words[2:], end)
+    if name == "plane":
+        offset, count = int(words[3][0], 16), int(words[4][0])
         if offset + count > PLANE_BYTES:
-            return _wrong(words[4], f"from {offset:04X} on the plane has {PLANE_BYTES - offset} bytes")
-    return found
+            raise _wrong(words[4], f"from {offset:04X} on the plane has {PLANE_BYTES - offset} bytes")
 
 
-def _in_call(words: Sequence[Word]) -> Optional[Mistake]:
-    """The mistake of a call of the video BIOS."""
+def _heed_call(words: Sequence[Word]) -> None:
     last = -1
     for at, word in enumerate(words):
-        if word.text.lower() == BLOCK:
-            return _in_block(words[at:])
-        found = _in_register(word, words[at + 1:], last)
-        if isinstance(found, Mistake):
-            return found
-        last = found
-    return None
+        if word[0].lower() == BLOCK:
+            return _heed_block(words[at:])
+        last = _place_of(word, words[at + 1:], last)
 
 
-def _in_register(word: Word, behind: Sequence[Word], last: int) -> Mistake | int:
-    """The mistake of a register of a call, or else its place among the registers."""
-    found = REGISTER.fullmatch(word.text)
-    name = (found[1] if found else word.text.strip("=" + PUNCTUATION)).lower()
+def _place_of(word: Word, behind: Sequence[Word], last: int) -> int:
+    found = REGISTER.fullmatch(word[0])
+    name = (found[1] if found else word[0].strip("=" + PUNCTUATION)).lower()
     if found is None:
-        return _no_register(word, name, behind)
+        raise _no_register(word, name, behind)
     if name not in REGISTERS:
-        hint = f"its halves are no registers of their own: write {name[0]}x" if re.fullmatch("[abcd][hl]", name) else ""
-        return _wrong(word, f"a call takes ax, bx, cx and dx{hint and '; '}{hint}")
+        hint = f"; its halves are no registers of their own: write {name[0]}x"
+        raise _wrong(word, f"a call takes ax, bx, cx and dx{hint if re.fullmatch('[abcd][hl]', name) else ''}")
     place = REGISTERS.index(name)
-    if place == last:
-        return _wrong(word, f"{name} stands twice")
-    if place < last:
-        return _wrong(word, "registers stand in the order ax, bx, cx, dx")
-    if not found[2] and behind and (HEX.match(behind[0].text) or FOREIGN_HEX.match(behind[0].text)):
-        return _wrong(word, f"no blank stands around =: write {name}={behind[0].text}")
-    return _in_digits(FORMS["int"].fields[place], word, found[2]) or place
+    if place <= last:
+        raise _wrong(word, f"{name} stands twice" if place == last else "registers stand in the order ax, bx, cx, dx")
+    if not found[2] and behind and (HEX.match(behind[0][0]) or FOREIGN_HEX.match(behind[0][0])):
+        raise _wrong(word, f"no blank stands around =: write {name}={behind[0][0]}")
+    _heed_digits(FORMS["int"].fields[place], word, found[2])
+    return place
 
 
 def _no_register(word: Word, name: str, behind: Sequence[Word]) -> Mistake:
-    """Why a word of a call that has no value is wrong."""
-    if word.text.startswith(COMMENT_SIGNS):
+    if word[0].startswith(COMMENT_SIGNS):
         return _wrong(word, "comments begin with ;")
-    if name in REGISTERS and behind and behind[0].text.startswith("="):
-        value = behind[0].text[1:] or (behind[1].text if len(behind) > 1 else "0")
+    if name in REGISTERS and behind and behind[0][0].startswith("="):
+        value = behind[0][0][1:] or (behind[1][0] if len(behind) > 1 else "0")
         return _wrong(word, f"no blank stands around =: write {name}={value}")
     if name in REGISTERS:
         return _wrong(word, f"{name} has no value: write {name}=0")
-    if HEX.fullmatch(word.text) or FOREIGN_HEX.fullmatch(word.text):
+    if HEX.fullmatch(word[0]) or FOREIGN_HEX.fullmatch(word[0]):
         return _wrong(word, "a call is always interrupt 10, and its numbers stand after their registers: ax=3")
     near = difflib.get_close_matches(name, [BLOCK], 1)
     hint = f"did you mean {near[0]}?" if near else "a call has ax=, bx=, cx=, dx= and block"
-    return _wrong(word, f"'{_short(word.text)}' is no register; {hint}")
+    return _wrong(word, f"'{_short(word[0])}' is no register; {hint}")
 
 
-def _in_block(words: Sequence[Word]) -> Optional[Mistake]:
-    """The mistake of a call's block, which stands last."""
+def _heed_block(words: Sequence[Word]) -> None:
     if len(words) == 1:
-        return _wrong(words[0], "the block has no digits; a call without a block has no word for it")
+        raise _wrong(words[0], "the block has no digits; a call without a block has no word for it")
     digits = words[1]
-    if not HEX.fullmatch(digits.text):
-        cleaned = _cleaned(digits.text.replace(",", ""))
+    if not HEX.fullmatch(digits[0]):
+        cleaned = _cleaned(digits[0].replace(",", ""))
         hint = f": write {cleaned.upper()}" if cleaned and len(cleaned) < 40 else ""
-        return _wrong(digits, f"a block is hexadecimal digits alone, two for each byte{hint}")
+        raise _wrong(digits, f"a block is hexadecimal digits alone, two for each byte{hint}")
+    if len(words) > 2 and HEX.fullmatch(words[2][0]):
+        raise _wrong(words[2], "no blank stands among the digits of a block")
+    if len(words) > 2 and REGISTER.fullmatch(words[2][0]):
+        raise _wrong(words[2], "the block stands last, after the registers")
     if len(words) > 2:
-        if HEX.fullmatch(words[2].text):
-            return _wrong(words[2], "no blank stands among the digits of a block")
-        if REGISTER.fullmatch(words[2].text):
-            return _wrong(words[2], "the block stands last, after the registers")
-        return _word_too_many(words[2], "int ax=N bx=N cx=N dx=N block BYTES")
-    if len(digits.text) % 2:
-        return _wrong(digits, f"a block has two digits for each byte, and these are {len(digits.text)}")
-    if len(digits.text) > 2 * MOST_BLOCK:
-        return _wrong(digits, f"a block has at most {MOST_BLOCK} bytes")
-    return None
+        raise _word_too_many(words[2], "int ax=N bx=N cx=N dx=N block BYTES")
+    if len(digits[0]) % 2:
+        raise _wrong(digits, f"a block has two digits for each byte, and these are {len(digits[0])}")
+    if len(digits[0]) > 2 * MOST_BLOCK:
+        raise _wrong(digits, f"a block has at most {MOST_BLOCK} bytes")
 
 
 def _short(text: str) -> str:
-    """A word in a message."""
     return text if len(text) <= 24 else text[:22] + ".."
 
 

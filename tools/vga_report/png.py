@@ -56,46 +56,34 @@ def _head(width: int, height: int) -> bytes:
     return SIGNATURE + head + chunk(b"sBIT", bytes([6, 6, 6]))
 
 
-def _write(stream: BinaryIO, size: tuple[int, int], rows: Iterable[bytes], shape: Shape) -> None:
-    """Writes rows of this size in a shape."""
-    new = shape.size(*size)
-    stream.write(_head(*new))
-    for part in _packed(rows, size, new):
-        stream.write(chunk(b"IDAT", part))
-    stream.write(chunk(b"IEND", b""))
-
-
 def _packed(rows: Iterable[bytes], size: tuple[int, int], new: tuple[int, int]) -> Iterator[bytes]:
-    """Rows of one size as a PNG of another has them packed, in parts."""
     packer = zlib.compressobj(COMPRESSION)
-    for row in rows if new == size else _stretched(rows, size, new):
+    for row in rows if new == size else stretched(rows, size, new):
         packed = packer.compress(b"\0" + row)
         if packed:
             yield packed
     yield packer.flush()
 
 
-def _stretched(rows: Iterable[bytes], size: tuple[int, int], new: tuple[int, int]) -> Iterator[bytes]:
+def stretched(rows: Iterable[bytes], size: tuple[int, int], new: tuple[int, int]) -> Iterator[bytes]:
     """Rows of one size as rows of a larger one, each dot and each row repeated as often as it takes."""
     (width, height), (new_width, new_height) = size, new
     columns = [x * width // new_width for x in range(new_width)]
-    last, stretched = b"", b""
+    last, wide = b"", b""
     for y, row in enumerate(rows):
         if row != last:
             dots = [row[at:at + 3] for at in range(0, len(row), 3)]
-            last, stretched = row, row if width == new_width else b"".join(map(dots.__getitem__, columns))
+            last, wide = row, row if width == new_width else b"".join(map(dots.__getitem__, columns))
         # The new rows that this one gives: those whose number times height / new_height is y and a bit.
         for _ in range(-(-y * new_height // height), -(-(y + 1) * new_height // height)):
-            yield stretched
+            yield wide
 
 
 def _rows(picture: Picture) -> Iterator[bytes]:
-    """The rows of a picture, eight bits a component."""
     return (picture.row(y).translate(WIDENED) for y in range(picture.height))
 
 
 def _marked_row(picture: Picture, other: Picture, width: int, y: int) -> bytes:
-    """A row darkened, with the dots marked that differ or stand in one of the pictures alone."""
     if y >= picture.height or y >= other.height:
         return MARK * width
     row, other_row = picture.row(y), other.row(y)
@@ -113,7 +101,11 @@ def write_png(stream: BinaryIO, picture: Picture, shape: Shape = Shape(), other:
     if other is not None:
         width, height = max(width, other.width), max(height, other.height)
         rows = (_marked_row(picture, other, width, y) for y in range(height))
-    _write(stream, (width, height), rows, shape)
+    size = shape.size(width, height)
+    stream.write(_head(*size))
+    for part in _packed(rows, (width, height), size):
+        stream.write(chunk(b"IDAT", part))
+    stream.write(chunk(b"IEND", b""))
 
 
 def save_png(path: str, picture: Picture, shape: Shape = Shape(), other: Optional[Picture] = None) -> None:
@@ -159,7 +151,6 @@ class Animation:
 
 
 def _shrunk_row(picture: Picture, top: int, bottom: int, columns: int) -> list[list[int]]:
-    """The mean colours of a row of blocks, which cover these rows of dots."""
     rows = [picture.row(y).translate(WIDENED) for y in range(top, max(top + 1, bottom))]
     colours = []
     for column in range(columns):

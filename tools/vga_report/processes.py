@@ -1,6 +1,7 @@
 """Runs other programs: each in a group of its own, within limits, and all that it has started ends with it."""
 
 import ctypes
+import math
 import os
 import shutil
 import signal
@@ -12,7 +13,7 @@ import time
 from concurrent.futures import ThreadPoolExecutor
 from contextlib import contextmanager, suppress
 from pathlib import Path
-from threading import Event, Thread
+from threading import Event
 from typing import Any, BinaryIO, Callable, Iterable, Iterator, Mapping, NamedTuple, Optional, Sequence, TypeVar, Union
 
 from .trouble import Trouble, Wrong
@@ -24,12 +25,10 @@ FIRST_PAUSE, LONGEST_PAUSE = 0.0005, 0.05
 DRAINING = 5
 # Seconds for a program to end what it has started in groups of its own, once it is asked to.
 ENDING = 5
-CHUNK = 1 << 16
 MEBIBYTE = 1 << 20
-# A message of a command may have so many bytes; more of it is dropped.
-MOST_MESSAGE = 1 << 20
-# So much of what a program says at last is told, and so much of each of its streams is kept.
-MOST_SAID, MOST_KEPT = 2000, 1 << 24
+# So much of what a program says at last is told, in lines and as one line; and so much of its output is kept at most.
+MOST_SAID, MOST_IN_LINE, MOST_KEPT = 2000, 600, 1 << 28
+TOO_LONG = "the command took too long"
 # Where each program comes from that may be lacking: the toolchain's, and those of Debian's packages.
 BINUTILS, CROSS = ("ld", "objcopy", "objdump", "ar", "nm", "readelf"), "aarch64-linux-gnu"
 PACKAGES = {
@@ -57,12 +56,10 @@ def _signals_held() -> Iterator[None]:
     came: list[int] = []
     held: dict[int, Any] = {}
     if threading.current_thread() is threading.main_thread():
-        for name in ("SIGINT", "SIGTERM", "SIGHUP"):
-            number = getattr(signal, name, None)
-            handler = None if number is None else signal.getsignal(number)
-            if number is not None and callable(handler):
-                held[number] = handler
-                signal.signal(number, lambda number, _: came.append(number))
+        known = [getattr(signal, name) for name in ("SIGINT", "SIGTERM", "SIGHUP") if hasattr(signal, name)]
+        held = {number: handler for number in known if callable(handler := signal.getsignal(number))}
+    for number in held:
+        signal.signal(number, lambda number, _: came.append(number))
     try:
         yield
     finally:
@@ -124,10 +121,11 @@ def end(process: subprocess.Popen[bytes], asking: float = 0) -> None:
 
 
 class Limits(NamedTuple):
-    """What a command may take: seconds, and bytes on its standard output."""
+    """What a command may take: seconds, and bytes on its standard output. Of its messages so many bytes are kept."""
 
     seconds: float = 60
     output: int = 256 * MEBIBYTE
+    messages: int = MEBIBYTE
 
 
 class Outcome(NamedTuple):
@@ -137,91 +135,41 @@ class Outcome(NamedTuple):
     reason: str = ""
 
 
-class _Tail:
-    """The last part of what came over a stream."""
-
-    def __init__(self) -> None:
-        self.kept = bytearray()
-
-    def take(self, chunk: bytes) -> None:
-        """Takes what has come."""
-        self.kept += chunk
-        del self.kept[:-MOST_KEPT]
-
-    def last_line(self) -> str:
-        """The last whole line."""
-        lines = bytes(self.kept[-MOST_SAID:]).rpartition(b"\n")[0].splitlines()
-        return lines[-1].decode("utf-8", "replace").strip() if lines else ""
-
-
-class _Front:
-    """What came over a stream, in a file up to a limit; what is more is dropped."""
-
-    def __init__(self, file: BinaryIO, limit: int) -> None:
-        self._file = file
-        self._left = limit
-        self.is_full = False
-
-    def take(self, chunk: bytes) -> None:
-        """Takes what has come."""
-        self._file.write(chunk[:self._left])
-        self.is_full = self.is_full or len(chunk) > self._left
-        self._left -= min(self._left, len(chunk))
-
-
-def _drain(source: BinaryIO, take: Callable[[bytes], None], troubles: list[OSError]) -> None:
-    """Takes what a program writes, until all that could write it has ended."""
-    try:
-        with source:
-            for chunk in iter(lambda: os.read(source.fileno(), CHUNK), b""):
-                take(chunk)
-    except OSError as error:
-        troubles.append(error)
-
-
-def _followed(
-    words: Words, takes: Sequence[Callable[[bytes], None]], heed: Callable[[], str], asking: float = 0, **given: Any
+def run_command(
+    words: Words, output: Path, messages: Path, limits: Limits, is_ended: Event, hear: Callable[[], object] = bool,
+    asking: float = 0, **given: Any,
 ) -> Outcome:
-    """Runs a program to its end, or until `heed` tells why it is to end; what it writes and says is taken meanwhile."""
-    troubles: list[OSError] = []
-    with started(words, asking, stdout=subprocess.PIPE, stderr=subprocess.PIPE, **given) as process:
-        streams = process.stdout, process.stderr
-        # They are the drains' to close: what is left in them is read once the group has ended.
-        process.stdout = process.stderr = None
-        drains = [Thread(target=_drain, args=(*both, troubles), daemon=True) for both in zip(streams, takes)]
-        for drain in drains:
-            drain.start()
-        reason, pause = "", FIRST_PAUSE
-        while not (reason or _has_ended(process)):
-            time.sleep(pause)
-            pause = min(2 * pause, LONGEST_PAUSE)
-            reason = heed() or "".join(map(str, troubles[:1]))
-    for drain in drains:
-        drain.join(DRAINING)
-    if troubles:
-        raise Trouble(f"what it writes can't be kept: {troubles[0]}", str(words[0]))
-    return Outcome(process.returncode, reason)
+    """Runs a command with nothing on standard input, until it ends, or the event or a limit ends it.
 
-
-def run_command(words: Words, output: Path, messages: Path, limits: Limits, is_ended: Event) -> Outcome:
-    """Runs a command with nothing on standard input. What it writes and says stands in two files then.
-
-    Its whole process group has ended afterwards, however it ended itself.
+    What it writes and says stands in two files then; `hear` is called meanwhile. Its whole process group has ended
+    afterwards, however it ended itself. `asking` and `given` go to `started`.
     """
     until, too_much = time.monotonic() + limits.seconds, f"the command wrote more than {limits.output // MEBIBYTE} MiB"
-    with open(output, "wb") as written, open(messages, "wb") as told:
-        report, said = _Front(written, limits.output), _Front(told, MOST_MESSAGE)
+    with open(output, "wb") as written, open(messages, "ab") as said:
+        said.truncate(0)
 
-        def heed() -> str:
-            if report.is_full:
+        def reason() -> str:
+            if _size(said) > limits.messages:
+                said.truncate(limits.messages)
+            if _size(written) > limits.output:
                 return too_much
-            if time.monotonic() >= until:
-                return "the command took too long"
-            return "the suite was ended" if is_ended.is_set() else ""
+            hear()
+            return TOO_LONG if time.monotonic() >= until else "it was ended" if is_ended.is_set() else ""
 
-        outcome = _followed(words, (report.take, said.take), heed)
-    reason = outcome.reason or (too_much if report.is_full else "")
-    return Outcome(None if reason else outcome.status, reason)
+        with started(words, asking, stdout=written, stderr=said, **given) as process:
+            ended, pause = "", FIRST_PAUSE
+            while not (ended or _has_ended(process)):
+                time.sleep(pause)
+                pause = min(2 * pause, LONGEST_PAUSE)
+                ended = reason()
+        if reason() == too_much:
+            written.truncate(limits.output)
+            ended = too_much
+    return Outcome(None if ended else process.returncode, ended)
+
+
+def _size(file: BinaryIO) -> int:
+    return os.fstat(file.fileno()).st_size
 
 
 @contextmanager
@@ -270,33 +218,39 @@ def check_program(name: str, instead: str = "") -> None:
 
 def captured(
     words: Words, folder: Optional[Path] = None, heard: Optional[Hearer] = None, seconds: Optional[float] = None,
-    environment: Optional[Mapping[str, str]] = None, given: Optional[bytes] = None,
+    environment: Optional[Mapping[str, str]] = None, given: bytes = b"", is_ended: Optional[Event] = None,
 ) -> Done:
-    """Runs a program to its end, and answers its status and what it writes; a Failed where it takes longer than it may.
+    """Runs a program to its end, and answers its status and what it writes.
 
-    Its temporary files lie in a folder of their own, which goes with them.
+    A Failed tells that it took more than it may, or that the event has ended it. Its temporary files lie in a folder of
+    their own, which goes with them.
     """
-    name, until = str(words[0]), None if seconds is None else time.monotonic() + seconds
-    output, errors = _Tail(), _Tail()
-
-    def heed() -> str:
-        if until is not None and time.monotonic() > until:
-            raise Failed(f"it had not ended after {seconds:.0f} seconds", name)
-        if heard is not None:
-            heard(errors.last_line() or output.last_line())
-        return ""
-
     with tempfile.TemporaryDirectory(prefix="vga-tool-") as temporary, tempfile.TemporaryFile() as file:
-        file.write(given or b"")
+        file.write(given)
         file.seek(0)
+        output, errors = Path(temporary, "output"), Path(temporary, "errors")
+
+        def hear() -> None:
+            if heard is not None:
+                heard(_last_line(errors) or _last_line(output))
+
         variables = {**os.environ, "TMPDIR": temporary, **(environment or {})}
-        takes = output.take, errors.take
-        outcome = _followed(words, takes, heed, ENDING, cwd=folder, env=variables, stdin=file)
-    if heard is not None:
-        # What it said at last is heard of a program too that has ended at once.
-        heard(errors.last_line() or output.last_line())
-    assert outcome.status is not None
-    return Done(outcome.status, bytes(output.kept), bytes(errors.kept))
+        limits = Limits(seconds or math.inf, MOST_KEPT, MOST_KEPT)
+        # What a program said at last is heard too where it has ended at once.
+        outcome = run_command(
+            words, output, errors, limits, is_ended or Event(), hear, ENDING, cwd=folder, env=variables, stdin=file
+        )
+        if outcome.status is None:
+            told = f"it had not ended after {seconds:.0f} seconds" if outcome.reason == TOO_LONG else outcome.reason
+            raise Failed(told, str(words[0]))
+        return Done(outcome.status, output.read_bytes(), errors.read_bytes())
+
+
+def _last_line(path: Path) -> str:
+    with open(path, "rb") as stream:
+        stream.seek(max(0, _size(stream) - MOST_SAID))
+        lines = stream.read(MOST_SAID).rpartition(b"\n")[0].splitlines()
+    return lines[-1].decode("utf-8", "replace").strip() if lines else ""
 
 
 def run(words: Words, folder: Optional[Path] = None, heard: Optional[Hearer] = None, **given: Any) -> str:
@@ -323,10 +277,7 @@ def tested(words: Words, folder: Optional[Path] = None, **given: Any) -> Done:
         raise Wrong(str(failed)) from failed
 
 
-def said_last(path: Path, most: int = 600) -> str:
+def said_last(path: Path) -> str:
     """The end of what a program said into a file, as one line."""
-    try:
-        text = path.read_bytes()[-most:].decode("utf-8", "replace")
-    except OSError:
-        return ""
+    text = path.read_bytes()[-MOST_IN_LINE:].decode("utf-8", "replace") if path.exists() else ""
     return " ".join("".join(letter if letter.isprintable() else " " for letter in text).split())

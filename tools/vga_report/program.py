@@ -18,7 +18,7 @@ from . import TOP
 from .crates import phases
 from .processes import ENDING, check_program, run, started
 from .progress import Progress
-from .script import script_of
+from .faults import script_of
 from .streams import bytes_of, to_read
 from .trouble import Trouble
 
@@ -54,8 +54,7 @@ class Outcome:
     def fault(self) -> str:
         """The fault that ended the run, or else what was said last."""
         found = FAULT.search(self.said)
-        lines = self.said.strip().splitlines()
-        return found[0] if found else lines[-1] if lines else ""
+        return found[0] if found else (self.said.strip().splitlines() or [""])[-1]
 
 
 def found_program(named: Optional[str], lacking: str = NO_PROGRAM) -> str:
@@ -63,10 +62,9 @@ def found_program(named: Optional[str], lacking: str = NO_PROGRAM) -> str:
 
     Where there is none, a Trouble says how it is had.
     """
-    if named is not None:
-        # A name without a folder is looked for in the path.
-        return to_read(shutil.which(named) or named)
-    found = str(PROGRAM) if os.access(PROGRAM, os.X_OK) else shutil.which("vga")
+    # A name without a folder is looked for in the path.
+    built = str(PROGRAM) if os.access(PROGRAM, os.X_OK) else shutil.which("vga")
+    found = built if named is None else shutil.which(named) or named
     if found is None:
         raise Trouble(lacking)
     return to_read(found)
@@ -74,7 +72,6 @@ def found_program(named: Optional[str], lacking: str = NO_PROGRAM) -> str:
 
 @contextmanager
 def _running(words: Sequence[str], asking: float = 0, **given: Any) -> Iterator[Outcome]:
-    """A command that runs, with its report as it comes."""
     with tempfile.TemporaryFile() as said:
         with started(words, asking, stdout=subprocess.PIPE, stderr=said, **given) as process:
             outcome = Outcome(cast(BinaryIO, process.stdout))
@@ -87,13 +84,11 @@ def _running(words: Sequence[str], asking: float = 0, **given: Any) -> Iterator[
 
 
 def _words(script: str, fonts: str, until: Optional[int], is_bytes: bool) -> list[str]:
-    """The words by which the program runs a script, as text or as bytes."""
     stop = [] if until is None else ["--until", str(until)]
     return ["run" if is_bytes else "go", script, "--fonts", fonts, *stop]
 
 
 def _crate() -> Path:
-    """The folder of the program's crate; a Trouble where its sources or `rt` are lacking."""
     if not (CRATE / "src").is_dir():
         raise Trouble(NO_SOURCES)
     check_program("rt", WITHOUT_RT)
@@ -124,12 +119,11 @@ class Built:
         """Prints the steps of a script as the program understands them; nothing where it has a fault."""
         with tempfile.TemporaryDirectory(prefix="vga-report-") as name:
             made = script if is_bytes else Path(name) / "script"
-            if is_bytes or self._writes(["asm", str(script), str(made)], io.BytesIO()):
-                if not self._writes(["dis", str(made)], printed):
-                    printed.truncate(0)
+            is_good = is_bytes or self._writes(["asm", str(script), str(made)], io.BytesIO())
+            if is_good and not self._writes(["dis", str(made)], printed):
+                printed.truncate(0)
 
     def _writes(self, words: Sequence[str], output: BinaryIO) -> bool:
-        """Whether a command of the program ends well; what it writes goes into a file."""
         left = MOST_PRINTED
         with _running([self.path, *words]) as outcome:
             while chunk := outcome.report.read(CHUNK):
@@ -148,13 +142,6 @@ class Limited(Trouble):
         self.before = before
 
 
-def _before_second_picture(script: Path, until: Optional[int]) -> int:
-    """How many steps stand before the second picture of a run; 0 where it has no second."""
-    steps = islice(script_of(bytes_of(script, MOST_BYTES), str(script)).steps(), until)
-    frames = (number for number, step in enumerate(steps) if step.name == "frame")
-    return next(islice(frames, 1, None), 0)
-
-
 class Tried:
     """The program without its proofs, as `rt try` builds and runs it: in about a minute."""
 
@@ -171,9 +158,12 @@ class Tried:
             with _running(words, ENDING, cwd=_crate(), env={**os.environ, "TMPDIR": temporary}) as outcome:
                 yield outcome
         if self.ENDED not in outcome.said:
-            found = self.CHECKED.search(outcome.said)
+            found, before = self.CHECKED.search(outcome.said), 0
             # What `rt` can't build has no steps before the second picture either.
-            before = _before_second_picture(script, until) if found else 0
+            if found is not None:
+                steps = islice(script_of(bytes_of(script, MOST_BYTES), str(script)).steps(), until)
+                frames = (number for number, step in enumerate(steps) if step.name == "frame")
+                before = next(islice(frames, 1, None), 0)
             told = f"; --until {before} ends before the second" if before else ""
             reason = found[1] if found else outcome.fault
             raise Limited(f"rt try has not run it to its end, within {LIMITS}{told}: {reason}", before)

@@ -7,22 +7,21 @@ import io
 import re
 from dataclasses import dataclass
 from itertools import zip_longest
-from typing import BinaryIO, Iterator, NamedTuple, Optional
+from typing import Iterator, NamedTuple, Optional
 
 from zaklimot import format
-from zaklimot.format import FAULT, Answer, Digest, Picture, ReportError
+from zaklimot.format import Answer, Picture, ReportError
 from zaklimot.format.picture import different_dots
-from zaklimot.format.report import MOST_LINE, REFUSAL, SKIPPED, TEXT
+from zaklimot.format.report import REFUSAL, SKIPPED
 
-from .output import counted
 from .progress import Progress
-from .streams import length_of
+from .streams import counted, length_of
 from .trouble import Trouble
 
-OK_STEPS = re.compile(r"([1-9][0-9]*)-([1-9][0-9]*) ok")
-STEP = re.compile(r"([1-9][0-9]*) (.+)")
-PICTURE = re.compile(r"(picture ([0-9]+)) (([1-9][0-9]*)x([1-9][0-9]*))( ([0-9a-f]{32}))?")
-RUN = re.compile(r"([0-9A-F]{6})(\*([1-9][0-9]{0,6}))?")
+OK_STEPS = re.compile(rb"([1-9][0-9]*)-([1-9][0-9]*) ok\n")
+# A picture whose dots stand below it, a row each.
+ROWS = re.compile(r"(picture ([0-9]+)) ([1-9][0-9]*)x([1-9][0-9]*)")
+RUN = re.compile(r"([0-9A-F]{6})(?:\*([1-9][0-9]{0,6}))?")
 END = "the end"
 DONE = "ok"
 
@@ -55,108 +54,44 @@ class Report(format.Report):
             self._progress.tell(f"{self._name}: {share}")
 
 
-class Expected:
-    """The steps of an expected report that is read from a stream."""
+class Expected(Report):
+    """An expected report: steps that answer `ok` may be one line, and a picture the rows of its dots, or its digest."""
 
-    def __init__(self, stream: BinaryIO, name: str) -> None:
-        self._stream = stream
-        self._name = name
-        self._line = 0
-        self._number = 0
-        # The line that was read last and isn't used yet.
-        self._waiting: Optional[str] = None
-
-    def steps(self) -> Iterator[Answer]:
-        """The steps in their order."""
-        for text in iter(self._next_line, None):
-            alike = OK_STEPS.fullmatch(text)
-            if alike is not None:
-                yield from self._ok_steps(int(alike[1]), int(alike[2]))
+    def answers(self) -> Iterator[Answer]:
+        """The answers in their order; a ReportError where the report is damaged, behind those before that place."""
+        number = 1
+        for line in iter(self._next_line, b""):
+            alike = OK_STEPS.fullmatch(line)
+            if alike is None:
+                yield self._answer(number, line)
             else:
-                yield self._step(text)
+                first, last = int(alike[1]), int(alike[2])
+                if not number == first <= last:
+                    raise self._error(f"steps from {number} on are to come, and not '{first}-{last} ok'")
+                yield from (Answer(number, self.line, "ok") for number in range(first, last + 1))
+                number = last
+            number += 1
 
-    def _ok_steps(self, first: int, last: int) -> Iterator[Answer]:
-        """The steps that a line such as `1-35 ok` stands for."""
-        if first > last:
-            raise self._trouble(f"no steps lead from {first} to {last}")
-        for number in range(first, last + 1):
-            yield Answer(self._counted(number), self._line, "ok")
-
-    def _step(self, text: str) -> Answer:
-        """The step that begins with a line."""
-        if self._number == 0 and FAULT.fullmatch(text):
-            return Answer(0, self._line, text)
-        found = STEP.fullmatch(text)
+    def _picture_answer(self, number: int, answer: str) -> Answer:
+        found, place = ROWS.fullmatch(answer), self.line
         if found is None:
-            raise self._trouble(f"no step: '{text[:40]}'")
-        number, line = self._counted(int(found[1])), self._line
-        picture = PICTURE.fullmatch(found[2])
-        if picture is None:
-            return Answer(number, line, found[2], tuple(self._other_lines()))
-        length, size, width, height, digest = int(picture[2]), picture[3], int(picture[4]), int(picture[5]), picture[7]
-        if digest is not None:
-            return Answer(number, line, picture[1], (), Digest(length, size, digest))
-        return Answer(number, line, picture[1], (), self._picture(length, width, height))
-
-    def _counted(self, number: int) -> int:
-        """A step's number, which is to be one more than the last."""
-        if number != self._number + 1:
-            raise self._trouble(f"step {self._number + 1} is to come, and not step {number}")
-        self._number = number
-        return number
-
-    def _other_lines(self) -> Iterator[str]:
-        """The lines up to the next step's, as a dump has them."""
-        text = self._next_line()
-        while text is not None and not text[:1].isdigit():
-            yield text
-            text = self._next_line()
-        self._waiting = text
-
-    def _picture(self, length: int, width: int, height: int) -> Picture:
-        """The picture whose rows stand next, one a line."""
+            return super()._picture_answer(number, answer)
+        length, width, height = map(int, found.groups()[1:])
         picture = Picture.of_dots(width, height, b"".join(self._row(width) for _ in range(height)))
         if picture.length != length:
-            raise self._trouble(f"a picture of {picture.size} dots has {picture.length} bytes, and not {length}")
-        return picture
+            raise self._error(f"a picture of {picture.size} dots has {picture.length} bytes, and not {length}")
+        return Answer(number, place, found[1], (), picture)
 
     def _row(self, width: int) -> bytes:
         """The dots of the next line: `3F0015*9` stands for nine that are alike."""
-        text = self._next_line()
-        runs = [RUN.fullmatch(word) for word in (text or "").split(" ")]
-        dots = b"".join(bytes.fromhex(run[1]) * int(run[3] or "1") for run in runs if run is not None)
+        text = self._text_of(self._next_line())
+        runs = [RUN.fullmatch(word) for word in text.split(" ")]
+        dots = b"".join(bytes.fromhex(run[1]) * int(run[2] or "1") for run in runs if run is not None)
         if None in runs or len(dots) != 3 * width:
-            raise self._trouble(f"no row of {width} dots: '{(text or '')[:40]}'")
+            raise self._error(f"no row of {width} dots: '{text[:40]}'")
         if max(dots) > 63:
-            raise self._trouble("a dot has a component above 3F")
+            raise self._error("a dot has a component above 3F")
         return dots
-
-    def _next_line(self) -> Optional[str]:
-        """The next line without its newline; None at the end."""
-        if self._waiting is not None:
-            text, self._waiting = self._waiting, None
-            return text
-        line = self._stream.readline(MOST_LINE)
-        if not line:
-            return None
-        self._line += 1
-        if not line.endswith(b"\n"):
-            raise self._trouble("the line lacks its newline, or is too long")
-        if TEXT.fullmatch(line) is None:
-            raise self._trouble("the line is empty, or has bytes that no answer has")
-        return line[:-1].decode("ascii")
-
-    def _trouble(self, reason: str) -> Trouble:
-        return Trouble(reason, self._name, self._line)
-
-
-class Told(NamedTuple):
-    """What messages tell of a difference, which takes less memory than its pictures."""
-
-    number: int
-    answer: str
-    other: str
-    text: str
 
 
 class Difference(NamedTuple):
@@ -176,41 +111,41 @@ class Difference(NamedTuple):
         return f"step {self.number}" if self.number else "the run"
 
     def answers(self) -> tuple[str, str]:
-        """Both answers, each as one line."""
+        """Both answers, each as one line: the first that differs; pictures by what tells them apart."""
         step, other = self
         if step is None or other is None:
             return END if step is None else step.answer, END if other is None else other.answer
         if step.picture is not None and other.picture is not None:
-            return _pictures(step, other)
-        line, other_line = next(
-            pair for pair in zip_longest(step.lines, other.lines, fillvalue=END) if pair[0] != pair[1]
-        )
-        if step.kind != other.kind:
-            return _with_kind(line, step), _with_kind(other_line, other)
-        return line, other_line
+            head, other_head = f"{step.answer} {step.picture.size}", f"{other.answer} {other.picture.size}"
+            if head != other_head:
+                return head, other_head
+            return f"{head} {step.picture.sum}", f"{head} {other.picture.sum}"
+        lines = zip_longest(step.lines, other.lines, fillvalue=END)
+        line, other_line = next((line, other_line) for line, other_line in lines if line != other_line)
+        if step.kind == other.kind:
+            return line, other_line
+        # A refusal looks like a byte that was read.
+        kind, other_kind = (f" ({one.kind})" if one.kind else "" for one in (step, other))
+        return line + kind, other_line + other_kind
 
     def pictures(self) -> Optional[tuple[Picture, Picture]]:
         """Both pictures, if both answers are pictures whose dots are at hand."""
-        if self.step is None or self.other is None:
-            return None
-        picture, other = self.step.picture, self.other.picture
-        if isinstance(picture, Picture) and isinstance(other, Picture):
-            return picture, other
-        return None
+        picture, other = (None if step is None else step.picture for step in self)
+        return (picture, other) if isinstance(picture, Picture) and isinstance(other, Picture) else None
 
     def dots(self) -> str:
         """How two pictures of one size differ; empty for all else."""
         pictures = self.pictures()
         return told_dots(*pictures) if pictures and pictures[0].size == pictures[1].size else ""
 
-    def told(self) -> Told:
+    def told(self) -> str:
         """What messages tell of it: as a line, what the first report has in the place of what the other has."""
         answer, other = self.answers()
         text = self.dots() or f"{answer}, not {other}"
         lines = ["" if step is None else step.answer for step in self]
         if lines[0] != lines[1] == lines[0].upper():
             text += ": digits are upper case in a report"
-        return Told(self.number, answer, other, f"{self.place}: {text}")
+        return f"{self.place}: {text}"
 
 
 def told_dots(picture: Picture, other: Picture) -> str:
@@ -221,20 +156,6 @@ def told_dots(picture: Picture, other: Picture) -> str:
     colours = f"{picture.dot(found.x, found.y)}, not {other.dot(found.x, found.y)}"
     count = picture.width * picture.height
     return f"{found.count} of {count} dots differ, the first is dot {found.x} of row {found.y}: {colours}"
-
-
-def _with_kind(line: str, step: Answer) -> str:
-    """A line that tells a refusal from a byte that was read."""
-    return f"{line} ({step.kind})" if step.kind else line
-
-
-def _pictures(step: Answer, other: Answer) -> tuple[str, str]:
-    """Two pictures by what tells them apart: length and size, or else their sums."""
-    assert step.picture is not None and other.picture is not None
-    head, other_head = f"{step.answer} {step.picture.size}", f"{other.answer} {other.picture.size}"
-    if head != other_head:
-        return head, other_head
-    return f"{head} {step.picture.sum}", f"{other_head} {other.picture.sum}"
 
 
 @dataclass
@@ -289,7 +210,6 @@ class Comparison:
 
 
 def _are_alike(step: Answer, other: Answer) -> bool:
-    """Whether two steps answer the same."""
     if step.number != other.number or step.answer != other.answer or step.others != other.others:
         return False
     picture, other_picture = step.picture, other.picture

@@ -3,33 +3,39 @@
 import argparse
 import os
 import sys
+from contextlib import contextmanager
 from typing import Callable, Iterator, NamedTuple, Optional, Sequence
 
 from zaklimot.format import MOST_ADVANCE, Answer, Digest, Picture
 from zaklimot.format.picture import DifferentDots, different_dots
 
 from .images import Image, image_bytes, image_of
-from .output import AGREED, DIFFERED, name_of, refuse_twice, teller, write, write_name
 from .page import Page
 from .png import Animation, Shape, save_png
 from .progress import Progress
 from .report import Comparison, Difference, Expected, Report, told_dots
-from .script import read_script, script_of
-from .streams import STANDARD, check_folder, reading, write_file, writing
-from .timing import USUAL, Timing
-from .trouble import Trouble
+from .faults import read_script, script_of
+from .streams import (
+    STANDARD, check_folder, name_of, reading, refuse_twice, teller, write, write_file, write_name, writing,
+)
+from .registers import USUAL, Registers
+from .trouble import AGREED, DIFFERED, Trouble
 
 # Dots or lines that stand so often, as they are told.
 TIMES = {1: "", 2: "twice", 3: "three times", 4: "four times"}
 
 
+@contextmanager
+def _steps(path: str, progress: Optional[Progress] = None, kind: type[Report] = Report) -> Iterator[Iterator[Answer]]:
+    with reading(path) as stream:
+        yield kind(stream, name_of(path), progress).steps()
+
+
 def text(words: argparse.Namespace, progress: Progress) -> int:
     """Writes a report as text."""
-    if sys.stdout.isatty():
-        # Text on a terminal shows by itself how far the work has come.
-        progress = Progress(is_wanted=False)
-    with reading(words.report) as stream, writing(STANDARD) as output:
-        for step in Report(stream, name_of(words.report), progress).steps():
+    # Text on a terminal shows by itself how far the work has come.
+    with _steps(words.report, None if sys.stdout.isatty() else progress) as steps, writing(STANDARD) as output:
+        for step in steps:
             output.write(step.text().encode("ascii"))
     return AGREED
 
@@ -58,39 +64,26 @@ def pictures(words: argparse.Namespace, progress: Progress) -> int:
         raise Trouble("--ppm gives the bytes as they are, with neither --scale nor --aspect")
     if words.folder is None and words.apng is None:
         raise Trouble("the pictures want a folder, or --apng a file")
-    if words.apng is not None:
-        return _animate(words, shape, progress)
-    if words.folder != STANDARD:
+    if words.apng is not None and (words.folder is not None or words.ppm):
+        raise Trouble("--apng writes one file, with neither a folder nor --ppm")
+    animation, name, count = Animation(shape), name_of(words.report), 0
+    delays = delays_of(None if words.apng is None else words.script)
+    if words.folder not in (None, STANDARD):
         check_folder(words.folder)
         os.makedirs(words.folder, exist_ok=True)
-    for number, picture in _pictures_of(words, progress):
-        _write_picture(words, f"{number:04}", picture, shape)
-    return AGREED
-
-
-def _pictures_of(words: argparse.Namespace, progress: Progress) -> Iterator[tuple[int, Picture]]:
-    """The pictures of the report that are wanted: one at least."""
-    name, count = name_of(words.report), 0
-    with reading(words.report) as stream:
-        for found in wanted_pictures(Report(stream, name, progress).steps(), words.step, name):
-            count += 1
-            yield found
+    with _steps(words.report, progress) as steps:
+        for count, (number, picture) in enumerate(wanted_pictures(steps, words.step, name), 1):
+            if words.apng is None:
+                _write_picture(words, f"{number:04}", picture, shape)
+            else:
+                animation.add(picture, delays(number), f"step {number}")
     if not count:
         raise Trouble("no step has a picture", name)
-
-
-def _animate(words: argparse.Namespace, shape: Shape, progress: Progress) -> int:
-    """Writes the pictures of a report as one that moves."""
-    if words.folder is not None or words.ppm:
-        raise Trouble("--apng writes one file, with neither a folder nor --ppm")
-    delays = delays_of(words.script)
-    animation = Animation(shape)
-    for number, picture in _pictures_of(words, progress):
-        animation.add(picture, delays(number), f"step {number}")
-    with writing(words.apng) as output:
-        animation.write(output)
-    if words.apng != STANDARD:
-        write(f"{words.apng}: {len(animation.frames)} frames, {animation.seconds:.3f} seconds\n")
+    if words.apng is not None:
+        with writing(words.apng) as output:
+            animation.write(output)
+        if words.apng != STANDARD:
+            write(f"{words.apng}: {len(animation.frames)} frames, {animation.seconds:.3f} seconds\n")
     return AGREED
 
 
@@ -98,16 +91,17 @@ def delays_of(script: Optional[str]) -> Callable[[int], float]:
     """How long the frame of a step lasts, with the whole frames that an advance passes over behind it, as a script tells it."""
     if script is None:
         return lambda number: USUAL
-    timing, frames, last, dots = Timing(), {}, 0, 0
+    registers, frames, last, dots = Registers(), {}, 0, 0
     name = name_of(script)
     for number, step in enumerate(script_of(read_script(script), name).steps(), 1):
-        timing.take(step)
+        registers.take(step)
         if step.name == "advance" and step.numbers[0] <= MOST_ADVANCE:
             dots += step.numbers[0]
         if step.name == "frame":
-            if last:
-                frames[last] += timing.passed(dots)
-            frames[number], last, dots = timing.frame(), number, 0
+            speed = registers.speed()
+            if last and speed:
+                frames[last] += dots // speed[0] * speed[0] / speed[1]
+            frames[number], last, dots = registers.frame(), number, 0
 
     def delay(number: int) -> float:
         if number not in frames:
@@ -118,9 +112,9 @@ def delays_of(script: Optional[str]) -> Callable[[int], float]:
 
 
 def _write_picture(words: argparse.Namespace, stem: str, picture: Picture, shape: Shape) -> None:
-    """Writes one picture, and names its file on standard output unless the picture itself goes there."""
-    ending = ".ppm" if words.ppm else ".png"
-    path = STANDARD if words.folder == STANDARD else os.path.join(words.folder, stem + ending)
+    path = words.folder
+    if path != STANDARD:
+        path = os.path.join(path, stem + (".ppm" if words.ppm else ".png"))
     if words.ppm:
         write_file(path, picture.ppm)
     else:
@@ -133,48 +127,34 @@ def compare(words: argparse.Namespace, progress: Progress) -> int:
     """Tells the first step in which two reports differ."""
     refuse_twice(words.report, words.other)
     names = name, other_name = name_of(words.report), name_of(words.other)
-    comparison = Comparison()
+    comparison, count, wants_picture = Comparison(), 0, words.picture is not None
     page = Page([*names, "where they differ"], ["step", *names, "dots that differ"]) if words.html else None
-    with reading(words.report) as stream, reading(words.other) as other_stream:
-        steps = Report(stream, name, progress).steps()
-        others = Report(other_stream, other_name).steps()
-        count = _tell_differences(comparison.differences(steps, others), names, words, progress, page)
-        if page is not None:
-            said = f"{count} step{'s differ' if count != 1 else ' differs'}; {comparison.text()}"
-            write_file(words.html, page.text(f"{name} and {other_name}", said).encode("utf-8", "replace"))
+    tell = teller(words.picture, words.html)
+    with _steps(words.report, progress) as steps, _steps(words.other) as others:
+        for count, difference in enumerate(comparison.differences(steps, others), 1):
+            found = difference.pictures()
+            if words.all or count == 1:
+                progress.clear()
+                tell(_difference_text(difference, names))
+            if wants_picture and found is not None:
+                save_png(words.picture, found[0], Shape(words.scale, words.aspect), found[1])
+                wants_picture = False
+            if page is not None:
+                page.add_difference(difference)
+            elif not (words.all or wants_picture):
+                break
+    progress.clear()
+    if wants_picture:
+        sys.stderr.write(f"vga-report: no pictures differ, so {words.picture} isn't written\n")
+    if page is not None:
+        said = f"{count} step{'s differ' if count != 1 else ' differs'}; {comparison.text()}"
+        write_file(words.html, page.text(f"{name} and {other_name}", said).encode("utf-8", "replace"))
     if not count:
-        progress.clear()
-        teller(words.picture, words.html)(f"{name} and {other_name} agree: {comparison.text()}\n")
+        tell(f"{name} and {other_name} agree: {comparison.text()}\n")
     return DIFFERED if count else AGREED
 
 
-def _tell_differences(
-    differences: Iterator[Difference], names: tuple[str, str], words: argparse.Namespace, progress: Progress,
-    page: Optional[Page],
-) -> int:
-    """Tells the first difference or all, and writes the first picture with its differing dots marked."""
-    count, wants_picture = 0, words.picture is not None
-    for difference in differences:
-        count += 1
-        found = difference.pictures()
-        if words.all or count == 1:
-            progress.clear()
-            teller(words.picture, words.html)(_difference_text(difference, names))
-        if wants_picture and found is not None:
-            save_png(words.picture, found[0], Shape(words.scale, words.aspect), found[1])
-            wants_picture = False
-        if page is not None:
-            page.add_difference(difference)
-        elif not (words.all or wants_picture):
-            break
-    if wants_picture:
-        progress.clear()
-        sys.stderr.write(f"vga-report: no pictures differ, so {words.picture} isn't written\n")
-    return count
-
-
 def _difference_text(difference: Difference, names: tuple[str, str]) -> str:
-    """A step that differs, with both answers and where they stand."""
     lines = [f"{difference.place} differs"]
     for name, step, answer in zip(names, difference, difference.answers()):
         lines.append(f"  {name}: {answer}" if step is None else f"  {name}:{step.line}: {answer}")
@@ -187,38 +167,32 @@ def check(words: argparse.Namespace, progress: Progress) -> int:
     refuse_twice(words.report, words.expected)
     name, expected_name = name_of(words.report), name_of(words.expected)
     comparison = Comparison()
-    with reading(words.report) as stream, reading(words.expected) as expected:
-        steps = Report(stream, name, progress).steps()
-        difference = next(comparison.differences(steps, Expected(expected, expected_name).steps()), None)
+    with _steps(words.report, progress) as steps, _steps(words.expected, kind=Expected) as expected:
+        difference = next(comparison.differences(steps, expected), None)
     progress.clear()
     if difference is None:
         write(f"{name} is as expected: {comparison.text()}\n")
         return AGREED
     places = [f"{one}:{step.line}" if step else one for one, step in zip((name, expected_name), difference)]
-    write(f"{places[0]}: {difference.told().text} ({places[1]})\n")
+    write(f"{places[0]}: {difference.told()} ({places[1]})\n")
     return DIFFERED
-
-
-def _factor(size: int, other: int) -> Optional[int]:
-    """How often the dots of one size stand in another; None where that is no small number."""
-    return other // size if other % size == 0 and other // size in TIMES else None
 
 
 def _fitted(picture: Picture, image: Image) -> Optional[tuple[Image, str]]:
     """An image brought to the size of a picture, and how; None where neither is the other with dots or lines repeated."""
     told = []
     for what, size, other in (("dot", picture.width, image.width), ("line", picture.height, image.height)):
-        in_image, in_picture = _factor(size, other), _factor(other, size)
-        if in_image is None and in_picture is None:
+        least, most = sorted((size, other))
+        times = most // least
+        if times * least != most or times not in TIMES:
             return None
-        times = in_image or in_picture or 1
         factors = (times, 1) if what == "dot" else (1, times)
-        if times > 1 and in_image:
-            if not image.is_repeated(*factors):
+        if other > size:
+            whole, image = image, image.every(*factors)
+            if image.repeated(*factors) != whole:
                 return None
-            image = image.every(*factors)
             told.append(f"the image has each {what} {TIMES[times]}")
-        elif times > 1:
+        elif other < size:
             image = image.repeated(*factors)
             told.append(f"the picture has each {what} of the image {TIMES[times]}")
     return image, ", ".join(told)
@@ -226,13 +200,14 @@ def _fitted(picture: Picture, image: Image) -> Optional[tuple[Image, str]]:
 
 def _best(picture: Picture, image: Image) -> tuple[Picture, Optional[DifferentDots], str]:
     """The image in six bits a component, where it differs, and how its components were read."""
-    readings = []
-    if image.most == 63 or max(map(max, image.rows)) <= 63:
-        readings.append((0, "six bits a component"))
-    if image.most == 255:
-        readings.append((2, "eight bits a component, of which six count"))
-    read = ((image.picture(shift), told) for shift, told in readings)
-    found = [(one, different_dots(picture, one), told) for one, told in read]
+    found = []
+    for is_possible, shift, told in (
+        (image.most == 63 or max(map(max, image.rows)) <= 63, 0, "six bits a component"),
+        (image.most == 255, 2, "eight bits a component, of which six count"),
+    ):
+        if is_possible:
+            read = image.picture(shift)
+            found.append((read, different_dots(picture, read), told))
     return min(found, key=lambda entry: entry[1].count if entry[1] else 0)
 
 
@@ -263,8 +238,7 @@ def held(picture: Picture, image: Image) -> Held:
 def compare_picture(words: argparse.Namespace, progress: Progress) -> int:
     """Compares the picture of a step with an image, PNG or PPM."""
     refuse_twice(words.report, words.image)
-    with reading(words.report) as stream:
-        steps = Report(stream, name_of(words.report), progress).steps()
+    with _steps(words.report, progress) as steps:
         _, picture = next(wanted_pictures(steps, [words.step], name_of(words.report)))
     name = name_of(words.image)
     found = held(picture, image_of(image_bytes(words.image), name))

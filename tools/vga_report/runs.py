@@ -1,29 +1,43 @@
-"""The command `run`: a script beside its answers."""
+"""The command `run`: a script beside its answers; the scripts of a folder; and runs again when their files change."""
 
 import argparse
 import os
 import shutil
 import sys
 import tempfile
-from contextlib import ExitStack, contextmanager
+import time
+from contextlib import contextmanager
 from pathlib import Path
-from typing import BinaryIO, Iterator, Optional, Union, cast
+from threading import Event
+from typing import BinaryIO, Callable, Iterator, NamedTuple, NoReturn, Optional, Union, cast
+from xml.etree.ElementTree import Element, SubElement, indent, tostring
 
 from zaklimot.format import Picture
 
+from . import TOP
+from .cases import printable
 from .debugging import debug_page, link_to
-from .listing import Choice, Row, Script, heading, listed
-from .output import AGREED, DIFFERED, counted, name_of, teller, write
+from .faults import read_script
+from .listing import Blessing, Row, Script, Tally, chosen, heading, listed, tallied
 from .page import Page
 from .png import Shape, block_lines, save_png
 from .program import Built, Tried, build_program, found_program
+from .processes import captured, in_parallel
 from .progress import Progress
-from .script import read_script
-from .several import run_several, watched
-from .streams import STANDARD, check_file, check_folder, write_file, write_over
-from .tally import Blessing, Tally, Told, told_in
-from .trouble import Trouble
+from .streams import (
+    STANDARD, check_file, check_folder, counted, name_of, refuse_input, teller, to_read, write, write_file, write_over,
+    writing,
+)
+from .trouble import AGREED, DIFFERED, TROUBLE, Trouble
 
+TOOL = TOP / "tools" / "vga-report"
+# How the names of a folder's scripts end.
+ENDINGS = (".vga", ".bin")
+# So much of what is told of a script is kept for a report of all.
+MOST_LINES = 1 << 16
+# Seconds between two looks whether a file has changed.
+LOOK = 0.2
+Work = Callable[[argparse.Namespace, Progress], int]
 # So many reasons of refusals are told once each, and then again.
 MOST_WHYS = 1000
 # What the file of a text is called, and what is told where bytes are in it.
@@ -35,21 +49,24 @@ LOST_TEXT = (
 
 
 @contextmanager
-def _script_file(path: str) -> Iterator[tuple[str, bytes]]:
-    """The path and the bytes of a script; one of a pipe becomes a file, since it is read more than once."""
-    if path not in (STANDARD, "") and (os.path.isdir(path) or not os.path.exists(path)):
-        # The program says what is wrong with it.
-        yield path, b""
-        return
-    data = read_script(path)
-    # The program's own standard input is another one than that which `/dev/stdin` names here.
-    if os.path.isfile(path) and not path.startswith(("/dev/", "/proc/")) and _is_text(path):
-        yield path, data
-        return
+def _files(script: str, fonts: str) -> Iterator[tuple[str, bytes, str]]:
+    """The path and the bytes of a script, and the path of its font file, by names that the program takes.
+
+    The script of a pipe becomes a file, since it is read more than once. What is wrong with a name the program says.
+    """
+    is_there = script in (STANDARD, "") or os.path.exists(script) and not os.path.isdir(script)
+    data = read_script(script) if is_there else b""
     with tempfile.TemporaryDirectory(prefix="vga-report-") as folder:
-        copy = Path(folder) / "script"
-        copy.write_bytes(data)
-        yield str(copy), data
+        # The program's own standard input is another one than that which `/dev/stdin` names here.
+        is_file = os.path.isfile(script) and not script.startswith(("/dev/", "/proc/"))
+        if is_there and not (is_file and _is_text(script)):
+            script = os.path.join(folder, "script")
+            Path(script).write_bytes(data)
+        if not _is_text(fonts):
+            link = Path(folder) / "fonts"
+            link.symlink_to(os.path.abspath(fonts))
+            fonts = str(link)
+        yield script, data, fonts
 
 
 def _is_text(name: str) -> bool:
@@ -57,20 +74,7 @@ def _is_text(name: str) -> bool:
     return not any("\ud800" <= letter <= "\udfff" for letter in name)
 
 
-@contextmanager
-def _font_file(path: str) -> Iterator[str]:
-    """The path of a font file, by a name that the program takes."""
-    if _is_text(path):
-        yield path
-        return
-    with tempfile.TemporaryDirectory(prefix="vga-report-") as folder:
-        link = Path(folder) / "fonts"
-        link.symlink_to(os.path.abspath(path))
-        yield str(link)
-
-
 def _contradictions(words: argparse.Namespace) -> dict[str, object]:
-    """What is said where words contradict one another, each with whether they do so."""
     pictures, several = words.pictures or words.show, words.junit is not None or os.path.isdir(words.script)
     return {
         "--bless writes into the script, whole: it wants a file, and no --until":
@@ -92,7 +96,6 @@ def _contradictions(words: argparse.Namespace) -> dict[str, object]:
 
 
 def _refuse_words(words: argparse.Namespace) -> None:
-    """Ends the work where words contradict one another."""
     for reason, is_so in _contradictions(words).items():
         if is_so:
             raise Trouble(reason)
@@ -105,12 +108,10 @@ def _refuse_words(words: argparse.Namespace) -> None:
 
 
 def _fragment(words: argparse.Namespace) -> str:
-    """What an address ends with that opens the page at a step."""
     return "" if words.until is None else f"#step={words.until}"
 
 
 def _write_debug_page(words: argparse.Namespace, data: bytes) -> None:
-    """Writes the page that runs the script, and tells how it is opened."""
     write_file(words.debug, debug_page(name_of(words.script), data, words.fonts, words.debug))
     if words.debug != STANDARD:
         address = Path(words.debug).absolute().as_uri() + _fragment(words)
@@ -122,75 +123,52 @@ def run(words: argparse.Namespace, progress: Progress) -> int:
     _refuse_words(words)
     if words.build:
         build_program(progress)
-    work = run_several if words.junit is not None or os.path.isdir(words.script) else _run_script
-    return watched(words, work, progress) if words.watch else work(words, progress)
+    work = _run_several if words.junit is not None or os.path.isdir(words.script) else _run_script
+    return _watched(words, work, progress) if words.watch else work(words, progress)
 
 
 def _run_script(words: argparse.Namespace, progress: Progress) -> int:
-    """Runs one script."""
     if words.debug is not None and words.html is None:
         _write_debug_page(words, read_script(words.script))
         return AGREED
-    choice = Choice(words.only)
+    is_shown = None if words.only is None else chosen(words.only)
     program: Union[Built, Tried] = Tried() if words.try_ else Built(found_program(words.vga))
-    tally = Tally(name_of(words.script))
-    with told_in(words.json, tally) as told:
-        return _run_by(words, progress, program, choice, tally, told)
-
-
-def _run_by(
-    words: argparse.Namespace, progress: Progress, program: Union[Built, Tried], choice: Choice, tally: Tally,
-    told: Optional[Told],
-) -> int:
-    """Runs a script by a program, and shows what was chosen of it."""
     shower = _Shower(words, progress)
-    with ExitStack() as stack:
-        path, data = stack.enter_context(_script_file(words.script))
-        fonts = stack.enter_context(_font_file(words.fonts))
-        printed = stack.enter_context(tempfile.TemporaryFile())
-        if words.debug is not None and os.path.isfile(path):
-            _write_debug_page(words, data)
-        script = Script(path, data, program, name_of(words.script), cast(BinaryIO, printed))
-        if script.is_bytes and script.shown.endswith(TEXT_NAME):
-            sys.stderr.write(LOST_TEXT.format(script.shown))
-        if script.is_bytes and (words.bless or words.diff):
-            raise Trouble("a script of bytes has no comments for answers", words.script)
-        blessing = Blessing(data) if words.bless or words.diff else None
-        tells_why = shower.tells_why or told is not None
-        for row in script.rows(fonts, words.until, progress, words.strict, tells_why):
-            if not tally.steps:
-                shower.begin(script)
-            is_wrong = tally.count(row)
-            if blessing is not None:
-                blessing.take(row)
-            if told is not None:
-                told.add(row)
-            if choice.has_all or choice.has(row):
-                shower.show(row, is_wrong)
-        progress.clear()
+    with tallied(name_of(words.script), words.json) as tally:
+        with _files(words.script, words.fonts) as (path, data, fonts), tempfile.TemporaryFile() as printed:
+            if words.debug is not None and os.path.isfile(path):
+                _write_debug_page(words, data)
+            script = Script(path, data, program, tally.shown, cast(BinaryIO, printed))
+            # What is lost where a script is bytes.
+            if script.is_bytes and script.shown.endswith(TEXT_NAME):
+                sys.stderr.write(LOST_TEXT.format(script.shown))
+            if script.is_bytes and (words.bless or words.diff):
+                raise Trouble("a script of bytes has no comments for answers", words.script)
+            blessing = Blessing(data, words.bless) if words.bless or words.diff else None
+            tells_why = shower.tells_why or words.json is not None
+            for row in script.rows(fonts, words.until, progress, words.strict, tells_why):
+                if not tally.steps:
+                    shower.begin(script.width)
+                is_wrong = tally.count(row)
+                if blessing is not None:
+                    blessing.take(row)
+                if is_shown is None or is_shown(row):
+                    shower.show(row, is_wrong)
+            progress.clear()
         if blessing is not None and words.bless:
             return _bless(words, blessing)
-    if told is not None:
-        told.end(tally)
-    shower.end(script, tally)
-    if blessing is not None and not words.bless:
-        write(blessing.difference(tally.shown))
-    else:
-        _tell_tally(tally, words)
+        shower.end(tally)
+        if blessing is not None:
+            write(blessing.difference(tally.shown))
+        else:
+            tell = teller(words.html, words.json)
+            for line in tally.differing():
+                tell(line)
+            tell((f"{tally.shown}: " if words.quiet else "") + tally.text() + "\n")
     return DIFFERED if tally.wrong else AGREED
 
 
-def _tell_tally(tally: Tally, words: argparse.Namespace) -> None:
-    """Tells the answers that differ, and what was seen."""
-    tell = teller(words.html, words.json)
-    for line in tally.differing():
-        tell(line)
-    tell((f"{tally.shown}: " if words.quiet else "") + tally.text() + "\n")
-
-
 class _Shower:
-    """Shows the steps of a run, as the words want it: as a listing, as a page, or not at all."""
-
     def __init__(self, words: argparse.Namespace, progress: Progress) -> None:
         self._words = words
         self._progress = progress
@@ -201,53 +179,42 @@ class _Shower:
         self._whys: set[str] = set()
         self._width = 0
 
-    def begin(self, script: Script) -> None:
-        """Shows what stands above the first step."""
-        self._width = script.width
+    def begin(self, width: int) -> None:
+        """Shows what stands above the first step. The steps have a column of this width."""
+        self._width = width
         if self._words.pictures is not None:
             os.makedirs(self._words.pictures, exist_ok=True)
         if self._is_listed:
-            write(heading(script.width) + "\n")
+            write(heading(width) + "\n")
 
     def show(self, row: Row, is_wrong: bool) -> None:
         """Shows a step, and writes its picture where that is wanted, with its path; why it was refused is told once."""
-        picture, words = row.step.picture, self._words
-        path = "" if picture is None else _saved_picture(row, words)
+        picture, words, path = row.step.picture, self._words, ""
+        if words.pictures is not None and isinstance(picture, Picture):
+            path = os.path.join(words.pictures, f"{row.step.number:04}.png")
+            save_png(path, picture, Shape(words.scale, words.aspect))
         if words.html:
             self._page.add_row(row)
         elif self._is_listed:
             if self._progress.is_wanted:
                 self._progress.clear()
-            why = row.why
-            if why and why in self._whys:
-                why = ""
-            elif why and len(self._whys) < MOST_WHYS:
+            why = "" if row.why in self._whys else row.why
+            if why and len(self._whys) < MOST_WHYS:
                 self._whys.add(why)
             write(listed(row, is_wrong, self._width, path and f"  {path}", why))
             if words.show and isinstance(picture, Picture):
                 columns = shutil.get_terminal_size((80, 24)).columns
                 write("".join(line + "\n" for line in block_lines(picture, columns)))
 
-    def end(self, script: Script, tally: Tally) -> None:
+    def end(self, tally: Tally) -> None:
         """Writes the page, where one is wanted."""
         words = self._words
         if words.html:
             link = None if words.debug is None else link_to(words.debug, words.html) + _fragment(words)
-            write_file(words.html, self._page.text(script.shown, tally.text(), link).encode("utf-8", "replace"))
-
-
-def _saved_picture(row: Row, words: argparse.Namespace) -> str:
-    """The path of the step's picture, which is written; empty where there is none, or none is wanted."""
-    picture = row.step.picture
-    if words.pictures is None or not isinstance(picture, Picture):
-        return ""
-    path = os.path.join(words.pictures, f"{row.step.number:04}.png")
-    save_png(path, picture, Shape(words.scale, words.aspect))
-    return path
+            write_file(words.html, self._page.text(tally.shown, tally.text(), link).encode("utf-8", "replace"))
 
 
 def _bless(words: argparse.Namespace, blessing: Blessing) -> int:
-    """Writes the answers into the script that are not as expected, each behind its step, and lists them."""
     path = words.script
     changes = list(blessing.changes())
     for number, before, after in changes:
@@ -256,3 +223,114 @@ def _bless(words: argparse.Namespace, blessing: Blessing) -> int:
         write_over(path, blessing.text().encode("utf-8", "surrogateescape"))
     write(f"{path}: {counted(len(changes), 'answer')} {'would be written' if words.dry_run else 'written'}\n")
     return AGREED
+
+
+class Ran(NamedTuple):
+    """A script that was run: its exit status, what was written and said, its seconds, and the file of its JSON."""
+
+    script: Path
+    status: int
+    output: str
+    said: str
+    seconds: float
+    json: Path
+
+
+def _run_several(words: argparse.Namespace, progress: Progress) -> int:
+    if words.script == STANDARD:
+        raise Trouble("--junit wants a file or a folder, and not standard input")
+    paths = _scripts_in(words.script) if os.path.isdir(words.script) else [Path(words.script)]
+    if not paths:
+        raise Trouble(f"it has no script: their names end with {' or '.join(ENDINGS)}", words.script)
+    for path in paths:
+        to_read(str(path))
+    for file in (words.json, words.junit):
+        refuse_input(file or STANDARD)
+    tell, ran = teller(words.json, words.junit), []
+    with tempfile.TemporaryDirectory(prefix="vga-report-") as name:
+        for one in _runs(words, paths, Path(name), progress):
+            progress.clear()
+            tell(one.output)
+            sys.stdout.flush()
+            sys.stderr.write(one.said)
+            ran.append(one._replace(output=one.output[:MOST_LINES]))
+        if words.json is not None:
+            _write_json(words.json, ran)
+    if words.junit is not None:
+        write_file(words.junit, _junit_text(name_of(words.script), ran).encode("utf-8", "xmlcharrefreplace"))
+    differ, failed = (sum(one.status == status for one in ran) for status in (DIFFERED, TROUBLE))
+    parts = [counted(len(ran), "script"), f"{differ} differ{'s' * (differ == 1)}"]
+    tell(", ".join(parts + ([f"{failed} can't be run"] if failed else [])) + "\n")
+    return TROUBLE if failed else DIFFERED if differ else AGREED
+
+
+def _scripts_in(folder: str) -> list[Path]:
+    return sorted(path for path in Path(folder).rglob("*") if path.suffix in ENDINGS and path.is_file())
+
+
+def _runs(words: argparse.Namespace, paths: list[Path], folder: Path, progress: Progress) -> Iterator[Ran]:
+    is_ended, given = Event(), {"--fonts": words.fonts, "--vga": words.vga, "--until": words.until}
+    options = ["--quiet", *(str(word) for pair in given.items() if pair[1] is not None for word in pair)]
+    options += [f"--{name.rstrip('_')}" for name in ("try_", "strict", "diff") if getattr(words, name)]
+
+    def run_one(number: int) -> Ran:
+        begun, told = time.monotonic(), folder / str(number)
+        done = captured([sys.executable, TOOL, "run", "--json", told, *options, "--", paths[number]], is_ended=is_ended)
+        output, said = (part.decode("utf-8", "replace") for part in (done.output, done.errors))
+        return Ran(paths[number], done.status, output, said, time.monotonic() - begun, told)
+
+    with in_parallel(run_one, range(len(paths)), words.jobs, is_ended) as found:
+        for count, ran in enumerate(found, 1):
+            if progress.is_due():
+                progress.tell(f"{count} of {len(paths)} scripts: {ran.script}")
+            yield ran
+
+
+def _write_json(path: str, ran: list[Ran]) -> None:
+    """Writes what the scripts told as one list. One that was not even begun has its trouble alone."""
+    with writing(path) as stream:
+        for number, one in enumerate(ran):
+            stream.write(b",\n" if number else b"[\n")
+            if not one.json.exists():
+                stream.write(b"null")
+                continue
+            with open(one.json, "rb") as told:
+                shutil.copyfileobj(told, stream)
+        stream.write(b"\n]\n")
+
+
+def _junit_text(name: str, ran: list[Ran]) -> str:
+    kinds = {DIFFERED: "failure", TROUBLE: "error"}
+    counts = {f"{kind}s": str(sum(one.status == status for one in ran)) for status, kind in kinds.items()}
+    time_of_all = f"{sum(one.seconds for one in ran):.3f}"
+    suite = Element("testsuite", name=printable(name, "\n"), tests=str(len(ran)), **counts, time=time_of_all)
+    for one in ran:
+        case_name, seconds = printable(str(one.script), "\n"), f"{one.seconds:.3f}"
+        names = {"classname": printable(name, "\n"), "name": case_name, "time": seconds}
+        case = SubElement(suite, "testcase", names)
+        if one.status in kinds:
+            # Characters that XML doesn't take are left out.
+            text = printable(one.output if one.status == DIFFERED else one.said, "\n")
+            SubElement(case, kinds[one.status], message=text.split("\n")[0]).text = text
+    indent(suite)
+    return '<?xml version="1.0" encoding="UTF-8"?>\n' + tostring(suite, "unicode") + "\n"
+
+
+def _watched(words: argparse.Namespace, work: Work, progress: Progress) -> NoReturn:
+    while True:
+        before = _changes(words)
+        try:
+            work(words, progress)
+        except Trouble as trouble:
+            progress.clear()
+            sys.stdout.flush()
+            sys.stderr.write(f"vga-report: {trouble}\n")
+        sys.stdout.flush()
+        while _changes(words) == before:
+            time.sleep(LOOK)
+        write(f"{name_of(words.script)} has changed\n")
+
+
+def _changes(words: argparse.Namespace) -> dict[str, Optional[int]]:
+    files = [words.script, words.fonts, *map(str, _scripts_in(words.script))]
+    return {file: os.stat(file).st_mtime_ns if os.path.exists(file) else None for file in files}

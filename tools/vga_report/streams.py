@@ -1,4 +1,4 @@
-"""Files by their names, where `-` is standard input or standard output. An input is never an output."""
+"""Files by their names, where `-` is standard input or output; and what is told there. An input is never an output."""
 
 import io
 import os
@@ -8,7 +8,7 @@ import sys
 import tempfile
 from contextlib import contextmanager
 from pathlib import Path
-from typing import BinaryIO, Iterator, Optional, Union, cast
+from typing import BinaryIO, Callable, Iterator, Optional, Union, cast
 
 from .trouble import Trouble
 
@@ -22,8 +22,8 @@ DRAINED = 1 << 16
 _were_read: dict[Union[int, str], str] = {}
 
 
-def shown_name(path: str, standard: str) -> str:
-    """What messages call a file."""
+def name_of(path: str, standard: str = "standard input") -> str:
+    """What messages call a file, an input or an output."""
     return standard if path == STANDARD else path
 
 
@@ -49,7 +49,7 @@ def refuse_input(path: str) -> None:
     for place, name in _were_read.items():
         status = _status_of(place)
         if output is not None and status is not None and os.path.samestat(output, status):
-            raise Trouble(f"it is read as {name}, so it isn't written", shown_name(path, "standard output"))
+            raise Trouble(f"it is read as {name}, so it isn't written", name_of(path, "standard output"))
 
 
 @contextmanager
@@ -112,7 +112,7 @@ def read_at_most(path: str, most: int, told: str = "") -> bytes:
     with reading(path, is_drained=False) as stream:
         data = stream.read(most + 1)
     if len(data) > most:
-        raise Trouble(told or f"it has more than {most:,} bytes", shown_name(path, "standard input"))
+        raise Trouble(told or f"it has more than {most:,} bytes", name_of(path))
     return data
 
 
@@ -145,28 +145,20 @@ def _may_be_replaced(path: str) -> bool:
 
 @contextmanager
 def _written_beside(path: Path) -> Iterator[BinaryIO]:
-    """A file that takes the place of the one at a path if all goes well, and else goes away."""
     # A link stays, and its file is replaced.
     place = Path(os.path.realpath(path))
     handle, beside = tempfile.mkstemp(prefix=f".{place.name[:100]}-", dir=place.parent)
     try:
         with open(handle, "wb") as stream:
-            os.chmod(beside, _mode_of(place))
+            # The rights are those of the file that is replaced, or of a new one.
+            mask = os.umask(0)
+            os.umask(mask)
+            os.chmod(beside, stat.S_IMODE(os.stat(place).st_mode) if place.exists() else 0o666 & ~mask)
             yield stream
         os.replace(beside, place)
     except BaseException:
         os.unlink(beside)
         raise
-
-
-def _mode_of(path: Path) -> int:
-    """The rights of the file that is replaced, or those of a new one."""
-    try:
-        return stat.S_IMODE(os.stat(path).st_mode)
-    except OSError:
-        mask = os.umask(0)
-        os.umask(mask)
-        return 0o666 & ~mask
 
 
 def write_file(path: str, data: bytes) -> None:
@@ -193,3 +185,29 @@ def length_of(stream: BinaryIO) -> int:
     except OSError:
         return 0
     return status.st_size if stat.S_ISREG(status.st_mode) else 0
+
+
+def write(text: str) -> None:
+    """Writes text on standard output. Names of files that are no text pass as the bytes that they are."""
+    sys.stdout.buffer.write(text.encode("utf-8", "surrogateescape"))
+
+
+def write_name(path: Union[str, Path]) -> None:
+    """Writes the name of a file as a line, as its bytes are."""
+    sys.stdout.buffer.write(os.fsencode(path) + b"\n")
+
+
+def counted(count: int, what: str) -> str:
+    """How many there are, as `1 step` and `2 steps`."""
+    return f"{count} {what}{'s' * (count != 1)}"
+
+
+def teller(*files: Optional[str]) -> Callable[[str], object]:
+    """What writes text beside these files: on standard error where one of them goes to standard output."""
+    return sys.stderr.write if STANDARD in files else write
+
+
+def refuse_twice(*paths: str) -> None:
+    """Standard input can be read once."""
+    if paths.count(STANDARD) > 1:
+        raise Trouble("standard input can be read once")

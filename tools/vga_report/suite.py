@@ -1,29 +1,89 @@
-"""The commands `suite` and `scripts` over the suite's cases, and what came of them by rules."""
+"""The commands `suite` and `scripts` over the suite's cases: each is run and judged, and told by its rule."""
 
 import argparse
+import io
 import json
+import re
+import shlex
+import tempfile
+from contextlib import suppress
+from dataclasses import dataclass, field
 from pathlib import Path
 from threading import Event
-from typing import Iterator, NamedTuple, Optional
+from typing import Iterator, Optional, Sequence
 
-from zaklimot.format import MOST_BYTES
+from zaklimot.format import FAULT, MOST_BYTES, Answer, Picture
 
-from .cases import Case, chosen_cases, read_cases
-from .output import AGREED, DIFFERED, counted, name_of, write, write_name
+from .cases import Case, printable, read_cases
 from .png import save_png
-from .processes import MEBIBYTE, Limits, in_parallel
+from .processes import MEBIBYTE, Limits, in_parallel, run_command
 from .progress import Progress
-from .running import AGREES, DIFFERS, FAILED, SKIPPED, Command, Result, pictures_in, run_case
-from .streams import STANDARD, bytes_of, check_folder, write_file
-from .trouble import Trouble
+from .report import Comparison, Report
+from .streams import STANDARD, bytes_of, check_folder, counted, name_of, write, write_file, write_name
+from .trouble import AGREED, DIFFERED, Trouble
 
+AGREES, SKIPPED, DIFFERS, FAILED = "agrees", "skipped", "differs", "failed"
+# The answers from the best to the worst, as they are counted. A rule has the worst answer of its cases.
+COUNTED = {AGREES: "agree", SKIPPED: "skipped", DIFFERS: "differ", FAILED: "failed"}
+ANSWERS = tuple(COUNTED)
 # The word in the place of a command that asks for the expected pictures.
 PICTURES = "pictures"
 # The file that names the font of each script.
 LIST = "list.txt"
-# The answers from the best to the worst, as they are counted. A rule has the worst answer of its cases.
-COUNTED = {AGREES: "agree", SKIPPED: "skipped", DIFFERS: "differ", FAILED: "failed"}
-ANSWERS = tuple(COUNTED)
+# What messages call the report of a case.
+REPORT_NAME = "its report"
+PLACE = re.compile(r"\{(script|fonts|name)\}")
+UNTIL = "{until}"
+NO_ANSWERS = "all that it asks is a picture, a dump, a refusal or a fault of the script"
+# So many of the first lines that a command says are shown, and of the last.
+SHOWN_LINES = 10
+
+
+@dataclass
+class Result:
+    """What came of a case: its answer, why it doesn't agree, the step that differs first, and what was compared."""
+
+    case: Case
+    rule: str
+    answer: str = AGREES
+    reason: str = ""
+    # For machines: its number, 0 where a fault stands in the place of steps, and both answers.
+    first: dict[str, object] = field(default_factory=dict)
+    comparison: Comparison = field(default_factory=Comparison)
+
+    def told(self) -> dict[str, object]:
+        """The same for machines."""
+        counts = {name: getattr(self.comparison, name) for name in ("steps", "skipped", "answers", "differing")}
+        told = {"name": self.case.name, "rule": self.rule, "answer": self.answer, **counts, **self.first}
+        return {**told, "reason": self.reason} if self.answer != AGREES else told
+
+
+# The results of a folder's rules.
+Rules = dict[str, dict[str, list[Result]]]
+
+
+class Command:
+    """A command with places for a case's files."""
+
+    def __init__(self, text: str) -> None:
+        try:
+            self._words = shlex.split(text)
+        except ValueError as error:
+            raise Trouble(f"the command '{text}': {error}") from error
+        if not self._words:
+            raise Trouble("the command is empty")
+        if not any("{script}" in word or "{name}" in word for word in self._words):
+            raise Trouble(f"the command '{text}' has neither {{script}} nor {{name}}")
+        self.can_stop = UNTIL in self._words
+
+    def words(self, case: Case, script: Path) -> list[str]:
+        """The command's words for a case."""
+        if case.fonts is None and any("{fonts}" in word for word in self._words):
+            raise Trouble(f"no line `fonts FILE` stands before {case.name} in the list")
+        values = {"script": str(script), "fonts": str(case.fonts), "name": case.name}
+        stop = [] if case.until is None else ["--until", str(case.until)]
+        words = [stop if word == UNTIL else [PLACE.sub(lambda place: values[place[1]], word)] for word in self._words]
+        return [word for some in words for word in some]
 
 
 def suite(words: argparse.Namespace, progress: Progress) -> int:
@@ -36,16 +96,22 @@ def suite(words: argparse.Namespace, progress: Progress) -> int:
         empty_folder(words.keep)
     results = _results(words, _chosen(words), progress)
     progress.clear()
-    write(json_text(words.command, results) if words.json else "".join(line + "\n" for line in table_lines(results)))
-    counts = counts_of(results)
+    rules: Rules = {}
+    for result in results:
+        rules.setdefault(result.case.name.rpartition("/")[0], {}).setdefault(result.rule, []).append(result)
+    if words.json:
+        write(_json_text(words.command, rules, results))
+    else:
+        write("".join(f"{line}\n" for group, some in rules.items() for line in _group_lines(group, some)))
+        write(_counts_text(results) + "\n")
+    counts = _counts(results)
     return DIFFERED if counts[DIFFERS] or counts[FAILED] or not counts[AGREES] else AGREED
 
 
 def _write_expected(words: argparse.Namespace) -> int:
-    """Writes each picture that the suite expects and has with all its dots."""
     folder = empty_folder(words.folder)
     for case in _chosen(words):
-        for number, picture in pictures_in(case.expected_steps()):
+        for number, picture in _pictures_in(case.expected_steps()):
             path = folder / f"{case.name}-{number:04}.png"
             path.parent.mkdir(parents=True, exist_ok=True)
             save_png(str(path), picture)
@@ -54,34 +120,123 @@ def _write_expected(words: argparse.Namespace) -> int:
 
 
 def _chosen(words: argparse.Namespace) -> list[Case]:
-    """The cases of the list that are wanted."""
-    cases = chosen_cases(read_cases(words.list), words.only, words.except_)
+    wanted, unwanted = tuple(words.only) or "", tuple(words.except_)
+    cases = [
+        case for case in read_cases(words.list) if case.name.startswith(wanted) and not case.name.startswith(unwanted)
+    ]
     if not cases:
         raise Trouble("no case has a name as --only and --except want it", name_of(words.list))
     return cases
 
 
 def _results(words: argparse.Namespace, cases: list[Case], progress: Progress) -> list[Result]:
-    """What comes of the cases, in their order."""
-    is_ended = Event()
-    limits = Limits(words.timeout, words.output * MEBIBYTE)
-    commands = [
-        None if given is None else Command(given, limits, words.refusals, words.machine)
-        for given in (words.command, words.bytes)
-    ]
+    is_ended, results = Event(), []
+    commands = [None if given is None else Command(given) for given in (words.command, words.bytes)]
 
     def run_one(case: Case) -> Result:
-        return run_case(case, commands[case.is_bytes], words.keep, is_ended)
+        return _run_case(case, commands[case.is_bytes], words, is_ended)
 
-    results: list[Result] = []
     with in_parallel(run_one, cases, words.jobs, is_ended) as found:
         for result in found:
             results.append(result)
             if progress.is_due():
-                counts = counts_of(results)
+                counts = _counts(results)
                 wrong = counts[DIFFERS] + counts[FAILED]
                 progress.tell(f"{len(results)} of {len(cases)} cases, {wrong} don't agree: {result.case.name}")
     return results
+
+
+def _run_case(case: Case, command: Optional[Command], words: argparse.Namespace, is_ended: Event) -> Result:
+    if command is None:
+        return Result(case, case.rule(), SKIPPED, "the script is bytes, and --bytes has no command")
+    if case.is_bytes and case.until is not None and not command.can_stop:
+        return Result(case, case.rule(), SKIPPED, f"the command of --bytes has no {UNTIL}")
+    if words.machine and not case.has_answers_of_machine():
+        return Result(case, case.rule(), SKIPPED, NO_ANSWERS)
+    result = Result(case, case.rule(), comparison=Comparison(words.refusals, words.machine))
+    limits = Limits(words.timeout, words.output * MEBIBYTE)
+    with tempfile.TemporaryDirectory(prefix="vga-report-") as name:
+        script, report, messages = (Path(name, file) for file in (f"script{case.suffix}", "report", "messages"))
+        script.write_bytes(case.handed(words.machine, command.can_stop))
+        outcome = run_command(command.words(case, script), report, messages, limits, is_ended)
+        if outcome.status is None:
+            result.answer, result.reason = FAILED, outcome.reason + _said_text(messages)
+        else:
+            _judge(result, outcome.status, report, messages)
+        if words.keep is not None and result.answer in (DIFFERS, FAILED):
+            _keep(Path(words.keep, case.name), case, {case.suffix: script, ".report": report, ".said": messages})
+    return result
+
+
+def _judge(result: Result, status: int, report: Path, messages: Path) -> None:
+    """Judges a command that has ended with this status: a fault that it has said is its report where it wrote none."""
+    has_report = not status or report.stat().st_size > 0
+    fault = None if has_report else FAULT.search((said_lines(messages) or [""])[-1])
+    if has_report:
+        with open(report, "rb") as stream:
+            _compare(result, stream)
+    elif fault is not None:
+        _compare(result, io.BufferedReader(io.BytesIO(f"{fault[0]}\n".encode())))  # type: ignore[arg-type]
+    if status and fault is None and not (has_report and result.answer in (DIFFERS, FAILED)):
+        result.answer, result.reason = FAILED, f"the command ended with status {status}" + _said_text(messages)
+
+
+def _compare(result: Result, report: io.BufferedReader) -> None:
+    comparison = result.comparison
+    try:
+        for difference in comparison.differences(Report(report, REPORT_NAME).steps(), result.case.expected_steps()):
+            # The first is told, and the others are counted.
+            if not result.first:
+                answered, expected = difference.answers()
+                result.first = {"step": difference.number, "answered": answered, "expected": expected}
+                place = result.case.place_of(difference.number)
+                result.answer, result.reason = DIFFERS, difference.told() + (f" ({place})" if place else "")
+    except Trouble as trouble:
+        if trouble.name != REPORT_NAME:
+            raise
+        if not result.first:
+            result.answer, result.reason = FAILED, str(trouble)
+            return
+    if not result.first and comparison.skipped:
+        result.answer = SKIPPED
+        result.reason = f"{comparison.skipped} of {comparison.steps} steps are skipped, the others agree"
+
+
+def said_lines(messages: Path) -> list[str]:
+    """The lines that a command said on standard error, as text that no terminal takes for more."""
+    said = messages.read_bytes().decode("utf-8", "replace").split("\n") if messages.exists() else []
+    return [printable(line.strip()) for line in said if line.strip()]
+
+
+def _said_text(messages: Path) -> str:
+    lines = said_lines(messages)
+    if len(lines) > 2 * SHOWN_LINES:
+        lines = [*lines[:SHOWN_LINES], f".. {len(lines) - 2 * SHOWN_LINES} lines ..", *lines[-SHOWN_LINES:]]
+    if len(lines) < 2:
+        return "".join(f": {line}" for line in lines)
+    return ", and said\n" + "\n".join("  " + line for line in lines)
+
+
+def _keep(stem: Path, case: Case, files: dict[str, Path]) -> None:
+    stem.parent.mkdir(parents=True, exist_ok=True)
+    for end, file in files.items():
+        write_file(f"{stem}{end}", file.read_bytes())
+    expected = dict(_pictures_in(case.expected_steps()))
+    for number, picture in _pictures_of(files[".report"]):
+        save_png(f"{stem}-{number:04}.png", picture)
+        if number in expected and expected[number].ppm != picture.ppm:
+            save_png(f"{stem}-{number:04}-differing.png", picture, other=expected[number])
+    for number, picture in expected.items():
+        save_png(f"{stem}-{number:04}-expected.png", picture)
+
+
+def _pictures_of(report: Path) -> Iterator[tuple[int, Picture]]:
+    with open(report, "rb") as stream, suppress(Trouble):
+        yield from _pictures_in(Report(stream, "").steps())
+
+
+def _pictures_in(steps: Iterator[Answer]) -> Iterator[tuple[int, Picture]]:
+    return ((step.number, step.picture) for step in steps if isinstance(step.picture, Picture))
 
 
 def empty_folder(path: str) -> Path:
@@ -100,7 +255,7 @@ def scripts(words: argparse.Namespace, progress: Progress) -> int:
     """Writes the scripts of the suite's cases into a folder, as `suite` hands them to a command."""
     cases = _chosen(words)
     folder = empty_folder(words.folder)
-    fonts: dict[Path, str] = {}
+    fonts: dict[Optional[Path], str] = {None: "-"}
     lines = []
     for case in cases:
         if words.machine and not case.has_answers_of_machine():
@@ -110,91 +265,49 @@ def scripts(words: argparse.Namespace, progress: Progress) -> int:
         # Nothing but its end stops a text.
         write_file(str(path), case.handed(words.machine, case.is_bytes))
         write_name(path)
-        lines.append(f"{case.name}{case.suffix} {_copied_font(case.fonts, folder, fonts)}\n")
+        if case.fonts not in fonts:
+            fonts[case.fonts] = _copied(case.fonts, folder, fonts.values())
+        lines.append(f"{case.name}{case.suffix} {fonts[case.fonts]}\n")
     write_file(str(folder / LIST), "".join(lines).encode("utf-8", "surrogateescape"))
     write_name(folder / LIST)
     return AGREED
 
 
-def _copied_font(font: Optional[Path], folder: Path, fonts: dict[Path, str]) -> str:
-    """The name of a case's font file among the scripts, where it is copied once; `-` for none."""
-    if font is None:
-        return "-"
-    if font not in fonts:
-        name = f"fonts/{font.name}"
-        fonts[font] = name if name not in fonts.values() else f"fonts/{len(fonts)}-{font.name}"
-        (folder / "fonts").mkdir(exist_ok=True)
-        write_file(str(folder / fonts[font]), bytes_of(font, MOST_BYTES))
-    return fonts[font]
+def _copied(font: Path, folder: Path, taken: Sequence[str]) -> str:
+    name = f"fonts/{font.name}"
+    name = name if name not in taken else f"fonts/{len(taken) - 1}-{font.name}"
+    (folder / "fonts").mkdir(exist_ok=True)
+    write_file(str(folder / name), bytes_of(font, MOST_BYTES))
+    return name
 
 
-class Rule(NamedTuple):
-    """A rule, with the cases that show it."""
-
-    text: str
-    group: str
-    results: list[Result]
-
-    @property
-    def answer(self) -> str:
-        """Whether all of its cases agree."""
-        return max((result.answer for result in self.results), key=ANSWERS.index)
+def _worst(results: list[Result]) -> str:
+    return max((result.answer for result in results), key=ANSWERS.index)
 
 
-def rules_of(results: list[Result]) -> list[Rule]:
-    """The rules in the order of the list, those of one folder together."""
-    groups: dict[str, dict[str, Rule]] = {}
-    for result in results:
-        rules = groups.setdefault(result.case.group, {})
-        rules.setdefault(result.rule, Rule(result.rule, result.case.group, [])).results.append(result)
-    return [rule for rules in groups.values() for rule in rules.values()]
-
-
-def counts_of(results: list[Result]) -> dict[str, int]:
-    """How many cases have each answer."""
+def _counts(results: list[Result]) -> dict[str, int]:
     return {answer: sum(result.answer == answer for result in results) for answer in ANSWERS}
 
 
 def _counts_text(results: list[Result]) -> str:
-    parts = [f"{count} {COUNTED[answer]}" for answer, count in counts_of(results).items() if count]
+    parts = [f"{count} {COUNTED[answer]}" for answer, count in _counts(results).items() if count]
     return f"{counted(len(results), 'case')}: " + ", ".join(parts)
 
 
-def table_lines(results: list[Result]) -> Iterator[str]:
-    """The table: each folder with its rules, and why a case doesn't agree; then the count of all cases."""
-    group = None
-    for rule in rules_of(results):
-        if rule.group != group:
-            group = rule.group
-            yield f"{group or '.'} ({_counts_text([result for result in results if result.case.group == group])})"
-        yield f"  {rule.answer:8} {rule.text}"
-        for result in rule.results:
+def _group_lines(group: str, rules: dict[str, list[Result]]) -> Iterator[str]:
+    yield f"{group or '.'} ({_counts_text(sum(rules.values(), []))})"
+    for rule, results in rules.items():
+        yield f"  {_worst(results):8} {rule}"
+        for result in results:
             if result.answer != AGREES:
-                yield f"           {result.case.name}: " + result.text().replace("\n", "\n           ")
-    yield _counts_text(results)
+                yield f"           {result.case.name}: " + result.reason.replace("\n", "\n           ")
 
 
-def _case_of(result: Result) -> dict[str, object]:
-    """A case for machines. The step is 0 where a fault stands in the place of steps."""
-    case: dict[str, object] = {
-        "name": result.case.name, "rule": result.rule, "answer": result.answer,
-        "steps": result.comparison.steps, "skipped": result.comparison.skipped,
-        "answers": result.comparison.answers, "differing": result.comparison.differing,
-    }
-    if result.difference is not None:
-        number, answered, expected, _ = result.difference
-        case.update(step=number, answered=answered, expected=expected)
-    if result.answer != AGREES:
-        case["reason"] = result.text()
-    return case
-
-
-def json_text(command: str, results: list[Result]) -> str:
-    """The same for machines: one JSON object, in which each case is one line, with its rule."""
-    rules = []
-    for rule in rules_of(results):
-        head = json.dumps({"rule": rule.text, "folder": rule.group, "answer": rule.answer})
-        cases = ",\n".join(json.dumps(_case_of(result)) for result in rule.results)
-        rules.append(f'{head[:-1]}, "cases": [\n{cases}]}}')
-    head = json.dumps({"command": command, "cases": counts_of(results)})
-    return f'{head[:-1]}, "rules": [\n' + ",\n".join(rules) + "\n]}\n"
+def _json_text(command: str, groups: Rules, results: list[Result]) -> str:
+    told = []
+    for group, rule, some in ((group, *one) for group, rules in groups.items() for one in rules.items()):
+        head = json.dumps({"rule": rule, "folder": group, "answer": _worst(some)})
+        cases = ",\n".join(json.dumps(result.told()) for result in some)
+        told.append(f'{head[:-1]}, "cases": [\n{cases}]}}')
+    head = json.dumps({"command": command, "cases": _counts(results)})
+    return f'{head[:-1]}, "rules": [\n' + ",\n".join(told) + "\n]}\n"

@@ -3,8 +3,8 @@
 from typing import Optional
 
 
-# The exit statuses of a tool: the work can't be done, and something is wrong or differs.
-TROUBLE, WRONG = 2, 1
+# The exit statuses of a tool: nothing differs, something differs or is wrong, and the work can't be done.
+AGREED, DIFFERED, TROUBLE = 0, 1, 2
 
 
 class Trouble(Exception):
@@ -21,4 +21,4 @@ class Trouble(Exception):
 class Wrong(Trouble):
     """What is tested is otherwise than it should be."""
 
-    status = WRONG
+    status = DIFFERED

@@ -4,7 +4,7 @@ from collections import Counter
 from dataclasses import dataclass, field
 from typing import Iterable, Iterator, Mapping, Optional
 
-from vga_report.timing import bytes_written
+from vga_report.registers import bytes_written
 from vga_report.trouble import Trouble
 from zaklimot.format import Answer
 from zaklimot.format.report import READ, REFUSAL, SKIPPED, VALUE

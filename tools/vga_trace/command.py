@@ -11,13 +11,14 @@ from typing import ContextManager, Optional, Sequence
 
 from vga_report import cli
 from vga_report.cli import add
-from vga_report.output import AGREED, DIFFERED, name_of, refuse_twice, write_name
 from vga_report.png import Shape, save_png
 from vga_report.program import Built, found_program
 from vga_report.progress import Progress
 from vga_report.report import Report
-from vga_report.streams import STANDARD, check_file, check_folder, reading, to_read, writing
-from vga_report.trouble import Trouble
+from vga_report.streams import (
+    STANDARD, check_file, check_folder, name_of, reading, refuse_twice, to_read, write_name, writing,
+)
+from vga_report.trouble import AGREED, DIFFERED, Trouble
 from vga_report.words import add_program, add_shape, number_to, seconds
 
 from .checking import check, count

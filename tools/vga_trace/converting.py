@@ -4,7 +4,7 @@ from collections import Counter
 from dataclasses import dataclass, field
 from typing import BinaryIO, Iterable, Iterator, Optional, Union
 
-from vga_report.output import counted
+from vga_report.streams import counted
 from vga_report.trouble import Trouble
 from zaklimot.format import FIRST_LINE, HEADERS, MOST_BYTES, MOST_STEPS
 

@@ -2,7 +2,7 @@
 
 from typing import Iterable, Iterator, Optional
 
-from vga_report.timing import Timing, bytes_written
+from vga_report.registers import Registers, bytes_written
 from zaklimot.format import MOST_ADVANCE
 
 from .step import ADVANCE, FRAME, OUT, OUTW, PUT, PUTW, Step
@@ -19,7 +19,7 @@ class Pauses:
     """The time between steps, as dots of the clock that the steps before have chosen."""
 
     def __init__(self) -> None:
-        self._timing = Timing()
+        self._registers = Registers()
         self._last: Optional[int] = None
         self._owed = 0
         self.backwards = 0
@@ -30,7 +30,7 @@ class Pauses:
             dots = self._dots(step.time)
             if dots:
                 yield Step(ADVANCE, dots)
-            self._timing.take(step.step)
+            self._registers.take(step.step)
             yield step
 
     def _dots(self, now: Optional[int]) -> int:
@@ -43,7 +43,7 @@ class Pauses:
         if self._owed < LEAST_PAUSE:
             return 0
         owed, self._owed = self._owed, 0
-        speed = self._timing.speed()
+        speed = self._registers.speed()
         return 0 if speed is None else min(int(owed * speed[1] / 1_000_000), speed[0])
 
 
@@ -55,7 +55,7 @@ class Clocked:
 
     def __init__(self, longest: float) -> None:
         self._longest = longest
-        self._timing = Timing()
+        self._registers = Registers()
         # When the last frame that was drawn ended, and when the one ends that is under way.
         self._drawn: Optional[float] = None
         self._ends: Optional[float] = None
@@ -68,13 +68,13 @@ class Clocked:
             if step.time is not None:
                 yield from self._frames(step.time / 1_000_000)
             self._is_changed |= step.opcode in WRITES
-            self._timing.take(step.step)
+            self._registers.take(step.step)
             yield step
         yield from self._passed()
 
     def _frames(self, now: float) -> Iterator[Step]:
         """The frame that has ended by now, if there is one to draw."""
-        frame = self._timing.frame()
+        frame = self._registers.frame()
         if self._ends is None:
             self._ends = now + frame
         if now < self._ends:
@@ -91,7 +91,7 @@ class Clocked:
         if seconds > self._longest:
             self.shortened += 1
             self.left_out += seconds - self._longest
-        speed, frames = self._timing.speed(), round(min(seconds, self._longest) / self._timing.frame()) - 1
+        speed, frames = self._registers.speed(), round(min(seconds, self._longest) / self._registers.frame()) - 1
         dots = 0 if speed is None else speed[0] * max(frames, 0)
         for left in range(dots, 0, -MOST_ADVANCE):
             yield Step(ADVANCE, min(left, MOST_ADVANCE))

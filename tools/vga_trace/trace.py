@@ -11,8 +11,7 @@ from contextlib import contextmanager
 from itertools import islice
 from typing import BinaryIO, Iterator, NamedTuple, Optional
 
-from vga_report.output import name_of
-from vga_report.streams import reading
+from vga_report.streams import name_of, reading
 from vga_report.trouble import Trouble
 
 # Where a cycle goes: a port, display memory, or a port of the Bochs VBE extensions, which is none of a VGA's.
