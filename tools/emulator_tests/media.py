@@ -19,11 +19,9 @@ from typing import Mapping, Sequence
 sys.path.insert(0, str(Path(__file__).resolve().parents[1]))
 
 # The tools beside this folder are found by the line above.
-from vga_floppy.answers import report_lines
 from vga_floppy.command import scripts_of
-from vga_floppy.image import has_ended, image_for, read_image, read_record
-from vga_floppy.machines import QEMU, ROMS, SEABIOS
-from vga_floppy.running import DRAWING, PAUSE, monitor_at
+from vga_floppy.image import has_ended, image_for, read_image, read_record, report_lines
+from vga_floppy.running import DRAWING, PAUSE, QEMU, ROMS, SEABIOS, monitor_at
 from vga_report import cli
 from vga_report.images import image_of
 from vga_report.processes import end_with_parent, started
@@ -33,11 +31,10 @@ from vga_report.suite import empty_folder
 from vga_report.trouble import Trouble
 from zaklimot.format import Script
 
-# How a drive stands in qemu, and whether its image has a table of partitions.
-DRIVES: Mapping[str, tuple[str, bool]] = {
-    "floppy": ("-drive file={image},format=raw,if=floppy", False),
-    "disk": ("-drive file={image},format=raw,if=ide", True),
-    "stick": ("-drive file={image},format=raw,if=none,id=stick -device usb-ehci -device usb-storage,drive=stick", True),
+# How a drive stands in qemu; all but the floppy have a table of partitions.
+DRIVES: Mapping[str, str] = {
+    "floppy": "-drive file={image},format=raw,if=floppy", "disk": "-drive file={image},format=raw,if=ide",
+    "stick": "-drive file={image},format=raw,if=none,id=stick -device usb-ehci -device usb-storage,drive=stick",
 }
 # A mode of graphics whose CRT controller and memory are away, with data for 3C0 next, a black DAC and a screen turned off.
 UNFIT = b"""version 2
@@ -59,15 +56,13 @@ WAV_HEADER = 44
 
 def _boot(folder: Path, base: str, drive: str, scripts: Mapping[str, Script]) -> tuple[bytes, ...]:
     """Boots scripts from a drive; the lines of the screen that have the text behind the key."""
-    words, is_disk = DRIVES[drive]
-    image = folder / f"{base}.img"
-    image.write_bytes(image_for(scripts, base, is_disk=is_disk))
-    rom = ROMS[QEMU, SEABIOS][1]
+    image, rom = folder / f"{base}.img", ROMS[QEMU, SEABIOS][1]
+    image.write_bytes(image_for(scripts, base, is_disk=drive != "floppy"))
     command = [
         "nice", "-n", "19", "qemu-system-i386", "-accel", "tcg", "-m", "16", "-display", "none", "-nodefaults",
         "-audiodev", f"wav,id=speaker,path={base}.wav", "-machine", "pc,pcspk-audiodev=speaker", "-device",
         f"VGA,romfile={rom}", "-serial", f"file:{base}.record", "-qmp", f"unix:{base}.qmp,server=on,wait=off",
-        *words.format(image=image.name).split(),
+        *DRIVES[drive].format(image=image.name).split(),
     ]
     with started(command, cwd=folder, preexec_fn=end_with_parent) as process:
         until = time.monotonic() + SECONDS
@@ -105,8 +100,7 @@ def _try_all(words: argparse.Namespace, _: Progress) -> int:
     status = 0
     for drive in DRIVES:
         expected = _boot(folder, f"{drive}-frame", drive, {"": script_of(b"frame\n", "frame")})
-        text = _boot(folder, drive, drive, scripts)
-        told = wrong(folder, drive, text, expected)
+        told = wrong(folder, drive, _boot(folder, drive, drive, scripts), expected)
         print(f"{drive}: {'; '.join(told) or 'as it is to be'}", flush=True)
         status |= bool(told)
     return status

@@ -1,15 +1,16 @@
-"""Software that draws, its machines, and discs whose program asks the video BIOS alone."""
+"""Software that draws, its machines, and discs that ask the video BIOS alone."""
 
 import gzip
 import shutil
-import struct
 from dataclasses import dataclass
 from functools import partial
 from pathlib import Path
-from typing import Callable, Iterator, NamedTuple, Optional, Sequence
+from typing import Callable, Iterator, Optional, Sequence
 
-from vga_report.processes import run
+from vga_floppy.image import image_for
+from vga_report.processes import ended_well, run
 from vga_trace.recording import Deed, Machine, chain_4
+from zaklimot.format import Script, Step
 
 GRUB_GRAPHICS = """insmod vga
 insmod font
@@ -42,11 +43,6 @@ done
 /bin/busybox printf 'Žluťoučký kůň, Ελλάδα, Россия\\ndone\\n\\033[?25l'
 while true; do /bin/busybox sleep 1000; done
 """
-SECTOR = 512
-# Where a boot sector stands, and the table of calls behind it, which ends below 10000.
-BOOT, TABLE = 0x7C00, 0x7E00
-MOST_SECTORS = (0x10000 - TABLE) // SECTOR
-NO_CALL = 0xFFFF
 # Dots of a line, by graphics mode.
 WIDTHS = {0x0D: 320, 0x10: 640, 0x12: 640, 0x13: 320}
 TEXT_MODES = (3, 7)
@@ -71,8 +67,9 @@ def _card(rom: str) -> list[str]:
 
 
 def _disc(mode: int, folder: Path) -> list[str]:
-    """A disc that is booted, whose program lets the video BIOS draw in a mode."""
-    disc = caller(screen(mode), folder / f"calls-{mode:02x}.img")
+    """A disc that is booted, and lets the video BIOS draw in a mode: an image of vga-floppy."""
+    disc = folder / f"calls-{mode:02x}.img"
+    disc.write_bytes(image_for({"": Script(tuple(screen(mode)))}, disc.name, is_disk=True))
     return ["-drive", f"file={disc},format=raw,if=ide", "-boot", "c"]
 
 
@@ -113,24 +110,20 @@ def _file(folder: Optional[Path], *names: str) -> Path:
     raise SystemExit(f"{folder}: there is no {names[0]}")
 
 
-def archive_file(name: str, mode: int, data: bytes = b"") -> bytes:
-    """A file of an archive as Linux unpacks it: a header of hexadecimal numbers, the name, the bytes."""
-    path = name.encode() + b"\0"
-    fields = (0, mode, 0, 0, 1, 0, len(data), 0, 0, 0, 0, len(path), 0)
-    front = b"070701" + b"".join(b"%08X" % field for field in fields) + path
-    return front + bytes(-len(front) % 4) + data + bytes(-len(data) % 4)
-
-
 def _linux(has_font: bool, folder: Path, unpacked: Optional[Path]) -> Machine:
     """Linux' text console, with a program that writes lines and scrolls, and perhaps a font of 512 characters."""
-    busybox = _file(unpacked, "bin/busybox", "usr/bin/busybox").read_bytes()
-    files = [archive_file(name, 0o040755) for name in ("bin", "dev")]
-    files += [archive_file("bin/busybox", 0o100755, busybox), archive_file("init", 0o100755, INIT.encode())]
+    root = folder / ("linux-font" if has_font else "linux")
+    for name in ("bin", "dev"):
+        (root / name).mkdir(parents=True, exist_ok=True)
+    shutil.copy(_file(unpacked, "bin/busybox", "usr/bin/busybox"), root / "bin")
+    (root / "init").write_text(INIT, "utf-8")
+    (root / "init").chmod(0o755)
     if has_font:
-        font = gzip.decompress(_file(unpacked, "usr/share/consolefonts/Uni2-VGA14.psf.gz").read_bytes())
-        files.append(archive_file("font", 0o100644, font))
-    archive = folder / ("linux-font.initrd" if has_font else "linux.initrd")
-    archive.write_bytes(gzip.compress(b"".join([*files, archive_file("TRAILER!!!", 0)]), 1))
+        font = _file(unpacked, "usr/share/consolefonts/Uni2-VGA14.psf.gz").read_bytes()
+        (root / "font").write_bytes(gzip.decompress(font))
+    names = "".join(f"{path.relative_to(root)}\n" for path in sorted(root.rglob("*")))
+    archive = root.with_suffix(".initrd")
+    archive.write_bytes(ended_well(["cpio", "--create", "--format=newc"], root, given=names.encode()).output)
     kernel = _file(unpacked, "boot/vmlinuz-*")
     # Without its own drivers of the card the kernel's text console stays.
     words = ["-kernel", str(kernel), "-initrd", str(archive), "-append", "nomodeset vga=normal consoleblank=0"]
@@ -163,70 +156,37 @@ SOFTWARE = {
 }
 
 
-class Call(NamedTuple):
-    """The registers of a call of interrupt 10."""
-
-    ax: int
-    bx: int = 0
-    cx: int = 0
-    dx: int = 0
+def _call(ax: int, bx: int = 0, cx: int = 0, dx: int = 0) -> Step:
+    return Step("int", (ax, bx, cx, dx))
 
 
-def _loader(sectors: int) -> bytes:
-    """A boot sector that reads the table behind it and makes its calls, then stops."""
-    # push si: the video BIOS may change it.
-    packet = struct.pack("<BBHHHQ", 16, 0, sectors, TABLE, 0, 1)
-    code = bytes.fromhex(
-        "31C0 8ED8 8EC0 8ED0 BC007C FC"  # xor ax,ax; ds, es, ss = 0; sp = 7C00; cld
-        "BE0000 B442 CD13"  # si = packet; ah = 42; int 13: reads the table
-        "BE007E"  # si = 7E00
-        "AD 93 AD 91 AD 92 AD"  # lodsw into bx, cx, dx and ax
-        "3DFFFF 7406"  # ax = FFFF: to the end
-        "56 CD10 5E EBEE"  # push si; int 10; pop si; the next call
-        "F4 EBFD"  # hlt, for ever
-    )
-    code = code.replace(bytes.fromhex("BE0000"), b"\xBE" + struct.pack("<H", BOOT + len(code)), 1) + packet
-    return code.ljust(SECTOR - 2, b"\0") + b"\x55\xAA"
-
-
-def caller(calls: Iterator[Call], path: Path) -> Path:
-    """Makes a disc whose program makes these calls."""
-    rows = [*calls, Call(NO_CALL)]
-    table = b"".join(struct.pack("<4H", call.bx, call.cx, call.dx, call.ax) for call in rows)
-    sectors = -(-len(table) // SECTOR)
-    if sectors > MOST_SECTORS:
-        raise ValueError(f"{len(rows):,} calls are too many for the table")
-    path.write_bytes((_loader(sectors) + table).ljust(1 << 20, b"\0"))
-    return path
-
-
-def screen(mode: int) -> Iterator[Call]:
+def screen(mode: int) -> Iterator[Step]:
     """Calls that set a mode, write and scroll, and draw what the mode has."""
     is_text = mode in TEXT_MODES
-    yield Call(mode)
+    yield _call(mode)
     for row in range(2, 12):
         for column, letter in enumerate(SAYS[:30 + row % 3], 3):
             colour = 3 * row + column if is_text else row + column & 0xF or 1
-            yield Call(0x0200, dx=row << 8 | column)
-            yield Call(0x0900 | ord(letter), colour, 1)
-    yield Call(0x0200, dx=0x0C00)
+            yield _call(0x0200, dx=row << 8 | column)
+            yield _call(0x0900 | ord(letter), colour, 1)
+    yield _call(0x0200, dx=0x0C00)
     for letter in "\r\nteletype\r\nand a second line\r\n":
-        yield Call(0x0E00 | ord(letter), 0x0E)
-    yield Call(0x0601, 0x1700 if is_text else 0, 0x0205, 0x0820)
+        yield _call(0x0E00 | ord(letter), 0x0E)
+    yield _call(0x0601, 0x1700 if is_text else 0, 0x0205, 0x0820)
     yield from _characters(mode) if is_text else _dots(mode)
 
 
-def _characters(mode: int) -> Iterator[Call]:
+def _characters(mode: int) -> Iterator[Step]:
     """Every third character, and the cursor at a place of its own."""
     for at, code in enumerate(range(0, 256, 3)):
-        yield Call(0x0200, dx=0x0F00 + (at // 78 << 8) + at % 78)
-        yield Call(0x0900 | code, 0x1E if mode == 3 else 0x07, 1)
-    yield Call(0x0200, dx=0x1400)
+        yield _call(0x0200, dx=0x0F00 + (at // 78 << 8) + at % 78)
+        yield _call(0x0900 | code, 0x1E if mode == 3 else 0x07, 1)
+    yield _call(0x0200, dx=0x1400)
 
 
-def _dots(mode: int) -> Iterator[Call]:
+def _dots(mode: int) -> Iterator[Step]:
     """Rows of dots, some of them mixed with what is there, and an entry of the DAC."""
     for x in range(0, WIDTHS[mode], 3):
-        yield Call(0x0C00 | (x & 0xFF if mode == 0x13 else x // 16 & 0xF), 0, x, 120 + x % 70)
-        yield Call(0x0C80 | x // 8 & 0xF, 0, x, 30 + x % 40)
-    yield Call(0x1010, 5, 0x103F, 0x2000)
+        yield _call(0x0C00 | (x & 0xFF if mode == 0x13 else x // 16 & 0xF), 0, x, 120 + x % 70)
+        yield _call(0x0C80 | x // 8 & 0xF, 0, x, 30 + x % 40)
+    yield _call(0x1010, 5, 0x103F, 0x2000)

@@ -5,7 +5,6 @@ from __future__ import annotations
 import json
 import os
 import re
-import shlex
 import shutil
 import signal
 import struct
@@ -14,6 +13,7 @@ import sys
 import time
 import unittest
 from contextlib import ExitStack
+from dataclasses import replace
 from functools import partial
 from pathlib import Path
 from typing import Callable
@@ -21,10 +21,9 @@ from unittest import mock
 
 from vga_floppy import image as images
 from vga_floppy import running
-from vga_floppy.answers import report_lines
 from vga_floppy.command import main
-from vga_floppy.image import CODE, Run, image_for, read_image, read_record
-from vga_floppy.machines import DOSBOX, MACHINES
+from vga_floppy.image import CODE, Run, image_for, read_image, read_record, report_lines
+from vga_floppy.running import DOSBOX, MACHINES
 from vga_floppy.table import reset_steps, table_for
 from vga_floppy.table_page import FIRST_MARK, LAST_MARK
 from vga_report.cases import read_cases
@@ -35,11 +34,10 @@ from vga_trace.state import State
 from vga_trace.step import IN, OUT, Step
 from zaklimot.format import Script
 
-from .floppy import ANSWERS, MARK, Adapter, Machine
+from .floppy import ANSWERS, MARK, Machine, cycles, line, machine
 from .tools import TOOLS, TOP, Folder, begin, call, ended, hold, hold_undone, refused, run_tool
 
 run = partial(run_tool, "vga-floppy")
-FLOPPY = Path(__file__).with_name("floppy.py")
 SCRIPT = b"""version 2
 outw 3C4 0F02
 in 3CC
@@ -83,24 +81,11 @@ REPORT = b"""1 ok
 """
 
 
-def machine(script: bytes) -> tuple[Machine, Adapter]:
-    """A machine with the image of a script, and its adapter."""
-    adapter = Adapter()
-    return Machine(image_for({"": script_of(script, "script")}, "script"), adapter), adapter
-
-
-def cycles(script: bytes) -> list[tuple[object, ...]]:
-    """The cycles of a script's own steps."""
-    booted, adapter = machine(script)
-    booted.run()
-    return adapter.cycles[adapter.cycles.index(("begin",)) + 1:]
-
-
 class Interpreting(unittest.TestCase):
     def test_a_script_step_by_step(self) -> None:
-        booted, _ = machine(SCRIPT)
-        self.assertEqual(b"".join(report_lines(read_image(booted.run(), "image"), "image")), REPORT)
-        record = b"noise\r\n" + b"".join(booted.record)
+        booted = machine(SCRIPT)
+        self.assertEqual(b"".join(report_lines(read_image(booted.image, "image"), "image")), REPORT)
+        record = b"noise\r\n" + b"".join([*booted.record[:-1], line("P", 4096), booted.record[-1]])
         self.assertEqual(b"".join(report_lines(read_record(record, "record"), "record")), REPORT)
 
     def test_the_bytes_of_the_table(self) -> None:
@@ -117,8 +102,8 @@ class Interpreting(unittest.TestCase):
         self.assertEqual(cycles(SCRIPT), [
             ("out", 0x3C4, 0x02), ("out", 0x3C5, 0x0F), ("in", 0x3CC), ("put", 0xA0000, 0x5A),
             ("get", 0xAFFFF), ("get", 0xB0000), *(3 * [("in", 0x3CE), ("in", 0x3CF)]), ("in", 0x3DA),
-            ("int", 0x0300, 0x0102, 0, 0, "", b""), ("int", 0x1017, 0xFE, 2, 0x77, "table", b""),
-            ("int", 0x1302, 0x0F, 3, 0x101, "bp", b"ABC"), ("get", 0xA0000),
+            ("int", 0x0300, 0x0102, 0, 0, 0, b""), ("int", 0x1017, 0xFE, 2, 0x77, 4, b""),
+            ("int", 0x1302, 0x0F, 3, 0x101, 2, b"ABC"), ("get", 0xA0000),
         ])
 
     def test_nothing_but_the_adapter_is_touched(self) -> None:
@@ -129,43 +114,29 @@ class Interpreting(unittest.TestCase):
 
     def test_what_is_before_the_first_step(self) -> None:
         for script, last in ((b"frame\n", 0x00), (b"int ax=3\n", 0x03), (b"version 2\nrepeat 2\nint ax=3\nend\n", 0x03)):
-            booted, adapter = machine(script)
-            booted.run()
-            before = adapter.cycles[:adapter.cycles.index(("begin",))]
+            booted = machine(script)
+            before = booted.cycles[:booted.cycles.index(("begin",))]
             self.assertEqual({address for kind, address, *_ in before if kind == "put"}, set(range(0xA0000, 0xB0000)))
-            self.assertEqual(before[0], ("int", 3, 0, 0, 0, "", b""))
-            self.assertEqual(before[-1], ("out", 0x3C2, last))
+            self.assertEqual(before[0], ("int", 3, 0, 0, 0, 0, b""))
             self.assertEqual(len(booted.answers), 8 * (script.count(b"int") + script.count(b"repeat")))
             self.assertEqual(before.count(("out", 0x3C9, 0)), 768)
-            self.assertEqual(self.registers(before), {
-                "misc": last, "seq": [3, 0, 0, 0, 0], "gfx": [0] * 9, "crtc": [3 if at == 0x17 else 0 for at in range(25)],
-                "attr": [0] * 21, "mask": 0xFF,
-            })
+            self.assert_reset(before, last)
 
-    def registers(self, before: list[tuple[object, ...]]) -> dict[str, object]:
-        """What cycles leave in an adapter's registers, of which each had another value."""
+    def assert_reset(self, before: list[tuple[object, ...]], misc: int) -> None:
+        """That cycles reset the registers of an adapter, of which each had another value."""
         state = State()
-        banks = {"seq": state.seq, "gfx": state.gfx, "crtc": state.crtc, "attr": state.attr}
-        state.misc = state.dac.mask = state.attr.is_data = 0x54
-        for bank in banks.values():
-            bank.index, bank.registers = 1, [0x55] * len(bank.registers)
+        banks = state.seq, state.gfx, state.crtc, state.attr
+        state.misc = state.dac.mask = state.is_data = 0x54
+        for bank, index in ((bank, index) for bank in banks for index in range(len(bank.registers))):
+            bank.index = index
+            bank.write(0x55)
         for kind, port, *value in before[1:]:
             if kind in ("in", "out"):
                 state.take(Step(OUT if kind == "out" else IN, port, *value))  # type: ignore[arg-type]
-        self.assertFalse(state.attr.is_data)
-        self.assertEqual({bank.index for bank in banks.values()}, {0})
-        return {"misc": state.misc, "mask": state.dac.mask, **{name: bank.registers for name, bank in banks.items()}}
-
-    def test_progress_goes_out_with_the_answers(self) -> None:
-        booted, _ = machine(b"version 2\nrepeat 5000\nin 3CC\nend\n")
-        booted.run()
-        self.assertEqual(sum(line.startswith(b"P ") for line in booted.record), 2)
-        self.assertIn(b"P 001000 10\r\n", booted.record)
-        self.assertIn(b"P 002000 20\r\n", booted.record)
-
-    def test_blocks_are_interpreted_and_not_unrolled(self) -> None:
-        long, short = (table_for({"": script_of(b"version 2\nrepeat %d\nout 3C4 2\nend\n" % count, "it")}) for count in (65535, 1))
-        self.assertEqual(len(long), len(short))
+        self.assertEqual((state.misc, state.dac.mask, state.is_data), (misc, 0xFF, False))
+        self.assertEqual({bank.index for bank in banks}, {0})
+        usual = [3, 0, 0, 0, 0], [0] * 9, [3 if at == 0x17 else 0 for at in range(25)], [0] * 21
+        self.assertEqual(tuple(bank.registers for bank in banks), usual)
 
     @unittest.skipUnless(shutil.which("nasm"), "nasm isn't installed")
     def test_the_bytes_kept_are_those_of_the_source(self) -> None:
@@ -193,7 +164,7 @@ class Interpreting(unittest.TestCase):
         self.assertEqual((active, first, length), (0x80, 1, len(disk) // 512 - 1))
         for number, place in ((first, (track, head, sector)), (first + length - 1, (last_track, last_head, last_sector))):
             self.assertEqual((0, number // 63, number % 63 + 1), place)
-        self.assertEqual(b"".join(report_lines(read_image(Machine(disk, Adapter()).run(), "disk"), "disk")), REPORT)
+        self.assertEqual(b"".join(report_lines(read_image(Machine(disk).image, "disk"), "disk")), REPORT)
 
 
 class Images(Folder):
@@ -208,11 +179,9 @@ class Images(Folder):
     def test_each_has_a_report(self) -> None:
         folder, image = self.folder_of_scripts(one="in 3CC\nframe\n", two="int ax=300\n", three="put A0000 1\n"), self.folder / "image"
         self.assertEqual(run("make", folder, image), (0, b"", ""))
-        adapter = Adapter()
-        booted = Machine(image.read_bytes(), adapter)
-        image.write_bytes(booted.run())
-        self.assertEqual(adapter.cycles.count(("begin",)), 3)
-        outputs = [cycle[2] for cycle, after in zip(adapter.cycles, adapter.cycles[1:]) if after == ("begin",)]
+        booted = Machine(image.read_bytes())
+        image.write_bytes(booted.image)
+        outputs = [cycle[2] for cycle, after in zip(booted.cycles, booted.cycles[1:]) if after == ("begin",)]
         self.assertEqual(outputs, [0, 3, 0])
         reports, texts = self.folder / "reports", {
             "one.report": b"1 CC\n2 skipped\n", "two.report": b"1 ax=0300 bx=0000 cx=1234 dx=1234\n", "three.report": b"1 ok\n",
@@ -231,7 +200,7 @@ class Images(Folder):
         folder, image = self.folder_of_scripts(one="in 3CC\n"), self.folder / "image"
         self.assertEqual(run("make", "--disk", folder, image), (0, b"", ""))
         self.assertEqual(image.read_bytes()[446], 0x80)
-        image.write_bytes(Machine(image.read_bytes(), Adapter()).run())
+        image.write_bytes(Machine(image.read_bytes()).image)
         self.assertEqual(run("read", image), (0, b"1 CC\n", ""))
         reports = self.folder / "reports"
         self.assertEqual(run("read", image, reports), (0, b"", ""))
@@ -244,7 +213,7 @@ class Images(Folder):
     def test_a_name_of_a_file_elsewhere(self) -> None:
         for name in ("../one", str(self.folder / "one")):
             image = image_for({name: Script(), "two": Script()}, "it")
-            path = self.write("image", Machine(image, Adapter()).run())
+            path = self.write("image", Machine(image).image)
             said = f"vga-floppy: {path}: a script has the name of a file outside of a folder: '{name[:40]}'\n"
             self.assertEqual(run("read", path, self.folder / "reports"), (2, b"", said))
             self.assertEqual(list((self.folder / "reports").iterdir()), [])
@@ -254,7 +223,7 @@ class Images(Folder):
         self.assertEqual(run("make", script, image), (0, b"", ""))
         self.assertEqual(run("make", "-", "-", given=SCRIPT)[1], image.read_bytes())
         self.assertEqual(image.read_bytes()[64], 0)
-        image.write_bytes(Machine(image.read_bytes(), Adapter()).run())
+        image.write_bytes(Machine(image.read_bytes()).image)
         self.assertEqual(run("read", image), (0, REPORT, ""))
         self.assertEqual(run("read", "-", self.folder / "report", given=image.read_bytes()), (0, b"", ""))
         self.assertEqual((self.folder / "report").read_bytes(), REPORT)
@@ -273,9 +242,8 @@ class Left(Folder):
 
     def setUp(self) -> None:
         super().setUp()
-        self.machine, _ = machine(SCRIPT)
-        self.image = self.machine.run()
-        self.record = b"".join(self.machine.record)
+        booted = machine(SCRIPT)
+        self.image, self.record = booted.image, b"".join(booted.record)
 
     def trouble(self, read: Callable[[bytes, str], Run], data: bytes) -> str:
         """What is told of an image or a record."""
@@ -326,15 +294,12 @@ class Left(Folder):
         ))
 
     def test_the_last_of_two_records_counts(self) -> None:
-        other, _ = machine(b"in 3CC\n")
-        other.run()
-        record = b"".join(other.record)[:-40] + self.record
+        record = b"".join(machine(b"in 3CC\n").record)[:-40] + self.record
         self.assertEqual(b"".join(report_lines(read_record(record, "it"), "it")), REPORT)
 
     def test_a_record_that_ends_too_early(self) -> None:
-        stopped, _ = machine(b"in 3CC\n" * 40)
-        stopped.run(cycles=20)
-        path = self.write("record", b"".join(stopped.record))
+        # Of three lines of answers the first came.
+        path = self.write("record", b"".join(machine(b"in 3CC\n" * 40).record[:-3]))
         message = f"vga-floppy: {path}: the record ends before the run did: 16 of 40 bytes of answers came; --part gives the report so far\n"
         self.assertEqual(run("read", "--serial", path), (2, b"", message))
         report = b"".join(b"%d CC\n" % number for number in range(1, 17))
@@ -354,10 +319,10 @@ class Runs(Folder):
         super().setUp()
         self.scratch = self.temporary()
 
-    def path_with(self, *words: str | Path) -> str:
-        """A path of programs in which dosbox is the machine of these tests, with such words."""
-        line = shlex.join(map(str, (sys.executable, FLOPPY, *words)))
-        program = self.program("bin/dosbox", f"#!/bin/sh\nexec {line}\n")
+    def path_with(self, *lines: str) -> str:
+        """A path of programs in which dosbox does this, or leaves what a machine with the script leaves; and goes on."""
+        after = self.write("after", machine(SCRIPT).image)
+        program = self.program("bin/dosbox", "\n".join(["#!/bin/sh", *(lines or [f"cat {after} > script.img"]), "sleep 600"]))
         return f"{Path(program).parent}:{os.environ['PATH']}"
 
     def run_on(self, *words: str, path: str, script: str = SCRIPT.decode()) -> tuple[int, bytes, str]:
@@ -375,14 +340,14 @@ class Runs(Folder):
 
     def test_emulators_that_do_not_do_it(self) -> None:
         hold(self, lambda what, *words: self.run_on(*words, path=str(self.folder) if what is None else self.path_with(what)), (
-            ("crash", (2, b"", "vga-floppy: dosbox: it ended before the script did: no such part\n")),
+            (r"printf 'no such\007 part\n'; exit 3", (2, b"", "vga-floppy: dosbox: it ended before the script did: no such part\n")),
             (None, (2, b"", "vga-floppy: there is no dosbox: Debian's package dosbox has it\n")),
-            ("", "--bios", "lgpl", (2, b"", "vga-floppy: dosbox has a video BIOS of its own\n")),
+            ("exit", "--bios", "lgpl", (2, b"", "vga-floppy: dosbox has a video BIOS of its own\n")),
         ))
 
     def test_the_limit_ends_all_that_was_started(self) -> None:
         told = self.folder / "child"
-        path = self.path_with("wait", told)
+        path = self.path_with(f"sleep 600 & echo $! > {told}")
         done = self.within(lambda seconds: self.run_on("--seconds", str(seconds), path=path), told)
         hold_undone(self, done, r"^vga-floppy: dosbox: the script has not ended within \d+ seconds\n$")
         self.assert_ended(int(told.read_text()))
@@ -421,7 +386,7 @@ class Runs(Folder):
     @unittest.skipUnless(sys.platform.startswith("linux"), "Linux alone ends a process with its parent")
     def test_an_emulator_ends_with_a_command_that_is_killed(self) -> None:
         told = self.folder / "child"
-        environment = {**os.environ, "PATH": self.path_with("wait", told), "TMPDIR": str(self.folder)}
+        environment = {**os.environ, "PATH": self.path_with(f"sleep 600 & echo $! > {told}"), "TMPDIR": str(self.folder)}
         words = ["vga-floppy", "run", "--on", "dosbox", self.write("script.vga", "frame\n")]
         with begin(*words, env=environment) as process:
             child = self.wait_for(told, process)
@@ -465,9 +430,7 @@ class Pages(Folder):
     def test_tables_between_the_marks(self) -> None:
         versions = {name: vars(machine)["version"] for name, machine in MACHINES.items()}
         self.assertEqual(set(versions), {"qemu", "bochs", "dosbox"})
-        dosbox = MACHINES[DOSBOX]
-        MACHINES[DOSBOX] = type(dosbox)(dosbox.name, dosbox.program, dosbox.package, dosbox.words, lambda: "0.1")
-        self.addCleanup(MACHINES.__setitem__, DOSBOX, dosbox)
+        self.patch(mock.patch.dict(MACHINES, {DOSBOX: replace(MACHINES[DOSBOX], version=lambda: "0.1")}))
         first = self.results("dosbox", one=("differs", 5, 2, "ax=0001 bx=0002", "ax=0001 bx=0003"), two=("agrees", 2000, 0, "", ""))
         status, page, said = self.write_page(first)
         self.assertEqual((status, said), (0, ""))

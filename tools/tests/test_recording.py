@@ -15,10 +15,10 @@ from unittest import mock
 
 from vga_report.reports import Held
 from vga_trace import recording
-from vga_trace.known import ALLOWED, PAGE, SEEN, Names, Screen, known, whole_rows
+from vga_trace.known import ALLOWED, PAGE, SEEN, Screen, known, whole_rows
 from vga_trace.passing import Clocked
 from vga_trace.recording import PHASES, Deed, Machine, Session
-from vga_trace.replaying import _is_nearer
+from vga_trace.replaying import is_nearer
 from vga_trace.state import State
 from vga_trace.step import ADVANCE, FRAME, IN, OUT, PUT, Step
 from vga_trace.trace import SCREEN
@@ -225,7 +225,7 @@ class Parts(unittest.TestCase):
 
     def test_the_dump_of_which_fewer_dots_differ(self) -> None:
         other, far, near = Held(None, ""), Held(5, ""), Held(3, "")
-        hold(self, _is_nearer, (
+        hold(self, is_nearer, (
             (near, far, True), (far, near, False), (near, near, False), (far, other, True), (other, far, False),
             (other, other, False),
         ))
@@ -234,8 +234,8 @@ class Parts(unittest.TestCase):
 class Knowledge(unittest.TestCase):
     def test_each_is_on_the_page(self) -> None:
         page = " ".join((TOP / PAGE).read_text("utf-8").split())
-        for one in (*SEEN, *ALLOWED):
-            self.assertIn(one.name, page)
+        for name in (*SEEN, *ALLOWED):
+            self.assertIn(name, page)
 
     def state(self, *steps: Step) -> State:
         """The state behind these steps, in text whose palette is shown."""
@@ -250,8 +250,7 @@ class Knowledge(unittest.TestCase):
     def names(self, *steps: Step, dots: tuple[tuple[int, int], ...] = ()) -> list[str]:
         """The names that such a state allows."""
         found = known(Screen(self.state(*steps), dots))
-        self.assertEqual(list(found.seen), [])
-        return list(found.allowed)
+        return found.get("may be", []) + found.get("is", [])
 
     def test_what_may_show_in_a_state(self) -> None:
         ninth = attribute(0x10, 4)
@@ -272,7 +271,7 @@ class Knowledge(unittest.TestCase):
         ))
         self.assertEqual(self.names(*ninth, dots=((8, 0), (9, 0))), [])
 
-    def split(self, here: str, there: str, *steps: Step) -> Names:
+    def split(self, here: str, there: str, *steps: Step) -> dict[str, list[str]]:
         """What is known of two pictures in graphics, whose line compare is 2 and whose rows have two lines."""
         picture, image = picture_of(here), picture_of(there)
         steps = (*graphics(6, 5), *crtc(0x18, 2), *crtc(7, 0x0F), *crtc(9, 1), *crtc(8, 1), *steps)
@@ -280,7 +279,7 @@ class Knowledge(unittest.TestCase):
         return known(Screen(self.state(*steps), dots, picture, image))
 
     def test_a_split_within_a_row(self) -> None:
-        found, none = Names(["split within a row"]), Names([], ["preset row scan"])
+        found, none = {"is": ["split within a row"]}, {"may be": ["preset row scan"]}
         hold(self, lambda here, there, steps: self.split(here, there, *steps), (
             # The second line of a row is under way, of two lines and of four; and three of four have been.
             ("aab aabbc", "aab abbcc", [], found), ("aab aabb", "aab abbx", [], found),
@@ -293,7 +292,7 @@ class Knowledge(unittest.TestCase):
             ("aab aabbc", "axb abbcc", [], none), ("aab aabbc", "aab aabbx", [], none),
             ("aab aabbc", "aab abbcc", crtc(0x18, 8), none), ("aab aabbc", "aab abbcc", crtc(9, 0), none),
         ))
-        self.assertNotIn("split within a row", self.split("aab aabbc", "aab abbcc", *graphics(6, 0x0E)).seen)
+        self.assertNotIn("is", self.split("aab aabbc", "aab abbcc", *graphics(6, 0x0E)))
 
     def test_a_last_row_that_is_not_whole(self) -> None:
         picture, rows = picture_of("aaabbbcc"), crtc(9, 2)
@@ -306,8 +305,8 @@ class Knowledge(unittest.TestCase):
             self.assertEqual([part.row(y) for y in range(height)], [picture.row(y) for y in range(height)])
         state = self.state(*rows, *crtc(8, 1))
         cut = "last row of text that isn't whole"
-        self.assertEqual(known(Screen(state, cut=2)), Names([cut]))
-        self.assertEqual(known(Screen(state, [(0, 1)], cut=2)), Names([cut], ["preset row scan"]))
+        self.assertEqual(known(Screen(state, cut=2)), {"is": [cut]})
+        self.assertEqual(known(Screen(state, [(0, 1)], cut=2)), {"is": [cut], "may be": ["preset row scan"]})
 
 
 def picture_of(rows: str) -> Picture:

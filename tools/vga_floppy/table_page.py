@@ -13,7 +13,7 @@ from vga_report.streams import STANDARD, read_at_most, write_over
 from vga_report.trouble import Trouble
 from zaklimot.format import MOST_BYTES
 
-from .machines import MACHINES
+from .running import MACHINES
 
 FIRST_MARK = "<!-- What stands from here to the next mark is made by `tools/vga-floppy table`. -->"
 LAST_MARK = "<!-- The end of what `tools/vga-floppy table` makes. -->"

@@ -33,7 +33,7 @@ MOST_SAID, MOST_KEPT = 2000, 1 << 24
 # Where each program comes from that may be lacking: the toolchain's, and those of Debian's packages.
 PACKAGES = {
     "ld": "binutils", "objcopy": "binutils", "ar": "binutils", "nm": "binutils", "cc": "gcc", "gcc": "gcc",
-    "node": "nodejs", "qemu-system-x86_64": "qemu-system-x86",
+    "node": "nodejs", "qemu-system-x86_64": "qemu-system-x86", "xwininfo": "x11-utils",
     **{f"aarch64-linux-gnu-{name}": "binutils-aarch64-linux-gnu" for name in ("ld", "objcopy", "ar")},
     "aarch64-linux-gnu-gcc": "gcc-aarch64-linux-gnu",
 }

@@ -7,7 +7,7 @@ import sys
 from itertools import islice
 from pathlib import Path
 from tempfile import TemporaryDirectory
-from typing import ContextManager, Optional, Sequence
+from typing import ContextManager, Optional, Sequence, Union
 
 from vga_report import cli
 from vga_report.cli import add
@@ -21,8 +21,8 @@ from vga_report.trouble import Trouble
 from vga_report.words import add_program, add_shape, number_to, seconds
 
 from .checking import check, count
-from .converting import CLOCK, END, FLIP, SCREENS, Frames, Listing, Wanted, convert
-from .recording import Deed, Machine, chain_4, record
+from .converting import CLOCK, END, FLIP, SCREENS, Frames, Listing, convert
+from .recording import TRACE, Deed, Machine, chain_4, record
 from .replaying import Moving, pictures_of, replay
 from .trace import Trace, opened
 
@@ -34,7 +34,6 @@ MOST_TOLD = 10
 
 
 def _frames(word: str) -> Frames:
-    """Reads when a frame stands."""
     return word if word in (END, FLIP, SCREENS, CLOCK) else seconds(word)
 
 
@@ -72,7 +71,6 @@ def _deed(word: str) -> Deed:
 
 
 def _screen(word: str) -> Deed:
-    """Reads when the screen is taken."""
     return Deed(None if word == QUIET else seconds(word))
 
 
@@ -130,45 +128,37 @@ def _parser(qemu: Sequence[str] = ()) -> argparse.ArgumentParser:
     return parser
 
 
-def _wanted(words: argparse.Namespace) -> Wanted:
-    _check_range(words)
+def _listing(trace: Trace, words: argparse.Namespace) -> Listing:
     if words.time and words.frames == CLOCK:
         raise Trouble("frames by the clock have the time already: without --time")
-    return Wanted(words.polls == KEEP, words.time, words.frames, words.to, words.from_, words.longest)
-
-
-def _check_range(words: argparse.Namespace) -> None:
-    """Ends the work where no cycle is from the first on that is wanted to the last."""
-    if words.to is not None and words.from_ > words.to:
-        raise Trouble(f"--from {words.from_} is after --to {words.to}: no cycle is both")
+    return Listing(trace, words.polls == KEEP, words.time, words.frames, words.to, words.from_, words.longest)
 
 
 def _opened(words: argparse.Namespace) -> ContextManager[Trace]:
-    """The trace, of which the first cycles may be wanted alone."""
+    """The trace, of which some cycles may be wanted alone."""
+    if words.to is not None and words.from_ > words.to:
+        raise Trouble(f"--from {words.from_} is after --to {words.to}: no cycle is both")
     return opened(words.trace, is_whole=words.to is None)
 
 
-def _warn(listing: Listing, name: str) -> None:
-    """Tells what a trace of this name lacks."""
-    for line in listing.warnings():
+def _warn(lacking: Union[Listing, Trace], name: str) -> None:
+    for line in lacking.warnings():
         print(f"vga-trace: warning: {name}: {line}", file=sys.stderr)
 
 
 def _convert(words: argparse.Namespace, _: Progress) -> None:
-    """Makes a script, and says what it has and what the trace lacks."""
     with _opened(words) as trace, writing(words.script) as stream:
-        listing = Listing(trace, _wanted(words))
+        listing = _listing(trace, words)
         written = convert(listing, stream, words.text, words.repeat)
     _warn(listing, name_of(words.trace))
     print(written.line(listing), file=sys.stderr if words.script == STANDARD else sys.stdout)
 
 
 def _check(words: argparse.Namespace, _: Progress) -> int:
-    """Holds a report against a trace."""
     refuse_twice(words.trace, words.report)
     name = name_of(words.report)
     with _opened(words) as trace, reading(words.report) as stream:
-        listing = Listing(trace, _wanted(words))
+        listing = _listing(trace, words)
         checked = check(listing.steps(), Report(stream, name).steps(), name)
     _warn(listing, name_of(words.trace))
     print("\n".join(checked.lines(words.most)))
@@ -176,21 +166,17 @@ def _check(words: argparse.Namespace, _: Progress) -> int:
 
 
 def _kinds(words: argparse.Namespace, _: Progress) -> None:
-    """Counts cycles."""
-    _check_range(words)
     with _opened(words) as trace:
-        listing = Listing(trace, Wanted(most=words.to))
-        found = count(islice(listing.watch.cycles(), words.from_ - 1, None))
-    _warn(listing, name_of(words.trace))
+        found = count(islice(trace.cycles(words.to), words.from_ - 1, None))
+    _warn(trace, name_of(words.trace))
     print("\n".join(f"{number:12,} {kind}" for kind, number in found.most_common()))
 
 
 def _pictures(words: argparse.Namespace, _: Progress) -> None:
     """Makes a script of a trace in real time, runs it, and writes its pictures."""
-    _check_range(words)
     if words.folder is None and words.apng is None:
         raise Trouble("the pictures want a folder, or --apng a file")
-    program, shape = found_program(words.vga), Shape(words.scale, words.aspect)
+    program, shape, found = found_program(words.vga), Shape(words.scale, words.aspect), _opened(words)
     if words.folder is not None:
         check_folder(words.folder)
         os.makedirs(words.folder, exist_ok=True)
@@ -198,8 +184,8 @@ def _pictures(words: argparse.Namespace, _: Progress) -> None:
         check_file(words.apng)
     with TemporaryDirectory(prefix="vga-trace-") as name:
         script, shown, moving = Path(name) / "script", 0.0, Moving(shape)
-        with _opened(words) as trace, writing(str(script)) as stream:
-            listing = Listing(trace, Wanted(frames=CLOCK, most=words.to, first=words.from_, longest=words.longest))
+        with found as trace, writing(str(script)) as stream:
+            listing = Listing(trace, frames=CLOCK, most=words.to, first=words.from_, longest=words.longest)
             convert(listing, stream)
         _warn(listing, name_of(words.trace))
         with Built(program).running(script, words.fonts, None, True) as outcome:
@@ -218,16 +204,14 @@ def _pictures(words: argparse.Namespace, _: Progress) -> None:
 
 
 def _record(words: argparse.Namespace, progress: Progress) -> int:
-    """Records, replays, and says how each screen compares."""
     if not words.qemu:
         raise Trouble("qemu needs words after `--`, as `-- -cdrom disc.iso`")
     program, folder = found_program(words.vga), Path(words.folder)
     check_folder(words.folder)
     if folder.exists() and any(folder.iterdir()):
         raise Trouble("it has files: name a new folder", words.folder)
-    deeds = list(words.deeds)
-    if not deeds or deeds[-1].keys:
-        deeds.append(Deed())
+    # A screen is taken at the end at least.
+    deeds = words.deeds if words.deeds and not words.deeds[-1].keys else [*words.deeds, Deed()]
     folder.mkdir(parents=True, exist_ok=True)
     try:
         with TemporaryDirectory(prefix="vga-trace-") as made:
@@ -242,29 +226,26 @@ def _record(words: argparse.Namespace, progress: Progress) -> int:
 
 
 def _judge(machine: Machine, folder: Path, program: str, fonts: str, progress: Progress) -> int:
-    """Records into a folder, and prints what came of it."""
-    trace, dumps = folder / "trace.gz", folder / ".dump"
-
     def say(text: str) -> None:
         progress.clear()
         print(f"vga-trace: {text}", file=sys.stderr)
 
-    screens = record(machine, trace, dumps, say, progress)
+    screens = record(machine, folder, say, progress)
     if progress.is_due():
-        progress.tell(f"{trace}: a script is made")
-    figures, checked, judge = replay(trace, dumps, screens, program, fonts, progress)
+        progress.tell(f"{folder / TRACE}: a script is made")
+    written, checked, judge = replay(folder, program, fonts, progress)
     progress.clear()
-    _warn(judge.listing, str(trace))
-    lines = [figures, *checked.lines(MOST_TOLD)]
+    _warn(judge.listing, str(folder / TRACE))
+    lines = [written.line(judge.listing), *checked.lines(MOST_TOLD)]
     are_equal = checked.agrees and bool(screens)
-    for number, at in enumerate(screens):
-        verdict = judge.verdicts.get(number)
+    for number, at in enumerate(screens, 1):
+        verdict, front = judge.verdicts.get(number - 1), f"screen {number} at {at:.1f} s"
         are_equal &= verdict is not None and verdict.is_equal
         if verdict is None:
-            lines.append(f"screen {number + 1} at {at:.1f} s: here no frame has the shape of a picture")
+            lines.append(f"{front}: here no frame has the shape of a picture")
             continue
-        lines += verdict.lines()
-        verdict.write(folder)
+        lines += verdict.lines(front)
+        verdict.write(folder, number)
     print("\n".join(lines))
     return AGREED if are_equal else DIFFERED
 

@@ -2,18 +2,19 @@
 
 from collections import Counter
 from dataclasses import dataclass, field
-from typing import BinaryIO, Iterable, Iterator, Optional, Union
+from typing import BinaryIO, Iterator, Optional, Union
 
 from vga_report.output import counted
 from vga_report.trouble import Trouble
+from zaklimot import format
 from zaklimot.format import FIRST_LINE, HEADERS, MOST_BYTES, MOST_STEPS
 
-from .folding import Coded, Row, alone, folded
+from .folding import Row, alone, folded
 from .passing import Clocked, Pauses, with_flips, with_frames_every
 from .rebuilding import rebuilt
 from .state import State
 from .step import FRAME, NAMES, Step, steps_of, without_polls
-from .trace import Trace, Watch
+from .trace import Trace
 
 # When a script has a frame: at its end alone, before each page flip, where a screen was taken, once in each frame of the dot
 # clock in which something was written, or every so many seconds.
@@ -23,74 +24,64 @@ Frames = Union[str, float]
 FOR_THE_END = 1024
 
 
-@dataclass(frozen=True)
-class Wanted:
-    """How cycles become steps: whether all polls stay, whether time passes, when a frame stands.
+class Listing:
+    """The steps of a trace, in the order of the script, and how cycles become steps.
 
-    `most` is how many cycles count. The script begins with the cycle of the number `first`, and with steps that rebuild what
-    those before it have done. With frames by the clock a time without a write lasts `longest` seconds at most.
+    That is whether all polls stay, whether time passes, when a frame stands, and how many cycles count. The script begins
+    with the cycle of the number `first`, and with steps that rebuild what those before it have done. With frames by the
+    clock a time without a write lasts `longest` seconds at most.
     """
 
-    keeps_polls: bool = True
-    has_time: bool = False
-    frames: Frames = END
-    most: Optional[int] = None
-    first: int = 1
-    longest: float = 1
-
-
-class Listing:
-    """The steps of a trace, in the order of the script; `watch` has the cycles, as many as are wanted."""
-
-    def __init__(self, trace: Trace, wanted: Wanted) -> None:
+    def __init__(
+        self, trace: Trace, keeps_polls: bool = True, has_time: bool = False, frames: Frames = END,
+        most: Optional[int] = None, first: int = 1, longest: float = 1,
+    ) -> None:
         self.trace = trace
-        self._wanted = wanted
-        self.watch = Watch(trace, wanted.most)
-        self._pauses = Pauses()
-        self._clocked = Clocked(wanted.longest)
+        self._keeps_polls, self._has_time, self._frames = keeps_polls, has_time, frames
+        self._most, self._first = most, first
+        self._pauses, self._clocked = Pauses(), Clocked(longest)
         self.rebuilding = 0
 
     def steps(self) -> Iterator[Step]:
         """The steps, and the frame at the end. Where time passes there are two: the first began amid the cycles."""
-        wanted = self._wanted
-        steps = steps_of(self.watch.cycles(), self.trace.screens)
-        if not wanted.keeps_polls:
+        steps = steps_of(self.trace.cycles(self._most), self.trace.screens)
+        if not self._keeps_polls:
             steps = without_polls(steps)
-        if wanted.frames == FLIP:
+        if self._frames == FLIP:
             steps = with_flips(steps)
-        elif wanted.frames == SCREENS:
+        elif self._frames == SCREENS:
             steps = self._with_screens(steps)
-        elif wanted.frames == CLOCK:
+        elif self._frames == CLOCK:
             steps = self._clocked.steps(self._timed(steps))
-        elif isinstance(wanted.frames, float):
-            steps = with_frames_every(wanted.frames, self._timed(steps))
-        if wanted.has_time:
+        elif isinstance(self._frames, float):
+            steps = with_frames_every(self._frames, self._timed(steps))
+        if self._has_time:
             steps = self._pauses.steps(self._timed(steps))
-        yield from steps if wanted.first == 1 else self._from_the_middle(steps)
-        yield from [Step(FRAME)] * (2 if wanted.has_time else 1)
+        yield from steps if self._first == 1 else self._from_the_middle(steps)
+        yield from [Step(FRAME)] * (2 if self._has_time else 1)
 
-    def warnings(self) -> list[str]:
+    def warnings(self) -> Iterator[str]:
         """What the trace lacks, a line each; the steps must have passed."""
-        told = self.watch.warnings()
+        yield from self.trace.warnings()
         if self._pauses.backwards:
-            told.append(f"the time runs back {self._pauses.backwards:,} times, which is no pause")
-        if self._clocked.shortened:
-            silences = counted(self._clocked.shortened, "silence")
-            told.append(f"{silences} cut to {self._wanted.longest:g} s, and {self._clocked.left_out:,.1f} s left out so")
-        is_time_used = self._wanted.has_time or self._wanted.frames == CLOCK or isinstance(self._wanted.frames, float)
-        if is_time_used and self.watch.untimed:
-            told.append(f"{self.watch.untimed:,} cycles have no time, and come without a pause")
-        return told
+            yield f"the time runs back {self._pauses.backwards:,} times, which is no pause"
+        clocked = self._clocked
+        if clocked.shortened:
+            silences = counted(clocked.shortened, "silence")
+            yield f"{silences} cut to {clocked.longest:g} s, and {clocked.left_out:,.1f} s left out so"
+        is_time_used = self._has_time or self._frames == CLOCK or isinstance(self._frames, float)
+        if is_time_used and self.trace.untimed:
+            yield f"{self.trace.untimed:,} cycles have no time, and come without a pause"
 
     def _from_the_middle(self, steps: Iterator[Step]) -> Iterator[Step]:
         """The steps from the first cycle that is wanted on, behind those that rebuild what was done before."""
         state = State()
         for step in steps:
-            if step.cycle >= self._wanted.first:
+            if step.cycle >= self._first:
                 break
             state.take(step)
         else:
-            told = f"it has {self.watch.count:,} cycles, and none from {self._wanted.first:,} on becomes a step"
+            told = f"it has {self.trace.count:,} cycles, and none from {self._first:,} on becomes a step"
             raise Trouble(told, self.trace.name)
         for rebuilding in rebuilt(state):
             self.rebuilding += 1
@@ -99,7 +90,6 @@ class Listing:
         yield from steps
 
     def _with_screens(self, steps: Iterator[Step]) -> Iterator[Step]:
-        """The steps, with a frame at each place where a screen was taken."""
         screens, taken = self.trace.screens, 0
         for step in steps:
             while taken < len(screens) and screens[taken] < step.cycle:
@@ -122,27 +112,29 @@ class Written:
 
     is_text: bool
     kinds: Counter[str] = field(default_factory=Counter)
-    steps: int = 0
     blocks: int = 0
     script_bytes: int = len(HEADERS[1])
     text_bytes: int = 0
     last_cycle: int = 0
 
-    def coded(self, steps: Iterable[Step]) -> Iterator[Coded]:
-        """Steps with their bytes and lines, counted by kind."""
-        for step in steps:
-            self.kinds[NAMES[step.opcode]] += 1
-            yield Coded(step, step.data(), step.text() if self.is_text else b"")
+    @property
+    def steps(self) -> int:
+        """How many steps it means."""
+        return sum(self.kinds.values())
 
-    def takes(self, row: Row) -> bool:
-        """Counts a row, and tells whether a script may still have it."""
-        self.steps += row.steps
-        self.blocks += row.is_block
-        self.script_bytes += len(row.data)
-        self.text_bytes += len(row.text)
-        fits = max(self.script_bytes, self.text_bytes) <= MOST_BYTES - FOR_THE_END and self.steps <= MOST_STEPS - FOR_THE_END
-        self.last_cycle = row.cycle or self.last_cycle if fits else self.last_cycle
-        return fits
+    def row(self, row: Row) -> bytes:
+        """Counts a row; what the script has of it."""
+        body = b"".join(row.codes)
+        for step in row.steps:
+            self.kinds[NAMES[step.opcode]] += row.count
+            self.script_bytes += step.size
+        if row.count > 1:
+            ends = format.encoded(format.Block(row.count, ()))
+            words = f"{format.REPEAT} {row.count}\n".encode(), f"{format.END}\n".encode()
+            front, end = words if self.is_text else (ends[:-1], ends[-1:])
+            self.blocks, self.script_bytes, body = self.blocks + 1, self.script_bytes + len(ends), front + body + end
+        self.text_bytes += len(body) if self.is_text else 0
+        return body
 
     def header(self) -> bytes:
         """What stands before the rows: version 2 alone has blocks."""
@@ -154,7 +146,7 @@ class Written:
         """The figures."""
         length = self.text_bytes + len(self.header()) if self.is_text else self.script_bytes
         kinds = ", ".join(f"{count:,} {kind}" for kind, count in self.kinds.most_common())
-        parts = [f"{listing.watch.count:,} cycles", f"{self.steps:,} steps", f"{length:,} bytes"]
+        parts = [f"{listing.trace.count:,} cycles", f"{self.steps:,} steps", f"{length:,} bytes"]
         if self.blocks:
             parts.append(f"{self.blocks:,} repeat{'s' * (self.blocks != 1)}")
         if listing.rebuilding:
@@ -167,15 +159,16 @@ def convert(listing: Listing, stream: BinaryIO, is_text: bool = False, has_block
 
     Rows of equal steps become blocks, which version 2 has, if these are wanted.
     """
-    written = Written(is_text)
-    body = bytearray()
-    coded = written.coded(listing.steps())
-    for row in folded(coded) if has_blocks else alone(coded):
-        if not written.takes(row):
+    written, body, steps = Written(is_text), bytearray(), 0
+    code = Step.text if is_text else Step.data
+    for row in folded(listing.steps(), code) if has_blocks else alone(listing.steps(), code):
+        body += written.row(row)
+        steps += row.count * len(row.steps)
+        if max(written.script_bytes, written.text_bytes) > MOST_BYTES - FOR_THE_END or steps > MOST_STEPS - FOR_THE_END:
             last, most = written.last_cycle, f"more than {MOST_BYTES:,} bytes, or means more than {MOST_STEPS:,} steps"
             part = f"; `--to {last}` ends before that, and `--from {last + 1}` goes on after it"
             raise Trouble(f"the script has {most}{part if last else ', and no cycle fits'}", listing.trace.name)
-        body += row.text if is_text else row.data
+        written.last_cycle = row.cycle or written.last_cycle
     stream.write(written.header())
     stream.write(body)
     return written

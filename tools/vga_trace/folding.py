@@ -1,9 +1,7 @@
 """Rows of equal steps, and of equal groups of steps, as blocks of a script."""
 
-from __future__ import annotations
-
 from itertools import islice
-from typing import Iterable, Iterator, NamedTuple
+from typing import Callable, Iterable, Iterator, NamedTuple, Sequence
 
 from .step import Step, format
 
@@ -11,88 +9,69 @@ from .step import Step, format
 BLOCK_BYTES, MOST_GROUP = format.Block(1, ()).size, 8
 # Steps that are looked at ahead: as many as the shortest row that is worth a block may have. More are fetched at once.
 AHEAD, FETCHED = 64, 4096
-
-
-class Coded(NamedTuple):
-    """A step, as its bytes and, where a text is wanted, its line."""
-
-    step: Step
-    data: bytes
-    text: bytes
+# A step as its bytes or its line.
+Code = Callable[[Step], bytes]
 
 
 class Row(NamedTuple):
-    """What a script has in one piece: a step, or a block. `cycle` is that of its last step, and 0 where that has none."""
+    """Steps with their codes, which a script has once, or more often as a block.
 
-    data: bytes
-    text: bytes
-    steps: int
+    `cycle` is that of the last step the last time, and 0 where that has none.
+    """
+
+    steps: Sequence[Step]
+    codes: Sequence[bytes]
+    count: int
     cycle: int
 
-    @property
-    def is_block(self) -> bool:
-        """Whether it is a block."""
-        return self.steps > 1
 
-
-def alone(coded: Iterable[Coded]) -> Iterator[Row]:
+def alone(steps: Iterable[Step], code: Code) -> Iterator[Row]:
     """Each step alone."""
-    for step, data, text in coded:
-        yield Row(data, text, 1, step.cycle)
+    return (Row([step], [code(step)], 1, step.cycle) for step in steps)
 
 
-def folded(coded: Iterable[Coded]) -> Iterator[Row]:
+def folded(steps: Iterable[Step], code: Code) -> Iterator[Row]:
     """The steps, but rows of equal steps or equal groups as blocks where these have at most half of the bytes.
 
-    Where a text is wanted, steps are equal if their lines are, and what is read is expected to be: a line has one answer.
+    Steps are equal if their codes are. As lines, what is read is expected to be equal too: a line has one answer.
     """
-    rest, ahead, at = iter(coded), _Ahead([], []), 0
-    while True:
-        if len(ahead.coded) - at < AHEAD:
-            ahead = ahead.fetched(at, rest)
-            at = 0
-            if not ahead.coded:
-                return
-        size = ahead.group(at)
-        if not size:
-            (step, data, text), at = ahead.coded[at], at + 1
-            yield Row(data, text, 1, step.cycle)
-            continue
-        group, keys, count = ahead.coded[at:at + size], ahead.keys[at:at + size], 0
-        while count < format.MOST_COUNT and ahead.keys[at:at + size] == keys:
-            last = ahead.coded[at + size - 1].step
-            at, count = at + size, count + 1
-            if len(ahead.coded) - at < size:
-                ahead = ahead.fetched(at, rest)
-                at = 0
-        data = format.encoded(format.Block(count, tuple(coded.step.step for coded in group)))
-        text = b"".join(coded.text for coded in group)
-        if text:
-            text = f"{format.REPEAT} {count}\n".encode() + text + f"{format.END}\n".encode()
-        yield Row(data, text, count * size, last.cycle)
+    ahead = _Ahead(iter(steps), code)
+    while ahead.has(AHEAD):
+        size, at, count = ahead.group(), ahead.at, 1
+        group, codes = ahead.steps[at:at + (size or 1)], ahead.codes[at:at + (size or 1)]
+        last, ahead.at = group[-1], at + len(group)
+        while size and count < format.MOST_COUNT and ahead.has(size) and ahead.codes[ahead.at:ahead.at + size] == codes:
+            ahead.at, count = ahead.at + size, count + 1
+            last = ahead.steps[ahead.at - 1]
+        yield Row(group, codes, count, last.cycle)
 
 
 class _Ahead:
-    """The steps that come next, and by what they are equal."""
+    """The steps that come next, from a place on, and their codes."""
 
-    def __init__(self, coded: list[Coded], keys: list[bytes]) -> None:
-        self.coded = coded
-        self.keys = keys
+    def __init__(self, rest: Iterator[Step], code: Code) -> None:
+        self._rest, self._code = rest, code
+        self.steps: list[Step] = []
+        self.codes: list[bytes] = []
+        self.at = 0
 
-    def fetched(self, at: int, rest: Iterator[Coded]) -> _Ahead:
-        """The steps from a place on, and more."""
-        more = list(islice(rest, FETCHED))
-        return _Ahead(self.coded[at:] + more, self.keys[at:] + [coded.text or coded.data for coded in more])
+    def has(self, wanted: int) -> bool:
+        """Whether there is a step. So many are fetched, if there are."""
+        if len(self.steps) - self.at < wanted:
+            more = list(islice(self._rest, FETCHED))
+            self.steps, self.codes = self.steps[self.at:] + more, self.codes[self.at:] + list(map(self._code, more))
+            self.at = 0
+        return self.at < len(self.steps)
 
-    def group(self, at: int) -> int:
-        """The size of the smallest group at a place that stands there so often that it is worth a block; else 0."""
-        keys = self.keys
-        if keys[at] not in keys[at + 1:at + 1 + MOST_GROUP]:
+    def group(self) -> int:
+        """The size of the smallest group that stands here so often that it is worth a block; else 0."""
+        codes, at = self.codes, self.at
+        if codes[at] not in codes[at + 1:at + 1 + MOST_GROUP]:
             return 0
         for size in range(1, MOST_GROUP + 1):
-            if keys[at:at + size] == keys[at + size:at + 2 * size]:
-                length = sum(len(coded.data) for coded in self.coded[at:at + size])
+            if codes[at:at + size] == codes[at + size:at + 2 * size]:
+                length = sum(step.size for step in self.steps[at:at + size])
                 least = -(-2 * (BLOCK_BYTES + length) // length)
-                if keys[at:at + least * size] == keys[at:at + size] * least:
+                if codes[at:at + least * size] == codes[at:at + size] * least:
                     return size
         return 0

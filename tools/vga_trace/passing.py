@@ -54,7 +54,7 @@ class Clocked:
     """
 
     def __init__(self, longest: float) -> None:
-        self._longest = longest
+        self.longest = longest
         self._timing = Timing()
         # When the last frame that was drawn ended, and when the one ends that is under way.
         self._drawn: Optional[float] = None
@@ -88,10 +88,10 @@ class Clocked:
     def _passed(self) -> Iterator[Step]:
         """The frames between the last that was drawn and the one that ends now."""
         seconds = 0.0 if self._drawn is None or self._ends is None else self._ends - self._drawn
-        if seconds > self._longest:
+        if seconds > self.longest:
             self.shortened += 1
-            self.left_out += seconds - self._longest
-        speed, frames = self._timing.speed(), round(min(seconds, self._longest) / self._timing.frame()) - 1
+            self.left_out += seconds - self.longest
+        speed, frames = self._timing.speed(), round(min(seconds, self.longest) / self._timing.frame()) - 1
         dots = 0 if speed is None else speed[0] * max(frames, 0)
         for left in range(dots, 0, -MOST_ADVANCE):
             yield Step(ADVANCE, min(left, MOST_ADVANCE))

@@ -95,7 +95,7 @@ def _attributes(state: State) -> Iterator[Step]:
         yield Step(OUT, ATTRIBUTE, index)
         yield Step(OUT, ATTRIBUTE, value)
     yield Step(OUT, ATTRIBUTE, state.attr.index)
-    if not state.attr.is_data:
+    if not state.is_data:
         yield Step(IN, status)
 
 

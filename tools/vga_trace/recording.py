@@ -30,6 +30,8 @@ BARE = ("-accel", "tcg", "-machine", "pc,smm=off", "-nodefaults", "-m", "128", "
 LOOK, PRESSING, PHASE, BEGINNING = 0.05, 0.1, 0.12, 0.3
 # Screens are taken again and again, since qemu blinks by a clock of its own.
 PHASES = 6
+# The trace in the folder of a recording.
+TRACE = "trace.gz"
 # So many bytes of lines are kept, about twenty million cycles, and so many are read at a time.
 MOST_LINES, CHUNK = 1 << 31, 1 << 16
 Say = Callable[[str], None]
@@ -89,10 +91,10 @@ class Session:
     """A machine that runs: what is done to it, and the seconds at which each of its screens was taken."""
 
     def __init__(
-        self, machine: Machine, process: subprocess.Popen[bytes], keeper: Keeper, base: Path, progress: Progress
+        self, machine: Machine, process: subprocess.Popen[bytes], keeper: Keeper, folder: Path, progress: Progress
     ) -> None:
-        self._machine, self._process, self._keeper, self._base = machine, process, keeper, base
-        self._progress = progress
+        self._machine, self._process, self._keeper = machine, process, keeper
+        self._folder, self._progress = folder, progress
         self._began = self._acted = time.monotonic()
         self.screens: list[float] = []
 
@@ -155,7 +157,7 @@ class Session:
                 time.sleep(PHASE)
                 do("stop")
             log.write(SCREEN + b"\n")
-            path = dump(self._base, PHASES * (len(self.screens) - 1) + phase)
+            path = dump(self._folder, PHASES * (len(self.screens) - 1) + phase)
             do("screendump", filename=str(path.resolve()))
         do("cont")
         self._acted = time.monotonic()
@@ -168,9 +170,9 @@ def chain_4(folder: Path) -> list[str]:
     return ["-plugin", str(plugin.resolve()), "-d", "plugin"]
 
 
-def dump(base: Path, number: int) -> Path:
+def dump(folder: Path, number: int) -> Path:
     """The file of a dump, counted from 0: a screen has as many as phases."""
-    return base.with_name(f"{base.name}.{number}.ppm")
+    return folder / f".dump.{number}.ppm"
 
 
 def _qemu(machine: Machine, folder: Path) -> list[str]:
@@ -198,8 +200,8 @@ def _reached(folder: Path, process: subprocess.Popen[bytes]) -> Iterator[tuple[M
         yield do, log
 
 
-def record(machine: Machine, trace: Path, base: Path, say: Say, progress: Progress) -> list[float]:
-    """Leaves a trace, by gzip, and the dumps BASE.0.ppm and so on beside it; answers the seconds of each screen.
+def record(machine: Machine, kept: Path, say: Say, progress: Progress) -> list[float]:
+    """Leaves a trace and the dumps of screens in a folder; answers the seconds of each screen.
 
     `say` tells what may spoil them.
     """
@@ -208,7 +210,7 @@ def record(machine: Machine, trace: Path, base: Path, say: Say, progress: Progre
     with ExitStack() as stack:
         folder = Path(stack.enter_context(tempfile.TemporaryDirectory(prefix="vga-recording-")))
         os.mkfifo(folder / "log")
-        target = stack.enter_context(gzip.open(stack.enter_context(writing(str(trace))), "wb", 6))
+        target = stack.enter_context(gzip.open(stack.enter_context(writing(str(kept / TRACE))), "wb", 6))
         keepers: list[Keeper] = []
         stack.callback(lambda: [keeper.join(DRAINING) for keeper in keepers])
         filtering = stack.enter_context(started(
@@ -219,23 +221,18 @@ def record(machine: Machine, trace: Path, base: Path, say: Say, progress: Progre
         keepers[0].start()
         said = stack.enter_context(open(folder / "said", "wb"))
         process = stack.enter_context(started(_qemu(machine, folder), stdout=said, stderr=said, preexec_fn=end_with_parent))
-        session = Session(machine, process, keepers[0], base, progress)
+        session = Session(machine, process, keepers[0], kept, progress)
         # A machine that has ended by itself hears nothing more.
         with suppress(BrokenPipeError), _reached(folder, process) as (do, log):
             session.act(do, log, say)
             if not session.has_ended():
                 do("quit")
-        _wait_for_end(process, QEMU)
-        _wait_for_end(filtering, "grep")
+        for ending, name in ((process, QEMU), (filtering, "grep")):
+            try:
+                ending.wait(ANSWERING)
+            except subprocess.TimeoutExpired as error:
+                raise Trouble(f"it doesn't end within {ANSWERING} seconds", name) from error
         keepers[0].join(DRAINING)
         if keepers[0].trouble:
             raise keepers[0].trouble
     return session.screens
-
-
-def _wait_for_end(process: subprocess.Popen[bytes], name: str) -> None:
-    """Waits until a program ends that has nothing left to do."""
-    try:
-        process.wait(ANSWERING)
-    except subprocess.TimeoutExpired as error:
-        raise Trouble(f"it doesn't end within {ANSWERING} seconds", name) from error

@@ -4,9 +4,9 @@ import zlib
 from dataclasses import dataclass, field
 from pathlib import Path
 from threading import Event
-from typing import BinaryIO, Iterator, Optional, Sequence
+from typing import BinaryIO, Iterator, NamedTuple, Optional, Sequence
 
-from vga_report.images import Image, image_bytes, image_of
+from vga_report.images import image_bytes, image_of
 from vga_report.png import Animation, Shape, save_png
 from vga_report.processes import Limits, run_command, said_last
 from vga_report.progress import Progress
@@ -18,9 +18,9 @@ from zaklimot.format import Answer, Picture
 from zaklimot.format.picture import marks_in_row
 
 from .checking import FRAME_ANSWERS, Checked, check
-from .converting import SCREENS, Listing, Wanted, convert
-from .known import Dots, Names, Screen, known, whole_rows
-from .recording import PHASES, dump
+from .converting import SCREENS, Listing, Written, convert
+from .known import PAGE, Screen, known, whole_rows
+from .recording import PHASES, TRACE, dump
 from .state import State
 from .step import Step
 from .trace import opened
@@ -32,38 +32,35 @@ MOST_PACKED = 1 << 29
 
 @dataclass
 class Verdict:
-    """The dump of a screen that is nearest to the picture, and how they differ: in no dot, or where.
+    """The dump of a screen that is nearest to the picture, and how they differ, with the names of what is known of it.
 
-    `part` is what was held of the picture: all of it, or its front where qemu leaves out the last lines.
+    What was held of the picture is all of it, or its front where qemu leaves out the last lines.
     """
 
-    number: int
-    seconds: float
-    cycle: int
     dump: Path
     picture: Picture
     part: Picture
     held: Held
-    dots: Dots
-    names: Names
+    cycle: int
     lacking: str
+    dots: Sequence[tuple[int, int]] = ()
+    names: dict[str, list[str]] = field(default_factory=dict)
 
     @property
     def is_equal(self) -> bool:
         """Whether qemu shows the picture, each dot of it."""
         return self.held.count == 0 and self.part is self.picture
 
-    def lines(self) -> Iterator[str]:
-        """What is told of it."""
-        yield f"screen {self.number} at {self.seconds:.1f} s, after cycle {self.cycle:,}: {self._told()}"
-        if self.is_equal:
-            return
-        if self.lacking:
+    def lines(self, front: str) -> Iterator[str]:
+        """What is told of it, behind words that tell which screen it is."""
+        yield f"{front}, after cycle {self.cycle:,}: {self._told()}"
+        if not self.is_equal and self.lacking:
             yield f"  {self.lacking}"
-        elif any(self.names):
-            yield from (f"  {line}" for line in self.names.lines())
-        else:
-            yield "  nothing that is known of qemu shows in this state"
+        elif not self.is_equal:
+            for verb, names in self.names.items():
+                yield f"  {verb} what is known of qemu: {', '.join(names)}; {PAGE} tells of it"
+            if not self.names:
+                yield "  nothing that is known of qemu shows in this state"
 
     def _told(self) -> str:
         """How the two differ."""
@@ -79,46 +76,28 @@ class Verdict:
         where = f"in columns {left} to {right} and rows {top} to {bottom}"
         return f"{lacking}{self.held.count:,} of {part.width * part.height:,} dots differ, {where}"
 
-    def write(self, folder: Path) -> None:
+    def write(self, folder: Path, number: int) -> None:
         """Leaves the dump, the picture, and where they differ."""
-        self.dump.replace(folder / f"screen-{self.number}.ppm")
-        save_png(str(folder / f"picture-{self.number}.png"), self.picture)
+        self.dump.replace(folder / f"screen-{number}.ppm")
+        save_png(str(folder / f"picture-{number}.png"), self.picture)
         if self.held.image is not None and self.held.count:
-            save_png(str(folder / f"differing-{self.number}.png"), self.part, other=self.held.image)
+            save_png(str(folder / f"differing-{number}.png"), self.part, other=self.held.image)
 
 
-def _held_part(state: State, picture: Picture, image: Image) -> tuple[Picture, Held]:
-    """What is held against qemu's image: the picture, or its front without a row that isn't whole."""
-    found = held(picture, image)
-    part = picture if found.count is not None else whole_rows(state, picture)
-    if part is picture:
-        return picture, found
-    again = held(part, image)
-    return (picture, found) if again.count is None else (part, again)
-
-
-def _dots(picture: Picture, image: Optional[Picture]) -> Dots:
-    """Where a picture and an image of its size differ."""
-    if image is None:
-        return ()
-    return [
-        (x, y) for y in range(picture.height) if picture.row(y) != image.row(y)
-        for x, mark in enumerate(marks_in_row(picture.row(y), image.row(y))) if mark
-    ]
-
-
-def _is_nearer(found: Held, last: Held) -> bool:
+def is_nearer(found: Held, last: Held) -> bool:
     """Whether fewer dots differ; where the sizes do, all are taken to."""
     return found.count is not None and (last.count is None or found.count < last.count)
 
 
 @dataclass
 class Judge:
-    """Follows the steps of a trace and the answers to them, and holds the picture at each dump against it."""
+    """Follows the steps of a trace and the answers to them, and holds the picture at each dump against it.
+
+    `cycles` tells how many cycles stand before each dump, of which a screen has several; verdicts are those of screens.
+    """
 
     listing: Listing
-    base: Path
-    screens: Sequence[float]
+    folder: Path
     cycles: Sequence[int]
     state: State = field(default_factory=State)
     verdicts: dict[int, Verdict] = field(default_factory=dict)
@@ -134,33 +113,41 @@ class Judge:
         """The answers, of which each `frame` but the last is that of a dump."""
         for answer in answers:
             if answer.answer.partition(" ")[0] in FRAME_ANSWERS:
-                if self._dumps < PHASES * len(self.screens):
+                if self._dumps < len(self.cycles) and isinstance(answer.picture, Picture):
                     self._judge(answer.picture)
                 self._dumps += 1
             yield answer
 
-    def _judge(self, picture: object) -> None:
+    def _judge(self, picture: Picture) -> None:
         """Holds a picture against its dump, and keeps of a screen the one that is nearest."""
-        screen, phase = divmod(self._dumps, PHASES)
-        path = dump(self.base, self._dumps)
-        if not isinstance(picture, Picture):
-            return
-        part, found = _held_part(self.state, picture, image_of(image_bytes(str(path)), str(path)))
+        path, screen = dump(self.folder, self._dumps), self._dumps // PHASES
+        image = image_of(image_bytes(str(path)), str(path))
+        part, found = picture, held(picture, image)
+        if found.count is None:
+            # qemu may leave out a row that isn't whole.
+            front = whole_rows(self.state, picture)
+            again = found if front is picture else held(front, image)
+            part, found = (picture, found) if again.count is None else (front, again)
         last = self.verdicts.get(screen)
-        if last is not None and not _is_nearer(found, last.held):
+        if last is not None and not is_nearer(found, last.held):
             return
-        dots = _dots(part, found.image) if found.count else ()
-        seen = (part, found.image) if found.image is not None else (None, None)
-        verdict = Verdict(
-            screen + 1, self.screens[screen], self.cycles[self._dumps], path, picture, part, found, dots, Names(),
-            self.listing.watch.lacking,
-        )
+        verdict = Verdict(path, picture, part, found, self.cycles[self._dumps], self.listing.trace.lacking)
         if not verdict.is_equal:
-            verdict.names = known(Screen(self.state, dots, *seen, cut=picture.height - part.height))
+            verdict.dots = _dots(part, found.image) if found.count else ()
+            seen = (part, found.image) if found.image is not None else (None, None)
+            verdict.names = known(Screen(self.state, verdict.dots, *seen, cut=picture.height - part.height))
         self.verdicts[screen] = verdict
 
 
-def run_script(program: str, fonts: str, script: Path, report: Path) -> None:
+def _dots(picture: Picture, image: Optional[Picture]) -> Sequence[tuple[int, int]]:
+    """Where a picture and an image of its size differ."""
+    return [] if image is None else [
+        (x, y) for y in range(picture.height) if picture.row(y) != image.row(y)
+        for x, mark in enumerate(marks_in_row(picture.row(y), image.row(y))) if mark
+    ]
+
+
+def _run_script(program: str, fonts: str, script: Path, report: Path) -> None:
     """Runs a script of bytes, and leaves its report; a Trouble where the program doesn't end well."""
     messages = report.with_name(report.name + ".said")
     try:
@@ -176,25 +163,26 @@ def run_script(program: str, fonts: str, script: Path, report: Path) -> None:
         messages.unlink(missing_ok=True)
 
 
-def replay(
-    trace: Path, base: Path, screens: Sequence[float], program: str, fonts: str, progress: Progress
-) -> tuple[str, Checked, Judge]:
-    """Makes script.bin and report.txt beside a trace whose screens were taken, and holds all against one another.
+class Replayed(NamedTuple):
+    """What a replay gave: the script's figures, the reads, and what has judged the screens."""
 
-    Answers the script's figures, the reads, and what has judged the screens.
-    """
-    script, report = trace.with_name("script.bin"), trace.with_name("report.txt")
-    wanted = Wanted(frames=SCREENS)
-    with opened(str(trace)) as read, writing(str(script)) as stream:
-        listing = Listing(read, wanted)
-        figures = convert(listing, stream).line(listing)
+    written: Written
+    checked: Checked
+    judge: Judge
+
+
+def replay(folder: Path, program: str, fonts: str, progress: Progress) -> Replayed:
+    """Makes script.bin and report.txt beside a trace and its screens in a folder, and holds all against one another."""
+    trace, script, report = str(folder / TRACE), folder / "script.bin", folder / "report.txt"
+    with opened(trace) as read, writing(str(script)) as stream:
+        written = convert(Listing(read, frames=SCREENS), stream)
         cycles = read.screens
-    run_script(program, fonts, script, report)
-    with opened(str(trace)) as read, reading(str(report)) as answers:
-        judge = Judge(Listing(read, wanted), base, screens, cycles)
+    _run_script(program, fonts, script, report)
+    with opened(trace) as read, reading(str(report)) as answers:
+        judge = Judge(Listing(read, frames=SCREENS), folder, cycles)
         name = str(report)
         checked = check(judge.steps(), judge.answers(Report(answers, name, progress).steps()), name)
-    return figures, checked, judge
+    return Replayed(written, checked, judge)
 
 
 class Moving:

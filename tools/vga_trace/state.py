@@ -2,10 +2,11 @@
 
 from __future__ import annotations
 
+from functools import partial
 from operator import and_, or_, xor
 from typing import Callable, Mapping, NamedTuple, Optional, Sequence
 
-from .step import ADVANCE, FRAME, GET, GETW, IN, INW, OUT, OUTW, PUT, PUTW, Step
+from .step import ADVANCE, FRAME, GET, GETW, IN, INW, OUT, OUTW, PUT, PUTW, WORDS, Step
 
 ATTRIBUTE, ATTRIBUTE_READ, MISC, SEQUENCER, MASK = 0x3C0, 0x3C1, 0x3C2, 0x3C4, 0x3C6
 DAC_READ, DAC_WRITE, DAC_DATA, MISC_READ, GRAPHICS = 0x3C7, 0x3C8, 0x3C9, 0x3CC, 0x3CE
@@ -39,10 +40,13 @@ class State:
 
     def __init__(self) -> None:
         self.misc = 0
-        self.seq = Bank("033D0F3F0E", 0x07, {})
+        self.seq = Bank("033D0F3F0E", 0x07)
         self.gfx = Bank("0F0F0F1F037B0F0FFF", 0x0F, {5: (0x20, 0)})
-        self.crtc = Controller()
-        self.attr = Attributes()
+        self.crtc = Bank("FF" * 8 + "7FFF3F7F" + "FF" * 8 + "7FFFFFEFFF", 0x1F, {0x14: (0x20, 0), 0x17: (0x0F, 0x03)}, _unprotected)
+        self.crtc.registers[0x17] = 0x03
+        self.attr = Bank("3F" * PALETTE + "EFFF3F0F0F", 0x3F, {}, _unlocked)
+        # Whether the next write to the attribute controller is data.
+        self.is_data = False
         self.dac = Dac()
         self.memory = Memory(self.seq.registers, self.gfx.registers)
         self.beam = Beam()
@@ -62,25 +66,22 @@ class State:
     def take(self, step: Step) -> Optional[int]:
         """Takes a step, and answers what it reads; None of a write and of a refusal. Of input status 1 all bits are 0."""
         opcode, address, value = step.opcode, step.address, step.value
+        size = 2 if opcode in WORDS else 1
         if opcode in (PUT, PUTW):
-            for place, byte in zip(self._places(address, 1 if opcode == PUT else 2), value.to_bytes(2, "little")):
+            for place, byte in zip(self._places(address, size), value.to_bytes(2, "little")):
                 self.memory.put(place, byte)
-        elif opcode == OUT:
-            if self._takes(address, value):
-                self._write(address, value)
-        elif opcode == OUTW:
-            self._out_word(address, value & 0xFF, value >> 8)
+        elif opcode in (OUT, OUTW):
+            self._write(address, value.to_bytes(size, "little"))
         elif opcode == ADVANCE:
             self.beam.advance(address, self.shape, self.crtc.registers)
         elif opcode == FRAME:
             self.beam.end_frame()
         elif opcode in (GET, GETW):
-            read = bytes(map(self.memory.get, self._places(address, 1 if opcode == GET else 2)))
+            read = bytes(map(self.memory.get, self._places(address, size)))
             return int.from_bytes(read, "little") if read else None
         elif opcode in (IN, INW):
-            ports = range(address, address + (1 if opcode == IN else 2))
-            if all(map(self._answers, ports)):
-                return int.from_bytes(bytes(map(self._read, ports)), "little")
+            readers = [reader for reader in map(self._reader, range(address, address + size)) if reader is not None]
+            return int.from_bytes(bytes(reader() for reader in readers), "little") if len(readers) == size else None
         return None
 
     def _places(self, address: int, count: int) -> Sequence[int]:
@@ -91,77 +92,65 @@ class State:
             return ()
         return [place + at & 0xFFFF for at in range(count)]
 
-    def _chosen(self, port: int) -> Optional[Bank]:
+    def _bank(self, port: int) -> Optional[Bank]:
         """The bank whose index is written and read at a port."""
         if port == self.controller:
             return self.crtc
         return self.seq if port == SEQUENCER else self.gfx if port == GRAPHICS else None
 
-    def _out_word(self, port: int, low: int, high: int) -> None:
-        """Writes a word: whole, or not at all. The first byte decides on the second where it is its index."""
-        bank = self._chosen(port)
+    def _write(self, port: int, data: bytes) -> None:
+        """Writes a byte or a word: whole, or not at all. The first byte decides on the second where it is its index."""
+        bank = self._bank(port)
+        writers = [self._writer(port, data[0], None)]
+        if len(data) > 1:
+            writers.append(self._writer(port + 1, data[1], None if bank is None else data[0] & bank.index_kept))
+        if None not in writers:
+            for writer in writers:
+                writer()  # type: ignore[misc]
+
+    def _writer(self, port: int, value: int, index: Optional[int]) -> Optional[Callable[[], None]]:
+        """What writes a value to a port, whose index may be another then; None where that is refused."""
+        bank, bank_of_data = self._bank(port), self._bank(port - 1)
         if bank is not None:
-            was = bank.index
-            bank.choose(low)
-            if bank.takes(high):
-                bank.write(high)
-            else:
-                bank.index = was
-        elif self._takes(port, low) and self._takes(port + 1, high):
-            self._write(port, low)
-            self._write(port + 1, high)
-
-    def _takes(self, port: int, value: int) -> bool:
-        """Whether a write to a port is taken."""
-        if port == ATTRIBUTE:
-            return not self.attr.is_data or self.attr.has_register
-        if port in (MISC, MASK, DAC_READ, DAC_WRITE, DAC_DATA) or self._chosen(port) is not None:
-            return True
-        bank = self._chosen(port - 1)
-        return bank is not None and bank.takes(value)
-
-    def _write(self, port: int, value: int) -> None:
-        """Does a write that is taken."""
-        bank, bank_of_data = self._chosen(port), self._chosen(port - 1)
-        if bank is not None:
-            bank.choose(value)
-        elif bank_of_data is not None:
-            bank_of_data.write(value)
-        elif port == ATTRIBUTE:
-            self.attr.write_next(value)
-        elif port == MISC:
-            self.misc = value & MISC_KEPT
-        elif port == MASK:
-            self.dac.mask = value
-        elif port == DAC_DATA:
-            self.dac.write(value)
-        else:
-            self.dac.choose(value)
-
-    def _answers(self, port: int) -> bool:
-        """Whether a read of a port is answered."""
-        if port == ATTRIBUTE_READ:
-            return self.attr.has_register
-        if port in (ATTRIBUTE, MASK, DAC_WRITE, DAC_DATA, MISC_READ, self.controller + STATUS):
-            return True
-        bank = self._chosen(port - 1)
-        return self._chosen(port) is not None or bank is not None and bank.has_register
-
-    def _read(self, port: int) -> int:
-        """Does a read that is answered."""
-        bank, bank_of_data = self._chosen(port), self._chosen(port - 1)
-        if bank is not None:
-            return bank.index
+            return partial(setattr, bank, "index", value & bank.index_kept)
         if bank_of_data is not None:
-            return bank_of_data.read()
+            is_taken = bank_of_data.takes(bank_of_data.index if index is None else index, value)
+            return partial(bank_of_data.write, value) if is_taken else None
+        if port == ATTRIBUTE:
+            return None if self.is_data and not self.attr.has_register else partial(self._write_attribute, value)
+        if port == MISC:
+            return partial(setattr, self, "misc", value & MISC_KEPT)
+        if port == MASK:
+            return partial(setattr, self.dac, "mask", value)
         if port == DAC_DATA:
-            return self.dac.read()
+            return partial(self.dac.write, value)
+        return partial(self.dac.choose, value) if port in (DAC_READ, DAC_WRITE) else None
+
+    def _write_attribute(self, value: int) -> None:
+        """Writes the index or the data of the attribute controller, whichever is next."""
+        if self.is_data:
+            self.attr.write(value)
+        else:
+            self.attr.index = value & self.attr.index_kept
+        self.is_data = not self.is_data
+
+    def _reader(self, port: int) -> Optional[Callable[[], int]]:
+        """What reads a port; None where that is refused."""
+        bank, bank_of_data = self._bank(port), self.attr if port == ATTRIBUTE_READ else self._bank(port - 1)
+        if bank is not None:
+            return partial(getattr, bank, "index")
+        if bank_of_data is not None:
+            return bank_of_data.read if bank_of_data.has_register else None
         if port == self.controller + STATUS:
-            self.attr.is_data = False
-            return 0
-        if port == ATTRIBUTE_READ:
-            return self.attr.read()
-        return {ATTRIBUTE: self.attr.index, MASK: self.dac.mask, DAC_WRITE: self.dac.index, MISC_READ: self.misc}[port]
+            return self._read_status
+        if port == DAC_DATA:
+            return self.dac.read
+        values = {ATTRIBUTE: self.attr.index, MASK: self.dac.mask, DAC_WRITE: self.dac.index, MISC_READ: self.misc}
+        return partial(values.get, port) if port in values else None  # type: ignore[arg-type]
+
+    def _read_status(self) -> int:
+        self.is_data = False
+        return 0
 
 
 class Memory:
@@ -178,16 +167,22 @@ class Memory:
 
     def put(self, place: int, value: int) -> None:
         """Writes a byte. The latches stay."""
-        reached = SPREAD[self._reached(place)]
-        offset = self._offset(place)
+        planes, offset = self._seq[2], self._offset(place)
+        if self._seq[4] & 8:
+            planes &= 1 << (place & 3)
+        elif not self._seq[4] & 4:
+            planes &= ODD if place & 1 else EVEN
         stored = self.latches if self._gfx[5] & 3 == 1 else self._stored(value)
-        self.words[offset] = self.words[offset] & ~reached | stored & reached
+        self.words[offset] = self.words[offset] & ~SPREAD[planes] | stored & SPREAD[planes]
 
     def get(self, place: int) -> int:
         """Reads a byte, which loads the latches."""
         self.latches = self.words[self._offset(place)]
         if self._gfx[5] & 8:
-            return self._compared()
+            # Read mode 1: a 1 where each plane that counts has the bit of colour compare.
+            differing = (self.latches ^ SPREAD[self._gfx[2]]) & SPREAD[self._gfx[7]]
+            differing |= differing >> 16
+            return ~(differing | differing >> 8) & 0xFF
         plane = place & 3 if self._seq[4] & 8 else self._gfx[4] & 2 | place & 1 if self._gfx[5] & 0x10 else self._gfx[4]
         return self.latches >> 8 * plane & 0xFF
 
@@ -196,14 +191,6 @@ class Memory:
         if self._seq[4] & 8:
             return place & 0xFFFC
         return place & 0xFFFE if self._gfx[6] & 2 else place
-
-    def _reached(self, place: int) -> int:
-        """The planes that a write reaches."""
-        if self._seq[4] & 8:
-            return self._seq[2] & 1 << (place & 3)
-        if self._seq[4] & 4:
-            return self._seq[2]
-        return self._seq[2] & (ODD if place & 1 else EVEN)
 
     def _stored(self, value: int) -> int:
         """What write modes 0, 2 and 3 store in all planes."""
@@ -219,24 +206,32 @@ class Memory:
         data, mask = FUNCTIONS[self._gfx[3] >> 3](data, latches), mask * EACH
         return data & mask | latches & ~mask
 
-    def _compared(self) -> int:
-        """Read mode 1: a 1 where each plane that counts has the bit of colour compare."""
-        differing = (self.latches ^ SPREAD[self._gfx[2]]) & SPREAD[self._gfx[7]]
-        differing |= differing >> 16
-        return ~(differing | differing >> 8) & 0xFF
+
+def _unprotected(crtc: Bank) -> int:
+    """The bits of the register of the index that may be written: the first eight may be protected, but for line compare."""
+    if not crtc.registers[0x11] & PROTECT or crtc.number > 7:
+        return 0xFF
+    return COMPARE_8 if crtc.number == 7 else 0
+
+
+def _unlocked(attributes: Bank) -> int:
+    """The same: while the palette is looked at, it isn't written."""
+    return 0 if attributes.index & SOURCE and attributes.number < PALETTE else 0xFF
 
 
 class Bank:
     """Registers behind an index.
 
     `kept` has the bits that each register keeps, `index_kept` those of the index. `wanted` has, of some registers, bits
-    and the value that these must have, or a write is refused.
+    and the value that these must have, or a write is refused. `opened` tells which bits a write changes now.
     """
 
-    def __init__(self, kept: str, index_kept: int, wanted: Mapping[int, tuple[int, int]]) -> None:
-        self._kept = bytes.fromhex(kept)
-        self._index_kept = index_kept
-        self._wanted = wanted
+    def __init__(
+        self, kept: str, index_kept: int, wanted: Mapping[int, tuple[int, int]] = {},
+        opened: Callable[[Bank], int] = lambda _: 0xFF,
+    ) -> None:
+        self._kept, self._wanted, self._opened = bytes.fromhex(kept), wanted, opened
+        self.index_kept = index_kept
         self.registers = [0] * len(self._kept)
         self.index = 0
 
@@ -250,54 +245,19 @@ class Bank:
         """Whether there is such a register."""
         return self.number < len(self.registers)
 
-    def choose(self, index: int) -> None:
-        """Writes the index."""
-        self.index = index & self._index_kept
-
-    def takes(self, value: int) -> bool:
-        """Whether the register of the index takes a value."""
-        bits, value_wanted = self._wanted.get(self.number, (0, 0))
-        return self.has_register and value & bits == value_wanted
+    def takes(self, index: int, value: int) -> bool:
+        """Whether the register of an index takes a value."""
+        bits, value_wanted = self._wanted.get(index, (0, 0))
+        return index < len(self.registers) and value & bits == value_wanted
 
     def read(self) -> int:
-        """The register of the index."""
+        """The register of the index, which is there."""
         return self.registers[self.number]
 
     def write(self, value: int) -> None:
         """Writes the register of the index, which is there."""
-        self.registers[self.number] = value & self._kept[self.number]
-
-
-class Controller(Bank):
-    """The CRT controller, whose first eight registers may be protected."""
-
-    def __init__(self) -> None:
-        kept = "FF" * 8 + "7FFF3F7F" + "FF" * 8 + "7FFFFFEFFF"
-        super().__init__(kept, 0x1F, {0x14: (0x20, 0), 0x17: (0x0F, 0x03)})
-        self.registers[0x17] = 0x03
-
-    def write(self, value: int) -> None:
-        """Writes the register of the index; of one that is protected, the bit of line compare alone."""
-        if not (self.registers[0x11] & PROTECT and self.number < 8):
-            super().write(value)
-        elif self.number == 7:
-            self.registers[7] = self.registers[7] & ~COMPARE_8 | value & COMPARE_8
-
-
-class Attributes(Bank):
-    """The attribute controller, which takes an index and data in turn."""
-
-    def __init__(self) -> None:
-        super().__init__("3F" * PALETTE + "EFFF3F0F0F", 0x3F, {})
-        self.is_data = False
-
-    def write_next(self, value: int) -> None:
-        """Writes the index or the data, whichever is next. While the palette is looked at, it isn't written."""
-        if not self.is_data:
-            self.choose(value)
-        elif not (self.index & SOURCE and self.number < PALETTE):
-            self.write(value)
-        self.is_data = not self.is_data
+        bits = self._kept[self.number] & self._opened(self)
+        self.registers[self.number] = self.registers[self.number] & ~bits | value & bits
 
 
 class Dac:
@@ -329,8 +289,7 @@ class Dac:
 
     def _go_on(self) -> None:
         self.next = (self.next + 1) % COMPONENTS
-        if self.next == 0:
-            self.index = (self.index + 1) % ENTRIES
+        self.index = (self.index + (self.next == 0)) % ENTRIES
 
 
 class Shape(NamedTuple):

@@ -43,12 +43,10 @@ SCREEN = b"screen of 'vga-trace'"
 # A line of the plain form without a cycle: blanks, and a comment.
 PASSED = re.compile(rb"\s*(?:;.*)?", re.DOTALL)
 # What tells that a trace lacks something: registers of the VGA, and of the Bochs VBE extensions.
-MISCELLANEOUS_OUTPUT = 0x3C2
-SEQUENCER_INDEX, SEQUENCER_DATA = 0x3C4, 0x3C5
+MISCELLANEOUS_OUTPUT, SEQUENCER_INDEX, SEQUENCER_DATA = 0x3C2, 0x3C4, 0x3C5
 MAP_MASK, MEMORY_MODE = 2, 4
 ALL_PLANES, CHAIN_4 = 0x0F, 0x08
-VBE_INDEX, VBE_DATA = 0x1CE, (0x1CF, 0x1D0)
-VBE_ENABLE = 4
+VBE_INDEX, VBE_DATA, VBE_ENABLE = 0x1CE, (0x1CF, 0x1D0), 4
 
 
 class Cycle(NamedTuple):
@@ -73,22 +71,30 @@ class Cycle(NamedTuple):
 
 
 class Trace:
-    """The cycles of a trace that is read from a stream, and what was found of its lines."""
+    """The cycles of a trace that is read from a stream, and what was found of its lines and cycles."""
 
     def __init__(self, stream: BinaryIO, name: str) -> None:
-        self._stream = stream
-        self.name = name
+        self._stream, self.name = stream, name
         self._is_plain: Optional[bool] = None
         self._first_other = 0
         self.line = 0
-        self.count = 0
+        # How many cycles came so far, and how many of them have no time.
+        self.count = self.untimed = 0
         # How many cycles stand before each screen that was taken.
         self.screens: list[int] = []
-        self.damaged = 0
-        self.first_damaged = 0
+        self._damaged = self._first_damaged = 0
+        # The first write; and the first that turned VBE on.
+        self._first_write: Optional[Cycle] = None
+        self._first_written = self._vbe_index = self._vbe_enabled = 0
+        self._index, self._sequencer = 0, bytearray(256)
+        # The cycle from which on chain 4 has had no cycle of memory so far, and the first time that it ended so; 0 if never.
+        self._silent = self._first_silent = 0
 
-    def cycles(self) -> Iterator[Cycle]:
-        """The cycles in their order; a Trouble where there is none, or where the trace can't be read on."""
+    def cycles(self, most: Optional[int] = None) -> Iterator[Cycle]:
+        """The cycles in their order, so many at most; a Trouble where there is none, or where the trace can't be read on."""
+        return islice(self._cycles(), most)
+
+    def _cycles(self) -> Iterator[Cycle]:
         for line in self._lines():
             self.line += 1
             cycle = self._cycle(line)
@@ -96,7 +102,7 @@ class Trace:
                 fault = cycle.fault()
                 if fault is not None:
                     raise self.trouble(fault)
-                self.count += 1
+                self._watch(cycle)
                 yield cycle
         if self._is_plain is None:
             raise self._without_cycle("it has no cycle, neither of qemu's log nor of the plain form")
@@ -156,15 +162,14 @@ class Trace:
             return None
         found = QEMU.fullmatch(line)
         if found is None:
-            self.damaged += 1
-            self.first_damaged = self.first_damaged or self.line
+            self._damaged += 1
+            self._first_damaged = self._first_damaged or self.line
             return None
         seconds, micros, kind, address, value, size, region = found.groups()
-        space = REGIONS.get(region)
-        if space is None:
+        if region not in REGIONS:
             return None
         time = None if seconds is None else 1_000_000 * int(seconds) + int(micros)
-        return Cycle(kind == b"write", space, int(address, 16), int(value, 16), int(size), time)
+        return Cycle(kind == b"write", REGIONS[region], int(address, 16), int(value, 16), int(size), time)
 
     def _plain(self, line: bytes) -> Optional[Cycle]:
         """The cycle of a line of the plain form, which has nothing but cycles and comments."""
@@ -179,89 +184,58 @@ class Trace:
             None if time == b"-" else int(time),
         )
 
-
-class Watch:
-    """The cycles of a trace, counted and looked at."""
-
-    def __init__(self, trace: Trace, most: Optional[int] = None) -> None:
-        self._trace = trace
-        self._most = most
-        self._is_begun = False
-        self._other_begin: Optional[int] = None
-        self._vbe_index = 0
-        self._vbe_enabled: Optional[int] = None
-        self._index = 0
-        self._sequencer = {MAP_MASK: 0, MEMORY_MODE: 0}
-        self._is_chained = False
-        # The cycle from which on chain 4 has had no cycle of memory so far, and the first time that it ended so.
-        self._silent: Optional[int] = None
-        self._first_silent: Optional[int] = None
-        self.count = 0
-        self.untimed = 0
-
-    def cycles(self) -> Iterator[Cycle]:
-        """The cycles, so many at most."""
-        for cycle in islice(self._trace.cycles(), self._most):
-            self.count += 1
-            self.untimed += cycle.time is None
-            if cycle.is_write and not self._is_begun:
-                # The first write of a video BIOS is that of miscellaneous output.
-                self._is_begun = True
-                if cycle.space == MEMORY or cycle.address != MISCELLANEOUS_OUTPUT:
-                    self._other_begin = self.count
-            if cycle.space == MEMORY:
-                self._silent = None
-            elif cycle.is_write:
-                self._write(cycle)
-            yield cycle
-
-    @property
-    def lacking(self) -> str:
-        """Why a picture may be another one here: what the cycles lack so far that a screen shows."""
-        if self._vbe_enabled is not None:
-            return "VBE is on: what qemu shows is no VGA's"
-        if self._silent is not None:
-            return "chain 4 is on, and no memory was recorded since: --chain-4 does so"
-        return ""
-
-    def warnings(self) -> list[str]:
-        """What the cycles up to now lack, a line each."""
-        told = []
-        if self._trace.damaged:
-            told.append(f"{self._trace.damaged:,} lines of cycles are damaged and left out, line {self._trace.first_damaged:,} first")
-        if self._other_begin is not None:
-            told.append(f"cycle {self._other_begin:,} writes first, and not port 3C2: the trace doesn't begin at power-on")
-        if self._vbe_enabled is not None:
-            told.append(f"cycle {self._vbe_enabled:,} turns VBE on: what follows is no VGA's, and its memory isn't traced")
-        silent = self._first_silent or self._silent
-        if silent is not None:
-            told.append(f"chain 4 with map mask 0F has no cycle of memory, first from cycle {silent:,} on: "
-                        "qemu traces none there without the plugin")
-        return told
-
-    def _write(self, cycle: Cycle) -> None:
-        """Follows a write to ports."""
-        if cycle.space == VBE:
+    def _watch(self, cycle: Cycle) -> None:
+        """Counts a cycle, and looks for what the trace may lack."""
+        self.count += 1
+        self.untimed += cycle.time is None
+        if cycle.space == MEMORY:
+            self._silent = 0
+        if cycle.is_write and self._first_write is None:
+            self._first_write, self._first_written = cycle, self.count
+        if cycle.is_write and cycle.space == VBE:
             if cycle.address == VBE_INDEX:
                 self._vbe_index = cycle.value
             elif cycle.address in VBE_DATA and self._vbe_index == VBE_ENABLE and cycle.value & 1:
                 self._vbe_enabled = self._vbe_enabled or self.count
-            return
-        for at in range(cycle.size):
-            port, value = cycle.address + at, cycle.value >> 8 * at & 0xFF
-            if port == SEQUENCER_INDEX:
-                self._index = value
-            elif port == SEQUENCER_DATA and self._index in self._sequencer:
-                self._sequencer[self._index] = value
-                self._look_at_chain()
+        elif cycle.is_write and cycle.space == PORT:
+            for at in range(cycle.size):
+                self._watch_chain(cycle.address + at, cycle.value >> 8 * at & 0xFF)
 
-    def _look_at_chain(self) -> None:
-        """Sees whether memory is now such that an emulator may serve it without telling."""
-        is_open = self._sequencer[MAP_MASK] & ALL_PLANES == ALL_PLANES
-        was_chained, self._is_chained = self._is_chained, is_open and self._sequencer[MEMORY_MODE] & CHAIN_4 != 0
-        if self._is_chained != was_chained:
-            self._first_silent = self._first_silent or self._silent
-            self._silent = self.count if self._is_chained else None
+    def _watch_chain(self, port: int, value: int) -> None:
+        """Follows the sequencer: under chain 4 with all planes an emulator may serve memory without telling."""
+        if port == SEQUENCER_INDEX:
+            self._index = value
+        elif port == SEQUENCER_DATA:
+            was_chained = self._is_chained
+            self._sequencer[self._index] = value
+            if self._is_chained != was_chained:
+                self._first_silent = self._first_silent or self._silent
+                self._silent = self.count if self._is_chained else 0
+
+    @property
+    def _is_chained(self) -> bool:
+        return self._sequencer[MAP_MASK] & ALL_PLANES == ALL_PLANES and self._sequencer[MEMORY_MODE] & CHAIN_4 != 0
+
+    @property
+    def lacking(self) -> str:
+        """Why a picture may be another one here: what the cycles lack so far that a screen shows."""
+        if self._vbe_enabled:
+            return "VBE is on: what qemu shows is no VGA's"
+        return "chain 4 is on, and no memory was recorded since: --chain-4 does so" if self._silent else ""
+
+    def warnings(self) -> Iterator[str]:
+        """What the cycles up to now lack, a line each."""
+        first, silent = self._first_write, self._first_silent or self._silent
+        if self._damaged:
+            yield f"{self._damaged:,} lines of cycles are damaged and left out, line {self._first_damaged:,} first"
+        # The first write of a video BIOS is that of miscellaneous output.
+        if first is not None and (first.space == MEMORY or first.address != MISCELLANEOUS_OUTPUT):
+            yield f"cycle {self._first_written:,} writes first, and not port 3C2: the trace doesn't begin at power-on"
+        if self._vbe_enabled:
+            yield f"cycle {self._vbe_enabled:,} turns VBE on: what follows is no VGA's, and its memory isn't traced"
+        if silent:
+            yield (f"chain 4 with map mask 0F has no cycle of memory, first from cycle {silent:,} on: "
+                   "qemu traces none there without the plugin")
 
 
 @contextmanager
