@@ -11,19 +11,26 @@ the folder of `--unpacked`: the newest linux-image, busybox-static, console-setu
 """
 
 import argparse
+import gzip
+import shutil
 import sys
+from dataclasses import dataclass
+from functools import partial
 from pathlib import Path
-from typing import Optional
+from typing import Callable, Optional, Sequence
 
 sys.path.insert(0, str(Path(__file__).resolve().parents[1]))
 
 # The tools beside this folder are found by the line above.
-from emulator_tests.software import SOFTWARE
+from vga_floppy.image import image_for
 from vga_report import cli
+from vga_report.processes import ended_well, run
 from vga_report.program import FONTS, PROGRAM
 from vga_report.progress import Progress
+from vga_report.script import script_of
 from vga_report.trouble import Trouble
-from vga_trace.recording import TRACE, record
+from vga_report.words import SUITE
+from vga_trace.recording import TRACE, Deed, Machine, chain_4, record
 from vga_trace.replaying import Replayed, replay
 from zaklimot.format import FORMS, HEADERS
 
@@ -31,6 +38,143 @@ HEADER = (
     "| Software | Cycles | Steps | Bytes | without repeats | Reads | differing | Refused | Picture |\n"
     "|---|---|---|---|---|---|---|---|---|"
 )
+GRUB_GRAPHICS = """insmod vga
+insmod font
+insmod gfxterm
+loadfont /boot/grub/fonts/unicode.pf2
+set gfxmode=640x480
+terminal_output gfxterm
+"""
+GRUB_TEXT = "insmod vga_text\nterminal_output vga_text\n"
+GRUB_MENU = """set timeout=-1
+set menu_color_normal=yellow/blue
+set menu_color_highlight=white/red
+menuentry "Real software" { echo one; sleep 1 }
+menuentry "on a planar screen" { echo two; sleep 1 }
+menuentry "of sixteen colours" { echo three; sleep 1 }
+"""
+SEA, LGPL = "/usr/share/seabios/vgabios-stdvga.bin", "/usr/share/vgabios/vgabios.bin"
+# What Linux runs: lines in all colours, more than the screen has, and no cursor at the end.
+INIT = """#!/bin/busybox sh
+/bin/busybox mount -t devtmpfs dev /dev
+exec >/dev/tty1 2>&1 </dev/tty1
+[ -f /font ] && /bin/busybox loadfont </font
+/bin/busybox printf '\\033%%G'
+i=0
+while [ $i -lt 40 ]; do
+ /bin/busybox printf "\\033[3$((i%8));4$((7-i%8))m colour $i \\033[0m \\033[1;3$((i%8))m bright \\033[0m\\n"
+ i=$((i+1))
+done
+/bin/busybox ls -l /
+/bin/busybox printf 'Žluťoučký kůň, Ελλάδα, Россия\\ndone\\n\\033[?25l'
+while true; do /bin/busybox sleep 1000; done
+"""
+
+
+@dataclass(frozen=True)
+class Software:
+    """Software: what makes its machine, of a folder for its discs and of one with unpacked packages, if it is one of those.
+
+    So many cycles are known to be refused, and so many dots of its picture to differ from qemu's.
+    """
+
+    make: Callable[[Path, Optional[Path]], Machine]
+    is_unpacked: bool = False
+    refused: int = 0
+    dots: int = 0
+
+
+def _card(rom: str) -> list[str]:
+    return ["-device", f"VGA,romfile={rom}"]
+
+
+def _disc(mode: int, folder: Path) -> list[str]:
+    """A disc that is booted, and lets the video BIOS draw in a mode: an image of vga-floppy with a script of the suite."""
+    disc, script = folder / "calls.img", SUITE.parent / "screens" / f"mode-{mode:02x}-cut-by-cell.vga"
+    disc.write_bytes(image_for({"": script_of(script.read_bytes(), script.name)}, disc.name, is_disk=True))
+    return ["-drive", f"file={disc},format=raw,if=ide", "-boot", "c"]
+
+
+def _grub(is_graphics: bool, keys: Sequence[str], folder: Path, _: Optional[Path]) -> Machine:
+    """GRUB's menu, in text or in 640 by 480 planar."""
+    root = folder / ("grub-planar" if is_graphics else "grub-text")
+    disc = root.with_suffix(".iso")
+    (root / "boot" / "grub").mkdir(parents=True, exist_ok=True)
+    words = (GRUB_GRAPHICS if is_graphics else GRUB_TEXT) + GRUB_MENU
+    (root / "boot" / "grub" / "grub.cfg").write_text(words, encoding="ascii")
+    run(["grub-mkrescue", "-o", disc, root])
+    deeds = [*(Deed(keys=(key,)) for key in keys), Deed()]
+    return Machine([*_card(SEA), "-cdrom", str(disc), "-boot", "d"], deeds, quiet=12, most=300)
+
+
+def _calls(mode: int, rom: str, folder: Path, _: Optional[Path]) -> Machine:
+    """A video BIOS that draws in a mode. Of mode 13, which is chain 4, qemu tells by a plugin alone."""
+    words = [*_card(rom), *_disc(mode, folder)]
+    if mode == 0x13:
+        words += chain_4(folder)
+    return Machine(words)
+
+
+def _cirrus(folder: Path, _: Optional[Path]) -> Machine:
+    """Mode 13 on a card that tells of chain 4, with a video BIOS that knows no more than a VGA, by the name that is looked for."""
+    roms = folder / "roms"
+    roms.mkdir(exist_ok=True)
+    shutil.copy(LGPL, roms / "vgabios-cirrus.bin")
+    return Machine(["-L", str(roms), "-device", "isa-cirrus-vga", *_disc(0x13, folder)])
+
+
+def _file(folder: Optional[Path], *names: str) -> Path:
+    """The first file of unpacked packages with such a name."""
+    assert folder is not None
+    for name in names:
+        for found in sorted(folder.glob(name)):
+            return found
+    raise SystemExit(f"{folder}: there is no {names[0]}")
+
+
+def _linux(has_font: bool, folder: Path, unpacked: Optional[Path]) -> Machine:
+    """Linux' text console, with a program that writes lines and scrolls, and perhaps a font of 512 characters."""
+    root = folder / ("linux-font" if has_font else "linux")
+    for name in ("bin", "dev"):
+        (root / name).mkdir(parents=True, exist_ok=True)
+    shutil.copy(_file(unpacked, "bin/busybox", "usr/bin/busybox"), root / "bin")
+    (root / "init").write_text(INIT, "utf-8")
+    (root / "init").chmod(0o755)
+    if has_font:
+        font = _file(unpacked, "usr/share/consolefonts/Uni2-VGA14.psf.gz").read_bytes()
+        (root / "font").write_bytes(gzip.decompress(font))
+    names = "".join(f"{path.relative_to(root)}\n" for path in sorted(root.rglob("*")))
+    archive = root.with_suffix(".initrd")
+    archive.write_bytes(ended_well(["cpio", "--create", "--format=newc"], root, given=names.encode()).output)
+    kernel = _file(unpacked, "boot/vmlinuz-*")
+    # Without its own drivers of the card the kernel's text console stays.
+    words = ["-kernel", str(kernel), "-initrd", str(archive), "-append", "nomodeset vga=normal consoleblank=0"]
+    return Machine([*_card(SEA), *words], quiet=15, most=240)
+
+
+def _memtest(_: Path, unpacked: Optional[Path]) -> Machine:
+    return Machine([*_card(SEA), "-kernel", str(_file(unpacked, "boot/memtest86+x64.bin"))], quiet=3, most=20)
+
+
+# The dots of a cell of character B1, whose ninth dot qemu repeats.
+B1 = 8
+KEYS = ("down", "c", "h", "e", "l", "p", "ret")
+# In mode 7 both video BIOSes write the CRT controller at 3B4 before they put it there: these cycles are refused.
+SOFTWARE = {
+    "grub-text": Software(partial(_grub, False, ())),
+    "grub-planar": Software(partial(_grub, True, ())),
+    "grub-planar-keys": Software(partial(_grub, True, KEYS)),
+    **{
+        f"calls-{mode:02x}-{name}": Software(partial(_calls, mode, rom), refused=refused, dots=dots)
+        for name, rom, early in (("sea", SEA, 27), ("lgpl", LGPL, 52))
+        for mode, refused, dots in ((0x03, 0, B1), (0x07, early, B1), (0x0D, 0, 0), (0x10, 0, 0), (0x12, 0, 0), (0x13, 0, 0))
+    },
+    "calls-13-cirrus": Software(_cirrus),
+    "linux": Software(partial(_linux, False), is_unpacked=True),
+    # Of characters with attribute bit 3 qemu's text doesn't look at colour plane enable.
+    "linux-font": Software(partial(_linux, True), is_unpacked=True, dots=333),
+    "memtest": Software(_memtest, is_unpacked=True),
+}
 
 
 def row(name: str, replayed: Replayed, refused: int, dots: Optional[int]) -> tuple[str, bool]:
@@ -58,7 +202,6 @@ def _parser() -> argparse.ArgumentParser:
 
 
 def _replay_all(words: argparse.Namespace, progress: Progress) -> int:
-    """Records and replays what the words name; the status tells whether all was as known."""
     unknown = set(words.names) - set(SOFTWARE)
     if unknown:
         raise Trouble(f"there is no software {', '.join(sorted(unknown))}")

@@ -7,8 +7,6 @@ import os
 import re
 import shutil
 import signal
-import struct
-import subprocess
 import sys
 import time
 import unittest
@@ -30,8 +28,8 @@ from vga_report.cases import read_cases
 from vga_report.processes import started
 from vga_report.script import script_of
 from vga_report.words import SUITE
-from vga_trace.state import State
-from vga_trace.step import IN, OUT, Step
+from vga_trace.state import Bank, State
+from vga_trace.step import GET, IN, OUT, PUT, Step
 from zaklimot.format import Script
 
 from .floppy import ANSWERS, MARK, Machine, cycles, line, machine
@@ -98,45 +96,29 @@ class Interpreting(unittest.TestCase):
             "07 00 a0 00 00 00",
         )
 
-    def test_what_the_adapter_sees(self) -> None:
-        self.assertEqual(cycles(SCRIPT), [
-            ("out", 0x3C4, 0x02), ("out", 0x3C5, 0x0F), ("in", 0x3CC), ("put", 0xA0000, 0x5A),
-            ("get", 0xAFFFF), ("get", 0xB0000), *(3 * [("in", 0x3CE), ("in", 0x3CF)]), ("in", 0x3DA),
-            ("int", 0x0300, 0x0102, 0, 0, 0, b""), ("int", 0x1017, 0xFE, 2, 0x77, 4, b""),
-            ("int", 0x1302, 0x0F, 3, 0x101, 2, b"ABC"), ("get", 0xA0000),
-        ])
-
     def test_nothing_but_the_adapter_is_touched(self) -> None:
         harmful = b"out 3BF 1\nout 3BC 1\noutw 3BB 1\noutw 3C2 1\noutw 3DF 1\nin 3BC\nout 3F2 0\nout CF9 6\noutw FFFF 1\n" \
             b"putw 9FFFF 1\nputw BFFFF 1\nput C0000 1\nput 7C00 1\nget FFFFFFFF\nint ax=1017 bx=1 cx=100\nint ax=1017 cx=FFFF\n"
         self.assertEqual(cycles(harmful), [])
         self.assertEqual(cycles(b"out 3B0 1\nout 3BB 1\nout 3C0 1\nout 3DF 1\nput BFFFF 1\nget A0000\n")[-1], ("get", 0xA0000))
 
-    def test_what_is_before_the_first_step(self) -> None:
+    def test_before_the_first_step_the_adapter_is_as_at_power_on(self) -> None:
+        opcodes = {"out": OUT, "in": IN, "put": PUT, "get": GET}
         for script, last in ((b"frame\n", 0x00), (b"int ax=3\n", 0x03), (b"version 2\nrepeat 2\nint ax=3\nend\n", 0x03)):
-            booted = machine(script)
-            before = booted.cycles[:booted.cycles.index(("begin",))]
-            self.assertEqual({address for kind, address, *_ in before if kind == "put"}, set(range(0xA0000, 0xB0000)))
-            self.assertEqual(before[0], ("int", 3, 0, 0, 0, 0, b""))
-            self.assertEqual(len(booted.answers), 8 * (script.count(b"int") + script.count(b"repeat")))
-            self.assertEqual(before.count(("out", 0x3C9, 0)), 768)
-            self.assert_reset(before, last)
-
-    def assert_reset(self, before: list[tuple[object, ...]], misc: int) -> None:
-        """That cycles reset the registers of an adapter, of which each had another value."""
-        state = State()
-        banks = state.seq, state.gfx, state.crtc, state.attr
-        state.misc = state.dac.mask = state.is_data = 0x54
-        for bank, index in ((bank, index) for bank in banks for index in range(len(bank.registers))):
-            bank.index = index
-            bank.write(0x55)
-        for kind, port, *value in before[1:]:
-            if kind in ("in", "out"):
-                state.take(Step(OUT if kind == "out" else IN, port, *value))  # type: ignore[arg-type]
-        self.assertEqual((state.misc, state.dac.mask, state.is_data), (misc, 0xFF, False))
-        self.assertEqual({bank.index for bank in banks}, {0})
-        usual = [3, 0, 0, 0, 0], [0] * 9, [3 if at == 0x17 else 0 for at in range(25)], [0] * 21
-        self.assertEqual(tuple(bank.registers for bank in banks), usual)
+            found, wanted, state = machine(script).cycles, State(), State()
+            self.assertEqual(found[0], ("int", 3, 0, 0, 0, 0, b""))
+            # Two registers are left otherwise; and before, all have another value.
+            wanted.misc, wanted.seq.registers[0] = last, 3
+            state.memory.words[:], state.dac.components[:] = [0x12345678] * 0x10000, [0x15] * 768
+            state.misc = state.dac.mask = state.memory.latches = state.is_data = 0x54
+            banks = [part for part in vars(state).values() if isinstance(part, Bank)]
+            for bank, index in ((bank, index) for bank in banks for index in range(len(bank.registers))):
+                bank.index = index
+                bank.write(0x55)
+            for kind, *numbers in found[1:found.index(("begin",))]:
+                state.take(Step(opcodes[kind], *numbers))  # type: ignore[index, arg-type]
+            for name, part in vars(wanted).items():
+                self.assertEqual(getattr(vars(state)[name], "__dict__", vars(state)[name]), getattr(part, "__dict__", part), name)
 
     @unittest.skipUnless(shutil.which("nasm"), "nasm isn't installed")
     def test_the_bytes_kept_are_those_of_the_source(self) -> None:
@@ -155,21 +137,16 @@ class Interpreting(unittest.TestCase):
 
     def test_a_disk_has_a_table_of_partitions(self) -> None:
         floppy, disk = (image_for({"": script_of(SCRIPT, "script")}, "script", is_disk=is_disk) for is_disk in (False, True))
-        self.assertEqual((len(disk), floppy[440:512], disk[510:512]), (len(floppy), bytes(70) + b"\x55\xAA", b"\x55\xAA"))
         # A floppy tells its form, and a disk none; the code before and behind it is the same.
         self.assertEqual((floppy[11:13], disk[11:62]), (b"\0\2", bytes(51)))
         self.assertEqual((disk[:11], disk[62:440], disk[512:]), (floppy[:11], floppy[62:440], floppy[512:]))
-        self.assertEqual((disk[440:446], disk[462:510]), (b"VGAF\0\0", bytes(48)))
-        active, head, sector, track, _, last_head, last_sector, last_track, first, length = struct.unpack_from("<8B2I", disk, 446)
-        self.assertEqual((active, first, length), (0x80, 1, len(disk) // 512 - 1))
-        for number, place in ((first, (track, head, sector)), (first + length - 1, (last_track, last_head, last_sector))):
-            self.assertEqual((0, number // 63, number % 63 + 1), place)
+        # The signature; a partition from sector 1, that of head 0 and number 2, to sector 2879; and three that are empty.
+        one = bytes.fromhex("56474146 0000  80 000200 DA 2D2D00 01000000 3F0B0000")
+        self.assertEqual((floppy[440:512], disk[440:512]), (bytes(70) + b"\x55\xAA", one + bytes(48) + b"\x55\xAA"))
         self.assertEqual(b"".join(report_lines(read_image(Machine(disk).image, "disk"), "disk")), REPORT)
 
 
 class Images(Folder):
-    """Images of one script, and of several that run one after the other."""
-
     def folder_of_scripts(self, **scripts: str) -> Path:
         for name, text in scripts.items():
             self.write(f"scripts/{name}.vga", text)
@@ -197,14 +174,11 @@ class Images(Folder):
         self.assertEqual((self.folder / "part" / "one.report").read_bytes(), b"")
 
     def test_one_alone_has_a_folder_too(self) -> None:
-        folder, image = self.folder_of_scripts(one="in 3CC\n"), self.folder / "image"
-        self.assertEqual(run("make", "--disk", folder, image), (0, b"", ""))
-        self.assertEqual(image.read_bytes()[446], 0x80)
+        image = self.folder / "image"
+        self.assertEqual(run("make", self.folder_of_scripts(one="in 3CC\n"), image), (0, b"", ""))
         image.write_bytes(Machine(image.read_bytes()).image)
-        self.assertEqual(run("read", image), (0, b"1 CC\n", ""))
-        reports = self.folder / "reports"
-        self.assertEqual(run("read", image, reports), (0, b"", ""))
-        self.assertEqual({path.name: path.read_bytes() for path in reports.iterdir()}, {"one.report": b"1 CC\n"})
+        self.assertEqual([run("read", image), run("read", image, self.folder / "reports")], [(0, b"1 CC\n", ""), (0, b"", "")])
+        self.assertEqual((self.folder / "reports" / "one.report").read_bytes(), b"1 CC\n")
 
     def test_a_bad_one_is_named(self) -> None:
         folder = self.folder_of_scripts(one="frame\n", two="move\n")
@@ -219,10 +193,11 @@ class Images(Folder):
             self.assertEqual(list((self.folder / "reports").iterdir()), [])
 
     def test_an_image_is_made_and_read(self) -> None:
-        script, image = self.write("script.vga", SCRIPT.decode()), self.folder / "image"
+        script, image = self.write("script.vga", SCRIPT), self.folder / "image"
         self.assertEqual(run("make", script, image), (0, b"", ""))
-        self.assertEqual(run("make", "-", "-", given=SCRIPT)[1], image.read_bytes())
-        self.assertEqual(image.read_bytes()[64], 0)
+        for options, byte in ((), 0x00), (("--disk",), 0x80):
+            made = run("make", *options, "-", "-", given=SCRIPT)[1]
+            self.assertEqual((made[64], made[446], made == image.read_bytes()), (0, byte, not options))
         image.write_bytes(Machine(image.read_bytes()).image)
         self.assertEqual(run("read", image), (0, REPORT, ""))
         self.assertEqual(run("read", "-", self.folder / "report", given=image.read_bytes()), (0, b"", ""))
@@ -238,15 +213,11 @@ class Images(Folder):
 
 
 class Left(Folder):
-    """What a run has left, and what isn't whole of it."""
-
     def setUp(self) -> None:
         super().setUp()
-        booted = machine(SCRIPT)
-        self.image, self.record = booted.image, b"".join(booted.record)
+        self.image = machine(SCRIPT).image
 
     def trouble(self, read: Callable[[bytes, str], Run], data: bytes) -> str:
-        """What is told of an image or a record."""
         return refused(lambda: list(report_lines(read(data, "it"), "it")))
 
     def changed(self, at: int, byte: int) -> bytes:
@@ -270,31 +241,26 @@ class Left(Folder):
             (self.changed(512 * 5 + 11, 0x77), "it: its table of steps is damaged"),
         ))
 
-    def test_answers_of_another_number_than_steps(self) -> None:
-        table = read_image(self.image, "it").table
-        hold(self, partial(self.trouble, lambda data, _: Run(table, data)), (
-            (b"\1", "it: it has no answer for step 4"),
-            (bytes(99), "it: it has 99 bytes of answers, and its steps have 40"),
-        ))
+    def test_fewer_answers_than_steps(self) -> None:
+        run = Run(read_image(self.image, "it").table, b"\1")
+        self.assertEqual(refused(lambda: list(report_lines(run, "it"))), "it: it has no answer for step 4")
 
     def test_records_that_are_damaged(self) -> None:
-        lines = self.record.split(b"\r\n")
+        lines = machine(SCRIPT).record
         at = next(at for at, line in enumerate(lines) if line.startswith(b"A"))
-        # The last line with another sum of the answers, and the line's own as it is then.
-        *front, total, check = lines[-2].split(b" ")
-        other = b" ".join([*front, b"%04X" % (int(total, 16) ^ 1), b"%02X" % (int(check, 16) + (-1 if int(total, 16) & 1 else 1))])
-        hold(self, partial(self.trouble, read_record), (
-            (b"nothing\n", "it: it holds no record of vga-floppy"),
-            (self.record.replace(b"\r\nA 000000 CC", b"\r\nA 000000 CD"), f"it:{at + 1}: the line's sum is wrong: bytes were lost on their way"),
-            (b"\r\n".join(lines[:at] + lines[at + 1:]), f"it:{at + 1}: bytes from 0 on are to come, and not from 16 on"),
-            (b"\r\n".join(lines[:at] + [b"A 0000"] + lines[at + 1:]), f"it:{at + 1}: no line of a record: 'A 0000'"),
-            (b"\r\n".join(lines[:6]), "it: its table of steps is damaged"),
-            (b"\r\n".join(lines[:at + 2] + lines[at + 3:]), "it: the end of the record tells of other answers"),
-            (b"\r\n".join([*lines[:-2], other, b""]), "it: the end of the record tells of other answers"),
+        # The first of the lines is an empty one too.
+        hold(self, lambda lines: self.trouble(read_record, b"".join(lines)), (
+            ([b"nothing\n"], "it: it holds no record of vga-floppy"),
+            ([*lines[:at], lines[at].replace(b"CC", b"CD"), *lines[at + 1:]], f"it:{at + 2}: the line's sum is wrong: bytes were lost on their way"),
+            (lines[:at] + lines[at + 1:], f"it:{at + 2}: bytes from 0 on are to come, and not from 16 on"),
+            ([*lines[:at], b"A 0000\r\n", *lines[at + 1:]], f"it:{at + 2}: no line of a record: 'A 0000'"),
+            (lines[:5], "it: its table of steps is damaged"),
+            (lines[:at + 2] + lines[at + 3:], "it: the end of the record tells of other answers"),
+            ([*lines[:-1], line("E", 40, bytes(2))], "it: the end of the record tells of other answers"),
         ))
 
     def test_the_last_of_two_records_counts(self) -> None:
-        record = b"".join(machine(b"in 3CC\n").record)[:-40] + self.record
+        record = b"".join(machine(b"in 3CC\n").record)[:-40] + b"".join(machine(SCRIPT).record)
         self.assertEqual(b"".join(report_lines(read_record(record, "it"), "it")), REPORT)
 
     def test_a_record_that_ends_too_early(self) -> None:
@@ -313,8 +279,6 @@ class Left(Folder):
 
 @unittest.skipUnless(Path("/proc/self/stat").exists(), "processes are looked at as Linux shows them")
 class Runs(Folder):
-    """Runs on an emulator that is a program of these tests."""
-
     def setUp(self) -> None:
         super().setUp()
         self.scratch = self.temporary()
@@ -364,24 +328,16 @@ class Runs(Folder):
 
     @unittest.skipUnless(Path("/proc/self/schedstat").exists(), "the system doesn't tell how long a process waits")
     def test_how_long_a_process_waits(self) -> None:
-        code = (
-            "import os, time; os.sched_setaffinity(0, {min(os.sched_getaffinity(0))}); print(end='.', flush=True)\n"
-        )
+        code = "import os, time; os.sched_setaffinity(0, {min(os.sched_getaffinity(0))})\n"
         # Of three that want one processor all the time two wait, and one that sleeps doesn't.
         with ExitStack() as stack:
-            processes = [
-                stack.enter_context(started([sys.executable, "-c", code + rest], stdout=subprocess.PIPE))
+            *busy, asleep = (
+                stack.enter_context(started([sys.executable, "-S", "-c", code + rest])).pid
                 for rest in 3 * ["while True: pass"] + ["time.sleep(100)"]
-            ]
-            for process in processes:
-                self.assertEqual(process.stdout.read(1), b".")
-            time.sleep(0.5)
-            before = [running.waited(process.pid) for process in processes]
-            time.sleep(2)
-            *busy, asleep = (running.waited(process.pid) - was for process, was in zip(processes, before))
-        self.assertGreater(sum(busy), 2.5)
-        self.assertLess(asleep, sum(busy) / 2)
-        self.assertEqual(running.waited(processes[0].pid), 0)
+            )
+            self.wait_until(lambda: sum(map(running.waited, busy)) > 2.5)
+            self.assertLess(running.waited(asleep), 1)
+        self.assertEqual(running.waited(asleep), 0)
 
     @unittest.skipUnless(sys.platform.startswith("linux"), "Linux alone ends a process with its parent")
     def test_an_emulator_ends_with_a_command_that_is_killed(self) -> None:
@@ -399,8 +355,6 @@ class Runs(Folder):
 
 
 class Pages(Folder):
-    """Tables of the suite's results, and the cases that a page names."""
-
     def test_cases_that_a_machine_is_asked_have_answers_of_one_and_fit_an_image(self) -> None:
         page = (TOP / "docs" / "REAL-MACHINES.md").read_text("utf-8")
         named = set(re.findall(r"`((?:host|words|ports|crtc|attribute|dac|services|heights|graphics)/[a-z0-9-]+)`", page))
@@ -411,28 +365,19 @@ class Pages(Folder):
         self.assertIn(f" {len(cases)} of them", page)
         self.assertEqual(len(image_for(scripts, "all")), images.IMAGE_SIZE)
 
-    def results(self, name: str, **cases: tuple[str, int, int, str, str]) -> str:
-        rules = [
-            {
-                "rule": f"The {at} | rule.", "folder": "host",
-                "cases": [{"name": f"host/{at}", "answer": answer, "answers": answers, "differing": differing,
-                           "answered": answered, "expected": expected}],
-            }
-            for at, (answer, answers, differing, answered, expected) in cases.items()
-        ]
-        return self.write(name + ".json", json.dumps({"command": f"tools/vga-floppy run --on {name} {{script}}", "rules": rules}))
-
-    def write_page(self, *results: str) -> tuple[int, str, str]:
+    def write_page(self, results: str) -> tuple[int, str, str]:
         page = Path(self.write("page.md", f"Before.\n{FIRST_MARK}\nold\n{LAST_MARK}\nAfter.\n"))
-        status, _, said = call(main, "table", page, *results)
+        status, _, said = call(main, "table", page, results)
         return status, page.read_text(), said
 
     def test_tables_between_the_marks(self) -> None:
-        versions = {name: vars(machine)["version"] for name, machine in MACHINES.items()}
-        self.assertEqual(set(versions), {"qemu", "bochs", "dosbox"})
         self.patch(mock.patch.dict(MACHINES, {DOSBOX: replace(MACHINES[DOSBOX], version=lambda: "0.1")}))
-        first = self.results("dosbox", one=("differs", 5, 2, "ax=0001 bx=0002", "ax=0001 bx=0003"), two=("agrees", 2000, 0, "", ""))
-        status, page, said = self.write_page(first)
+        one = {"name": "host/one", "answer": "differs", "answers": 5, "differing": 2,
+               "answered": "ax=0001 bx=0002", "expected": "ax=0001 bx=0003"}
+        two = {"name": "host/two", "answer": "agrees", "answers": 2000, "differing": 0}
+        rules = [{"rule": f"The {case['name']} | rule.", "folder": "host", "cases": [case]} for case in (one, two)]
+        results = {"command": "tools/vga-floppy run --on dosbox {script}", "rules": rules}
+        status, page, said = self.write_page(self.write("results", json.dumps(results)))
         self.assertEqual((status, said), (0, ""))
         self.assertEqual(page, "\n".join((
             "Before.", FIRST_MARK, "", "Compared were dosbox 0.1.", "", "|  | dosbox |", "|---|---|", "| cases that agree | 1 |",
@@ -440,7 +385,7 @@ class Pages(Folder):
             "| cases whose run failed | 0 |", "| bytes, words and registers compared | 2,005 |", "| of these as expected | 2,003 |",
             "", "| Folder: cases that agree, are skipped, differ | dosbox |", "|---|---|", "| `host/` | 1, 0, 1 |", "",
             "| Rule of the suite | Case | dosbox |", "|---|---|---|",
-            "| The one \\| rule. | `host/one` | bx=0002, not bx=0003 |", "", LAST_MARK, "After.", "",
+            "| The host/one \\| rule. | `host/one` | bx=0002, not bx=0003 |", "", LAST_MARK, "After.", "",
         )))
 
     def test_files_that_are_wrong(self) -> None:

@@ -20,7 +20,7 @@ from vga_trace.passing import Clocked
 from vga_trace.recording import PHASES, Deed, Machine, Session
 from vga_trace.replaying import is_nearer
 from vga_trace.state import State
-from vga_trace.step import ADVANCE, FRAME, IN, OUT, PUT, Step
+from vga_trace.step import ADVANCE, FRAME, IN, PUT, Step
 from vga_trace.trace import SCREEN
 from zaklimot.format import Picture
 
@@ -202,16 +202,13 @@ class Recorded(Folder):
 
 
 class Parts(unittest.TestCase):
-    """What a recording does, as far as it needs no machine."""
-
     def test_a_key_is_given_time_before_it_is_quiet(self) -> None:
-        keeper = mock.Mock(size=5, last=0.0, trouble=None)
-        session = Session(Machine((), quiet=0.2), mock.Mock(), keeper, Path("base"), mock.Mock())
-        session._acted = 0.0
+        keeper = mock.Mock(size=5, last=0.0)
+        session = Session(Machine((), quiet=0.2), mock.Mock(), keeper, Path("folder"), mock.Mock(), acted=0.0)
         self.assertTrue(session.is_due(Deed()))
-        session._press(mock.Mock(), ["ret"])
+        session.press(mock.Mock(), ["ret"])
         self.assertFalse(session.is_due(Deed()))
-        session._acted -= 0.3
+        session.acted -= 0.3
         self.assertTrue(session.is_due(Deed()))
         keeper.size = 0
         self.assertFalse(session.is_due(Deed()))
@@ -237,74 +234,60 @@ class Knowledge(unittest.TestCase):
         for name in (*SEEN, *ALLOWED):
             self.assertIn(name, page)
 
-    def state(self, *steps: Step) -> State:
-        """The state behind these steps, in text whose palette is shown."""
+    def state(self, index: int = 0x20, mask: int = 0xFF, word: int = 0, **banks: dict[int, int]) -> State:
+        """A state of text whose palette is shown, but for the attributes' index, the DAC mask, a word, and registers."""
         state = State()
-        usual = [Step(OUT, 0x3C2, 0x67), Step(OUT, 0x3C0, 0x20), *crtc(0x07, 0x1F), *crtc(0x09, 0x4F), *crtc(0x14, 0x1F),
-                 *crtc(0x12, 0x8F), *crtc(0x18, 0xFF), *sequencer(4, 2), *sequencer(2, 3), *graphics(6, 0x0E),
-                 *graphics(8, 0xFF)]
-        for step in [*usual, *steps]:
-            state.take(step)
+        state.attr.index, state.dac.mask, state.memory.words[1] = index, mask, word
+        usual = {"crtc": {0x07: 0x1F, 0x09: 0x4F, 0x12: 0x8F, 0x14: 0x1F, 0x18: 0xFF}, "gfx": {6: 0x0E}}
+        for name, values in (*usual.items(), *banks.items()):
+            for number, value in values.items():
+                vars(state)[name].registers[number] = value
         return state
 
-    def names(self, *steps: Step, dots: tuple[tuple[int, int], ...] = ()) -> list[str]:
-        """The names that such a state allows."""
-        found = known(Screen(self.state(*steps), dots))
-        return found.get("may be", []) + found.get("is", [])
-
     def test_what_may_show_in_a_state(self) -> None:
-        ninth = attribute(0x10, 4)
-        hold(self, lambda steps: self.names(*steps, dots=((8, 0), (17, 3))), (
-            ((), []),
-            ((Step(OUT, 0x3C0, 0x00), Step(OUT, 0x3C0, 0x00)), ["palette address source"]),
-            (sequencer(1, 0x20), ["screen off"]),
-            ((Step(OUT, 0x3C6, 0x0F),), ["DAC mask"]),
-            (sequencer(3, 0x04), ["colour plane enable"]),
-            (crtc(8, 3), ["preset row scan"]),
-            (attribute(0x13, 4), ["panning"]),
-            (crtc(0x18, 0x80) + crtc(7, 0x0F) + crtc(9, 0x0F), ["line compare"]),
-            (crtc(0x18, 0x80) + crtc(7, 0x0F), []),
-            (crtc(0x14, 0x0D), ["underline"]),
-            (attribute(0x10, 8) + [Step(PUT, 0xB8001, 0x87)], ["blinking"]),
-            (attribute(0x10, 8) + [Step(PUT, 0xB8001, 0x07)], []),
-            (ninth, ["ninth dot"]),
+        hold(self, lambda given, dots: known(Screen(self.state(**given), dots)).get("may be", []), (
+            (given, ((8, 0), (17, 3)), names) for given, names in (
+                ({}, []), ({"index": 0}, ["palette address source"]), ({"seq": {1: 0x20}}, ["screen off"]),
+                ({"mask": 0x0F}, ["DAC mask"]), ({"seq": {3: 0x04}}, ["colour plane enable"]),
+                ({"seq": {3: 0x04}, "attr": {0x12: 8}}, []), ({"crtc": {8: 3}}, ["preset row scan"]),
+                ({"attr": {0x13: 4}}, ["panning"]), ({"attr": {0x13: 8}}, []), ({"crtc": {8: 0x20}}, ["panning"]),
+                ({"crtc": {0x18: 0x80, 7: 0x0F, 9: 0x0F}}, ["line compare"]), ({"crtc": {0x18: 0x80, 7: 0x0F}}, []),
+                ({"crtc": {0x14: 0x0D}}, ["underline"]), ({"attr": {0x10: 8}, "word": 0x8700}, ["blinking"]),
+                ({"attr": {0x10: 8}, "word": 0x0700}, []), ({"attr": {0x10: 4}}, ["ninth dot"]),
+            )
         ))
-        self.assertEqual(self.names(*ninth, dots=((8, 0), (9, 0))), [])
-
-    def split(self, here: str, there: str, *steps: Step) -> dict[str, list[str]]:
-        """What is known of two pictures in graphics, whose line compare is 2 and whose rows have two lines."""
-        picture, image = picture_of(here), picture_of(there)
-        steps = (*graphics(6, 5), *crtc(0x18, 2), *crtc(7, 0x0F), *crtc(9, 1), *crtc(8, 1), *steps)
-        dots = [(x, y) for y in range(picture.height) for x in range(2) if picture.row(y) != image.row(y)]
-        return known(Screen(self.state(*steps), dots, picture, image))
+        self.assertEqual(known(Screen(self.state(attr={0x10: 4}), ((8, 0), (9, 0)))), {})
 
     def test_a_split_within_a_row(self) -> None:
+        def split(here: str, there: str, changed: dict[int, int] = {}, text: int = 1) -> dict[str, list[str]]:
+            """What is known of two pictures in graphics, whose line compare is 2 and whose rows have two lines."""
+            picture, image = picture_of(here), picture_of(there)
+            state = self.state(gfx={6: text}, crtc={7: 0x0F, 8: 1, 9: 1, 0x18: 2, **changed})
+            dots = [(x, y) for y in range(picture.height) for x in range(2) if picture.row(y) != image.row(y)]
+            return known(Screen(state, dots, picture, image))
+
         found, none = {"is": ["split within a row"]}, {"may be": ["preset row scan"]}
-        hold(self, lambda here, there, steps: self.split(here, there, *steps), (
+        hold(self, split, (
             # The second line of a row is under way, of two lines and of four; and three of four have been.
-            ("aab aabbc", "aab abbcc", [], found), ("aab aabb", "aab abbx", [], found),
-            ("aaa aaaabb", "aaa abbbbc", crtc(9, 3), found), ("aaa aaaabb", "aaa abbbbc", crtc(9, 0x81), found),
-            ("aa aaaabb", "aa aabbbb", crtc(9, 3) + crtc(0x18, 1), found),
+            ("aab aabbc", "aab abbcc", found), ("aab aabb", "aab abbx", found),
+            ("aaa aaaabb", "aaa abbbbc", {9: 3}, found), ("aaa aaaabb", "aaa abbbbc", {9: 0x81}, found),
+            ("aa aaaabb", "aa aabbbb", {9: 3, 0x18: 1}, found),
             # Bits 8 and 9 of line compare put it below the picture.
-            ("aab aabbc", "aab abbcc", crtc(7, 0x1F), none), ("aab aabbc", "aab abbcc", crtc(9, 0x41), none),
+            ("aab aabbc", "aab abbcc", {7: 0x1F}, none), ("aab aabbc", "aab abbcc", {9: 0x41}, none),
             # No split, or none within a row, or something else differs.
-            ("aabb aabbc", "aabb abbcc", crtc(0x18, 3), none), ("aab aabbc", "aab abbcx", [], none),
-            ("aab aabbc", "axb abbcc", [], none), ("aab aabbc", "aab aabbx", [], none),
-            ("aab aabbc", "aab abbcc", crtc(0x18, 8), none), ("aab aabbc", "aab abbcc", crtc(9, 0), none),
+            ("aabb aabbc", "aabb abbcc", {0x18: 3}, none), ("aab aabbc", "aab abbcx", none),
+            ("aab aabbc", "axb abbcc", none), ("aab aabbc", "aab aabbx", none),
+            ("aab aabbc", "aab abbcc", {0x18: 8}, none), ("aab aabbc", "aab abbcc", {9: 0}, none),
         ))
-        self.assertNotIn("is", self.split("aab aabbc", "aab abbcc", *graphics(6, 0x0E)))
+        self.assertNotIn("is", split("aab aabbc", "aab abbcc", {}, 0))
 
     def test_a_last_row_that_is_not_whole(self) -> None:
-        picture, rows = picture_of("aaabbbcc"), crtc(9, 2)
-        for steps, height in (
-            (rows, 6), (crtc(9, 3), 8), (crtc(9, 7), 8), (crtc(9, 8), 8), (crtc(9, 0x82), 8), (rows + graphics(6, 5), 8),
-            (crtc(9, 0x42), 6),
-        ):
-            part = whole_rows(self.state(*steps), picture)
+        picture = picture_of("aaabbbcc")
+        for row, mode, height in ((2, 0, 6), (3, 0, 8), (7, 0, 8), (8, 0, 8), (0x82, 0, 8), (2, 1, 8), (0x42, 0, 6)):
+            part = whole_rows(self.state(crtc={9: row}, gfx={6: mode}), picture)
             self.assertEqual((part.height, part is picture), (height, height == 8))
             self.assertEqual([part.row(y) for y in range(height)], [picture.row(y) for y in range(height)])
-        state = self.state(*rows, *crtc(8, 1))
-        cut = "last row of text that isn't whole"
+        state, cut = self.state(crtc={8: 1, 9: 2}), "last row of text that isn't whole"
         self.assertEqual(known(Screen(state, cut=2)), {"is": [cut]})
         self.assertEqual(known(Screen(state, [(0, 1)], cut=2)), {"is": [cut], "may be": ["preset row scan"]})
 
@@ -313,19 +296,6 @@ def picture_of(rows: str) -> Picture:
     """A picture of two dots a row. A letter is a row's colour, and blanks don't count."""
     letters = rows.replace(" ", "")
     return Picture.of_dots(2, len(letters), b"".join(bytes([ord(letter) - ord("a")]) * 6 for letter in letters))
-
-
-def register(port: int, index: int, value: int) -> list[Step]:
-    """A register behind the port of its index."""
-    return [Step(OUT, port, index), Step(OUT, port + 1, value)]
-
-
-crtc, sequencer, graphics = (partial(register, port) for port in (0x3D4, 0x3C4, 0x3CE))
-
-
-def attribute(index: int, value: int) -> list[Step]:
-    """A register of the attribute controller, the flip-flop at the data's turn before it."""
-    return [Step(OUT, 0x3C0, 0x20), Step(OUT, 0x3C0, index | 0x20), Step(OUT, 0x3C0, value), Step(OUT, 0x3C0, 0x20)]
 
 
 class RealTime(Folder):

@@ -27,11 +27,10 @@ PORTS = (0x3C0, 0x3C1, 0x3C2, 0x3C2, 0x3C2, 0x3C3, 0x3C5, 0x3C6, 0x3C7, 0x3C8, 0
 INDEXES = {0x3C4: 8, 0x3CE: 12, 0x3D4: 0x1C, 0x3B4: 0x1C}
 STATUS = (0x3DA, 0x3BA)
 # Registers of the CRT controller that make frames large: of these the low bits alone are written.
-LARGE = {0x00: 0x0F, 0x01: 0x07, 0x06: 0x1F, 0x07: 0x3F, 0x12: 0x1F, 0x09: 0x9F}
+LARGE = {0x01: 0x07, 0x06: 0x1F, 0x07: 0x3F, 0x12: 0x1F, 0x09: 0x9F}
 
 
 def state_of(steps: Iterable[Step]) -> State:
-    """The state that steps leave."""
     state = State()
     for step in steps:
         state.take(step)
@@ -39,7 +38,6 @@ def state_of(steps: Iterable[Step]) -> State:
 
 
 def listed(data: bytes, **wanted: object) -> list[Step]:
-    """The steps of a trace."""
     return list(Listing(trace(data), **wanted).steps())  # type: ignore[arg-type]
 
 
@@ -58,7 +56,6 @@ def _register(random: Random) -> str:
 
 
 def _port(random: Random) -> str:
-    """A byte or a word at any port."""
     kind, port = random.choice("rw"), random.choice(PORTS)
     value, size = random.randrange(256), random.choice((1, 1, 1, 2))
     if kind == "w" and port in (0x3B5, 0x3D5):
@@ -77,7 +74,6 @@ def _memory(random: Random) -> str:
 
 
 def noise(seed: int, count: int) -> bytes:
-    """A trace of so many cycles."""
     return "".join(_lines(Random(seed), count)).encode()
 
 
@@ -128,7 +124,6 @@ class Program(unittest.TestCase):
         return state
 
     def memory(self, state: State) -> Iterator[str]:
-        """The dumps of the planes."""
         for plane in range(4):
             for offset in range(0, 1 << 16, 256):
                 row = bytes(word >> 8 * plane & 0xFF for word in state.memory.words[offset:offset + 256])
@@ -150,7 +145,8 @@ class Cuts(unittest.TestCase):
     def test_what_the_frame_under_way_has_taken_stays(self) -> None:
         state = state_of([Step(OUTW, 0x3B4, 0x120C), Step(ADVANCE, 1), Step(OUTW, 0x3B4, 0x340C)])
         self.assertEqual((state.beam.taken[0x0C], state.crtc.registers[0x0C]), (0x12, 0x34))
-        self.assertEqual(state_of(rebuilt(state)).beam.taken, state.beam.taken)
+        self.assertEqual(vars(state_of(rebuilt(state)).beam), vars(state.beam))
+        self.assertEqual(state.beam.place, (0, 0, 1))
         state = state_of([Step(OUTW, 0x3B4, 0x120C), Step(ADVANCE, 90), Step(OUTW, 0x3B4, 0x340C), Step(ADVANCE, 91)])
         self.assertEqual((state.beam.frame, state.beam.taken[0x0C]), (2, 0x34))
 

@@ -20,7 +20,7 @@ from vga_trace import converting
 from vga_trace.checking import count
 from vga_trace.command import main
 from vga_trace.converting import Listing, Written
-from vga_trace.folding import alone, folded
+from vga_trace.folding import folded
 from vga_trace.passing import Pauses, with_flips, with_frames_every
 from vga_trace.step import ADVANCE, FRAME, IN, NAMES, OUT, OUTW, PUT, Step, steps_of, without_polls
 from vga_trace.trace import MEMORY, PORT, SCREEN, VBE, Cycle, Trace
@@ -36,12 +36,10 @@ POLL, OTHER, WRITE = Step(IN, 0x3DA), Step(IN, 0x3C9), Step(OUT, 0x3C0, 0x20)
 
 
 def trace(data: bytes) -> Trace:
-    """A trace of these bytes."""
     return Trace(io.BytesIO(data), "trace")
 
 
 def cycles(data: bytes) -> list[Cycle]:
-    """The cycles of a trace."""
     return list(trace(data).cycles())
 
 
@@ -52,7 +50,6 @@ def qemu(words: str, name: str = "vga", front: str = "") -> bytes:
 
 
 def texts(*steps: Step) -> list[str]:
-    """Steps as their lines."""
     return [step.text().decode().strip() for step in steps]
 
 
@@ -405,7 +402,6 @@ class Example(Folder):
 
 
 def lines(steps: Iterable[Step]) -> list[str]:
-    """The lines of the folded steps."""
     return b"".join(map(Written(True).row, folded(steps, Step.text))).decode().splitlines()
 
 
@@ -444,7 +440,7 @@ class Folding(unittest.TestCase):
             with self.subTest(seed):
                 written = Written(False)
                 data = b"".join(map(written.row, folded(steps, Step.data)))
-                plain = b"".join(map(Written(False).row, alone(steps, Step.data)))
+                plain = b"".join(map(Written(False).row, folded(steps, Step.data, False)))
                 script = decode(HEADERS[2] + data)
                 self.assertEqual(b"".join(map(encoded, script.steps())), plain)
                 self.assertGreater(min(item.count for item in script.items if isinstance(item, Block)), 1)

@@ -65,7 +65,6 @@ def _parser() -> argparse.ArgumentParser:
 
 
 def _script(path: str) -> Script:
-    """The script of a file."""
     with reading(path) as stream:
         return script_of(stream.read(MOST_BYTES + 1), name_of(path))
 
@@ -81,7 +80,6 @@ def scripts_of(path: str) -> dict[str, Script]:
 
 
 def _write_report(words: argparse.Namespace, run: Run, name: str) -> None:
-    """Writes the report of a run, or those of its scripts into a folder."""
     names = [script for script, _ in run.table.scripts()]
     if words.report == STANDARD and len(names) != 1:
         raise Trouble(f"it has the answers of {len(names)} scripts: name a folder for their reports", name)

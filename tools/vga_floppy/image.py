@@ -188,7 +188,6 @@ def _report_lines(script: Script, run: Run, answers: BinaryIO, name: str, has_al
 
 
 def _text(answer: Step, data: bytes, has_all_registers: bool) -> str:
-    """The answer of a step that these bytes are."""
     if answer.name != CALL:
         return data[::-1].hex().upper() if answer.name in (BYTE, WORD) else answer.name
     ax = answer.numbers[AX]

@@ -122,7 +122,6 @@ def reset_steps() -> bytes:
 
 
 def _has_call(item: Item) -> bool:
-    """Whether a step, or one of a block, calls a service."""
     return any(map(_has_call, item.steps)) if isinstance(item, Block) else item.name == "int"
 
 
@@ -179,7 +178,6 @@ class Table:
         return sum(length_of(item) for _, script in self.scripts() for item in script.items)
 
     def _decoded(self) -> Iterator[tuple[int, tuple[int, ...], bytes]]:
-        """The opcodes of the scripts, with their fields and the bytes behind these."""
         at = self._first
         while at < len(self._steps):
             opcode = self._steps[at]

@@ -1,6 +1,7 @@
 """How long frames last: their dots by the clock that a script has chosen."""
 
-from typing import Optional
+from math import prod
+from typing import Mapping, Optional, Sequence, Union
 
 from zaklimot.format import Step
 
@@ -22,6 +23,12 @@ def bytes_written(step: Step) -> tuple[tuple[int, int], ...]:
         return ()
     port, value = step.numbers
     return ((port, value),) if step.name == "out" else ((port, value & 0xFF), (port + 1, value >> 8))
+
+
+def shape_of(clocking: int, crtc: Union[Sequence[int], Mapping[int, int]]) -> tuple[int, int, int]:
+    """The lines of a frame, the characters of a line and the dots of a character, by the registers that say so."""
+    lines = crtc[6] + ((crtc[7] & 1) << 8) + ((crtc[7] >> 5 & 1) << 9) + 2
+    return lines, crtc[0] + 5, 8 if clocking & 1 else 9
 
 
 class Timing:
@@ -80,5 +87,4 @@ class Timing:
         crtc, clocking = self._registers["crtc"], self._registers["seq"].get(1, 0)
         if not {0, 6, 7} <= crtc.keys():
             return None
-        lines = crtc[6] + ((crtc[7] & 1) << 8) + ((crtc[7] >> 5 & 1) << 9) + 2
-        return (crtc[0] + 5) * (8 if clocking & 1 else 9) * lines, bool(clocking & 8)
+        return prod(shape_of(clocking, crtc)), bool(clocking & 8)

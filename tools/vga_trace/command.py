@@ -7,23 +7,24 @@ import sys
 from itertools import islice
 from pathlib import Path
 from tempfile import TemporaryDirectory
-from typing import ContextManager, Optional, Sequence, Union
+from typing import ContextManager, Iterator, Optional, Sequence, Union
 
 from vga_report import cli
 from vga_report.cli import add
 from vga_report.output import AGREED, DIFFERED, name_of, refuse_twice, write_name
-from vga_report.png import Shape, save_png
+from vga_report.png import Animation, Shape, save_png
 from vga_report.program import Built, found_program
 from vga_report.progress import Progress
 from vga_report.report import Report
 from vga_report.streams import STANDARD, check_file, check_folder, reading, to_read, writing
 from vga_report.trouble import Trouble
 from vga_report.words import add_program, add_shape, number_to, seconds
+from zaklimot.format import Picture
 
 from .checking import check, count
 from .converting import CLOCK, END, FLIP, SCREENS, Frames, Listing, convert
 from .recording import TRACE, Deed, Machine, chain_4, record
-from .replaying import Moving, pictures_of, replay
+from .replaying import pictures_of, replay
 from .trace import Trace, opened
 
 KEEP, FIRST = "keep", "first"
@@ -31,6 +32,8 @@ QUIET = "quiet"
 MOST_CYCLES, MOST_KINDS = 1 << 40, 1 << 20
 # So many kinds of refusals, of reads and of differing reads are told of a recording.
 MOST_TOLD = 10
+# Pictures that move have so many bytes at most.
+MOST_PACKED = 1 << 29
 
 
 def _frames(word: str) -> Frames:
@@ -172,8 +175,15 @@ def _kinds(words: argparse.Namespace, _: Progress) -> None:
     print("\n".join(f"{number:12,} {kind}" for kind, number in found.most_common()))
 
 
+def _shown(program: str, script: Path, words: argparse.Namespace) -> Iterator[tuple[Picture, float]]:
+    """The pictures of a script that the program runs, each with the seconds that it is seen."""
+    with Built(program).running(script, words.fonts, None, True) as outcome:
+        yield from pictures_of(outcome.report, script, words.longest)
+    if outcome.status:
+        raise Trouble(f"it ended with status {outcome.status}: {outcome.fault}", program)
+
+
 def _pictures(words: argparse.Namespace, _: Progress) -> None:
-    """Makes a script of a trace in real time, runs it, and writes its pictures."""
     if words.folder is None and words.apng is None:
         raise Trouble("the pictures want a folder, or --apng a file")
     program, shape, found = found_program(words.vga), Shape(words.scale, words.aspect), _opened(words)
@@ -183,24 +193,33 @@ def _pictures(words: argparse.Namespace, _: Progress) -> None:
     if words.apng is not None:
         check_file(words.apng)
     with TemporaryDirectory(prefix="vga-trace-") as name:
-        script, shown, moving = Path(name) / "script", 0.0, Moving(shape)
+        script, begin, width, height = Path(name) / "script", 0.0, 0, 0
         with found as trace, writing(str(script)) as stream:
             listing = Listing(trace, frames=CLOCK, most=words.to, first=words.from_, longest=words.longest)
             convert(listing, stream)
         _warn(listing, name_of(words.trace))
-        with Built(program).running(script, words.fonts, None, True) as outcome:
-            for picture, lasts in pictures_of(outcome.report, script, words.longest):
-                if words.folder is not None:
-                    path = Path(words.folder) / f"{shown:09.3f}.png"
-                    save_png(str(path), picture, shape)
-                    write_name(path)
-                if words.apng is not None:
-                    moving.add(picture, lasts)
-                shown += lasts
-        if outcome.status:
-            raise Trouble(f"it ended with status {outcome.status}: {outcome.fault}", program)
-    if words.apng is not None:
-        print(f"{words.apng}: {moving.write(words.apng)}", file=sys.stderr if words.apng == STANDARD else sys.stdout)
+        for picture, lasts in _shown(program, script, words):
+            if words.folder is not None:
+                path = Path(words.folder) / f"{begin:09.3f}.png"
+                save_png(str(path), picture, shape)
+                write_name(path)
+            begin, width, height = begin + lasts, max(width, picture.width), max(height, picture.height)
+        if words.apng is not None:
+            _write_moving(words.apng, Animation(shape, (width, height)), _shown(program, script, words))
+
+
+def _write_moving(path: str, animation: Animation, pictures: Iterator[tuple[Picture, float]]) -> None:
+    """Writes pictures that move, each stretched to the largest size of them, as a monitor shows them."""
+    size = 0
+    for number, (picture, lasts) in enumerate(pictures, 1):
+        animation.add(picture, lasts, f"picture {number}")
+        size += len(animation.frames[-1][0])
+        if size > MOST_PACKED:
+            raise Trouble(f"the pictures take more than {MOST_PACKED:,} bytes: --from and --to take a part of the trace")
+    with writing(path) as stream:
+        animation.write(stream)
+    told = f"{path}: {len(animation.frames)} pictures, {animation.seconds:.3f} seconds"
+    print(told, file=sys.stderr if path == STANDARD else sys.stdout)
 
 
 def _record(words: argparse.Namespace, progress: Progress) -> int:

@@ -9,7 +9,7 @@ from vga_report.trouble import Trouble
 from zaklimot import format
 from zaklimot.format import FIRST_LINE, HEADERS, MOST_BYTES, MOST_STEPS
 
-from .folding import Row, alone, folded
+from .folding import Row, folded
 from .passing import Clocked, Pauses, with_flips, with_frames_every
 from .rebuilding import rebuilt
 from .state import State
@@ -99,7 +99,6 @@ class Listing:
         yield from [Step(FRAME)] * (len(screens) - taken)
 
     def _timed(self, steps: Iterator[Step]) -> Iterator[Step]:
-        """The steps, of which the first must have a time."""
         for number, step in enumerate(steps):
             if number == 0 and step.time is None:
                 raise self.trace.trouble("the first cycle has no time, and time is asked for")
@@ -161,7 +160,7 @@ def convert(listing: Listing, stream: BinaryIO, is_text: bool = False, has_block
     """
     written, body, steps = Written(is_text), bytearray(), 0
     code = Step.text if is_text else Step.data
-    for row in folded(listing.steps(), code) if has_blocks else alone(listing.steps(), code):
+    for row in folded(listing.steps(), code, has_blocks):
         body += written.row(row)
         steps += row.count * len(row.steps)
         if max(written.script_bytes, written.text_bytes) > MOST_BYTES - FOR_THE_END or steps > MOST_STEPS - FOR_THE_END:

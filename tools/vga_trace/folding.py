@@ -25,19 +25,14 @@ class Row(NamedTuple):
     cycle: int
 
 
-def alone(steps: Iterable[Step], code: Code) -> Iterator[Row]:
-    """Each step alone."""
-    return (Row([step], [code(step)], 1, step.cycle) for step in steps)
-
-
-def folded(steps: Iterable[Step], code: Code) -> Iterator[Row]:
+def folded(steps: Iterable[Step], code: Code, has_blocks: bool = True) -> Iterator[Row]:
     """The steps, but rows of equal steps or equal groups as blocks where these have at most half of the bytes.
 
     Steps are equal if their codes are. As lines, what is read is expected to be equal too: a line has one answer.
     """
     ahead = _Ahead(iter(steps), code)
     while ahead.has(AHEAD):
-        size, at, count = ahead.group(), ahead.at, 1
+        size, at, count = ahead.group() if has_blocks else 0, ahead.at, 1
         group, codes = ahead.steps[at:at + (size or 1)], ahead.codes[at:at + (size or 1)]
         last, ahead.at = group[-1], at + len(group)
         while size and count < format.MOST_COUNT and ahead.has(size) and ahead.codes[ahead.at:ahead.at + size] == codes:

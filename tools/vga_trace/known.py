@@ -54,14 +54,12 @@ def _row_lines(crtc: Sequence[int]) -> int:
 
 
 def _is_split(screen: Screen) -> bool:
-    """Whether line compare falls into the lines that are shown."""
     crtc = screen.state.crtc.registers
     last = crtc[0x12] | (crtc[7] & 2) << 7 | (crtc[7] & 0x40) << 3
     return screen.is_text and _line_compare(crtc) < last
 
 
 def _has_underline(screen: Screen) -> bool:
-    """Whether the line of underlines is one of a character's."""
     crtc = screen.state.crtc.registers
     return screen.is_text and crtc[0x14] & 0x1F <= crtc[9] & 0x1F
 

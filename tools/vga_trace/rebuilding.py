@@ -1,5 +1,6 @@
 """The steps that take the adapter from power-on to a state, so that a script can begin in the middle of a trace."""
 
+from math import prod
 from typing import Iterable, Iterator, TypeVar
 
 from .state import ATTRIBUTE, DAC_DATA, DAC_WRITE, ENABLE_MEMORY, GRAPHICS, MASK, MISC, SEQUENCER, STATUS
@@ -23,7 +24,6 @@ def rebuilt(state: State) -> Iterator[Step]:
 
 
 def _register(port: int, index: int, value: int) -> Step:
-    """A register that is written by a word, behind the port of its index."""
     return Step(OUTW, port, value << 8 | index)
 
 
@@ -43,7 +43,7 @@ def masks_of(values: Iterable[Value]) -> dict[Value, int]:
 def _steps(state: State, begin: State) -> Iterator[Step]:
     if state.beam.frame:
         # A frame at power-on has fewer dots than any other.
-        yield Step(ADVANCE, state.beam.frame * begin.shape.frame)
+        yield Step(ADVANCE, state.beam.frame * prod(begin.shape))
     yield Step(OUT, MISC, state.misc | ENABLE_MEMORY)
     yield from (_register(*setting) for setting in PLANAR)
     yield from _latches(state.memory.latches)

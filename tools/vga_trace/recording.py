@@ -6,7 +6,7 @@ import subprocess
 import tempfile
 import time
 from contextlib import ExitStack, contextmanager, suppress
-from dataclasses import dataclass
+from dataclasses import dataclass, field
 from pathlib import Path
 from threading import Thread
 from typing import BinaryIO, Callable, Iterator, NamedTuple, Optional, Sequence
@@ -87,80 +87,83 @@ class Keeper(Thread):
                     self.trouble = Trouble(f"its trace can't be kept: {error.strerror or error}", QEMU)
 
 
+@dataclass
 class Session:
-    """A machine that runs: what is done to it, and the seconds at which each of its screens was taken."""
+    """A machine that runs, with its dumps in a folder: what is done to it, and the seconds when each screen was taken."""
 
-    def __init__(
-        self, machine: Machine, process: subprocess.Popen[bytes], keeper: Keeper, folder: Path, progress: Progress
-    ) -> None:
-        self._machine, self._process, self._keeper = machine, process, keeper
-        self._folder, self._progress = folder, progress
-        self._began = self._acted = time.monotonic()
-        self.screens: list[float] = []
-
-    def passed(self) -> float:
-        """The seconds since power-on."""
-        return time.monotonic() - self._began
+    machine: Machine
+    process: subprocess.Popen[bytes]
+    keeper: Keeper
+    folder: Path
+    progress: Progress
+    screens: list[float] = field(default_factory=list)
+    began: float = field(default_factory=time.monotonic)
+    acted: float = field(default_factory=time.monotonic)
 
     def has_ended(self) -> bool:
         """Whether the machine has ended by itself; a Trouble where its lines can't be kept."""
-        if self._keeper.trouble:
-            raise self._keeper.trouble
-        return self._process.poll() is not None
+        if self.keeper.trouble:
+            raise self.keeper.trouble
+        return self.process.poll() is not None
 
     def is_due(self, deed: Deed) -> bool:
         """Whether a deed is to be done now."""
+        now = time.monotonic()
         if deed.at is not None:
-            return self.passed() >= deed.at
-        last = max(self._acted, self._keeper.last)
-        return self._keeper.size > 0 and time.monotonic() - last > self._machine.quiet
-
-    def wait(self, deed: Deed) -> bool:
-        """Waits until a deed is to be done; whether it came to that before the machine's last second."""
-        while not self.is_due(deed):
-            if self.has_ended() or self.passed() >= self._machine.most:
-                return False
-            if self._progress.is_due():
-                self._progress.tell(f"recording: {self.passed():.0f} s")
-            time.sleep(LOOK)
-        return True
+            return now - self.began >= deed.at
+        return self.keeper.size > 0 and now - max(self.acted, self.keeper.last) > self.machine.quiet
 
     def act(self, do: Monitor, log: BinaryIO, say: Say) -> None:
         """Does all that is to be done. The last screen is taken in the last second at the latest."""
-        for number, deed in enumerate(self._machine.deeds, 1):
-            is_due, is_last = self.wait(deed), number == len(self._machine.deeds)
+        for number, deed in enumerate(self.machine.deeds, 1):
+            is_due, is_last = self._wait(deed), number == len(self.machine.deeds)
             if self.has_ended():
-                say(f"the machine ended by itself after {self.passed():.1f} seconds")
+                say(f"the machine ended by itself after {time.monotonic() - self.began:.1f} seconds")
                 return
             if not is_due and (deed.keys or not is_last):
-                over = f"{self._machine.most:g} seconds were over before it was time for {deed}"
+                over = f"{self.machine.most:g} seconds were over before it was time for {deed}"
                 say(f"{over}: the screen is taken now, and the rest left out")
             elif not is_due:
                 say("the software was still busy when its screen was taken")
-            self._press(do, deed.keys) if is_due and deed.keys else self._take_screen(do, log)
+            if is_due and deed.keys:
+                self.press(do, deed.keys)
+            else:
+                self._take_screen(do, log)
             if not is_due:
                 return
 
-    def _press(self, do: Monitor, keys: Sequence[str]) -> None:
+    def _wait(self, deed: Deed) -> bool:
+        """Waits until a deed is to be done; whether it came to that before the machine's last second."""
+        while not self.is_due(deed):
+            passed = time.monotonic() - self.began
+            if self.has_ended() or passed >= self.machine.most:
+                return False
+            if self.progress.is_due():
+                self.progress.tell(f"recording: {passed:.0f} s")
+            time.sleep(LOOK)
+        return True
+
+    def press(self, do: Monitor, keys: Sequence[str]) -> None:
+        """Presses keys one after the other."""
         for key in keys:
             do("send-key", keys=[{"type": "qcode", "data": part} for part in key.split("-")])
             time.sleep(PRESSING)
-        self._acted = time.monotonic()
+        self.acted = time.monotonic()
 
     def _take_screen(self, do: Monitor, log: BinaryIO) -> None:
         """Takes the screen at several phases of the cursor. A line of the log tells the place of each among the cycles."""
-        self.screens.append(self.passed())
+        first = PHASES * len(self.screens)
+        self.screens.append(time.monotonic() - self.began)
         do("stop")
-        for phase in range(PHASES):
-            if phase:
+        for number in range(first, first + PHASES):
+            if number > first:
                 do("cont")
                 time.sleep(PHASE)
                 do("stop")
             log.write(SCREEN + b"\n")
-            path = dump(self._folder, PHASES * (len(self.screens) - 1) + phase)
-            do("screendump", filename=str(path.resolve()))
+            do("screendump", filename=str(dump(self.folder, number).resolve()))
         do("cont")
-        self._acted = time.monotonic()
+        self.acted = time.monotonic()
 
 
 def chain_4(folder: Path) -> list[str]:
@@ -176,7 +179,6 @@ def dump(folder: Path, number: int) -> Path:
 
 
 def _qemu(machine: Machine, folder: Path) -> list[str]:
-    """The command. Its log goes into a pipe."""
     (folder / "events").write_text(EVENTS, encoding="ascii")
     return [
         "nice", "-n", "10", QEMU, *BARE, "-msg", "timestamp=on", "-trace", f"events={folder}/events", "-D", f"{folder}/log",

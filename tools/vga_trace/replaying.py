@@ -1,13 +1,12 @@
-"""A trace replayed by the program: its pictures held against the screens that qemu showed, or as pictures that move."""
+"""A trace replayed by the program: its pictures held against the screens that qemu showed, or with how long they last."""
 
-import zlib
 from dataclasses import dataclass, field
 from pathlib import Path
 from threading import Event
 from typing import BinaryIO, Iterator, NamedTuple, Optional, Sequence
 
 from vga_report.images import image_bytes, image_of
-from vga_report.png import Animation, Shape, save_png
+from vga_report.png import save_png
 from vga_report.processes import Limits, run_command, said_last
 from vga_report.progress import Progress
 from vga_report.report import Report
@@ -15,9 +14,10 @@ from vga_report.reports import Held, delays_of, held
 from vga_report.streams import reading, writing
 from vga_report.trouble import Trouble
 from zaklimot.format import Answer, Picture
+from zaklimot.format.answers import RAGGED
 from zaklimot.format.picture import marks_in_row
 
-from .checking import FRAME_ANSWERS, Checked, check
+from .checking import Checked, check
 from .converting import SCREENS, Listing, Written, convert
 from .known import PAGE, Screen, known, whole_rows
 from .recording import PHASES, TRACE, dump
@@ -25,9 +25,8 @@ from .state import State
 from .step import Step
 from .trace import opened
 
-# A run may take so many seconds and bytes, and pictures that move so many bytes, packed.
+# A run may take so many seconds and bytes.
 MOST_RUN = Limits(600, 1 << 32)
-MOST_PACKED = 1 << 29
 
 
 @dataclass
@@ -63,7 +62,6 @@ class Verdict:
                 yield "  nothing that is known of qemu shows in this state"
 
     def _told(self) -> str:
-        """How the two differ."""
         part, cut = self.part, self.picture.height - self.part.height
         if self.is_equal:
             return f"equal, {self.held.how}"
@@ -112,7 +110,7 @@ class Judge:
     def answers(self, answers: Iterator[Answer]) -> Iterator[Answer]:
         """The answers, of which each `frame` but the last is that of a dump."""
         for answer in answers:
-            if answer.answer.partition(" ")[0] in FRAME_ANSWERS:
+            if answer.picture is not None or answer.answer == RAGGED:
                 if self._dumps < len(self.cycles) and isinstance(answer.picture, Picture):
                     self._judge(answer.picture)
                 self._dumps += 1
@@ -140,7 +138,6 @@ class Judge:
 
 
 def _dots(picture: Picture, image: Optional[Picture]) -> Sequence[tuple[int, int]]:
-    """Where a picture and an image of its size differ."""
     return [] if image is None else [
         (x, y) for y in range(picture.height) if picture.row(y) != image.row(y)
         for x, mark in enumerate(marks_in_row(picture.row(y), image.row(y))) if mark
@@ -183,32 +180,6 @@ def replay(folder: Path, program: str, fonts: str, progress: Progress) -> Replay
         name = str(report)
         checked = check(judge.steps(), judge.answers(Report(answers, name, progress).steps()), name)
     return Replayed(written, checked, judge)
-
-
-class Moving:
-    """Pictures that move, each stretched to the largest size of them, as a monitor shows them."""
-
-    def __init__(self, shape: Shape) -> None:
-        self._shape = shape
-        self._packed: list[tuple[bytes, float]] = []
-        self._size, self._bytes = (0, 0), 0
-
-    def add(self, picture: Picture, seconds: float) -> None:
-        """Adds a picture that is seen for so many seconds; a Trouble where there are too many."""
-        self._size = max(self._size[0], picture.width), max(self._size[1], picture.height)
-        self._packed.append((zlib.compress(picture.ppm, 1), seconds))
-        self._bytes += len(self._packed[-1][0])
-        if self._bytes > MOST_PACKED:
-            raise Trouble(f"the pictures take more than {MOST_PACKED:,} bytes: --from and --to take a part of the trace")
-
-    def write(self, path: str) -> str:
-        """Writes them all, and answers what is told of them."""
-        animation = Animation(self._shape, self._size)
-        for number, (packed, seconds) in enumerate(self._packed, 1):
-            animation.add(Picture.of_ppm(zlib.decompress(packed)), seconds, f"picture {number}")
-        with writing(path) as stream:
-            animation.write(stream)
-        return f"{len(animation.frames)} pictures, {animation.seconds:.3f} seconds"
 
 
 def pictures_of(report: BinaryIO, script: Path, at_last: float) -> Iterator[tuple[Picture, float]]:

@@ -3,8 +3,11 @@
 from __future__ import annotations
 
 from functools import partial
+from math import prod
 from operator import and_, or_, xor
-from typing import Callable, Mapping, NamedTuple, Optional, Sequence
+from typing import Callable, Mapping, Optional, Sequence
+
+from vga_report.timing import shape_of
 
 from .step import ADVANCE, FRAME, GET, GETW, IN, INW, OUT, OUTW, PUT, PUTW, WORDS, Step
 
@@ -33,6 +36,8 @@ PROTECT, COMPARE_8 = 0x80, 0x10
 FRAMES = 32
 # The CRT controller's registers that are taken at a frame's first dot: preset row scan, start address.
 TAKEN = (0x08, 0x0C, 0x0D)
+# The lines of a frame, the characters of a line, and the dots of a character.
+Shape = tuple[int, int, int]
 
 
 class State:
@@ -59,9 +64,7 @@ class State:
     @property
     def shape(self) -> Shape:
         """The shape of the frame."""
-        crtc = self.crtc.registers
-        lines = crtc[6] + ((crtc[7] & 1) << 8) + ((crtc[7] >> 5 & 1) << 9) + 2
-        return Shape(8 if self.seq.registers[1] & 1 else 9, crtc[0] + 5, lines)
+        return shape_of(self.seq.registers[1], self.crtc.registers)
 
     def take(self, step: Step) -> Optional[int]:
         """Takes a step, and answers what it reads; None of a write and of a refusal. Of input status 1 all bits are 0."""
@@ -93,7 +96,6 @@ class State:
         return [place + at & 0xFFFF for at in range(count)]
 
     def _bank(self, port: int) -> Optional[Bank]:
-        """The bank whose index is written and read at a port."""
         if port == self.controller:
             return self.crtc
         return self.seq if port == SEQUENCER else self.gfx if port == GRAPHICS else None
@@ -193,7 +195,6 @@ class Memory:
         return place & 0xFFFE if self._gfx[6] & 2 else place
 
     def _stored(self, value: int) -> int:
-        """What write modes 0, 2 and 3 store in all planes."""
         mode, mask, latches = self._gfx[5] & 3, self._gfx[8], self.latches
         rotated = (value << 8 | value) >> (self._gfx[3] & 7) & 0xFF
         if mode == 0:
@@ -292,64 +293,43 @@ class Dac:
         self.index = (self.index + (self.next == 0)) % ENTRIES
 
 
-class Shape(NamedTuple):
-    """The dots of a character, the characters of a line, and the lines of a frame."""
-
-    dots: int
-    characters: int
-    lines: int
-
-    @property
-    def line(self) -> int:
-        """The dots of a line."""
-        return self.dots * self.characters
-
-    @property
-    def frame(self) -> int:
-        """The dots of a frame."""
-        return self.line * self.lines
-
-
 class Beam:
-    """Where the next dot is: frame, line, character and dot of it.
+    """Where the next dot is: its frame, and in it the line, the character of the line, and the dot of the character.
 
     A place that registers have since left outside is as good as the last one: what it is in ends with the next dot.
     """
 
     def __init__(self) -> None:
-        self.frame = self.line = self.character = self.dot = 0
+        self.frame, self.place = 0, (0, 0, 0)
         # What was taken of the registers at the first dot of the frame under way.
         self.taken = dict.fromkeys(TAKEN, 0)
 
     @property
     def is_at_begin(self) -> bool:
         """Whether the next dot is a frame's first."""
-        return not (self.line or self.character or self.dot)
+        return not any(self.place)
 
     def drawn(self, shape: Shape) -> int:
         """The dots of the frame under way that are drawn; of a place that is outside, those up to the last one inside."""
-        line, character = min(self.line, shape.lines - 1), min(self.character, shape.characters - 1)
-        return line * shape.line + character * shape.dots + min(self.dot, shape.dots - 1)
+        line, character, dot = (min(at, most - 1) for at, most in zip(self.place, shape))
+        return (line * shape[1] + character) * shape[2] + dot
 
-    def advance(self, dots: int, shape: Shape, crtc: Sequence[int]) -> None:
+    def advance(self, count: int, shape: Shape, crtc: Sequence[int]) -> None:
         """Goes on by so many dots. The line and the character stay as they are, inside or outside, until they end."""
-        frame, was_at_begin, begin = self.frame, self.is_at_begin, self.drawn(shape)
-        end = begin + dots
-        if end // shape.dots == begin // shape.dots:
-            self.dot += dots
-        elif end // shape.line == begin // shape.line:
-            self.character += end // shape.dots - begin // shape.dots
-            self.dot = end % shape.dots
+        _, characters, dots = shape
+        (line, character, dot), was_at_begin, begin = self.place, self.is_at_begin, self.drawn(shape)
+        end, frames = begin + count, 0
+        if end // dots == begin // dots:
+            self.place = line, character, dot + count
+        elif end // (dots * characters) == begin // (dots * characters):
+            self.place = line, character + end // dots - begin // dots, end % dots
         else:
-            frames, rest = divmod(end, shape.frame)
-            self.frame += frames
-            self.line, rest = divmod(rest, shape.line)
-            self.character, self.dot = divmod(rest, shape.dots)
-        if (was_at_begin or self.frame != frame) and not self.is_at_begin:
+            frames, rest = divmod(end, prod(shape))
+            self.place = rest // (dots * characters), rest // dots % characters, rest % dots
+        if (was_at_begin or frames) and not self.is_at_begin:
             self.taken = {index: crtc[index] for index in TAKEN}
-        self.frame %= FRAMES
+        self.frame = (self.frame + frames) % FRAMES
 
     def end_frame(self) -> None:
         """Goes on to the end of the frame."""
-        self.frame = (self.frame + 1) % FRAMES
-        self.line = self.character = self.dot = 0
+        self.frame, self.place = (self.frame + 1) % FRAMES, (0, 0, 0)

@@ -145,7 +145,6 @@ class Trace:
         return self._plain(line) if self._is_plain else self._qemu(line)
 
     def _found_form(self, line: bytes) -> Optional[bool]:
-        """Whether the trace is of the plain form, as far as this line tells."""
         if EVENT in line:
             return False
         if PLAIN.fullmatch(line) is None:
