@@ -7,7 +7,7 @@ Without names it takes all the software that `--help` lists. Traces, screens, sc
 was recorded there before is replayed alone. It prints a row of a table for each, and ends with status 1 where anything is
 otherwise than known. It needs the built program and, of Debian 12, qemu-system-x86, seabios, vgabios, grub-common,
 grub-pc-bin, xorriso, mtools, and gcc for mode 13. Software of packages that are unpacked with `dpkg -x` is taken from
-the folder of `--unpacked`: the newest linux-image, busybox-static, console-setup-linux, memtest86+; Linux needs cpio too.
+the folder of `--unpacked`: the newest linux-image, busybox-static, console-setup-linux, memtest86+; Linux needs cpio.
 """
 
 import argparse
@@ -73,7 +73,7 @@ while true; do /bin/busybox sleep 1000; done
 
 @dataclass(frozen=True)
 class Software:
-    """Software: what makes its machine, of a folder for its discs and of one with unpacked packages, if it is one of those.
+    """Software: what makes its machine, of a folder for its discs and of one with unpacked packages if it is of these.
 
     So many cycles are known to be refused, and so many dots of its picture to differ from qemu's.
     """
@@ -89,9 +89,11 @@ def _card(rom: str) -> list[str]:
 
 
 def _disc(mode: int, folder: Path) -> list[str]:
-    """A disc that is booted, and lets the video BIOS draw in a mode: an image of vga-floppy with a script of the suite."""
-    disc, script = folder / "calls.img", SUITE.parent / "screens" / f"mode-{mode:02x}-cut-by-cell.vga"
-    disc.write_bytes(image_for({"": script_of(script.read_bytes(), script.name)}, disc.name, is_disk=True))
+    """A disc that lets the video BIOS draw in a mode: an image of vga-floppy with a script of the suite."""
+    disc, name = folder / "calls.img", f"mode-{mode:02x}-cut-by-cell.vga"
+    # Where mode 7 is set, the CRT controller isn't at 3B4 yet, and keeps what it had: that is to be what text has.
+    text = (b"int ax=3\n" if mode == 7 else b"") + (SUITE.parent / "screens" / name).read_bytes()
+    disc.write_bytes(image_for({"": script_of(text, name)}, disc.name, is_disk=True))
     return ["-drive", f"file={disc},format=raw,if=ide", "-boot", "c"]
 
 
@@ -116,7 +118,7 @@ def _calls(mode: int, rom: str, folder: Path, _: Optional[Path]) -> Machine:
 
 
 def _cirrus(folder: Path, _: Optional[Path]) -> Machine:
-    """Mode 13 on a card that tells of chain 4, with a video BIOS that knows no more than a VGA, by the name that is looked for."""
+    """Mode 13 on a card that tells of chain 4, with a VGA's video BIOS by the name that it looks for."""
     roms = folder / "roms"
     roms.mkdir(exist_ok=True)
     shutil.copy(LGPL, roms / "vgabios-cirrus.bin")
@@ -156,8 +158,8 @@ def _memtest(_: Path, unpacked: Optional[Path]) -> Machine:
     return Machine([*_card(SEA), "-kernel", str(_file(unpacked, "boot/memtest86+x64.bin"))], quiet=3, most=20)
 
 
-# The dots of a cell of character B1, whose ninth dot qemu repeats.
-B1 = 8
+# The dots of the cells of character B1, whose ninth dot qemu repeats.
+B1 = 8 * 75
 KEYS = ("down", "c", "h", "e", "l", "p", "ret")
 # In mode 7 both video BIOSes write the CRT controller at 3B4 before they put it there: these cycles are refused.
 SOFTWARE = {
@@ -167,7 +169,9 @@ SOFTWARE = {
     **{
         f"calls-{mode:02x}-{name}": Software(partial(_calls, mode, rom), refused=refused, dots=dots)
         for name, rom, early in (("sea", SEA, 27), ("lgpl", LGPL, 52))
-        for mode, refused, dots in ((0x03, 0, B1), (0x07, early, B1), (0x0D, 0, 0), (0x10, 0, 0), (0x12, 0, 0), (0x13, 0, 0))
+        for mode, refused, dots in (
+            (0x03, 0, B1), (0x07, early, B1), (0x0D, 0, 0), (0x10, 0, 0), (0x12, 0, 0), (0x13, 0, 0),
+        )
     },
     "calls-13-cirrus": Software(_cirrus),
     "linux": Software(partial(_linux, False), is_unpacked=True),

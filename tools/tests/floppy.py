@@ -41,7 +41,8 @@ class Machine:
         total, length = ((number & 0xFFFF).to_bytes(2, "little") for number in (sum(self.answers), len(self.answers)))
         table = image[TABLE:TABLE + 16 + int.from_bytes(image[TABLE + 8:TABLE + 12], "little")]
         self.record = [
-            b"\r\nVGA-FLOPPY 1\r\n", *_lines("T", table), *_lines("A", self.answers), line("E", len(self.answers), total),
+            b"\r\nVGA-FLOPPY 1\r\n", *_lines("T", table), *_lines("A", self.answers),
+            line("E", len(self.answers), total),
         ]
         left = bytearray(image)
         left[ANSWERS:ANSWERS + len(self.answers)] = self.answers

@@ -20,11 +20,13 @@ PROGRAM = Path(__file__).resolve().parents[1] / "emulator_tests" / "traces.py"
 
 class Traces(unittest.TestCase):
     def test_rows_and_whether_they_are_as_known(self) -> None:
-        judge = Namespace(listing=Namespace(trace=Namespace(count=1000)), verdicts={0: Namespace(held=Namespace(count=0))})
+        verdict = Namespace(held=Namespace(count=0))
+        judge = Namespace(listing=Namespace(trace=Namespace(count=1000)), verdicts={0: verdict})
         written = Written(False, Counter({"out": 10, "frame": 1}), script_bytes=30)
-        replayed, front = Replayed(written, Checked(reads=Counter(a=4, b=3)), judge), "| name | 1,000 | 11 | 30 | 46 | 7 | 0 | 0 |"
+        replayed = Replayed(written, Checked(reads=Counter(a=4, b=3)), judge)
+        front = "| name | 1,000 | 11 | 30 | 46 | 7 | 0 | 0 |"
         for dots, picture in ((0, "the same"), (8, "8 dots differ"), (None, "another size")):
-            judge.verdicts[0].held.count = dots
+            verdict.held.count = dots
             self.assertEqual(row("name", replayed, 0, 8), (f"{front} {picture} |", dots == 8))
 
     def test_the_command_tells_its_software(self) -> None:

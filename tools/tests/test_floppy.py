@@ -50,9 +50,6 @@ int ax=0300 bx=0102
 int ax=1017 bx=00FE cx=2 dx=77
 int ax=1302 bx=F cx=3 dx=101 block 414243
 out 3C3 00
-out 60 FE
-put 9FFFF 00
-show regs
 advance 7
 get A0000
 """
@@ -72,10 +69,7 @@ REPORT = b"""1 ok
 14 ax=1302 bx=000F cx=0003 dx=0101
 15 skipped
 16 skipped
-17 skipped
-18 skipped
-19 skipped
-20 5A
+17 5A
 """
 
 
@@ -92,8 +86,7 @@ class Interpreting(unittest.TestCase):
             steps.hex(" "),
             "0f 03 02 61 62 02 c4 03 02 0f 03 cc 03 05 00 a0 00 00 5a 08 ff af 0f 00 0d 03 00 04 ce 03 0a 01 00 0e 0b da 03 00 "
             "09 00 03 02 01 00 00 00 00 00 00 00 00 00 09 17 10 fe 00 02 00 77 00 04 06 00 00 00 "
-            "09 02 13 0f 00 03 00 01 01 02 00 00 03 00 41 42 43 0a 01 00 0a 01 00 0a 01 00 0a 01 00 0a 01 00 "
-            "07 00 a0 00 00 00",
+            "09 02 13 0f 00 03 00 01 01 02 00 00 03 00 41 42 43 0a 01 00 0a 01 00 07 00 a0 00 00 00",
         )
 
     def test_nothing_but_the_adapter_is_touched(self) -> None:
@@ -118,7 +111,9 @@ class Interpreting(unittest.TestCase):
             for kind, *numbers in found[1:found.index(("begin",))]:
                 state.take(Step(opcodes[kind], *numbers))  # type: ignore[index, arg-type]
             for name, part in vars(wanted).items():
-                self.assertEqual(getattr(vars(state)[name], "__dict__", vars(state)[name]), getattr(part, "__dict__", part), name)
+                # What differs isn't shown: the planes are long.
+                left = vars(state)[name]
+                self.assertTrue(getattr(left, "__dict__", left) == getattr(part, "__dict__", part), name)
 
     @unittest.skipUnless(shutil.which("nasm"), "nasm isn't installed")
     def test_the_bytes_kept_are_those_of_the_source(self) -> None:
@@ -140,7 +135,7 @@ class Interpreting(unittest.TestCase):
         # A floppy tells its form, and a disk none; the code before and behind it is the same.
         self.assertEqual((floppy[11:13], disk[11:62]), (b"\0\2", bytes(51)))
         self.assertEqual((disk[:11], disk[62:440], disk[512:]), (floppy[:11], floppy[62:440], floppy[512:]))
-        # The signature; a partition from sector 1, that of head 0 and number 2, to sector 2879; and three that are empty.
+        # The signature; a partition from sector 1, that of head 0 and number 2, to sector 2879; and three empty ones.
         one = bytes.fromhex("56474146 0000  80 000200 DA 2D2D00 01000000 3F0B0000")
         self.assertEqual((floppy[440:512], disk[440:512]), (bytes(70) + b"\x55\xAA", one + bytes(48) + b"\x55\xAA"))
         self.assertEqual(b"".join(report_lines(read_image(Machine(disk).image, "disk"), "disk")), REPORT)
@@ -171,13 +166,15 @@ class Images(Folder):
         self.assertEqual(run("read", image, reports), (2, b"", message))
         record = self.write("record", b"".join(booted.record[:-2]))
         self.assertEqual(run("read", "--serial", "--part", record, self.folder / "part"), (0, b"", ""))
-        self.assertEqual((self.folder / "part" / "one.report").read_bytes(), b"")
+        left = [(path.name, path.read_bytes()) for path in (self.folder / "part").iterdir()]
+        self.assertEqual(left, [("one.report", b"")])
 
     def test_one_alone_has_a_folder_too(self) -> None:
         image = self.folder / "image"
         self.assertEqual(run("make", self.folder_of_scripts(one="in 3CC\n"), image), (0, b"", ""))
         image.write_bytes(Machine(image.read_bytes()).image)
-        self.assertEqual([run("read", image), run("read", image, self.folder / "reports")], [(0, b"1 CC\n", ""), (0, b"", "")])
+        self.assertEqual(run("read", image), (0, b"1 CC\n", ""))
+        self.assertEqual(run("read", image, self.folder / "reports"), (0, b"", ""))
         self.assertEqual((self.folder / "reports" / "one.report").read_bytes(), b"1 CC\n")
 
     def test_a_bad_one_is_named(self) -> None:
@@ -251,7 +248,8 @@ class Left(Folder):
         # The first of the lines is an empty one too.
         hold(self, lambda lines: self.trouble(read_record, b"".join(lines)), (
             ([b"nothing\n"], "it: it holds no record of vga-floppy"),
-            ([*lines[:at], lines[at].replace(b"CC", b"CD"), *lines[at + 1:]], f"it:{at + 2}: the line's sum is wrong: bytes were lost on their way"),
+            ([*lines[:at], lines[at].replace(b"CC", b"CD"), *lines[at + 1:]],
+             f"it:{at + 2}: the line's sum is wrong: bytes were lost on their way"),
             (lines[:at] + lines[at + 1:], f"it:{at + 2}: bytes from 0 on are to come, and not from 16 on"),
             ([*lines[:at], b"A 0000\r\n", *lines[at + 1:]], f"it:{at + 2}: no line of a record: 'A 0000'"),
             (lines[:5], "it: its table of steps is damaged"),
@@ -284,9 +282,10 @@ class Runs(Folder):
         self.scratch = self.temporary()
 
     def path_with(self, *lines: str) -> str:
-        """A path of programs in which dosbox does this, or leaves what a machine with the script leaves; and goes on."""
+        """A path of programs in which dosbox does this, or what a machine with the script does; and goes on."""
         after = self.write("after", machine(SCRIPT).image)
-        program = self.program("bin/dosbox", "\n".join(["#!/bin/sh", *(lines or [f"cat {after} > script.img"]), "sleep 600"]))
+        text = "\n".join(["#!/bin/sh", *(lines or [f"cat {after} > script.img"]), "sleep 600"])
+        program = self.program("bin/dosbox", text)
         return f"{Path(program).parent}:{os.environ['PATH']}"
 
     def run_on(self, *words: str, path: str, script: str = SCRIPT.decode()) -> tuple[int, bytes, str]:
@@ -304,7 +303,8 @@ class Runs(Folder):
 
     def test_emulators_that_do_not_do_it(self) -> None:
         hold(self, lambda what, *words: self.run_on(*words, path=str(self.folder) if what is None else self.path_with(what)), (
-            (r"printf 'no such\007 part\n'; exit 3", (2, b"", "vga-floppy: dosbox: it ended before the script did: no such part\n")),
+            (r"printf 'no such\007 part\n'; exit 3",
+             (2, b"", "vga-floppy: dosbox: it ended before the script did: no such part\n")),
             (None, (2, b"", "vga-floppy: there is no dosbox: Debian's package dosbox has it\n")),
             ("exit", "--bios", "lgpl", (2, b"", "vga-floppy: dosbox has a video BIOS of its own\n")),
         ))
@@ -335,14 +335,18 @@ class Runs(Folder):
                 stack.enter_context(started([sys.executable, "-S", "-c", code + rest])).pid
                 for rest in 3 * ["while True: pass"] + ["time.sleep(100)"]
             )
-            self.wait_until(lambda: sum(map(running.waited, busy)) > 2.5)
+            began = time.monotonic()
+            self.wait_until(lambda: sum(map(running.waited, busy)) > 5)
+            # Together they could run for as long as has passed, and no longer.
+            self.assertLess(1.3 * (time.monotonic() - began), 5)
             self.assertLess(running.waited(asleep), 1)
         self.assertEqual(running.waited(asleep), 0)
 
     @unittest.skipUnless(sys.platform.startswith("linux"), "Linux alone ends a process with its parent")
     def test_an_emulator_ends_with_a_command_that_is_killed(self) -> None:
         told = self.folder / "child"
-        environment = {**os.environ, "PATH": self.path_with(f"sleep 600 & echo $! > {told}"), "TMPDIR": str(self.folder)}
+        path = self.path_with(f"sleep 600 & echo $! > {told}")
+        environment = {**os.environ, "PATH": path, "TMPDIR": str(self.folder)}
         words = ["vga-floppy", "run", "--on", "dosbox", self.write("script.vga", "frame\n")]
         with begin(*words, env=environment) as process:
             child = self.wait_for(told, process)
@@ -373,7 +377,7 @@ class Pages(Folder):
     def test_tables_between_the_marks(self) -> None:
         self.patch(mock.patch.dict(MACHINES, {DOSBOX: replace(MACHINES[DOSBOX], version=lambda: "0.1")}))
         one = {"name": "host/one", "answer": "differs", "answers": 5, "differing": 2,
-               "answered": "ax=0001 bx=0002", "expected": "ax=0001 bx=0003"}
+               "answered": f"ax=0001 block {'02' * 13}", "expected": "ax=0001 block 03"}
         two = {"name": "host/two", "answer": "agrees", "answers": 2000, "differing": 0}
         rules = [{"rule": f"The {case['name']} | rule.", "folder": "host", "cases": [case]} for case in (one, two)]
         results = {"command": "tools/vga-floppy run --on dosbox {script}", "rules": rules}
@@ -385,7 +389,7 @@ class Pages(Folder):
             "| cases whose run failed | 0 |", "| bytes, words and registers compared | 2,005 |", "| of these as expected | 2,003 |",
             "", "| Folder: cases that agree, are skipped, differ | dosbox |", "|---|---|", "| `host/` | 1, 0, 1 |", "",
             "| Rule of the suite | Case | dosbox |", "|---|---|---|",
-            "| The host/one \\| rule. | `host/one` | bx=0002, not bx=0003 |", "", LAST_MARK, "After.", "",
+            "| The host/one \\| rule. | `host/one` | 020202020202020202020202.., not 03 |", "", LAST_MARK, "After.", "",
         )))
 
     def test_files_that_are_wrong(self) -> None:

@@ -2,6 +2,7 @@
 
 import unittest
 from functools import partial
+from itertools import product
 from random import Random
 from typing import Iterable, Iterator
 
@@ -21,11 +22,16 @@ MEMORY = tuple(f"show plane {plane} {offset:04X} 256" for plane in range(4) for 
 REGISTERS = ("show regs", "show latches", "show beam", *(f"show dac {entry:02X}" for entry in range(256)))
 SHOWN = "".join(f"{line}\n" for line in (*MEMORY, *REGISTERS, "frame", "frame")).encode()
 # Traces at random, and the cycles with which scripts of them begin.
-SEEDS, FIRSTS = range(6), (1, 2, 200, 500, 900, 1200)
-# What cycles at random go to: such as software does, and such as none would.
-PORTS = (0x3C0, 0x3C1, 0x3C2, 0x3C2, 0x3C2, 0x3C3, 0x3C5, 0x3C6, 0x3C7, 0x3C8, 0x3C9, 0x3CA, 0x3CC, 0x3CF, 0x3B5, 0x3D5, 0x3D3, 0x3FF)
+SEEDS, FIRSTS = range(12), (1, 2, 400, 1000)
+# Ports that cycles at random go to, such as software uses and such as none would, and how many indexes some have.
 INDEXES = {0x3C4: 8, 0x3CE: 12, 0x3D4: 0x1C, 0x3B4: 0x1C}
-STATUS = (0x3DA, 0x3BA)
+PORTS = (
+    *(6 * (0x3C4, 0x3C4, 0x3CE, 0x3CE, 0x3D4, 0x3B4)),
+    *(2 * (0x3C0, 0x3C0, 0x3C8, 0x3C7, 0x3C9, 0x3C9, 0x3C9, 0x3DA, 0x3BA)),
+    0x3C0, 0x3C1, 0x3C2, 0x3C2, 0x3C3, 0x3C5, 0x3C6, 0x3C7, 0x3C8, 0x3C9, 0x3CA, 0x3CC, 0x3CF, 0x3B5, 0x3D5, 0x3D3,
+    0x3FF,
+)
+PLACES = (0xA0000, 0xA0000, 0xA0000, 0xAFFF0, 0xB0000, 0xB7FF0, 0xB8000, 0xBFFF0)
 # Registers of the CRT controller that make frames large: of these the low bits alone are written.
 LARGE = {0x01: 0x07, 0x06: 0x1F, 0x07: 0x3F, 0x12: 0x1F, 0x09: 0x9F}
 
@@ -37,62 +43,48 @@ def state_of(steps: Iterable[Step]) -> State:
     return state
 
 
+def hexed(numbers: Iterable[int]) -> str:
+    return "".join(f" {number:02X}" for number in numbers)
+
+
 def listed(data: bytes, **wanted: object) -> list[Step]:
     return list(Listing(trace(data), **wanted).steps())  # type: ignore[arg-type]
 
 
-def _register(random: Random) -> str:
-    """A word for an index and its register."""
-    port = random.choice((0x3C4, 0x3C4, 0x3CE, 0x3CE, 0x3D4, 0x3B4))
-    index = random.randrange(INDEXES[port])
-    value = random.randrange(256)
-    if port in (0x3D4, 0x3B4):
-        value &= LARGE.get(index, 0xFF)
-        if index == 0x17 and random.random() < 0.8:
-            value = value & 0xF0 | 0x03
-    if port == 0x3C4 and index == 4:
-        value = random.choice((0x02, 0x06, 0x0E))
-    return f"w p {port:X} {value:02X}{index:02X} 2"
-
-
-def _port(random: Random) -> str:
-    kind, port = random.choice("rw"), random.choice(PORTS)
-    value, size = random.randrange(256), random.choice((1, 1, 1, 2))
-    if kind == "w" and port in (0x3B5, 0x3D5):
-        value &= 0x07
-    if kind == "w" and port == 0x3C2:
-        value |= random.choice((0x02, 0x02, 0x02, 0))
-        size = 1
-    return f"{kind} p {port:X} {value:X} {size}"
+def noise(seed: int, count: int) -> bytes:
+    """A trace of so many cycles."""
+    random, time, lines = Random(seed), 0, [f"0 w p 3C2 {('63', '66', '67')[seed % 3]} 1\n"]
+    for _ in range(count - 1):
+        time += random.choice((0, 1, 5, 20, 100, 3000, 30_000))
+        lines.append(f"{time} {(_memory if random.random() < 0.43 else _port)(random)}\n")
+    return "".join(lines).encode()
 
 
 def _memory(random: Random) -> str:
-    """A cycle of memory, near the first addresses of the windows."""
-    address = random.choice((0xA0000, 0xA0000, 0xA0000, 0xAFFF0, 0xB0000, 0xB7FF0, 0xB8000, 0xBFFF0)) + random.randrange(24)
-    size = random.choice((1, 1, 2, 4))
+    """A cycle near the first and last addresses of the windows."""
+    address, size = random.choice(PLACES) + random.randrange(24), random.choice((1, 1, 2, 4))
     return f"{random.choice('wwr')} m {address:X} {random.randrange(1 << 8 * size):X} {size}"
 
 
-def noise(seed: int, count: int) -> bytes:
-    return "".join(_lines(Random(seed), count)).encode()
-
-
-def _lines(random: Random, count: int) -> Iterator[str]:
-    time = 0
-    yield f"{time} w p 3C2 {random.choice(('63', '66', '67')):s} 1\n"
-    for _ in range(count - 1):
-        time += random.choice((0, 1, 5, 20, 100, 3000, 30_000))
-        words = random.choice((_register, _register, _port, _memory, _memory, _memory, _dac_or_attribute))(random)
-        yield f"{time} {words}\n"
-
-
-def _dac_or_attribute(random: Random) -> str:
-    """A byte of the DAC or of the attribute controller, or a read of input status 1."""
-    port = random.choice((0x3C0, 0x3C0, 0x3C8, 0x3C7, 0x3C9, 0x3C9, 0x3C9, *STATUS))
-    if port in STATUS or port == 0x3C9 and random.random() < 0.3:
-        return f"r p {port:X} 0 1"
-    value = random.randrange(0x40) if port == 0x3C0 and random.random() < 0.7 else random.randrange(256)
-    return f"w p {port:X} {value:X} 1"
+def _port(random: Random) -> str:
+    """A cycle of a port; mostly a word for an index and its register."""
+    port, value = random.choice(PORTS), random.randrange(256)
+    if port in INDEXES:
+        index = random.randrange(INDEXES[port])
+        if index == 0x17 and random.random() < 0.8:
+            value = value & 0xF0 | 0x03
+        if port in (0x3D4, 0x3B4):
+            value &= LARGE.get(index, 0xFF)
+        if port == 0x3C4 and index == 4:
+            value = random.choice((0x02, 0x06, 0x0E))
+        return f"w p {port:X} {value:02X}{index:02X} 2"
+    if port == 0x3C2:
+        return f"w p 3C2 {value | random.choice((0x02, 0x02, 0x02, 0)):X} 1"
+    if port == 0x3C0 and random.random() < 0.7:
+        value &= 0x3F
+    if port in (0x3B5, 0x3D5):
+        value &= 0x07
+    return f"{random.choice('wwr')} p {port:X} {value:X} {random.choice((1, 1, 1, 1, 2))}"
 
 
 class Program(unittest.TestCase):
@@ -100,34 +92,50 @@ class Program(unittest.TestCase):
         cuts = {f"{seed} {first}": (seed, first) for seed in SEEDS for first in FIRSTS}
         # Without the frames at the end, so that the beam is shown where the cycles leave it.
         scripts = {
-            name: listed(noise(seed, 1200), first=first, has_time=True, frames=0.5)[:-2] for name, (seed, first) in cuts.items()
+            name: listed(noise(seed, 1200), first=first, has_time=True, frames=3.0)[:-2]
+            for name, (seed, first) in cuts.items()
         }
-        ends: dict[str, list[object]] = {}
-        for name, run in run_texts({name: b"".join(map(Step.text, steps)) + SHOWN for name, steps in scripts.items()}).items():
+        ends: dict[int, list[object]] = {}
+        texts = {name: b"".join(map(Step.text, steps)) + SHOWN for name, steps in scripts.items()}
+        for name, run in run_texts(texts).items():
             with self.subTest(name):
                 answers, count = list(Report(stream(run.report), name).steps()), len(scripts[name])
                 state = self.followed(scripts[name], [answer.answer for answer in answers])
-                self.assertEqual([answer.answer for answer in answers[count:count + len(MEMORY)]], list(self.memory(state)))
-                # The frame under way is another, and the one after it the same.
-                ends[name] = [(answer.lines, answer.picture and answer.picture.sum) for answer in (*answers[count:-2], answers[-1])]
-                self.assertEqual(ends[name], ends[f"{cuts[name][0]} 1"])
+                # The frame under way is another, and so is what the beam takes from it; the frame after it is the same.
+                shown = [
+                    (answer.picture and answer.picture.sum, *(line.partition(" base ")[0] for line in answer.lines))
+                    for answer in (*answers[count:-2], answers[-1])
+                ]
+                for line, (_, *lines) in zip(self.dumps(state), shown):
+                    self.assertEqual(line, "\n".join(lines))
+                for one, other in zip(ends.setdefault(cuts[name][0], shown), shown):
+                    self.assertEqual(one, other)
 
     def followed(self, steps: list[Step], answers: list[str]) -> State:
-        """The state that steps leave, of which each read is what the program has answered; as those that rebuild tell."""
+        """The state that steps leave, each read of which is what the program answered; as those that rebuild tell."""
         state = State()
         for step, answer in zip(steps, answers):
             read = state.take(step)
             if step.opcode in READS and not step.is_status:
                 digits = 4 if step.opcode in WORDS else 2
                 self.assertEqual(read, int(answer, 16) if len(answer) == digits else None, step)
-                self.assertIn(step.value, (read,) if step.cycle == 0 else (step.value,))
+                self.assertEqual(read, read if step.cycle else step.value, step)
         return state
 
-    def memory(self, state: State) -> Iterator[str]:
-        for plane in range(4):
-            for offset in range(0, 1 << 16, 256):
-                row = bytes(word >> 8 * plane & 0xFF for word in state.memory.words[offset:offset + 256])
-                yield f"plane {plane} {offset:04X}: {row.hex(' ').upper()}"
+    def dumps(self, state: State) -> Iterator[str]:
+        """What the program shows of a state."""
+        for plane, offset in product(range(4), range(0, 1 << 16, 256)):
+            words = state.memory.words[offset:offset + 256]
+            yield f"plane {plane} {offset:04X}:" + hexed(word >> 8 * plane & 0xFF for word in words)
+        named = ((name, vars(state)[name]) for name in ("seq", "crtc", "gfx"))
+        banks = [f"{name} {bank.index:02X}:{hexed(bank.registers)}" for name, bank in named]
+        dac, attributes = state.dac, f"attr {state.attr.index:02X} {'id'[state.is_data]}:{hexed(state.attr.registers)}"
+        next_one = f"dac {dac.index:02X} {'rgb'[dac.next]} {dac.mask:02X}{hexed(dac.waiting)}"
+        yield "\n".join([f"misc {state.misc:02X}", *banks, attributes, next_one])
+        yield f"latches{hexed(state.memory.latches.to_bytes(4, 'little'))}"
+        yield "beam frame {} line {} char {} dot {}".format(state.beam.frame, *state.beam.place)
+        for entry in range(256):
+            yield f"entry {entry:02X}:{hexed(dac.components[3 * entry:3 * entry + 3])}"
 
 
 class Cuts(unittest.TestCase):

@@ -19,8 +19,7 @@ from vga_report.trouble import Trouble
 from vga_trace import converting
 from vga_trace.checking import count
 from vga_trace.command import main
-from vga_trace.converting import Listing, Written
-from vga_trace.folding import folded
+from vga_trace.converting import Listing, Written, folded
 from vga_trace.passing import Pauses, with_flips, with_frames_every
 from vga_trace.step import ADVANCE, FRAME, IN, NAMES, OUT, OUTW, PUT, Step, steps_of, without_polls
 from vga_trace.trace import MEMORY, PORT, SCREEN, VBE, Cycle, Trace
@@ -144,7 +143,7 @@ class Steps(unittest.TestCase):
             (("w m B8000 41 1", "w m B8001 1F00 2"), ["put B8000 41", "putw B8001 1F00"]),
             (("w m B8000 41 1", "w m B8000 42 1", "w m B8001 43 1"), ["put B8000 41", "putw B8000 4342"]),
             (("w p 3C4 2 1", "w p 3C5 F 1"), ["out 3C4 02", "out 3C5 0F"]),
-            (("w m B8000 41 1",), ["put B8000 41"]),
+            (("w m B8000 41 1",), ["put B8000 41"]), (("r m B8000 55 2",), ["getw B8000 ; = 0055"]),
             # Wider cycles are words from the first.
             (("w m A0000 44332211 4",), ["putw A0000 2211", "putw A0002 4433"]),
             (("r p 3C4 44332211 4",), ["inw 3C4 ; = 2211", "inw 3C6 ; = 4433"]),
@@ -288,8 +287,8 @@ class Endings(Folder):
         self.addCleanup(command.kill)
         assert command.stdin is not None
         with contextlib.suppress(BrokenPipeError):
-            while True:
-                command.stdin.write(BEGIN)
+            for _ in range(1000):
+                command.stdin.write(1000 * BEGIN)
         self.assertEqual((command.wait(60), script.read_bytes()), (0, b"VGAS\x01" + 3 * b"\x01\xc2\x03\x67" + b"\x0b"))
 
     def test_a_compressed_trace_that_is_cut_off(self) -> None:
@@ -321,7 +320,7 @@ class Checking(Folder):
         hold(self, lambda given, *answers: self.check(*answers, given=given), (
             *((self.TRACE, *self.GOOD[:-1], frame,
                (0, ["7 steps, 0 refused, 4 reads answered, 0 differ", index, status, *memory], ""))
-              for frame in (PICTURE, "ragged")),
+              for frame in (PICTURE, "ragged", f"picture {len(PICTURE)} 9x1 {32 * '0'}")),
             (self.TRACE, *self.changed(s5="skipped"),
              (0, ["7 steps, 0 refused, 3 reads answered, 0 differ, 1 skipped", index, status, memory[1]], "")),
             (refusing, "ok", *4 * ["E1 NotDecoded"], "E2 NotInProfile", PICTURE, (1, [

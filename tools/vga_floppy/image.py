@@ -191,7 +191,7 @@ def _text(answer: Step, data: bytes, has_all_registers: bool) -> str:
     if answer.name != CALL:
         return data[::-1].hex().upper() if answer.name in (BYTE, WORD) else answer.name
     ax = answer.numbers[AX]
-    answered = ANSWERED_BY_PALETTE.get(ax, ()) if ax >> 8 == PALETTE else ANSWERED.get(ax >> 8, range(len(REGISTERS)))
+    answered = ANSWERED_BY_PALETTE.get(ax, ()) if ax >> 8 == PALETTE else ANSWERED.get(ax >> 8, (AX, BX, CX, DX))
     left = struct.unpack_from(f"<{len(REGISTERS)}H", data)
     values = [left[at] if has_all_registers or at in answered else answer.numbers[at] for at in range(len(REGISTERS))]
     registers = " ".join(f"{name}={value:04X}" for name, value in zip(REGISTERS, values))

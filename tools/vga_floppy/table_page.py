@@ -24,7 +24,7 @@ SAME, NOTHING, WORD_FAILED = "same", "not compared", "fails"
 
 
 class Results(NamedTuple):
-    """What `vga-report suite --json` printed of `vga-floppy run` on one emulator: its cases, with rule and folder of each."""
+    """What `vga-report suite --json` printed of `vga-floppy run` on an emulator: its cases, with rule and folder."""
 
     name: str
     version: str
@@ -41,7 +41,8 @@ def _read(path: str) -> Results:
     try:
         found = json.loads(data)
         command, cases = found["command"], [
-            {**case, "rule": f"{rule['rule']}", "folder": f"{rule['folder']}"} for rule in found["rules"] for case in rule["cases"]
+            {**case, "rule": str(rule["rule"]), "folder": str(rule["folder"])}
+            for rule in found["rules"] for case in rule["cases"]
         ]
         for case in cases:
             # What lacks a part raises an error.
@@ -131,5 +132,5 @@ def _difference(answered: str, expected: str) -> str:
     words, others = answered.split(), expected.split()
     if len(words) == len(others) > 1:
         answered, expected = next(((one, other) for one, other in zip(words, others) if one != other), ("", ""))
-    answered, expected = (text if len(text) <= MOST_ANSWER else text[:MOST_ANSWER] + ".." for text in (answered, expected))
-    return f"{answered}, not {expected}"
+    cut = (text if len(text) <= MOST_ANSWER else text[:MOST_ANSWER] + ".." for text in (answered, expected))
+    return ", not ".join(cut)

@@ -50,7 +50,7 @@ class Checked:
         self.examples.setdefault(kind, f"first at step {told}")
 
     def take(self, step: Step, answer: Answer, kind: str) -> None:
-        """Counts a step and its answer. Where the beam is no trace can tell: of input status 1 these bits aren't compared."""
+        """Counts a step and its answer. No trace tells where the beam is: these bits of input status 1 don't count."""
         self.steps += 1
         if answer.answer == SKIPPED:
             self.skipped += 1

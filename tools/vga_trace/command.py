@@ -215,7 +215,8 @@ def _write_moving(path: str, animation: Animation, pictures: Iterator[tuple[Pict
         animation.add(picture, lasts, f"picture {number}")
         size += len(animation.frames[-1][0])
         if size > MOST_PACKED:
-            raise Trouble(f"the pictures take more than {MOST_PACKED:,} bytes: --from and --to take a part of the trace")
+            told = f"more than {MOST_PACKED:,} bytes: --from and --to take a part of the trace"
+            raise Trouble(f"the pictures take {told}")
     with writing(path) as stream:
         animation.write(stream)
     told = f"{path}: {len(animation.frames)} pictures, {animation.seconds:.3f} seconds"

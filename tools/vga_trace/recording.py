@@ -89,7 +89,7 @@ class Keeper(Thread):
 
 @dataclass
 class Session:
-    """A machine that runs, with its dumps in a folder: what is done to it, and the seconds when each screen was taken."""
+    """A machine that runs, with its dumps in a folder: what is done to it, and the seconds of its screens."""
 
     machine: Machine
     process: subprocess.Popen[bytes]

@@ -47,7 +47,8 @@ class State:
         self.misc = 0
         self.seq = Bank("033D0F3F0E", 0x07)
         self.gfx = Bank("0F0F0F1F037B0F0FFF", 0x0F, {5: (0x20, 0)})
-        self.crtc = Bank("FF" * 8 + "7FFF3F7F" + "FF" * 8 + "7FFFFFEFFF", 0x1F, {0x14: (0x20, 0), 0x17: (0x0F, 0x03)}, _unprotected)
+        crtc_kept, crtc_wanted = "FF" * 8 + "7FFF3F7F" + "FF" * 8 + "7FFFFFEFFF", {0x14: (0x20, 0), 0x17: (0x0F, 0x03)}
+        self.crtc = Bank(crtc_kept, 0x1F, crtc_wanted, _unprotected)
         self.crtc.registers[0x17] = 0x03
         self.attr = Bank("3F" * PALETTE + "EFFF3F0F0F", 0x3F, {}, _unlocked)
         # Whether the next write to the attribute controller is data.
@@ -142,13 +143,14 @@ class State:
         if bank is not None:
             return partial(getattr, bank, "index")
         if bank_of_data is not None:
-            return bank_of_data.read if bank_of_data.has_register else None
+            read = partial(bank_of_data.registers.__getitem__, bank_of_data.number)
+            return read if bank_of_data.has_register else None
         if port == self.controller + STATUS:
             return self._read_status
         if port == DAC_DATA:
             return self.dac.read
         values = {ATTRIBUTE: self.attr.index, MASK: self.dac.mask, DAC_WRITE: self.dac.index, MISC_READ: self.misc}
-        return partial(values.get, port) if port in values else None  # type: ignore[arg-type]
+        return partial(values.__getitem__, port) if port in values else None
 
     def _read_status(self) -> int:
         self.is_data = False
@@ -209,7 +211,7 @@ class Memory:
 
 
 def _unprotected(crtc: Bank) -> int:
-    """The bits of the register of the index that may be written: the first eight may be protected, but for line compare."""
+    """The bits of the register that may be written: the first eight may be protected, but for line compare."""
     if not crtc.registers[0x11] & PROTECT or crtc.number > 7:
         return 0xFF
     return COMPARE_8 if crtc.number == 7 else 0
@@ -250,10 +252,6 @@ class Bank:
         """Whether the register of an index takes a value."""
         bits, value_wanted = self._wanted.get(index, (0, 0))
         return index < len(self.registers) and value & bits == value_wanted
-
-    def read(self) -> int:
-        """The register of the index, which is there."""
-        return self.registers[self.number]
 
     def write(self, value: int) -> None:
         """Writes the register of the index, which is there."""

@@ -87,11 +87,11 @@ class Trace:
         self._first_write: Optional[Cycle] = None
         self._first_written = self._vbe_index = self._vbe_enabled = 0
         self._index, self._sequencer = 0, bytearray(256)
-        # The cycle from which on chain 4 has had no cycle of memory so far, and the first time that it ended so; 0 if never.
+        # The cycle from which on chain 4 has had none of memory so far, and the first that ended so; 0 if never.
         self._silent = self._first_silent = 0
 
     def cycles(self, most: Optional[int] = None) -> Iterator[Cycle]:
-        """The cycles in their order, so many at most; a Trouble where there is none, or where the trace can't be read on."""
+        """The cycles in their order, so many at most; a Trouble where there is none, or the trace can't be read on."""
         return islice(self._cycles(), most)
 
     def _cycles(self) -> Iterator[Cycle]:
