@@ -183,7 +183,7 @@ SOFTWARE = {
 
 def row(name: str, replayed: Replayed, refused: int, dots: Optional[int]) -> tuple[str, bool]:
     """The row of a recording, and whether it is as known: so many cycles refused, so many dots unlike qemu's."""
-    written, checked, screen = replayed.written, replayed.checked, replayed.judge.verdicts[0]
+    written, checked, screen = replayed.written, replayed.checked, replayed.judge.screens[0]
     plain = len(HEADERS[1]) + sum(FORMS[kind].size * count for kind, count in written.kinds.items())
     counts = [sum(kinds.values()) for kinds in (checked.reads, checked.differing, checked.refused)]
     differing = screen.held.count

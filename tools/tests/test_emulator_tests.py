@@ -21,7 +21,7 @@ PROGRAM = Path(__file__).resolve().parents[1] / "emulator_tests" / "traces.py"
 class Traces(unittest.TestCase):
     def test_rows_and_whether_they_are_as_known(self) -> None:
         verdict = Namespace(held=Namespace(count=0))
-        judge = Namespace(listing=Namespace(trace=Namespace(count=1000)), verdicts={0: verdict})
+        judge = Namespace(listing=Namespace(trace=Namespace(count=1000)), screens={0: verdict})
         written = Written(False, Counter({"out": 10, "frame": 1}), script_bytes=30)
         replayed = Replayed(written, Checked(reads=Counter(a=4, b=3)), judge)
         front = "| name | 1,000 | 11 | 30 | 46 | 7 | 0 | 0 |"

@@ -13,10 +13,11 @@ from functools import partial
 from pathlib import Path
 from unittest import mock
 
+from vga_report.images import image_of
 from vga_trace import recording
 from vga_trace.passing import Clocked
 from vga_trace.recording import PHASES, Deed, Machine, Session
-from vga_trace.replaying import ALLOWED, PAGE, SEEN, Screen, known, whole_rows
+from vga_trace.replaying import ALLOWED, PAGE, SEEN, Screen, whole_rows
 from vga_trace.state import State
 from vga_trace.step import ADVANCE, FRAME, IN, PUT, Step
 from vga_trace.trace import SCREEN
@@ -240,26 +241,23 @@ class Knowledge(unittest.TestCase):
         return state
 
     def test_what_may_show_in_a_state(self) -> None:
-        hold(self, lambda given, dots: known(Screen(self.state(**given), dots)).get("may be", []), (
-            (given, ((8, 0), (17, 3)), names) for given, names in (
-                ({}, []), ({"index": 0}, ["palette address source"]), ({"seq": {1: 0x20}}, ["screen off"]),
-                ({"mask": 0x0F}, ["DAC mask"]), ({"seq": {3: 0x04}}, ["colour plane enable"]),
-                ({"seq": {3: 0x04}, "attr": {0x12: 8}}, []), ({"crtc": {8: 3}}, ["preset row scan"]),
-                ({"attr": {0x13: 4}}, ["panning"]), ({"attr": {0x13: 8}}, []), ({"crtc": {8: 0x20}}, ["panning"]),
-                ({"crtc": {0x18: 0x80, 7: 0x0F, 9: 0x0F}}, ["line compare"]), ({"crtc": {0x18: 0x80, 7: 0x0F}}, []),
-                ({"crtc": {0x14: 0x0D}}, ["underline"]), ({"attr": {0x10: 8}, "word": 0x8700}, ["blinking"]),
-                ({"attr": {0x10: 8}, "word": 0x0700}, []), ({"attr": {0x10: 4}}, ["ninth dot"]),
-            )
+        black, ninth, others = (Picture.of_dots(9, 1, bytes(27 - count) + count * b"\1") for count in (0, 3, 6))
+        hold(self, lambda given: names(self.state(**given), black, ninth).get("may be", []), (
+            ({}, []), ({"index": 0}, ["palette address source"]), ({"seq": {1: 0x20}}, ["screen off"]),
+            ({"mask": 0x0F}, ["DAC mask"]), ({"seq": {3: 0x04}}, ["colour plane enable"]),
+            ({"seq": {3: 0x04}, "attr": {0x12: 8}}, []), ({"crtc": {8: 3}}, ["preset row scan"]),
+            ({"attr": {0x13: 4}}, ["panning"]), ({"attr": {0x13: 8}}, []), ({"crtc": {8: 0x20}}, ["panning"]),
+            ({"crtc": {0x18: 0x80, 7: 0x0F, 9: 0x0F}}, ["line compare"]), ({"crtc": {0x18: 0x80, 7: 0x0F}}, []),
+            ({"crtc": {0x14: 0x0D}}, ["underline"]), ({"attr": {0x10: 8}, "word": 0x8700}, ["blinking"]),
+            ({"attr": {0x10: 8}, "word": 0x0700}, []), ({"attr": {0x10: 4}}, ["ninth dot"]),
         ))
-        self.assertEqual(known(Screen(self.state(attr={0x10: 4}), ((8, 0), (9, 0)))), {})
+        self.assertEqual(names(self.state(attr={0x10: 4}), black, others), {})
 
     def test_a_split_within_a_row(self) -> None:
         def split(here: str, there: str, changed: dict[int, int] = {}, text: int = 1) -> dict[str, list[str]]:
             """What is known of two pictures in graphics, whose line compare is 2 and whose rows have two lines."""
-            picture, image = picture_of(here), picture_of(there)
             state = self.state(gfx={6: text}, crtc={7: 0x0F, 8: 1, 9: 1, 0x18: 2, **changed})
-            dots = [(x, y) for y in range(picture.height) for x in range(2) if picture.row(y) != image.row(y)]
-            return known(Screen(state, dots, picture, image))
+            return names(state, picture_of(here), picture_of(there))
 
         found, none = {"is": ["split within a row"]}, {"may be": ["preset row scan"]}
         hold(self, split, (
@@ -283,8 +281,13 @@ class Knowledge(unittest.TestCase):
             self.assertEqual((part.height, part is picture), (height, height == 8))
             self.assertEqual([part.row(y) for y in range(height)], [picture.row(y) for y in range(height)])
         state, cut = self.state(crtc={8: 1, 9: 2}), "last row of text that isn't whole"
-        self.assertEqual(known(Screen(state, cut=2)), {"is": [cut]})
-        self.assertEqual(known(Screen(state, [(0, 1)], cut=2)), {"is": [cut], "may be": ["preset row scan"]})
+        self.assertEqual(names(state, picture, picture_of("aaabbb")), {"is": [cut]})
+        self.assertEqual(names(state, picture, picture_of("aaabbc")), {"is": [cut], "may be": ["preset row scan"]})
+
+
+def names(state: State, picture: Picture, image: Picture) -> dict[str, list[str]]:
+    """What is known of a screen that qemu shows so."""
+    return Screen(state, picture, image_of(image.ppm, "image")).names
 
 
 def picture_of(rows: str) -> Picture:

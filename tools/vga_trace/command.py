@@ -13,7 +13,7 @@ from vga_report import cli
 from vga_report.cli import add
 from vga_report.output import AGREED, DIFFERED, name_of, refuse_twice, write_name
 from vga_report.png import Animation, Shape, save_png
-from vga_report.program import Built, found_program
+from vga_report.program import found_program
 from vga_report.progress import Progress
 from vga_report.report import Report
 from vga_report.streams import STANDARD, check_file, check_folder, reading, to_read, writing
@@ -24,7 +24,7 @@ from zaklimot.format import Picture
 from .checking import check, count
 from .converting import CLOCK, END, FLIP, SCREENS, Frames, Listing, convert
 from .recording import TRACE, Deed, Machine, chain_4, record
-from .replaying import pictures_of, replay
+from .replaying import replay, shown
 from .trace import Trace, opened
 
 KEEP, FIRST = "keep", "first"
@@ -175,14 +175,6 @@ def _kinds(words: argparse.Namespace, _: Progress) -> None:
     print("\n".join(f"{number:12,} {kind}" for kind, number in found.most_common()))
 
 
-def _shown(program: str, script: Path, words: argparse.Namespace) -> Iterator[tuple[Picture, float]]:
-    """The pictures of a script that the program runs, each with the seconds that it is seen."""
-    with Built(program).running(script, words.fonts, None, True) as outcome:
-        yield from pictures_of(outcome.report, script, words.longest)
-    if outcome.status:
-        raise Trouble(f"it ended with status {outcome.status}: {outcome.fault}", program)
-
-
 def _pictures(words: argparse.Namespace, _: Progress) -> None:
     if words.folder is None and words.apng is None:
         raise Trouble("the pictures want a folder, or --apng a file")
@@ -198,14 +190,15 @@ def _pictures(words: argparse.Namespace, _: Progress) -> None:
             listing = Listing(trace, frames=CLOCK, most=words.to, first=words.from_, longest=words.longest)
             convert(listing, stream)
         _warn(listing, name_of(words.trace))
-        for picture, lasts in _shown(program, script, words):
+        for picture, lasts in shown(program, words.fonts, script, words.longest):
             if words.folder is not None:
                 path = Path(words.folder) / f"{begin:09.3f}.png"
                 save_png(str(path), picture, shape)
                 write_name(path)
             begin, width, height = begin + lasts, max(width, picture.width), max(height, picture.height)
         if words.apng is not None:
-            _write_moving(words.apng, Animation(shape, (width, height)), _shown(program, script, words))
+            pictures = shown(program, words.fonts, script, words.longest)
+            _write_moving(words.apng, Animation(shape, (width, height)), pictures)
 
 
 def _write_moving(path: str, animation: Animation, pictures: Iterator[tuple[Picture, float]]) -> None:
@@ -259,13 +252,13 @@ def _judge(machine: Machine, folder: Path, program: str, fonts: str, progress: P
     lines = [written.line(judge.listing), *checked.lines(MOST_TOLD)]
     are_equal = checked.agrees and bool(screens)
     for number, at in enumerate(screens, 1):
-        verdict, front = judge.verdicts.get(number - 1), f"screen {number} at {at:.1f} s"
-        are_equal &= verdict is not None and verdict.is_equal
-        if verdict is None:
+        screen, front = judge.screens.get(number - 1), f"screen {number} at {at:.1f} s"
+        are_equal &= screen is not None and screen.is_equal
+        if screen is None:
             lines.append(f"{front}: here no frame has the shape of a picture")
             continue
-        lines += verdict.lines(front)
-        verdict.write(folder, number)
+        lines += screen.lines(front)
+        screen.write(folder, number)
     print("\n".join(lines))
     return AGREED if are_equal else DIFFERED
 

@@ -3,17 +3,23 @@
 What qemu is known to show otherwise is told by the pictures, or by registers and memory at a screen.
 """
 
-from dataclasses import dataclass, field
-from pathlib import Path
-from threading import Event
-from typing import BinaryIO, Callable, Iterator, Mapping, NamedTuple, Optional, Sequence
+from __future__ import annotations
 
-from vga_report.images import image_bytes, image_of
+import io
+from dataclasses import dataclass, field
+from functools import cached_property
+from pathlib import Path
+from tempfile import TemporaryDirectory
+from threading import Event
+from typing import Callable, Iterator, Mapping, NamedTuple, Sequence, cast
+
+from vga_report.images import Image, image_bytes, image_of
 from vga_report.png import save_png
 from vga_report.processes import Limits, run_command, said_last
+from vga_report.program import Built
 from vga_report.progress import Progress
 from vga_report.report import Report
-from vga_report.reports import Held, delays_of, held
+from vga_report.reports import delays_of, held
 from vga_report.streams import reading, writing
 from vga_report.trouble import Trouble
 from zaklimot.format import Answer, Picture
@@ -35,24 +41,84 @@ PAGE = "docs/EMULATORS.md"
 NINE = 9
 
 
-class Screen(NamedTuple):
-    """A screen that differs: the state when it was taken, and the dots that do, as columns and rows.
+@dataclass
+class Screen:
+    """A dump of a screen, held against the picture here, and the names of what is known of how they differ.
 
-    `picture` is the picture here, and `image` what qemu showed, of the same size and in six bits a
-    component; both are None where the sizes differ. `cut` is how many lines at the foot of the
-    picture are in neither of them, since qemu shows none of these.
+    `state` is that of the moment, `cycle` how many cycles came before, and `lacking` what the trace lacks up to there.
+    What was held of the picture is all of it, or its front where qemu leaves out the last lines.
     """
 
     state: State
-    dots: Sequence[tuple[int, int]] = ()
-    picture: Optional[Picture] = None
-    image: Optional[Picture] = None
-    cut: int = 0
+    picture: Picture
+    image: Image
+    dump: Path = Path()
+    cycle: int = 0
+    lacking: str = ""
+
+    def __post_init__(self) -> None:
+        self.part, self.held = self.picture, held(self.picture, self.image)
+        if self.held.count is None:
+            front = whole_rows(self.state, self.picture)
+            found = held(front, self.image)
+            if found.count is not None:
+                self.part, self.held = front, found
+        # The state goes on from here: what it tells is asked now.
+        self.names = {} if self.is_equal else _known(self)
+
+    @property
+    def is_equal(self) -> bool:
+        """Whether qemu shows the picture, each dot of it."""
+        return self.held.count == 0 and not self.cut
 
     @property
     def is_text(self) -> bool:
         """Whether the screen is text."""
         return not self.state.gfx.registers[6] & 1
+
+    @property
+    def cut(self) -> int:
+        """How many lines at the foot of the picture qemu leaves out."""
+        return self.picture.height - self.part.height
+
+    @cached_property
+    def dots(self) -> Sequence[tuple[int, int]]:
+        """The dots that differ, as columns and rows; none where the sizes do."""
+        part, other = self.part, self.held.image
+        return [] if other is None else [
+            (x, y) for y in range(part.height) if part.row(y) != other.row(y)
+            for x, mark in enumerate(marks_in_row(part.row(y), other.row(y))) if mark
+        ]
+
+    def lines(self, front: str) -> Iterator[str]:
+        """What is told of it, behind words that tell which screen it is."""
+        yield f"{front}, after cycle {self.cycle:,}: {self._told()}"
+        if not self.is_equal and self.lacking:
+            yield f"  {self.lacking}"
+        elif not self.is_equal:
+            for verb, names in self.names.items():
+                yield f"  {verb} what is known of qemu: {', '.join(names)}; {PAGE} tells of it"
+            if not self.names:
+                yield "  nothing that is known of qemu shows in this state"
+
+    def _told(self) -> str:
+        if self.is_equal:
+            return f"equal, {self.held.how}"
+        if self.held.count is None:
+            return f"another size: {self.held.how}"
+        lacking = f"it lacks the last {self.cut} of {self.picture.height} lines; " if self.cut else ""
+        if not self.dots:
+            return f"{lacking}the others are equal, {self.held.how}"
+        (left, right), (top, bottom) = ((min(at), max(at)) for at in zip(*self.dots))
+        where = f"in columns {left} to {right} and rows {top} to {bottom}"
+        return f"{lacking}{self.held.count:,} of {self.part.width * self.part.height:,} dots differ, {where}"
+
+    def write(self, folder: Path, number: int) -> None:
+        """Leaves the dump, the picture, and where they differ."""
+        self.dump.replace(folder / f"screen-{number}.ppm")
+        save_png(str(folder / f"picture-{number}.png"), self.picture)
+        if self.dots:
+            save_png(str(folder / f"differing-{number}.png"), self.part, other=self.held.image)
 
 
 def _has_blinking(screen: Screen) -> bool:
@@ -105,22 +171,20 @@ def _is_split_within_row(screen: Screen) -> bool:
     It goes on with the lines of the row that is under way, so the split's rows end too high, by the
     lines that this row has had. What comes up from below the picture can't be told from it.
     """
-    picture, image, crtc = screen.picture, screen.image, screen.state.crtc.registers
+    picture, image, crtc = screen.part, screen.held.image, screen.state.crtc.registers
     begin, lines = _line_compare(crtc) + 1, _row_lines(crtc)
     had = begin % lines
-    if screen.is_text or not had or picture is None or image is None:
-        return False
-    if begin >= picture.height or any(y < begin for _, y in screen.dots):
+    if screen.is_text or not had or image is None or any(y < begin for _, y in screen.dots):
         return False
     shown = [(y, begin + (y - begin + had) // lines * lines) for y in range(begin, picture.height)]
-    return all(image.row(y) == picture.row(at) for y, at in shown if at < picture.height)
+    return bool(shown) and all(image.row(y) == picture.row(at) for y, at in shown if at < picture.height)
 
 
 def whole_rows(state: State, picture: Picture) -> Picture:
     """A picture of text without a last row that isn't whole; the picture itself if there is none."""
     height = picture.height - picture.height % _row_lines(state.crtc.registers)
     # Under double scan qemu counts other lines to a row.
-    if not Screen(state).is_text or state.crtc.registers[9] & 0x80 or height in (0, picture.height):
+    if state.gfx.registers[6] & 1 or state.crtc.registers[9] & 0x80 or height in (0, picture.height):
         return picture
     return Picture.of_dots(picture.width, height, b"".join(picture.row(y) for y in range(height)))
 
@@ -145,7 +209,7 @@ ALLOWED: Mapping[str, Callable[[Screen], bool]] = {
 }
 
 
-def known(screen: Screen) -> dict[str, list[str]]:
+def _known(screen: Screen) -> dict[str, list[str]]:
     """The names of the differences that a screen "is" and "may be": none that the pictures rule out."""
     seen = [name for name, shows in SEEN.items() if shows(screen)]
     is_explained = seen and not (screen.cut and screen.dots)
@@ -154,70 +218,17 @@ def known(screen: Screen) -> dict[str, list[str]]:
 
 
 @dataclass
-class Verdict:
-    """The dump of a screen that is nearest to the picture, and how they differ, with the names of what is known of it.
-
-    What was held of the picture is all of it, or its front where qemu leaves out the last lines.
-    """
-
-    dump: Path
-    picture: Picture
-    part: Picture
-    held: Held
-    cycle: int
-    lacking: str
-    dots: Sequence[tuple[int, int]] = ()
-    names: dict[str, list[str]] = field(default_factory=dict)
-
-    @property
-    def is_equal(self) -> bool:
-        """Whether qemu shows the picture, each dot of it."""
-        return self.held.count == 0 and self.part is self.picture
-
-    def lines(self, front: str) -> Iterator[str]:
-        """What is told of it, behind words that tell which screen it is."""
-        yield f"{front}, after cycle {self.cycle:,}: {self._told()}"
-        if not self.is_equal and self.lacking:
-            yield f"  {self.lacking}"
-        elif not self.is_equal:
-            for verb, names in self.names.items():
-                yield f"  {verb} what is known of qemu: {', '.join(names)}; {PAGE} tells of it"
-            if not self.names:
-                yield "  nothing that is known of qemu shows in this state"
-
-    def _told(self) -> str:
-        part, cut = self.part, self.picture.height - self.part.height
-        if self.is_equal:
-            return f"equal, {self.held.how}"
-        if self.held.count is None:
-            return f"another size: {self.held.how}"
-        lacking = f"it lacks the last {cut} of {self.picture.height} lines; " if cut else ""
-        if not self.dots:
-            return f"{lacking}the others are equal, {self.held.how}"
-        (left, right), (top, bottom) = ((min(at), max(at)) for at in zip(*self.dots))
-        where = f"in columns {left} to {right} and rows {top} to {bottom}"
-        return f"{lacking}{self.held.count:,} of {part.width * part.height:,} dots differ, {where}"
-
-    def write(self, folder: Path, number: int) -> None:
-        """Leaves the dump, the picture, and where they differ."""
-        self.dump.replace(folder / f"screen-{number}.ppm")
-        save_png(str(folder / f"picture-{number}.png"), self.picture)
-        if self.held.image is not None and self.held.count:
-            save_png(str(folder / f"differing-{number}.png"), self.part, other=self.held.image)
-
-
-@dataclass
 class Judge:
     """Follows the steps of a trace and the answers to them, and holds the picture at each dump against it.
 
-    `cycles` tells how many cycles stand before each dump, of which a screen has several; verdicts are those of screens.
+    `cycles` tells how many cycles stand before each dump, of which a screen has several: `screens` keeps the nearest.
     """
 
     listing: Listing
     folder: Path
     cycles: Sequence[int]
     state: State = field(default_factory=State)
-    verdicts: dict[int, Verdict] = field(default_factory=dict)
+    screens: dict[int, Screen] = field(default_factory=dict)
     _dumps: int = 0
 
     def steps(self) -> Iterator[Step]:
@@ -237,46 +248,22 @@ class Judge:
 
     def _judge(self, picture: Picture) -> None:
         """Holds a picture against its dump, and keeps of a screen the one that is nearest."""
-        path, screen = dump(self.folder, self._dumps), self._dumps // PHASES
-        image = image_of(image_bytes(str(path)), str(path))
-        part, found = picture, held(picture, image)
-        if found.count is None:
-            # qemu may leave out a row that isn't whole.
-            front = whole_rows(self.state, picture)
-            again = found if front is picture else held(front, image)
-            part, found = (picture, found) if again.count is None else (front, again)
-        last = self.verdicts.get(screen)
-        if last is not None and (found.count is None or last.held.count is not None and last.held.count <= found.count):
-            return
-        verdict = Verdict(path, picture, part, found, self.cycles[self._dumps], self.listing.trace.lacking)
-        if not verdict.is_equal:
-            verdict.dots = _dots(part, found.image) if found.count else ()
-            seen = (part, found.image) if found.image is not None else (None, None)
-            verdict.names = known(Screen(self.state, verdict.dots, *seen, cut=picture.height - part.height))
-        self.verdicts[screen] = verdict
-
-
-def _dots(picture: Picture, image: Optional[Picture]) -> Sequence[tuple[int, int]]:
-    return [] if image is None else [
-        (x, y) for y in range(picture.height) if picture.row(y) != image.row(y)
-        for x, mark in enumerate(marks_in_row(picture.row(y), image.row(y))) if mark
-    ]
+        path, number = dump(self.folder, self._dumps), self._dumps // PHASES
+        image, cycle = image_of(image_bytes(str(path)), str(path)), self.cycles[self._dumps]
+        found, last = Screen(self.state, picture, image, path, cycle, self.listing.trace.lacking), self.screens.get(number)
+        if last is None or found.held.count is not None and (last.held.count is None or found.held.count < last.held.count):
+            self.screens[number] = found
 
 
 def _run_script(program: str, fonts: str, script: Path, report: Path) -> None:
     """Runs a script of bytes, and leaves its report; a Trouble where the program doesn't end well."""
-    messages = report.with_name(report.name + ".said")
-    try:
-        words = [program, "run", script, "--fonts", fonts]
-        outcome = run_command(words, report, messages, MOST_RUN, Event())
+    with TemporaryDirectory(prefix=".run.", dir=report.parent) as made:
+        answers, messages = Path(made) / "report", Path(made) / "said"
+        outcome = run_command([program, "run", script, "--fonts", fonts], answers, messages, MOST_RUN, Event())
         if outcome.status != 0:
             ended = outcome.reason or f"it ended with status {outcome.status}"
             raise Trouble(f"{ended}: {said_last(messages) or 'it said nothing'}", program)
-    except BaseException:
-        report.unlink(missing_ok=True)
-        raise
-    finally:
-        messages.unlink(missing_ok=True)
+        answers.replace(report)
 
 
 class Replayed(NamedTuple):
@@ -301,21 +288,22 @@ def replay(folder: Path, program: str, fonts: str, progress: Progress) -> Replay
     return Replayed(written, checked, judge)
 
 
-def pictures_of(report: BinaryIO, script: Path, at_last: float) -> Iterator[tuple[Picture, float]]:
-    """The pictures of a report, each with the seconds that it is seen, the last with so many more.
+def shown(program: str, fonts: str, script: Path, at_last: float) -> Iterator[tuple[Picture, float]]:
+    """The pictures of a script that the program runs, each with the seconds that it is seen, the last with so many more.
 
     Equal ones that follow one another are one.
     """
-    delay = delays_of(str(script))
-    last: Optional[Picture] = None
-    seconds = 0.0
-    for answer in Report(report, "report").steps():  # type: ignore[arg-type]
-        if not isinstance(answer.picture, Picture):
-            continue
-        if last is not None and answer.picture.ppm != last.ppm:
-            yield last, seconds
-            seconds = 0.0
-        last, seconds = answer.picture, seconds + delay(answer.number)
+    delay, last, seconds = delays_of(str(script)), None, 0.0
+    with Built(program).running(script, fonts, None, True) as outcome:
+        for answer in Report(cast(io.BufferedReader, outcome.report), "report").steps():
+            if not isinstance(answer.picture, Picture):
+                continue
+            if last is not None and answer.picture.ppm != last.ppm:
+                yield last, seconds
+                seconds = 0.0
+            last, seconds = answer.picture, seconds + delay(answer.number)
+    if outcome.status:
+        raise Trouble(f"it ended with status {outcome.status}: {outcome.fault}", program)
     if last is None:
         raise Trouble("no frame has a picture")
     yield last, seconds + at_last
