@@ -8,8 +8,7 @@ from typing import Iterable, Iterator
 
 from vga_report.report import Report
 from vga_trace.converting import Listing
-from vga_trace.rebuilding import rebuilt
-from vga_trace.state import State
+from vga_trace.state import State, rebuilt
 from vga_trace.step import ADVANCE, FRAME, OUT, OUTW, PUTW, READS, WORDS, Step
 
 from .test_trace import trace

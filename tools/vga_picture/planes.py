@@ -12,9 +12,8 @@ from functools import lru_cache
 from itertools import combinations
 from typing import Iterator, Mapping, NamedTuple, Optional, Sequence
 
-from vga_trace.rebuilding import ALL_PLANES, map_mask, masks_of
-from vga_trace.rebuilding import FIRST_ADDRESS as WINDOW
-from vga_trace.state import PLANES
+from vga_trace.state import ALL_PLANES, PLANES, map_mask, masks_of
+from vga_trace.state import FIRST_ADDRESS as WINDOW
 from vga_trace.step import OUTW, PUT, PUTW, Step
 
 # Masks in the order in which they are written: all planes, which a mode set leaves; then those of three, of two, of one.

@@ -11,8 +11,7 @@ from zaklimot import format
 from zaklimot.format import FIRST_LINE, HEADERS, MOST_BYTES, MOST_STEPS
 
 from .passing import Clocked, Pauses, with_flips, with_frames_every
-from .rebuilding import rebuilt
-from .state import State
+from .state import State, rebuilt
 from .step import FRAME, NAMES, Step, steps_of, without_polls
 from .trace import Trace
 

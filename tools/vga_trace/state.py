@@ -1,15 +1,18 @@
-"""What cycles leave of the adapter: its registers, its DAC, its memory and the beam's place."""
+"""What cycles leave of the adapter: its registers, its DAC, its memory and the beam's place.
+
+Steps rebuild such a state from power-on, so that a script can begin in the middle of a trace.
+"""
 
 from __future__ import annotations
 
 from functools import partial
 from math import prod
 from operator import and_, or_, xor
-from typing import Callable, Mapping, Optional, Sequence
+from typing import Callable, Iterable, Iterator, Mapping, Optional, Sequence, TypeVar
 
 from vga_report.timing import shape_of
 
-from .step import ADVANCE, FRAME, GET, GETW, IN, INW, OUT, OUTW, PUT, PUTW, WORDS, Step
+from .step import ADVANCE, FRAME, GET, GETW, IN, INW, OUT, OUTW, PUT, PUTW, READS, WORDS, Step
 
 ATTRIBUTE, ATTRIBUTE_READ, MISC, SEQUENCER, MASK = 0x3C0, 0x3C1, 0x3C2, 0x3C4, 0x3C6
 DAC_READ, DAC_WRITE, DAC_DATA, MISC_READ, GRAPHICS = 0x3C7, 0x3C8, 0x3C9, 0x3CC, 0x3CE
@@ -20,7 +23,7 @@ STATUS = 6
 IS_COLOUR, ENABLE_MEMORY, MISC_KEPT = 0x01, 0x02, 0xEF
 # First address and bytes of the window, by the memory map.
 WINDOWS = ((0xA0000, 0x20000), (0xA0000, 0x10000), (0xB0000, 0x8000), (0xB8000, 0x8000))
-PLANE_BYTES, PLANES = 1 << 16, 4
+FIRST_ADDRESS, PLANE_BYTES, PLANES, ALL_PLANES = 0xA0000, 1 << 16, 4, 0x0F
 # A byte in each of the four bytes of a word, and words of which the bytes of some planes are FF.
 EACH = 0x01010101
 SPREAD = tuple(sum(0xFF << 8 * plane for plane in range(PLANES) if planes >> plane & 1) for planes in range(16))
@@ -36,8 +39,12 @@ PROTECT, COMPARE_8 = 0x80, 0x10
 FRAMES = 32
 # The CRT controller's registers that are taken at a frame's first dot: preset row scan, start address.
 TAKEN = (0x08, 0x0C, 0x0D)
+# Sequencer and graphics controller such that a byte goes to the planes of the map mask, at its address' offset.
+PLANAR = ((SEQUENCER, 0x04, 0x06), *((GRAPHICS, index, 0) for index in range(6)), (GRAPHICS, 0x06, 0x04), (GRAPHICS, 0x08, 0xFF))
+MAP_MASK, RETRACE_END = 0x02, 0x11
 # The lines of a frame, the characters of a line, and the dots of a character.
 Shape = tuple[int, int, int]
+Value = TypeVar("Value")
 
 
 class State:
@@ -130,7 +137,6 @@ class State:
         return partial(self.dac.choose, value) if port in (DAC_READ, DAC_WRITE) else None
 
     def _write_attribute(self, value: int) -> None:
-        """Writes the index or the data of the attribute controller, whichever is next."""
         if self.is_data:
             self.attr.write(value)
         else:
@@ -138,7 +144,6 @@ class State:
         self.is_data = not self.is_data
 
     def _reader(self, port: int) -> Optional[Callable[[], int]]:
-        """What reads a port; None where that is refused."""
         bank, bank_of_data = self._bank(port), self.attr if port == ATTRIBUTE_READ else self._bank(port - 1)
         if bank is not None:
             return partial(getattr, bank, "index")
@@ -191,7 +196,6 @@ class Memory:
         return self.latches >> 8 * plane & 0xFF
 
     def _offset(self, place: int) -> int:
-        """The offset in the planes: by chain 4, by chain odd/even, or the place itself."""
         if self._seq[4] & 8:
             return place & 0xFFFC
         return place & 0xFFFE if self._gfx[6] & 2 else place
@@ -212,13 +216,13 @@ class Memory:
 
 def _unprotected(crtc: Bank) -> int:
     """The bits of the register that may be written: the first eight may be protected, but for line compare."""
-    if not crtc.registers[0x11] & PROTECT or crtc.number > 7:
+    if not crtc.registers[RETRACE_END] & PROTECT or crtc.number > 7:
         return 0xFF
     return COMPARE_8 if crtc.number == 7 else 0
 
 
 def _unlocked(attributes: Bank) -> int:
-    """The same: while the palette is looked at, it isn't written."""
+    # While the palette is looked at, it isn't written.
     return 0 if attributes.index & SOURCE and attributes.number < PALETTE else 0xFF
 
 
@@ -331,3 +335,112 @@ class Beam:
     def end_frame(self) -> None:
         """Goes on to the end of the frame."""
         self.frame, self.place = (self.frame + 1) % FRAMES, (0, 0, 0)
+
+
+def rebuilt(state: State) -> Iterator[Step]:
+    """The steps that take the adapter from power-on to a state. What they read is what it answers then."""
+    taking = State()
+    for step in _steps(state, taking):
+        read = taking.take(step)
+        yield step._replace(value=read) if step.opcode in READS and read is not None else step
+
+
+def _register(port: int, index: int, value: int) -> Step:
+    return Step(OUTW, port, value << 8 | index)
+
+
+def map_mask(planes: int) -> Step:
+    """Lets writes reach these planes alone."""
+    return _register(SEQUENCER, MAP_MASK, planes)
+
+
+def masks_of(values: Iterable[Value]) -> dict[Value, int]:
+    """The planes of each value, of the values of all planes."""
+    masks: dict[Value, int] = {}
+    for plane, value in enumerate(values):
+        masks[value] = masks.get(value, 0) | 1 << plane
+    return masks
+
+
+def _steps(state: State, begin: State) -> Iterator[Step]:
+    if state.beam.frame:
+        # A frame at power-on has fewer dots than any other.
+        yield Step(ADVANCE, state.beam.frame * prod(begin.shape))
+    yield Step(OUT, MISC, state.misc | ENABLE_MEMORY)
+    yield from (_register(*setting) for setting in PLANAR)
+    yield from _latches(state.memory.latches)
+    yield from _planes(state.memory.words)
+    for port, bank in ((GRAPHICS, state.gfx), (SEQUENCER, state.seq)):
+        yield from (_register(port, index, value) for index, value in enumerate(bank.registers))
+    yield from _attributes(state)
+    yield from _dac(state)
+    yield from _controller(state)
+    for port, bank in ((GRAPHICS, state.gfx), (SEQUENCER, state.seq), (state.controller, state.crtc)):
+        yield Step(OUT, port, bank.index)
+    if not state.misc & ENABLE_MEMORY:
+        yield Step(OUT, MISC, state.misc)
+
+
+def _latches(latches: int) -> Iterator[Step]:
+    """Latches are loaded from memory, which has them for as long."""
+    if not latches:
+        return
+    for plane in range(PLANES):
+        yield map_mask(1 << plane)
+        yield Step(PUT, FIRST_ADDRESS, latches >> 8 * plane & 0xFF)
+    yield Step(GET, FIRST_ADDRESS)
+    yield map_mask(ALL_PLANES)
+    yield Step(PUT, FIRST_ADDRESS, 0)
+
+
+def _planes(words: list[int]) -> Iterator[Step]:
+    """What isn't 0 in the planes, two offsets a step, and once for all planes that have the same there."""
+    steps: dict[int, list[Step]] = {}
+    for offset in range(0, PLANE_BYTES, 2):
+        low, high = words[offset], words[offset + 1]
+        if not (low or high):
+            continue
+        values = (low >> 8 * plane & 0xFF | (high >> 8 * plane & 0xFF) << 8 for plane in range(PLANES))
+        for value, planes in masks_of(values).items():
+            if value:
+                steps.setdefault(planes, []).append(Step(PUTW, FIRST_ADDRESS + offset, value))
+    for planes in sorted(steps):
+        yield map_mask(planes)
+        yield from steps[planes]
+
+
+def _attributes(state: State) -> Iterator[Step]:
+    """The attribute controller: its palette is written before it is looked at; what is written next is as it was."""
+    status = state.controller + STATUS
+    yield Step(IN, status)
+    for index, value in enumerate(state.attr.registers):
+        yield Step(OUT, ATTRIBUTE, index)
+        yield Step(OUT, ATTRIBUTE, value)
+    yield Step(OUT, ATTRIBUTE, state.attr.index)
+    if not state.is_data:
+        yield Step(IN, status)
+
+
+def _dac(state: State) -> Iterator[Step]:
+    """The DAC: its entries, what waits for blue, and which component is next, by reading those before it."""
+    dac = state.dac
+    yield Step(OUT, MASK, dac.mask)
+    yield Step(OUT, DAC_WRITE, 0)
+    yield from (Step(OUT, DAC_DATA, component) for component in dac.components)
+    yield from (Step(OUT, DAC_DATA, component) for component in dac.waiting)
+    yield Step(OUT, DAC_WRITE, dac.index)
+    yield from [Step(IN, DAC_DATA)] * dac.next
+
+
+def _controller(state: State) -> Iterator[Step]:
+    """The CRT controller, and the beam's place in its frame, which began with registers of that time."""
+    port, registers = state.controller, state.crtc.registers
+    taken = {} if state.beam.is_at_begin else state.beam.taken
+    yield _register(port, RETRACE_END, registers[RETRACE_END] & ~PROTECT)
+    for index, value in enumerate(registers):
+        if index != RETRACE_END:
+            yield _register(port, index, taken.get(index, value))
+    yield _register(port, RETRACE_END, registers[RETRACE_END])
+    if not state.beam.is_at_begin:
+        yield Step(ADVANCE, state.beam.drawn(state.shape))
+        yield from (_register(port, index, registers[index]) for index in TAKEN)

@@ -7,6 +7,7 @@ import gzip
 import io
 import re
 import zlib
+from collections import defaultdict
 from contextlib import contextmanager
 from itertools import islice
 from typing import BinaryIO, Iterator, NamedTuple, Optional
@@ -26,27 +27,27 @@ GZIP = b"\x1f\x8b"
 # What each cycle of qemu's log has, of whatever device.
 EVENT = b"memory_region_ops_"
 QEMU = re.compile(
-    rb"(?:\d+@(\d+)\.(\d{6}):)?memory_region_ops_(read|write) cpu -?\d+ mr (?:0x[0-9a-f]+|\(nil\)) "
-    rb"addr 0x([0-9a-f]+) value 0x([0-9a-f]+) size (\d) name '([^']*)'\s*"
+    rb"(?:\d+@(?P<time>\d+\.\d{6}):)?memory_region_ops_(?P<kind>read|write) cpu -?\d+ mr (?:0x[0-9a-f]+|\(nil\)) "
+    rb"addr 0x(?P<address>[0-9a-f]+) value 0x(?P<value>[0-9a-f]+) size (?P<size>\d) name '(?P<place>[^']*)'\s*"
 )
-# The regions of qemu's VGA cards, and of a plugin that sees chain 4.
-REGIONS = {
-    b"vga": PORT, b"cirrus-io": PORT,
-    b"vga-lowmem": MEMORY, b"cirrus-low-memory": MEMORY, b"vga-chain4": MEMORY,
-    b"vbe": VBE,
-}
 PLAIN = re.compile(
-    rb"\s*(-|[0-9]{1,18})\s+([rw])\s+([pm])\s+([0-9A-Fa-f]{1,8})\s+([0-9A-Fa-f]{1,16})\s+(\d)\s*(?:;.*)?", re.DOTALL
+    rb"\s*(?:-|(?P<time>[0-9]{1,18}))\s+(?P<kind>[rw])\s+(?P<place>[pm])\s+(?P<address>[0-9A-Fa-f]{1,8})\s+"
+    rb"(?P<value>[0-9A-Fa-f]{1,16})\s+(?P<size>\d)\s*(?:;.*)?", re.DOTALL
 )
+# What the plain form's letters are, and the regions of qemu's VGA cards, and of a plugin that sees chain 4.
+SPACES = {
+    b"p": PORT, b"vga": PORT, b"cirrus-io": PORT, b"vbe": VBE,
+    b"m": MEMORY, b"vga-lowmem": MEMORY, b"cirrus-low-memory": MEMORY, b"vga-chain4": MEMORY,
+}
 # The line of a log that tells where a screen was taken. The filter of the log keeps it with those of the VGA.
 SCREEN = b"screen of 'vga-trace'"
 # A line of the plain form without a cycle: blanks, and a comment.
 PASSED = re.compile(rb"\s*(?:;.*)?", re.DOTALL)
 # What tells that a trace lacks something: registers of the VGA, and of the Bochs VBE extensions.
-MISCELLANEOUS_OUTPUT, SEQUENCER_INDEX, SEQUENCER_DATA = 0x3C2, 0x3C4, 0x3C5
-MAP_MASK, MEMORY_MODE = 2, 4
+MISCELLANEOUS_OUTPUT, SEQUENCER, VBE_INDEX = 0x3C2, 0x3C4, 0x1CE
+INDEX_OF = {0x3C5: SEQUENCER, 0x1CF: VBE_INDEX, 0x1D0: VBE_INDEX}
+MAP_MASK, MEMORY_MODE, VBE_ENABLE = (SEQUENCER, 2), (SEQUENCER, 4), (VBE_INDEX, 4)
 ALL_PLANES, CHAIN_4 = 0x0F, 0x08
-VBE_INDEX, VBE_DATA, VBE_ENABLE = 0x1CE, (0x1CF, 0x1D0), 4
 
 
 class Cycle(NamedTuple):
@@ -83,10 +84,12 @@ class Trace:
         # How many cycles stand before each screen that was taken.
         self.screens: list[int] = []
         self._damaged = self._first_damaged = 0
-        # The first write; and the first that turned VBE on.
-        self._first_write: Optional[Cycle] = None
-        self._first_written = self._vbe_index = self._vbe_enabled = 0
-        self._index, self._sequencer = 0, bytearray(256)
+        # The first write, where that is not one of power-on; and the first that turned VBE on; 0 if never.
+        self._begins_late: Optional[int] = None
+        self._vbe_enabled = 0
+        # What was written to ports, and behind those of an index.
+        self._ports: defaultdict[int, int] = defaultdict(int)
+        self._registers: defaultdict[tuple[int, int], int] = defaultdict(int)
         # The cycle from which on chain 4 has had none of memory so far, and the first that ended so; 0 if never.
         self._silent = self._first_silent = 0
 
@@ -99,9 +102,6 @@ class Trace:
             self.line += 1
             cycle = self._cycle(line)
             if cycle is not None:
-                fault = cycle.fault()
-                if fault is not None:
-                    raise self.trouble(fault)
                 self._watch(cycle)
                 yield cycle
         if self._is_plain is None:
@@ -140,9 +140,31 @@ class Trace:
             return None
         if self._is_plain is None:
             self._is_plain = self._found_form(line)
-        if self._is_plain is None:
+        # A log has other lines too.
+        if self._is_plain is None or not self._is_plain and EVENT not in line:
             return None
-        return self._plain(line) if self._is_plain else self._qemu(line)
+        found = (PLAIN if self._is_plain else QEMU).fullmatch(line)
+        if found is None:
+            self._pass(line)
+        return None if found is None or found["place"] not in SPACES else self._cycle_of(found)
+
+    def _pass(self, line: bytes) -> None:
+        """Passes a line that is no cycle: one of a log is damaged, and the plain form has nothing else but comments."""
+        if not self._is_plain:
+            self._damaged += 1
+            self._first_damaged = self._first_damaged or self.line
+        elif PASSED.fullmatch(line) is None:
+            raise self.trouble("it is no cycle: `TIME r|w p|m ADDRESS VALUE SIZE` is one")
+
+    def _cycle_of(self, found: re.Match[bytes]) -> Cycle:
+        address, value = (int(found[name], 16) for name in ("address", "value"))
+        # A log has seconds with six digits behind the point.
+        time = None if found["time"] is None else int(found["time"].replace(b".", b""))
+        cycle = Cycle(found["kind"].startswith(b"w"), SPACES[found["place"]], address, value, int(found["size"]), time)
+        fault = cycle.fault()
+        if fault is not None:
+            raise self.trouble(fault)
+        return cycle
 
     def _found_form(self, line: bytes) -> Optional[bool]:
         if EVENT in line:
@@ -155,65 +177,38 @@ class Trace:
             raise Trouble("a line before the first cycle is neither a cycle nor a comment", self.name, self._first_other)
         return True
 
-    def _qemu(self, line: bytes) -> Optional[Cycle]:
-        """The cycle of a line of qemu's log. A log may have other lines, but none of a cycle may be damaged."""
-        if EVENT not in line:
-            return None
-        found = QEMU.fullmatch(line)
-        if found is None:
-            self._damaged += 1
-            self._first_damaged = self._first_damaged or self.line
-            return None
-        seconds, micros, kind, address, value, size, region = found.groups()
-        if region not in REGIONS:
-            return None
-        time = None if seconds is None else 1_000_000 * int(seconds) + int(micros)
-        return Cycle(kind == b"write", REGIONS[region], int(address, 16), int(value, 16), int(size), time)
-
-    def _plain(self, line: bytes) -> Optional[Cycle]:
-        """The cycle of a line of the plain form, which has nothing but cycles and comments."""
-        found = PLAIN.fullmatch(line)
-        if found is None:
-            if PASSED.fullmatch(line) is None:
-                raise self.trouble("it is no cycle: `TIME r|w p|m ADDRESS VALUE SIZE` is one")
-            return None
-        time, kind, space, address, value, size = found.groups()
-        return Cycle(
-            kind == b"w", PORT if space == b"p" else MEMORY, int(address, 16), int(value, 16), int(size),
-            None if time == b"-" else int(time),
-        )
-
     def _watch(self, cycle: Cycle) -> None:
-        """Counts a cycle, and looks for what the trace may lack."""
         self.count += 1
         self.untimed += cycle.time is None
         if cycle.space == MEMORY:
             self._silent = 0
-        if cycle.is_write and self._first_write is None:
-            self._first_write, self._first_written = cycle, self.count
-        if cycle.is_write and cycle.space == VBE:
-            if cycle.address == VBE_INDEX:
-                self._vbe_index = cycle.value
-            elif cycle.address in VBE_DATA and self._vbe_index == VBE_ENABLE and cycle.value & 1:
-                self._vbe_enabled = self._vbe_enabled or self.count
-        elif cycle.is_write and cycle.space == PORT:
+        if not cycle.is_write:
+            return
+        if self._begins_late is None:
+            is_first = cycle.space != MEMORY and cycle.address == MISCELLANEOUS_OUTPUT
+            self._begins_late = 0 if is_first else self.count
+        if cycle.space == VBE:
+            self._write(cycle.address, cycle.value)
+        elif cycle.space == PORT:
             for at in range(cycle.size):
-                self._watch_chain(cycle.address + at, cycle.value >> 8 * at & 0xFF)
+                self._write(cycle.address + at, cycle.value >> 8 * at & 0xFF)
 
-    def _watch_chain(self, port: int, value: int) -> None:
-        """Follows the sequencer: under chain 4 with all planes an emulator may serve memory without telling."""
-        if port == SEQUENCER_INDEX:
-            self._index = value
-        elif port == SEQUENCER_DATA:
-            was_chained = self._is_chained
-            self._sequencer[self._index] = value
-            if self._is_chained != was_chained:
-                self._first_silent = self._first_silent or self._silent
-                self._silent = self.count if self._is_chained else 0
+    def _write(self, port: int, value: int) -> None:
+        """Follows registers: under chain 4 with all planes an emulator may serve memory without telling."""
+        was_chained, index_port = self._is_chained, INDEX_OF.get(port)
+        if index_port is None:
+            self._ports[port] = value
+            return
+        self._registers[index_port, self._ports[index_port]] = value
+        if self._registers[VBE_ENABLE] & 1:
+            self._vbe_enabled = self._vbe_enabled or self.count
+        if self._is_chained != was_chained:
+            self._first_silent = self._first_silent or self._silent
+            self._silent = self.count if self._is_chained else 0
 
     @property
     def _is_chained(self) -> bool:
-        return self._sequencer[MAP_MASK] & ALL_PLANES == ALL_PLANES and self._sequencer[MEMORY_MODE] & CHAIN_4 != 0
+        return self._registers[MAP_MASK] & ALL_PLANES == ALL_PLANES and self._registers[MEMORY_MODE] & CHAIN_4 != 0
 
     @property
     def lacking(self) -> str:
@@ -224,12 +219,12 @@ class Trace:
 
     def warnings(self) -> Iterator[str]:
         """What the cycles up to now lack, a line each."""
-        first, silent = self._first_write, self._first_silent or self._silent
+        silent = self._first_silent or self._silent
         if self._damaged:
             yield f"{self._damaged:,} lines of cycles are damaged and left out, line {self._first_damaged:,} first"
         # The first write of a video BIOS is that of miscellaneous output.
-        if first is not None and (first.space == MEMORY or first.address != MISCELLANEOUS_OUTPUT):
-            yield f"cycle {self._first_written:,} writes first, and not port 3C2: the trace doesn't begin at power-on"
+        if self._begins_late:
+            yield f"cycle {self._begins_late:,} writes first, and not port 3C2: the trace doesn't begin at power-on"
         if self._vbe_enabled:
             yield f"cycle {self._vbe_enabled:,} turns VBE on: what follows is no VGA's, and its memory isn't traced"
         if silent:
