@@ -31,7 +31,7 @@ from vga_report.script import script_of
 from vga_report.trouble import Trouble
 from vga_report.words import SUITE
 from vga_trace.recording import TRACE, Deed, Machine, chain_4, record
-from vga_trace.replaying import Replayed, replay
+from vga_trace.replaying import Replay, replay
 from zaklimot.format import FORMS, HEADERS
 
 HEADER = (
@@ -181,14 +181,13 @@ SOFTWARE = {
 }
 
 
-def row(name: str, replayed: Replayed, refused: int, dots: Optional[int]) -> tuple[str, bool]:
+def row(name: str, replayed: Replay, refused: int, dots: Optional[int]) -> tuple[str, bool]:
     """The row of a recording, and whether it is as known: so many cycles refused, so many dots unlike qemu's."""
-    written, checked, screen = replayed.written, replayed.checked, replayed.judge.screens[0]
+    written, checked, differing = replayed.written, replayed.checked, replayed.screens[0].held.count
     plain = len(HEADERS[1]) + sum(FORMS[kind].size * count for kind, count in written.kinds.items())
     counts = [sum(kinds.values()) for kinds in (checked.reads, checked.differing, checked.refused)]
-    differing = screen.held.count
     picture = "another size" if differing is None else f"{differing:,} dots differ" if differing else "the same"
-    figures = (replayed.judge.listing.trace.count, written.steps, written.script_bytes, plain, *counts)
+    figures = (replayed.listing.trace.count, written.steps, written.script_bytes, plain, *counts)
     is_as_known = (counts[1], counts[2], differing) == (0, refused, dots)
     return f"| {name} | {' | '.join(f'{figure:,}' for figure in figures)} | {picture} |", is_as_known
 
@@ -221,7 +220,7 @@ def _replay_all(words: argparse.Namespace, progress: Progress) -> int:
             machine = software.make(folder, words.unpacked)
             record(machine, folder, lambda text: print(f"{name}: {text}", file=sys.stderr, flush=True), progress)
         replayed = replay(folder, str(PROGRAM), str(FONTS), progress)
-        for line in replayed.judge.listing.warnings():
+        for line in replayed.listing.warnings():
             print(f"{name}: {line}", file=sys.stderr)
         told, is_as_known = row(name, replayed, software.refused, software.dots)
         status |= not is_as_known

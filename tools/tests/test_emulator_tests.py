@@ -11,7 +11,7 @@ from types import SimpleNamespace as Namespace
 from emulator_tests.traces import row
 from vga_trace.checking import Checked
 from vga_trace.converting import Written
-from vga_trace.replaying import Replayed
+from vga_trace.replaying import Replay
 
 from .tools import ended, hold_undone
 
@@ -21,9 +21,9 @@ PROGRAM = Path(__file__).resolve().parents[1] / "emulator_tests" / "traces.py"
 class Traces(unittest.TestCase):
     def test_rows_and_whether_they_are_as_known(self) -> None:
         verdict = Namespace(held=Namespace(count=0))
-        judge = Namespace(listing=Namespace(trace=Namespace(count=1000)), screens={0: verdict})
         written = Written(False, Counter({"out": 10, "frame": 1}), script_bytes=30)
-        replayed = Replayed(written, Checked(reads=Counter(a=4, b=3)), judge)
+        checked, listing = Checked(reads=Counter(a=4, b=3)), Namespace(trace=Namespace(count=1000))
+        replayed = Replay(written, listing, Path(), (), checked, screens={0: verdict})
         front = "| name | 1,000 | 11 | 30 | 46 | 7 | 0 | 0 |"
         for dots, picture in ((0, "the same"), (8, "8 dots differ"), (None, "another size")):
             verdict.held.count = dots

@@ -11,6 +11,7 @@ import unittest
 import zlib
 from functools import partial
 from pathlib import Path
+from typing import Sequence
 from unittest import mock
 
 from vga_report.images import image_of
@@ -300,36 +301,28 @@ class RealTime(Folder):
     # Dots of a frame, and its microseconds.
     DOTS, FRAME = 900 * 449, 900 * 449 / 28.322
 
-    def frames(
-        self, *frames: float, longest: float = 1, reads: tuple[float, ...] = ()
-    ) -> tuple[list[tuple[int, int]], Clocked]:
+    def frames(self, longest: float, reads: Sequence[float], *writes: float) -> tuple[list[tuple[int, int]], Clocked]:
         """The frames and dots that pass where something is read, and then written, at so many frames' times."""
         steps = [step._replace(time=0) for step in registers(0x67, 0)]
         steps += [Step(IN, 0x3DA, 0, round(at * self.FRAME)) for at in reads]
-        steps += [Step(PUT, 0xA0000, 1, round(at * self.FRAME)) for at in frames]
+        steps += [Step(PUT, 0xA0000, 1, round(at * self.FRAME)) for at in writes]
         clocked = Clocked(longest)
         return [step[:2] for step in clocked.steps(steps) if step.opcode in (ADVANCE, FRAME)], clocked
 
     def test_a_frame_where_something_is_written(self) -> None:
-        self.assertEqual(self.frames(0.2, 0.4)[0], [])
-        self.assertEqual(self.frames(1.2, 1.4)[0], [(FRAME, 0)])
-        frames, _ = self.frames(1.2, 1.4, 2.2, 5.7)
-        # The first ends at one frame of the usual rate, the second and the third one frame later each.
-        self.assertEqual(frames, [(FRAME, 0), (FRAME, 0), (FRAME, 0), (ADVANCE, 2 * self.DOTS)])
-
-    def test_the_time_that_passes_is_that_of_the_trace(self) -> None:
-        frames, clocked = self.frames(1.2, 41.5, 60.5, longest=10)
-        count = sum(1 for opcode, _ in frames if opcode == FRAME)
-        dots = sum(dots for _, dots in frames)
-        self.assertEqual((count, clocked.shortened), (3, 0))
-        self.assertEqual(count + dots // self.DOTS, 60)
-
-    def test_reads_make_no_frame(self) -> None:
-        frames, _ = self.frames(4.5, reads=(1.2, 2.5, 3.5))
-        self.assertEqual(frames, [(FRAME, 0), (ADVANCE, 3 * self.DOTS)])
+        frame = (FRAME, 0)
+        hold(self, lambda *times: self.frames(*times)[0], (
+            (1, (), 0.2, 0.4, []), (1, (), 1.2, 1.4, [frame]),
+            # The first ends at one frame of the usual rate, the second and the third one frame later each.
+            (1, (), 1.2, 1.4, 2.2, 5.7, [frame, frame, frame, (ADVANCE, 2 * self.DOTS)]),
+            # Reads make none.
+            (1, (1.2, 2.5, 3.5), 4.5, [frame, (ADVANCE, 3 * self.DOTS)]),
+            # The time that passes is that of the trace.
+            (10, (), 1.2, 41.5, 60.5, [frame, frame, (ADVANCE, 39 * self.DOTS), frame, (ADVANCE, 18 * self.DOTS)]),
+        ))
 
     def test_long_silences_are_cut_and_told(self) -> None:
-        frames, clocked = self.frames(1.2, 701.2, 702.5, longest=1)
+        frames, clocked = self.frames(1, (), 1.2, 701.2, 702.5)
         self.assertEqual(clocked.shortened, 1)
         self.assertAlmostEqual(clocked.left_out, 700 * self.FRAME / 1e6 - 1, delta=0.02)
         self.assertEqual(sum(dots for _, dots in frames) // self.DOTS, 69)

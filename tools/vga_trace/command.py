@@ -246,13 +246,13 @@ def _judge(machine: Machine, folder: Path, program: str, fonts: str, progress: P
     screens = record(machine, folder, say, progress)
     if progress.is_due():
         progress.tell(f"{folder / TRACE}: a script is made")
-    written, checked, judge = replay(folder, program, fonts, progress)
+    done = replay(folder, program, fonts, progress)
     progress.clear()
-    _warn(judge.listing, str(folder / TRACE))
-    lines = [written.line(judge.listing), *checked.lines(MOST_TOLD)]
-    are_equal = checked.agrees and bool(screens)
+    _warn(done.listing, str(folder / TRACE))
+    lines = [done.written.line(done.listing), *done.checked.lines(MOST_TOLD)]
+    are_equal = done.checked.agrees and bool(screens)
     for number, at in enumerate(screens, 1):
-        screen, front = judge.screens.get(number - 1), f"screen {number} at {at:.1f} s"
+        screen, front = done.screens.get(number - 1), f"screen {number} at {at:.1f} s"
         are_equal &= screen is not None and screen.is_equal
         if screen is None:
             lines.append(f"{front}: here no frame has the shape of a picture")

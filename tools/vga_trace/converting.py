@@ -79,7 +79,6 @@ class Listing:
             yield f"{self.trace.untimed:,} cycles have no time, and come without a pause"
 
     def _from_the_middle(self, steps: Iterator[Step]) -> Iterator[Step]:
-        """The steps from the first cycle that is wanted on, behind those that rebuild what was done before."""
         state = State()
         for step in steps:
             if step.cycle >= self._first:
@@ -111,10 +110,7 @@ class Listing:
 
 
 class Row(NamedTuple):
-    """Steps with their codes, which a script has once, or more often as a block.
-
-    `cycle` is that of the last step the last time, and 0 where that has none.
-    """
+    """Steps with their codes, which a script has so often; the cycle of the last one, 0 where it is none's."""
 
     steps: Sequence[Step]
     codes: Sequence[bytes]
@@ -222,12 +218,10 @@ def convert(listing: Listing, stream: BinaryIO, is_text: bool = False, has_block
 
     Rows of equal steps become blocks, which version 2 has, if these are wanted.
     """
-    written, body, steps = Written(is_text), bytearray(), 0
-    code = Step.text if is_text else Step.data
-    for row in folded(listing.steps(), code, has_blocks):
+    written, body = Written(is_text), bytearray()
+    for row in folded(listing.steps(), Step.text if is_text else Step.data, has_blocks):
         body += written.row(row)
-        steps += row.count * len(row.steps)
-        if max(written.script_bytes, written.text_bytes) > MOST_BYTES - FOR_THE_END or steps > MOST_STEPS - FOR_THE_END:
+        if max(written.script_bytes, written.text_bytes) > MOST_BYTES - FOR_THE_END or written.steps > MOST_STEPS - FOR_THE_END:
             last, most = written.last_cycle, f"more than {MOST_BYTES:,} bytes, or means more than {MOST_STEPS:,} steps"
             part = f"; `--to {last}` ends before that, and `--from {last + 1}` goes on after it"
             raise Trouble(f"the script has {most}{part if last else ', and no cycle fits'}", listing.trace.name)

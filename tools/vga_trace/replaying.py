@@ -8,10 +8,11 @@ from __future__ import annotations
 import io
 from dataclasses import dataclass, field
 from functools import cached_property
+from math import inf
 from pathlib import Path
 from tempfile import TemporaryDirectory
 from threading import Event
-from typing import Callable, Iterator, Mapping, NamedTuple, Sequence, cast
+from typing import Callable, Iterator, Mapping, Sequence, cast
 
 from vga_report.images import Image, image_bytes, image_of
 from vga_report.png import save_png
@@ -70,6 +71,11 @@ class Screen:
     def is_equal(self) -> bool:
         """Whether qemu shows the picture, each dot of it."""
         return self.held.count == 0 and not self.cut
+
+    @property
+    def distance(self) -> float:
+        """How many dots differ; more than any number of them where the sizes do."""
+        return inf if self.held.count is None else self.held.count
 
     @property
     def is_text(self) -> bool:
@@ -218,15 +224,17 @@ def _known(screen: Screen) -> dict[str, list[str]]:
 
 
 @dataclass
-class Judge:
-    """Follows the steps of a trace and the answers to them, and holds the picture at each dump against it.
+class Replay:
+    """The steps of a trace and the answers to them, as they pass: the script's figures, the reads, and the screens.
 
     `cycles` tells how many cycles stand before each dump, of which a screen has several: `screens` keeps the nearest.
     """
 
+    written: Written
     listing: Listing
     folder: Path
     cycles: Sequence[int]
+    checked: Checked = field(default_factory=Checked)
     state: State = field(default_factory=State)
     screens: dict[int, Screen] = field(default_factory=dict)
     _dumps: int = 0
@@ -247,16 +255,14 @@ class Judge:
             yield answer
 
     def _judge(self, picture: Picture) -> None:
-        """Holds a picture against its dump, and keeps of a screen the one that is nearest."""
         path, number = dump(self.folder, self._dumps), self._dumps // PHASES
         image, cycle = image_of(image_bytes(str(path)), str(path)), self.cycles[self._dumps]
-        found, last = Screen(self.state, picture, image, path, cycle, self.listing.trace.lacking), self.screens.get(number)
-        if last is None or found.held.count is not None and (last.held.count is None or found.held.count < last.held.count):
-            self.screens[number] = found
+        screen = Screen(self.state, picture, image, path, cycle, self.listing.trace.lacking)
+        if number not in self.screens or screen.distance < self.screens[number].distance:
+            self.screens[number] = screen
 
 
 def _run_script(program: str, fonts: str, script: Path, report: Path) -> None:
-    """Runs a script of bytes, and leaves its report; a Trouble where the program doesn't end well."""
     with TemporaryDirectory(prefix=".run.", dir=report.parent) as made:
         answers, messages = Path(made) / "report", Path(made) / "said"
         outcome = run_command([program, "run", script, "--fonts", fonts], answers, messages, MOST_RUN, Event())
@@ -266,15 +272,7 @@ def _run_script(program: str, fonts: str, script: Path, report: Path) -> None:
         answers.replace(report)
 
 
-class Replayed(NamedTuple):
-    """What a replay gave: the script's figures, the reads, and what has judged the screens."""
-
-    written: Written
-    checked: Checked
-    judge: Judge
-
-
-def replay(folder: Path, program: str, fonts: str, progress: Progress) -> Replayed:
+def replay(folder: Path, program: str, fonts: str, progress: Progress) -> Replay:
     """Makes script.bin and report.txt beside a trace and its screens in a folder, and holds all against one another."""
     trace, script, report = str(folder / TRACE), folder / "script.bin", folder / "report.txt"
     with opened(trace) as read, writing(str(script)) as stream:
@@ -282,10 +280,9 @@ def replay(folder: Path, program: str, fonts: str, progress: Progress) -> Replay
         cycles = read.screens
     _run_script(program, fonts, script, report)
     with opened(trace) as read, reading(str(report)) as answers:
-        judge = Judge(Listing(read, frames=SCREENS), folder, cycles)
-        name = str(report)
-        checked = check(judge.steps(), judge.answers(Report(answers, name, progress).steps()), name)
-    return Replayed(written, checked, judge)
+        done, name = Replay(written, Listing(read, frames=SCREENS), folder, cycles), str(report)
+        done.checked = check(done.steps(), done.answers(Report(answers, name, progress).steps()), name)
+    return done
 
 
 def shown(program: str, fonts: str, script: Path, at_last: float) -> Iterator[tuple[Picture, float]]:
