@@ -98,7 +98,6 @@ def _disc(mode: int, folder: Path) -> list[str]:
 
 
 def _grub(is_graphics: bool, keys: Sequence[str], folder: Path, _: Optional[Path]) -> Machine:
-    """GRUB's menu, in text or in 640 by 480 planar."""
     root = folder / ("grub-planar" if is_graphics else "grub-text")
     disc = root.with_suffix(".iso")
     (root / "boot" / "grub").mkdir(parents=True, exist_ok=True)
@@ -126,7 +125,6 @@ def _cirrus(folder: Path, _: Optional[Path]) -> Machine:
 
 
 def _file(folder: Optional[Path], *names: str) -> Path:
-    """The first file of unpacked packages with such a name."""
     assert folder is not None
     for name in names:
         for found in sorted(folder.glob(name)):

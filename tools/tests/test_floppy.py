@@ -168,14 +168,10 @@ class Images(Folder):
         self.assertEqual(run("read", "--serial", "--part", record, self.folder / "part"), (0, b"", ""))
         left = [(path.name, path.read_bytes()) for path in (self.folder / "part").iterdir()]
         self.assertEqual(left, [("one.report", b"")])
-
-    def test_one_alone_has_a_folder_too(self) -> None:
-        image = self.folder / "image"
-        self.assertEqual(run("make", self.folder_of_scripts(one="in 3CC\n"), image), (0, b"", ""))
-        image.write_bytes(Machine(image.read_bytes()).image)
-        self.assertEqual(run("read", image), (0, b"1 CC\n", ""))
-        self.assertEqual(run("read", image, self.folder / "reports"), (0, b"", ""))
-        self.assertEqual((self.folder / "reports" / "one.report").read_bytes(), b"1 CC\n")
+        # One alone has a folder too.
+        image.write_bytes(Machine(image_for({"one": script_of(b"in 3CC\n", "one")}, "one")).image)
+        self.assertEqual((run("read", image), run("read", image, self.folder / "alone")), ((0, b"1 CC\n", ""), (0, b"", "")))
+        self.assertEqual((self.folder / "alone" / "one.report").read_bytes(), b"1 CC\n")
 
     def test_a_bad_one_is_named(self) -> None:
         folder = self.folder_of_scripts(one="frame\n", two="move\n")

@@ -281,9 +281,6 @@ class Knowledge(unittest.TestCase):
             part = whole_rows(self.state(crtc={9: row}, gfx={6: mode}), picture)
             self.assertEqual((part.height, part is picture), (height, height == 8))
             self.assertEqual([part.row(y) for y in range(height)], [picture.row(y) for y in range(height)])
-        state, cut = self.state(crtc={8: 1, 9: 2}), "last row of text that isn't whole"
-        self.assertEqual(names(state, picture, picture_of("aaabbb")), {"is": [cut]})
-        self.assertEqual(names(state, picture, picture_of("aaabbc")), {"is": [cut], "may be": ["preset row scan"]})
 
 
 def names(state: State, picture: Picture, image: Picture) -> dict[str, list[str]]:

@@ -7,11 +7,10 @@ from random import Random
 from typing import Iterable, Iterator
 
 from vga_report.report import Report
-from vga_trace.converting import Listing
 from vga_trace.state import State, rebuilt
 from vga_trace.step import ADVANCE, FRAME, OUT, OUTW, PUTW, READS, WORDS, Step
 
-from .test_trace import trace
+from .test_trace import steps_listed
 from .tools import refused, run_texts, stream
 
 # Steps that enable memory, in planar order with all planes open and no bits masked.
@@ -44,10 +43,6 @@ def state_of(steps: Iterable[Step]) -> State:
 
 def hexed(numbers: Iterable[int]) -> str:
     return "".join(f" {number:02X}" for number in numbers)
-
-
-def listed(data: bytes, **wanted: object) -> list[Step]:
-    return list(Listing(trace(data), **wanted).steps())  # type: ignore[arg-type]
 
 
 def noise(seed: int, count: int) -> bytes:
@@ -91,7 +86,7 @@ class Program(unittest.TestCase):
         cuts = {f"{seed} {first}": (seed, first) for seed in SEEDS for first in FIRSTS}
         # Without the frames at the end, so that the beam is shown where the cycles leave it.
         scripts = {
-            name: listed(noise(seed, 1200), first=first, has_time=True, frames=3.0)[:-2]
+            name: steps_listed(noise(seed, 1200), first=first, has_time=True, frames=3.0)[:-2]
             for name, (seed, first) in cuts.items()
         }
         ends: dict[int, list[object]] = {}
@@ -140,13 +135,13 @@ class Program(unittest.TestCase):
 class Cuts(unittest.TestCase):
     def test_the_first_step_is_that_of_the_cycle(self) -> None:
         data = b"".join(b"- w m A00%02X %02X 1\n" % (2 * at, at) for at in range(20))
-        steps = listed(b"- w p 3C2 3 1\n" + data, first=18)
+        steps = steps_listed(b"- w p 3C2 3 1\n" + data, first=18)
         kept = [(step.cycle, step.address) for step in steps if step.cycle]
         self.assertEqual(kept, [(at, 0xA0000 + 2 * at - 4) for at in (18, 19, 20, 21)])
         self.assertEqual(steps[-1], Step(FRAME))
 
     def test_no_cycle_there(self) -> None:
-        told = refused(partial(listed, noise(1, 5), first=6))
+        told = refused(partial(steps_listed, noise(1, 5), first=6))
         self.assertEqual(told, "trace: it has 5 cycles, and none from 6 on becomes a step")
 
     def test_what_the_frame_under_way_has_taken_stays(self) -> None:

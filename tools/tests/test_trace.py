@@ -11,7 +11,6 @@ import subprocess
 import unittest
 from functools import partial
 from itertools import product
-from random import Random
 from typing import Iterable
 from unittest import mock
 
@@ -23,7 +22,6 @@ from vga_trace.converting import Listing, Written, folded
 from vga_trace.passing import Pauses, with_flips, with_frames_every
 from vga_trace.step import ADVANCE, FRAME, IN, NAMES, OUT, OUTW, PUT, Step, steps_of, without_polls
 from vga_trace.trace import MEMORY, PORT, SCREEN, VBE, Cycle, Trace
-from zaklimot.format import HEADERS, Block, decode, encoded
 
 from .tools import EXAMPLES, Folder, begin, call, hold, hold_undone, ppm, refused, report, run_texts, run_tool
 
@@ -52,9 +50,14 @@ def texts(*steps: Step) -> list[str]:
     return [step.text().decode().strip() for step in steps]
 
 
+def steps_listed(data: bytes, **wanted: object) -> list[Step]:
+    """The steps of a script of a trace."""
+    return list(Listing(trace(data), **wanted).steps())  # type: ignore[arg-type]
+
+
 def listed(data: bytes, **wanted: object) -> list[str]:
-    """The steps of a trace in the plain form, as lines."""
-    return texts(*Listing(trace(data), **wanted).steps())  # type: ignore[arg-type]
+    """The same as lines."""
+    return texts(*steps_listed(data, **wanted))
 
 
 def warned(data: bytes, **wanted: object) -> list[str]:
@@ -178,7 +181,7 @@ class Passing(unittest.TestCase):
             return [Step(IN, 0x3DA, time=time) for time in times]
 
         hold(self, lambda _, *steps: [step.address for step in Pauses().steps(steps) if step.opcode == ADVANCE], (
-            ("two pauses", *registers(0x63, 1), *at(0, 1000, 3000), [25_175, 50_350]),
+            ("two pauses, and half a clock", *registers(0x67, 8), *at(0, 1000, 3000), [14_161, 28_322]),
             ("a frame is the most", *registers(0x67, 0), *at(0, 60_000_000), [900 * 449]),
             ("short times are put together", *registers(0x67, 0), *at(0, 10, 20, 29, 30, 59, 60), [849, 849]),
             ("no clock that is known", *registers(0x6B, 0), *at(0, 1000), []),
@@ -257,7 +260,8 @@ class Converting(Folder):
         said = f"7 cycles, 8 steps, {len(text)} bytes, 1 repeat: 6 in, 1 out, 1 frame\n"
         self.assertEqual(run("convert", "-", "-", "--text", given=given), (0, text, said))
         data = b"VGAS\x02" + bytes.fromhex("01C20367 0D0600 03C903 0E 0B")
-        self.assertEqual(run("convert", "-", "-", given=given)[1], data)
+        said = f"7 cycles, 8 steps, {len(data)} bytes, 1 repeat: 6 in, 1 out, 1 frame\n"
+        self.assertEqual(run("convert", "-", "-", given=given), (0, data, said))
         data = b"VGAS\x01" + bytes.fromhex("01C20367" + 6 * "03C903" + "0B")
         self.assertEqual(run("convert", "-", "-", "--no-repeat", given=given)[1], data)
 
@@ -407,6 +411,8 @@ class Folding(unittest.TestCase):
             ([WRITE, *[POLL] * 100, WRITE], ["out 3C0 20", "repeat 100", "in 3DA", "end", "out 3C0 20"]),
             ([POLL, WRITE] * 30 + [POLL], ["repeat 30", "in 3DA", "out 3C0 20", "end", "in 3DA"]),
             (group * 3, ["repeat 3", *texts(*group), "end"]), (nine, texts(*nine)),
+            # More than are looked at ahead.
+            ([POLL, *group * 600, *nine], ["in 3DA", "repeat 601", *texts(*group), "end", *texts(*nine[8:])]),
             # Reads of other values are one row in bytes, and not in text.
             (other, texts(*other)),
         ))
@@ -424,19 +430,3 @@ class Folding(unittest.TestCase):
         self.assertEqual([row.count for row in rows], [65535, 65535, 1, 1, 1])
         self.assertEqual([row.cycle for row in rows], [65535, 131070, 131071, 131072, 131073])
         self.assertEqual(Written(False).row(rows[0]), bytes.fromhex("0D FFFF 03DA03 0E"))
-
-    def test_the_steps_are_the_same_whatever_they_are(self) -> None:
-        for seed in range(20):
-            random, steps = Random(seed), []
-            while len(steps) < 9000:
-                group = random.choices([POLL, OTHER, WRITE, Step(FRAME), Step(PUT, 0xA0000, 1)], k=random.randint(1, 10))
-                steps += group * random.choice((1, 1, 2, 3, 5, 20, 300))
-            with self.subTest(seed):
-                written = Written(False)
-                data = b"".join(map(written.row, folded(steps, Step.data)))
-                plain = b"".join(map(Written(False).row, folded(steps, Step.data, False)))
-                script = decode(HEADERS[2] + data)
-                self.assertEqual(b"".join(map(encoded, script.steps())), plain)
-                self.assertGreater(min(item.count for item in script.items if isinstance(item, Block)), 1)
-                self.assertEqual((written.steps, written.script_bytes), (len(steps), len(HEADERS[2] + data)))
-                self.assertLess(len(data), len(plain))

@@ -104,7 +104,6 @@ def count(cycles: Iterable[Cycle]) -> Counter[str]:
 
 
 def _place(step: Step, indexes: Mapping[int, int]) -> str:
-    """A name of what a step is about: a port, with its register if it has some, or a window of memory."""
     if step.opcode not in PORTS:
         return place_of(step.address)
     index = INDEX_OF.get(step.address)

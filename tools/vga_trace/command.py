@@ -138,7 +138,6 @@ def _listing(trace: Trace, words: argparse.Namespace) -> Listing:
 
 
 def _opened(words: argparse.Namespace) -> ContextManager[Trace]:
-    """The trace, of which some cycles may be wanted alone."""
     if words.to is not None and words.from_ > words.to:
         raise Trouble(f"--from {words.from_} is after --to {words.to}: no cycle is both")
     return opened(words.trace, is_whole=words.to is None)

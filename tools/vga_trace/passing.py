@@ -73,7 +73,6 @@ class Clocked:
         yield from self._passed()
 
     def _frames(self, now: float) -> Iterator[Step]:
-        """The frame that has ended by now, if there is one to draw."""
         frame = self._timing.frame()
         if self._ends is None:
             self._ends = now + frame
@@ -86,7 +85,6 @@ class Clocked:
         self._ends += ((now - self._ends) // frame + 1) * frame
 
     def _passed(self) -> Iterator[Step]:
-        """The frames between the last that was drawn and the one that ends now."""
         seconds = 0.0 if self._drawn is None or self._ends is None else self._ends - self._drawn
         if seconds > self.longest:
             self.shortened += 1
