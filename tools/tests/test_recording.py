@@ -16,7 +16,7 @@ from unittest import mock
 
 from vga_report.images import image_of
 from vga_trace import recording
-from vga_trace.passing import Clocked
+from vga_trace.converting import Clocked
 from vga_trace.recording import PHASES, Deed, Machine, Session
 from vga_trace.replaying import ALLOWED, PAGE, SEEN, Screen, whole_rows
 from vga_trace.state import State
