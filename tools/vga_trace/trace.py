@@ -90,6 +90,7 @@ class Trace:
         # What was written to ports, and behind those of an index.
         self._ports: defaultdict[int, int] = defaultdict(int)
         self._registers: defaultdict[tuple[int, int], int] = defaultdict(int)
+        self._is_chained = False
         # The cycle from which on chain 4 has had none of memory so far, and the first that ended so; 0 if never.
         self._silent = self._first_silent = 0
 
@@ -146,7 +147,17 @@ class Trace:
         found = (PLAIN if self._is_plain else QEMU).fullmatch(line)
         if found is None:
             self._pass(line)
-        return None if found is None or found["place"] not in SPACES else self._cycle_of(found)
+            return None
+        time, kind, place, address, value, size = found.group("time", "kind", "place", "address", "value", "size")
+        if place not in SPACES:
+            return None
+        # A log has seconds with six digits behind the point.
+        micros = None if time is None else int(time.replace(b".", b""))
+        cycle = Cycle(kind[:1] == b"w", SPACES[place], int(address, 16), int(value, 16), int(size), micros)
+        fault = cycle.fault()
+        if fault is not None:
+            raise self.trouble(fault)
+        return cycle
 
     def _pass(self, line: bytes) -> None:
         """Passes a line that is no cycle: one of a log is damaged, and the plain form has nothing else but comments."""
@@ -155,16 +166,6 @@ class Trace:
             self._first_damaged = self._first_damaged or self.line
         elif PASSED.fullmatch(line) is None:
             raise self.trouble("it is no cycle: `TIME r|w p|m ADDRESS VALUE SIZE` is one")
-
-    def _cycle_of(self, found: re.Match[bytes]) -> Cycle:
-        address, value = (int(found[name], 16) for name in ("address", "value"))
-        # A log has seconds with six digits behind the point.
-        time = None if found["time"] is None else int(found["time"].replace(b".", b""))
-        cycle = Cycle(found["kind"].startswith(b"w"), SPACES[found["place"]], address, value, int(found["size"]), time)
-        fault = cycle.fault()
-        if fault is not None:
-            raise self.trouble(fault)
-        return cycle
 
     def _found_form(self, line: bytes) -> Optional[bool]:
         if EVENT in line:
@@ -195,20 +196,17 @@ class Trace:
 
     def _write(self, port: int, value: int) -> None:
         """Follows registers: under chain 4 with all planes an emulator may serve memory without telling."""
-        was_chained, index_port = self._is_chained, INDEX_OF.get(port)
-        if index_port is None:
+        if port not in INDEX_OF:
             self._ports[port] = value
             return
-        self._registers[index_port, self._ports[index_port]] = value
-        if self._registers[VBE_ENABLE] & 1:
+        registers, was_chained = self._registers, self._is_chained
+        registers[INDEX_OF[port], self._ports[INDEX_OF[port]]] = value
+        if registers[VBE_ENABLE] & 1:
             self._vbe_enabled = self._vbe_enabled or self.count
+        self._is_chained = registers[MAP_MASK] & ALL_PLANES == ALL_PLANES and registers[MEMORY_MODE] & CHAIN_4 != 0
         if self._is_chained != was_chained:
             self._first_silent = self._first_silent or self._silent
             self._silent = self.count if self._is_chained else 0
-
-    @property
-    def _is_chained(self) -> bool:
-        return self._registers[MAP_MASK] & ALL_PLANES == ALL_PLANES and self._registers[MEMORY_MODE] & CHAIN_4 != 0
 
     @property
     def lacking(self) -> str:
