@@ -133,7 +133,6 @@ def _file(folder: Optional[Path], *names: str) -> Path:
 
 
 def _linux(has_font: bool, folder: Path, unpacked: Optional[Path]) -> Machine:
-    """Linux' text console, with a program that writes lines and scrolls, and perhaps a font of 512 characters."""
     root = folder / ("linux-font" if has_font else "linux")
     for name in ("bin", "dev"):
         (root / name).mkdir(parents=True, exist_ok=True)

@@ -204,8 +204,6 @@ class Recorded(Folder):
         self.assertEqual((status, said), (2, f"vga-trace: {program}: it ended with status 3: oh\n"))
         self.assertEqual(sorted(path.name for path in self.into.iterdir()), ["script.bin", "trace.gz"])
 
-
-class Parts(unittest.TestCase):
     def test_a_key_is_given_time_before_it_is_quiet(self) -> None:
         keeper = mock.Mock(size=5, last=0.0)
         session = Session(Machine((), quiet=0.2), mock.Mock(), keeper, Path("folder"), mock.Mock(), acted=0.0)

@@ -29,6 +29,7 @@ PORTS = (
     0x3C0, 0x3C1, 0x3C2, 0x3C2, 0x3C3, 0x3C5, 0x3C6, 0x3C7, 0x3C8, 0x3C9, 0x3CA, 0x3CC, 0x3CF, 0x3B5, 0x3D5, 0x3D3,
     0x3FF,
 )
+# Places near which cycles of memory go: the first and last addresses of the windows.
 PLACES = (0xA0000, 0xA0000, 0xA0000, 0xAFFF0, 0xB0000, 0xB7FF0, 0xB8000, 0xBFFF0)
 # Registers of the CRT controller that make frames large: of these the low bits alone are written.
 LARGE = {0x01: 0x07, 0x06: 0x1F, 0x07: 0x3F, 0x12: 0x1F, 0x09: 0x9F}
@@ -50,17 +51,13 @@ def noise(seed: int, count: int) -> bytes:
     random, time, lines = Random(seed), 0, [f"0 w p 3C2 {('63', '66', '67')[seed % 3]} 1\n"]
     for _ in range(count - 1):
         time += random.choice((0, 1, 5, 20, 100, 3000, 30_000))
-        lines.append(f"{time} {(_memory if random.random() < 0.43 else _port)(random)}\n")
+        address, size = random.choice(PLACES) + random.randrange(24), random.choice((1, 1, 2, 4))
+        memory = f"{random.choice('wwr')} m {address:X} {random.randrange(1 << 8 * size):X} {size}"
+        lines.append(f"{time} {memory if random.random() < 0.43 else of_port(random)}\n")
     return "".join(lines).encode()
 
 
-def _memory(random: Random) -> str:
-    """A cycle near the first and last addresses of the windows."""
-    address, size = random.choice(PLACES) + random.randrange(24), random.choice((1, 1, 2, 4))
-    return f"{random.choice('wwr')} m {address:X} {random.randrange(1 << 8 * size):X} {size}"
-
-
-def _port(random: Random) -> str:
+def of_port(random: Random) -> str:
     """A cycle of a port; mostly a word for an index and its register."""
     port, value = random.choice(PORTS), random.randrange(256)
     if port in INDEXES:

@@ -18,7 +18,7 @@ from vga_report.trouble import Trouble
 from vga_trace import converting
 from vga_trace.checking import count
 from vga_trace.command import main
-from vga_trace.converting import Listing, Pauses, Written, folded, with_flips, with_frames_every
+from vga_trace.converting import Listing, Pauses, Written, folded, with_flips
 from vga_trace.step import ADVANCE, FRAME, IN, NAMES, OUT, OUTW, PUT, Step, steps_of, without_polls
 from vga_trace.trace import MEMORY, PORT, SCREEN, VBE, Cycle, Trace
 
@@ -28,7 +28,7 @@ run = partial(run_tool, "vga-trace")
 # What a trace from power-on begins with.
 BEGIN = b"0 w p 3C2 67 1\n"
 PICTURE = ppm(9, 1, bytes(27))
-POLL, OTHER, WRITE = Step(IN, 0x3DA), Step(IN, 0x3C9), Step(OUT, 0x3C0, 0x20)
+POLL, WRITE = Step(IN, 0x3DA), Step(OUT, 0x3C0, 0x20)
 
 
 def trace(data: bytes) -> Trace:
@@ -214,10 +214,9 @@ class Passing(unittest.TestCase):
         self.assertEqual(listed(BEGIN + b"- w p 3D4 400C 2\n", frames="flip"), flipped)
 
     def test_frames_by_time(self) -> None:
-        steps = [Step(PUT, 0xA0000, 1, time) for time in (0, 400_000, 500_000, 600_000, 5_000_000)]
-        names = [NAMES[step.opcode] for step in with_frames_every(0.5, steps)]
-        self.assertEqual(names, ["put", "put", "frame", "put", "put", "frame", "put"])
-        self.assertEqual(listed(BEGIN + b"600000 w m A0000 1 1\n", frames=0.5), ["out 3C2 67", "frame", "put A0000 01", "frame"])
+        puts = b"".join(b"%d w m A0001 1 1\n" % time for time in (400_000, 500_000, 600_000, 5_000_000))
+        names = [NAMES[step.opcode] for step in steps_listed(BEGIN + puts, frames=0.5)]
+        self.assertEqual(names, ["out", "put", "frame", "put", "put", "frame", "put", "frame"])
 
 
 class Converting(Folder):

@@ -166,6 +166,7 @@ class Listing:
     ) -> None:
         self.trace = trace
         self._keeps_polls, self._has_time, self._frames = keeps_polls, has_time, frames
+        self._is_timed = has_time or frames == CLOCK or isinstance(frames, float)
         self._most, self._first = most, first
         self._pauses, self._clocked = Pauses(), Clocked(longest)
         self.rebuilding = 0
@@ -173,6 +174,8 @@ class Listing:
     def steps(self) -> Iterator[Step]:
         """The steps, and the frame at the end. Where time passes there are two: the first began amid the cycles."""
         steps = steps_of(self.trace.cycles(self._most), self.trace.screens)
+        if self._is_timed:
+            steps = self._timed(steps)
         if not self._keeps_polls:
             steps = without_polls(steps)
         if self._frames == FLIP:
@@ -180,11 +183,11 @@ class Listing:
         elif self._frames == SCREENS:
             steps = self._with_screens(steps)
         elif self._frames == CLOCK:
-            steps = self._clocked.steps(self._timed(steps))
+            steps = self._clocked.steps(steps)
         elif isinstance(self._frames, float):
-            steps = with_frames_every(self._frames, self._timed(steps))
+            steps = with_frames_every(self._frames, steps)
         if self._has_time:
-            steps = self._pauses.steps(self._timed(steps))
+            steps = self._pauses.steps(steps)
         yield from steps if self._first == 1 else self._from_the_middle(steps)
         yield from [Step(FRAME)] * (2 if self._has_time else 1)
 
@@ -197,8 +200,7 @@ class Listing:
         if clocked.shortened:
             silences = counted(clocked.shortened, "silence")
             yield f"{silences} cut to {clocked.longest:g} s, and {clocked.left_out:,.1f} s left out so"
-        is_time_used = self._has_time or self._frames == CLOCK or isinstance(self._frames, float)
-        if is_time_used and self.trace.untimed:
+        if self._is_timed and self.trace.untimed:
             yield f"{self.trace.untimed:,} cycles have no time, and come without a pause"
 
     def _from_the_middle(self, steps: Iterator[Step]) -> Iterator[Step]:
