@@ -345,6 +345,6 @@ class RealTime(Folder):
 
     def test_a_program_that_fails(self) -> None:
         trace = self.write("trace", BEGIN)
-        program = self.program("vga", "#!/bin/sh\nexit 3\n")
+        program = self.program("vga", "#!/bin/sh\necho oh >&2\nexit 3\n")
         status, _, said = run("pictures", trace, self.folder / "pictures", "--vga", program)
-        self.assertEqual((status, said.startswith("vga-trace: ")), (2, True), said)
+        self.assertEqual((status, said), (2, f"vga-trace: {program}: it ended with status 3: oh\n"))

@@ -115,7 +115,7 @@ class Lines(unittest.TestCase):
             (b"- r p 3CC 0 1\n" + BEGIN + b"- w m A0000 1 1\n", []),
             (b"- r p 3CC 0 1\n- w m B8000 1 1\n" + BEGIN, [begin]),
             (b"- r p 3CC 0 1\n- w p 3C4 1 1\n" + BEGIN, [begin]),
-            (vbe("4", "41"), [enabled]), (vbe("4", "0"), []), (vbe("3", "1"), []),
+            (vbe("4", "41"), [enabled]), (vbe("4", "40"), []), (vbe("3", "1"), []),
             (chained, [silent]), (chained + b"- w p 3C4 0604 2\n- w m A0000 1 1\n", [silent]),
             (BEGIN + b"- w p 3C4 4 1\n- w p 3C5 E 1\n- w p 3C4 0F02 2\n", [silent.replace("3 on", "4 on")]),
             (chained + b"- w p 3C4 0E04 2\n- w m A0000 1 1\n- w p 3C4 0604 2\n", []),
@@ -203,7 +203,7 @@ class Passing(unittest.TestCase):
         zero, other = Step(OUTW, 0x3D4, 0x000C), Step(OUTW, 0x3D4, 0x400E)
         hold(self, lambda steps: " ".join(NAMES[step.opcode] for step in with_flips(steps)), (
             ([draw, high, low, draw], "put frame outw outw put"),
-            ([draw, low, draw, high], "put frame outw put frame outw"),
+            ([draw, low, draw, high], "put frame outw put frame outw"), ([high, other, low], "frame outw outw frame outw"),
             # Bytes, and the other place of the controller.
             *(([Step(OUT, port, 0x0C), Step(OUT, port + 1, 0x40), Step(OUT, port, 0x0D), Step(OUT, port + 1, 0x20)],
                "out frame out out out") for port in (0x3D4, 0x3B4)),

@@ -123,20 +123,19 @@ def with_flips(steps: Iterable[Step]) -> Iterator[Step]:
 
     There is one frame for the two halves of an address.
     """
-    index, registers, is_flipping = 0, dict.fromkeys(START_ADDRESS, 0), False
+    index, address, is_flipping = 0, dict.fromkeys(START_ADDRESS, 0), False
     for step in steps:
-        is_of_controller, is_changed = False, False
-        for port, value in bytes_written(step.step):
-            is_of_controller |= port in CONTROLLERS or port - 1 in CONTROLLERS
-            if port in CONTROLLERS:
+        written = [(port & 1, value) for port, value in bytes_written(step.step) if port & ~1 in CONTROLLERS]
+        last = dict(address)
+        for is_data, value in written:
+            if not is_data:
                 index = value
-            elif port - 1 in CONTROLLERS and index in START_ADDRESS:
-                is_changed |= registers[index] != value
-                registers[index] = value
+            elif index in address:
+                address[index] = value
         # A step that goes on with a flip that another has begun has no frame of its own.
-        if is_changed and not is_flipping:
+        if address != last and not is_flipping:
             yield Step(FRAME, time=step.time)
-        is_flipping = is_changed or (is_flipping and is_of_controller and index in START_ADDRESS)
+        is_flipping = address != last or (is_flipping and bool(written) and index in address)
         yield step
 
 

@@ -186,8 +186,7 @@ class Trace:
         if not cycle.is_write:
             return
         if self._begins_late is None:
-            is_first = cycle.space != MEMORY and cycle.address == MISCELLANEOUS_OUTPUT
-            self._begins_late = 0 if is_first else self.count
+            self._begins_late = 0 if cycle.address == MISCELLANEOUS_OUTPUT else self.count
         if cycle.space == VBE:
             self._write(cycle.address, cycle.value)
         elif cycle.space == PORT:
