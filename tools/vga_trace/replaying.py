@@ -290,7 +290,8 @@ def shown(program: str, fonts: str, script: Path, at_last: float) -> Iterator[tu
 
     Equal ones that follow one another are one.
     """
-    delay, last, seconds = delays_of(str(script)), None, 0.0
+    delay, seconds = delays_of(str(script)), 0.0
+    last: Picture | None = None
     with Built(program).running(script, fonts, None, True) as outcome:
         for answer in Report(cast(io.BufferedReader, outcome.report), "report").steps():
             if not isinstance(answer.picture, Picture):
