@@ -5,15 +5,13 @@ from __future__ import annotations
 import json
 import os
 import re
-import shlex
 import shutil
 import signal
-import struct
-import subprocess
 import sys
 import time
 import unittest
 from contextlib import ExitStack
+from dataclasses import replace
 from functools import partial
 from pathlib import Path
 from typing import Callable
@@ -21,25 +19,23 @@ from unittest import mock
 
 from vga_floppy import image as images
 from vga_floppy import running
-from vga_floppy.answers import report_lines
 from vga_floppy.command import main
-from vga_floppy.image import CODE, Run, image_for, read_image, read_record
-from vga_floppy.machines import DOSBOX, MACHINES
+from vga_floppy.image import CODE, Run, image_for, read_image, read_record, report_lines
+from vga_floppy.running import DOSBOX, MACHINES
 from vga_floppy.table import reset_steps, table_for
 from vga_floppy.table_page import FIRST_MARK, LAST_MARK
 from vga_report.cases import read_cases
 from vga_report.processes import started
 from vga_report.faults import script_of
 from vga_report.words import SUITE
-from vga_trace.state import State
-from vga_trace.step import IN, OUT, Step
+from vga_trace.state import Bank, State
+from vga_trace.step import GET, IN, OUT, PUT, Step
 from zaklimot.format import Script
 
-from .floppy import ANSWERS, MARK, Adapter, Machine
+from .floppy import ANSWERS, MARK, Machine, cycles, line, machine
 from .tools import TOOLS, TOP, Folder, begin, call, ended, hold, hold_undone, refused, run_tool
 
 run = partial(run_tool, "vga-floppy")
-FLOPPY = Path(__file__).with_name("floppy.py")
 SCRIPT = b"""version 2
 outw 3C4 0F02
 in 3CC
@@ -54,9 +50,6 @@ int ax=0300 bx=0102
 int ax=1017 bx=00FE cx=2 dx=77
 int ax=1302 bx=F cx=3 dx=101 block 414243
 out 3C3 00
-out 60 FE
-put 9FFFF 00
-show regs
 advance 7
 get A0000
 """
@@ -76,31 +69,15 @@ REPORT = b"""1 ok
 14 ax=1302 bx=000F cx=0003 dx=0101
 15 skipped
 16 skipped
-17 skipped
-18 skipped
-19 skipped
-20 5A
+17 5A
 """
-
-
-def machine(script: bytes) -> tuple[Machine, Adapter]:
-    """A machine with the image of a script, and its adapter."""
-    adapter = Adapter()
-    return Machine(image_for({"": script_of(script, "script")}, "script"), adapter), adapter
-
-
-def cycles(script: bytes) -> list[tuple[object, ...]]:
-    """The cycles of a script's own steps."""
-    booted, adapter = machine(script)
-    booted.run()
-    return adapter.cycles[adapter.cycles.index(("begin",)) + 1:]
 
 
 class Interpreting(unittest.TestCase):
     def test_a_script_step_by_step(self) -> None:
-        booted, _ = machine(SCRIPT)
-        self.assertEqual(b"".join(report_lines(read_image(booted.run(), "image"), "image")), REPORT)
-        record = b"noise\r\n" + b"".join(booted.record)
+        booted = machine(SCRIPT)
+        self.assertEqual(b"".join(report_lines(read_image(booted.image, "image"), "image")), REPORT)
+        record = b"noise\r\n" + b"".join([*booted.record[:-1], line("P", 4096), booted.record[-1]])
         self.assertEqual(b"".join(report_lines(read_record(record, "record"), "record")), REPORT)
 
     def test_the_bytes_of_the_table(self) -> None:
@@ -109,17 +86,8 @@ class Interpreting(unittest.TestCase):
             steps.hex(" "),
             "0f 03 02 61 62 02 c4 03 02 0f 03 cc 03 05 00 a0 00 00 5a 08 ff af 0f 00 0d 03 00 04 ce 03 0a 01 00 0e 0b da 03 00 "
             "09 00 03 02 01 00 00 00 00 00 00 00 00 00 09 17 10 fe 00 02 00 77 00 04 06 00 00 00 "
-            "09 02 13 0f 00 03 00 01 01 02 00 00 03 00 41 42 43 0a 01 00 0a 01 00 0a 01 00 0a 01 00 0a 01 00 "
-            "07 00 a0 00 00 00",
+            "09 02 13 0f 00 03 00 01 01 02 00 00 03 00 41 42 43 0a 01 00 0a 01 00 07 00 a0 00 00 00",
         )
-
-    def test_what_the_adapter_sees(self) -> None:
-        self.assertEqual(cycles(SCRIPT), [
-            ("out", 0x3C4, 0x02), ("out", 0x3C5, 0x0F), ("in", 0x3CC), ("put", 0xA0000, 0x5A),
-            ("get", 0xAFFFF), ("get", 0xB0000), *(3 * [("in", 0x3CE), ("in", 0x3CF)]), ("in", 0x3DA),
-            ("int", 0x0300, 0x0102, 0, 0, "", b""), ("int", 0x1017, 0xFE, 2, 0x77, "table", b""),
-            ("int", 0x1302, 0x0F, 3, 0x101, "bp", b"ABC"), ("get", 0xA0000),
-        ])
 
     def test_nothing_but_the_adapter_is_touched(self) -> None:
         harmful = b"out 3BF 1\nout 3BC 1\noutw 3BB 1\noutw 3C2 1\noutw 3DF 1\nin 3BC\nout 3F2 0\nout CF9 6\noutw FFFF 1\n" \
@@ -127,45 +95,25 @@ class Interpreting(unittest.TestCase):
         self.assertEqual(cycles(harmful), [])
         self.assertEqual(cycles(b"out 3B0 1\nout 3BB 1\nout 3C0 1\nout 3DF 1\nput BFFFF 1\nget A0000\n")[-1], ("get", 0xA0000))
 
-    def test_what_is_before_the_first_step(self) -> None:
+    def test_before_the_first_step_the_adapter_is_as_at_power_on(self) -> None:
+        opcodes = {"out": OUT, "in": IN, "put": PUT, "get": GET}
         for script, last in ((b"frame\n", 0x00), (b"int ax=3\n", 0x03), (b"version 2\nrepeat 2\nint ax=3\nend\n", 0x03)):
-            booted, adapter = machine(script)
-            booted.run()
-            before = adapter.cycles[:adapter.cycles.index(("begin",))]
-            self.assertEqual({address for kind, address, *_ in before if kind == "put"}, set(range(0xA0000, 0xB0000)))
-            self.assertEqual(before[0], ("int", 3, 0, 0, 0, "", b""))
-            self.assertEqual(before[-1], ("out", 0x3C2, last))
-            self.assertEqual(len(booted.answers), 8 * (script.count(b"int") + script.count(b"repeat")))
-            self.assertEqual(before.count(("out", 0x3C9, 0)), 768)
-            self.assertEqual(self.registers(before), {
-                "misc": last, "seq": [3, 0, 0, 0, 0], "gfx": [0] * 9, "crtc": [3 if at == 0x17 else 0 for at in range(25)],
-                "attr": [0] * 21, "mask": 0xFF,
-            })
-
-    def registers(self, before: list[tuple[object, ...]]) -> dict[str, object]:
-        """What cycles leave in an adapter's registers, of which each had another value."""
-        state = State()
-        banks = {"seq": state.seq, "gfx": state.gfx, "crtc": state.crtc, "attr": state.attr}
-        state.misc = state.dac.mask = state.attr.is_data = 0x54
-        for bank in banks.values():
-            bank.index, bank.registers = 1, [0x55] * len(bank.registers)
-        for kind, port, *value in before[1:]:
-            if kind in ("in", "out"):
-                state.take(Step(OUT if kind == "out" else IN, port, *value))  # type: ignore[arg-type]
-        self.assertFalse(state.attr.is_data)
-        self.assertEqual({bank.index for bank in banks.values()}, {0})
-        return {"misc": state.misc, "mask": state.dac.mask, **{name: bank.registers for name, bank in banks.items()}}
-
-    def test_progress_goes_out_with_the_answers(self) -> None:
-        booted, _ = machine(b"version 2\nrepeat 5000\nin 3CC\nend\n")
-        booted.run()
-        self.assertEqual(sum(line.startswith(b"P ") for line in booted.record), 2)
-        self.assertIn(b"P 001000 10\r\n", booted.record)
-        self.assertIn(b"P 002000 20\r\n", booted.record)
-
-    def test_blocks_are_interpreted_and_not_unrolled(self) -> None:
-        long, short = (table_for({"": script_of(b"version 2\nrepeat %d\nout 3C4 2\nend\n" % count, "it")}) for count in (65535, 1))
-        self.assertEqual(len(long), len(short))
+            found, wanted, state = machine(script).cycles, State(), State()
+            self.assertEqual(found[0], ("int", 3, 0, 0, 0, 0, b""))
+            # Two registers are left otherwise; and before, all have another value.
+            wanted.misc, wanted.seq.registers[0] = last, 3
+            state.memory.words[:], state.dac.components[:] = [0x12345678] * 0x10000, [0x15] * 768
+            state.misc = state.dac.mask = state.memory.latches = state.is_data = 0x54
+            banks = [part for part in vars(state).values() if isinstance(part, Bank)]
+            for bank, index in ((bank, index) for bank in banks for index in range(len(bank.registers))):
+                bank.index = index
+                bank.write(0x55)
+            for kind, *numbers in found[1:found.index(("begin",))]:
+                state.take(Step(opcodes[kind], *numbers))  # type: ignore[index, arg-type]
+            for name, part in vars(wanted).items():
+                # What differs isn't shown: the planes are long.
+                left = vars(state)[name]
+                self.assertTrue(getattr(left, "__dict__", left) == getattr(part, "__dict__", part), name)
 
     @unittest.skipUnless(shutil.which("nasm"), "nasm isn't installed")
     def test_the_bytes_kept_are_those_of_the_source(self) -> None:
@@ -184,21 +132,16 @@ class Interpreting(unittest.TestCase):
 
     def test_a_disk_has_a_table_of_partitions(self) -> None:
         floppy, disk = (image_for({"": script_of(SCRIPT, "script")}, "script", is_disk=is_disk) for is_disk in (False, True))
-        self.assertEqual((len(disk), floppy[440:512], disk[510:512]), (len(floppy), bytes(70) + b"\x55\xAA", b"\x55\xAA"))
         # A floppy tells its form, and a disk none; the code before and behind it is the same.
         self.assertEqual((floppy[11:13], disk[11:62]), (b"\0\2", bytes(51)))
         self.assertEqual((disk[:11], disk[62:440], disk[512:]), (floppy[:11], floppy[62:440], floppy[512:]))
-        self.assertEqual((disk[440:446], disk[462:510]), (b"VGAF\0\0", bytes(48)))
-        active, head, sector, track, _, last_head, last_sector, last_track, first, length = struct.unpack_from("<8B2I", disk, 446)
-        self.assertEqual((active, first, length), (0x80, 1, len(disk) // 512 - 1))
-        for number, place in ((first, (track, head, sector)), (first + length - 1, (last_track, last_head, last_sector))):
-            self.assertEqual((0, number // 63, number % 63 + 1), place)
-        self.assertEqual(b"".join(report_lines(read_image(Machine(disk, Adapter()).run(), "disk"), "disk")), REPORT)
+        # The signature; a partition from sector 1, that of head 0 and number 2, to sector 2879; and three empty ones.
+        one = bytes.fromhex("56474146 0000  80 000200 DA 2D2D00 01000000 3F0B0000")
+        self.assertEqual((floppy[440:512], disk[440:512]), (bytes(70) + b"\x55\xAA", one + bytes(48) + b"\x55\xAA"))
+        self.assertEqual(b"".join(report_lines(read_image(Machine(disk).image, "disk"), "disk")), REPORT)
 
 
 class Images(Folder):
-    """Images of one script, and of several that run one after the other."""
-
     def folder_of_scripts(self, **scripts: str) -> Path:
         for name, text in scripts.items():
             self.write(f"scripts/{name}.vga", text)
@@ -208,11 +151,9 @@ class Images(Folder):
     def test_each_has_a_report(self) -> None:
         folder, image = self.folder_of_scripts(one="in 3CC\nframe\n", two="int ax=300\n", three="put A0000 1\n"), self.folder / "image"
         self.assertEqual(run("make", folder, image), (0, b"", ""))
-        adapter = Adapter()
-        booted = Machine(image.read_bytes(), adapter)
-        image.write_bytes(booted.run())
-        self.assertEqual(adapter.cycles.count(("begin",)), 3)
-        outputs = [cycle[2] for cycle, after in zip(adapter.cycles, adapter.cycles[1:]) if after == ("begin",)]
+        booted = Machine(image.read_bytes())
+        image.write_bytes(booted.image)
+        outputs = [cycle[2] for cycle, after in zip(booted.cycles, booted.cycles[1:]) if after == ("begin",)]
         self.assertEqual(outputs, [0, 3, 0])
         reports, texts = self.folder / "reports", {
             "one.report": b"1 CC\n2 skipped\n", "two.report": b"1 ax=0300 bx=0000 cx=1234 dx=1234\n", "three.report": b"1 ok\n",
@@ -225,17 +166,12 @@ class Images(Folder):
         self.assertEqual(run("read", image, reports), (2, b"", message))
         record = self.write("record", b"".join(booted.record[:-2]))
         self.assertEqual(run("read", "--serial", "--part", record, self.folder / "part"), (0, b"", ""))
-        self.assertEqual((self.folder / "part" / "one.report").read_bytes(), b"")
-
-    def test_one_alone_has_a_folder_too(self) -> None:
-        folder, image = self.folder_of_scripts(one="in 3CC\n"), self.folder / "image"
-        self.assertEqual(run("make", "--disk", folder, image), (0, b"", ""))
-        self.assertEqual(image.read_bytes()[446], 0x80)
-        image.write_bytes(Machine(image.read_bytes(), Adapter()).run())
-        self.assertEqual(run("read", image), (0, b"1 CC\n", ""))
-        reports = self.folder / "reports"
-        self.assertEqual(run("read", image, reports), (0, b"", ""))
-        self.assertEqual({path.name: path.read_bytes() for path in reports.iterdir()}, {"one.report": b"1 CC\n"})
+        left = [(path.name, path.read_bytes()) for path in (self.folder / "part").iterdir()]
+        self.assertEqual(left, [("one.report", b"")])
+        # One alone has a folder too.
+        image.write_bytes(Machine(image_for({"one": script_of(b"in 3CC\n", "one")}, "one")).image)
+        self.assertEqual((run("read", image), run("read", image, self.folder / "alone")), ((0, b"1 CC\n", ""), (0, b"", "")))
+        self.assertEqual((self.folder / "alone" / "one.report").read_bytes(), b"1 CC\n")
 
     def test_a_bad_one_is_named(self) -> None:
         folder = self.folder_of_scripts(one="frame\n", two="move\n")
@@ -244,17 +180,18 @@ class Images(Folder):
     def test_a_name_of_a_file_elsewhere(self) -> None:
         for name in ("../one", str(self.folder / "one")):
             image = image_for({name: Script(), "two": Script()}, "it")
-            path = self.write("image", Machine(image, Adapter()).run())
+            path = self.write("image", Machine(image).image)
             said = f"vga-floppy: {path}: a script has the name of a file outside of a folder: '{name[:40]}'\n"
             self.assertEqual(run("read", path, self.folder / "reports"), (2, b"", said))
             self.assertEqual(list((self.folder / "reports").iterdir()), [])
 
     def test_an_image_is_made_and_read(self) -> None:
-        script, image = self.write("script.vga", SCRIPT.decode()), self.folder / "image"
+        script, image = self.write("script.vga", SCRIPT), self.folder / "image"
         self.assertEqual(run("make", script, image), (0, b"", ""))
-        self.assertEqual(run("make", "-", "-", given=SCRIPT)[1], image.read_bytes())
-        self.assertEqual(image.read_bytes()[64], 0)
-        image.write_bytes(Machine(image.read_bytes(), Adapter()).run())
+        for options, byte in ((), 0x00), (("--disk",), 0x80):
+            made = run("make", *options, "-", "-", given=SCRIPT)[1]
+            self.assertEqual((made[64], made[446], made == image.read_bytes()), (0, byte, not options))
+        image.write_bytes(Machine(image.read_bytes()).image)
         self.assertEqual(run("read", image), (0, REPORT, ""))
         self.assertEqual(run("read", "-", self.folder / "report", given=image.read_bytes()), (0, b"", ""))
         self.assertEqual((self.folder / "report").read_bytes(), REPORT)
@@ -269,16 +206,11 @@ class Images(Folder):
 
 
 class Left(Folder):
-    """What a run has left, and what isn't whole of it."""
-
     def setUp(self) -> None:
         super().setUp()
-        self.machine, _ = machine(SCRIPT)
-        self.image = self.machine.run()
-        self.record = b"".join(self.machine.record)
+        self.image = machine(SCRIPT).image
 
     def trouble(self, read: Callable[[bytes, str], Run], data: bytes) -> str:
-        """What is told of an image or a record."""
         return refused(lambda: list(report_lines(read(data, "it"), "it")))
 
     def changed(self, at: int, byte: int) -> bytes:
@@ -302,39 +234,32 @@ class Left(Folder):
             (self.changed(512 * 5 + 11, 0x77), "it: its table of steps is damaged"),
         ))
 
-    def test_answers_of_another_number_than_steps(self) -> None:
-        table = read_image(self.image, "it").table
-        hold(self, partial(self.trouble, lambda data, _: Run(table, data)), (
-            (b"\1", "it: it has no answer for step 4"),
-            (bytes(99), "it: it has 99 bytes of answers, and its steps have 40"),
-        ))
+    def test_fewer_answers_than_steps(self) -> None:
+        run = Run(read_image(self.image, "it").table, b"\1")
+        self.assertEqual(refused(lambda: list(report_lines(run, "it"))), "it: it has no answer for step 4")
 
     def test_records_that_are_damaged(self) -> None:
-        lines = self.record.split(b"\r\n")
+        lines = machine(SCRIPT).record
         at = next(at for at, line in enumerate(lines) if line.startswith(b"A"))
-        # The last line with another sum of the answers, and the line's own as it is then.
-        *front, total, check = lines[-2].split(b" ")
-        other = b" ".join([*front, b"%04X" % (int(total, 16) ^ 1), b"%02X" % (int(check, 16) + (-1 if int(total, 16) & 1 else 1))])
-        hold(self, partial(self.trouble, read_record), (
-            (b"nothing\n", "it: it holds no record of vga-floppy"),
-            (self.record.replace(b"\r\nA 000000 CC", b"\r\nA 000000 CD"), f"it:{at + 1}: the line's sum is wrong: bytes were lost on their way"),
-            (b"\r\n".join(lines[:at] + lines[at + 1:]), f"it:{at + 1}: bytes from 0 on are to come, and not from 16 on"),
-            (b"\r\n".join(lines[:at] + [b"A 0000"] + lines[at + 1:]), f"it:{at + 1}: no line of a record: 'A 0000'"),
-            (b"\r\n".join(lines[:6]), "it: its table of steps is damaged"),
-            (b"\r\n".join(lines[:at + 2] + lines[at + 3:]), "it: the end of the record tells of other answers"),
-            (b"\r\n".join([*lines[:-2], other, b""]), "it: the end of the record tells of other answers"),
+        # The first of the lines is an empty one too.
+        hold(self, lambda lines: self.trouble(read_record, b"".join(lines)), (
+            ([b"nothing\n"], "it: it holds no record of vga-floppy"),
+            ([*lines[:at], lines[at].replace(b"CC", b"CD"), *lines[at + 1:]],
+             f"it:{at + 2}: the line's sum is wrong: bytes were lost on their way"),
+            (lines[:at] + lines[at + 1:], f"it:{at + 2}: bytes from 0 on are to come, and not from 16 on"),
+            ([*lines[:at], b"A 0000\r\n", *lines[at + 1:]], f"it:{at + 2}: no line of a record: 'A 0000'"),
+            (lines[:5], "it: its table of steps is damaged"),
+            (lines[:at + 2] + lines[at + 3:], "it: the end of the record tells of other answers"),
+            ([*lines[:-1], line("E", 40, bytes(2))], "it: the end of the record tells of other answers"),
         ))
 
     def test_the_last_of_two_records_counts(self) -> None:
-        other, _ = machine(b"in 3CC\n")
-        other.run()
-        record = b"".join(other.record)[:-40] + self.record
+        record = b"".join(machine(b"in 3CC\n").record)[:-40] + b"".join(machine(SCRIPT).record)
         self.assertEqual(b"".join(report_lines(read_record(record, "it"), "it")), REPORT)
 
     def test_a_record_that_ends_too_early(self) -> None:
-        stopped, _ = machine(b"in 3CC\n" * 40)
-        stopped.run(cycles=20)
-        path = self.write("record", b"".join(stopped.record))
+        # Of three lines of answers the first came.
+        path = self.write("record", b"".join(machine(b"in 3CC\n" * 40).record[:-3]))
         message = f"vga-floppy: {path}: the record ends before the run did: 16 of 40 bytes of answers came; --part gives the report so far\n"
         self.assertEqual(run("read", "--serial", path), (2, b"", message))
         report = b"".join(b"%d CC\n" % number for number in range(1, 17))
@@ -348,16 +273,15 @@ class Left(Folder):
 
 @unittest.skipUnless(Path("/proc/self/stat").exists(), "processes are looked at as Linux shows them")
 class Runs(Folder):
-    """Runs on an emulator that is a program of these tests."""
-
     def setUp(self) -> None:
         super().setUp()
         self.scratch = self.temporary()
 
-    def path_with(self, *words: str | Path) -> str:
-        """A path of programs in which dosbox is the machine of these tests, with such words."""
-        line = shlex.join(map(str, (sys.executable, FLOPPY, *words)))
-        program = self.program("bin/dosbox", f"#!/bin/sh\nexec {line}\n")
+    def path_with(self, *lines: str) -> str:
+        """A path of programs in which dosbox does this, or what a machine with the script does; and goes on."""
+        after = self.write("after", machine(SCRIPT).image)
+        text = "\n".join(["#!/bin/sh", *(lines or [f"cat {after} > script.img"]), "sleep 600"])
+        program = self.program("bin/dosbox", text)
         return f"{Path(program).parent}:{os.environ['PATH']}"
 
     def run_on(self, *words: str, path: str, script: str = SCRIPT.decode()) -> tuple[int, bytes, str]:
@@ -375,14 +299,15 @@ class Runs(Folder):
 
     def test_emulators_that_do_not_do_it(self) -> None:
         hold(self, lambda what, *words: self.run_on(*words, path=str(self.folder) if what is None else self.path_with(what)), (
-            ("crash", (2, b"", "vga-floppy: dosbox: it ended before the script did: no such part\n")),
+            (r"printf 'no such\007 part\n'; exit 3",
+             (2, b"", "vga-floppy: dosbox: it ended before the script did: no such part\n")),
             (None, (2, b"", "vga-floppy: there is no dosbox: Debian's package dosbox has it\n")),
-            ("", "--bios", "lgpl", (2, b"", "vga-floppy: dosbox has a video BIOS of its own\n")),
+            ("exit", "--bios", "lgpl", (2, b"", "vga-floppy: dosbox has a video BIOS of its own\n")),
         ))
 
     def test_the_limit_ends_all_that_was_started(self) -> None:
         told = self.folder / "child"
-        path = self.path_with("wait", told)
+        path = self.path_with(f"sleep 600 & echo $! > {told}")
         done = self.within(lambda seconds: self.run_on("--seconds", str(seconds), path=path), told)
         hold_undone(self, done, r"^vga-floppy: dosbox: the script has not ended within \d+ seconds\n$")
         self.assert_ended(int(told.read_text()))
@@ -399,29 +324,25 @@ class Runs(Folder):
 
     @unittest.skipUnless(Path("/proc/self/schedstat").exists(), "the system doesn't tell how long a process waits")
     def test_how_long_a_process_waits(self) -> None:
-        code = (
-            "import os, time; os.sched_setaffinity(0, {min(os.sched_getaffinity(0))}); print(end='.', flush=True)\n"
-        )
+        code = "import os, time; os.sched_setaffinity(0, {min(os.sched_getaffinity(0))})\n"
         # Of three that want one processor all the time two wait, and one that sleeps doesn't.
         with ExitStack() as stack:
-            processes = [
-                stack.enter_context(started([sys.executable, "-c", code + rest], stdout=subprocess.PIPE))
+            *busy, asleep = (
+                stack.enter_context(started([sys.executable, "-S", "-c", code + rest])).pid
                 for rest in 3 * ["while True: pass"] + ["time.sleep(100)"]
-            ]
-            for process in processes:
-                self.assertEqual(process.stdout.read(1), b".")
-            time.sleep(0.5)
-            before = [running.waited(process.pid) for process in processes]
-            time.sleep(2)
-            *busy, asleep = (running.waited(process.pid) - was for process, was in zip(processes, before))
-        self.assertGreater(sum(busy), 2.5)
-        self.assertLess(asleep, sum(busy) / 2)
-        self.assertEqual(running.waited(processes[0].pid), 0)
+            )
+            began = time.monotonic()
+            self.wait_until(lambda: sum(map(running.waited, busy)) > 5)
+            # Together they could run for as long as has passed, and no longer.
+            self.assertLess(1.3 * (time.monotonic() - began), 5)
+            self.assertLess(running.waited(asleep), 1)
+        self.assertEqual(running.waited(asleep), 0)
 
     @unittest.skipUnless(sys.platform.startswith("linux"), "Linux alone ends a process with its parent")
     def test_an_emulator_ends_with_a_command_that_is_killed(self) -> None:
         told = self.folder / "child"
-        environment = {**os.environ, "PATH": self.path_with("wait", told), "TMPDIR": str(self.folder)}
+        path = self.path_with(f"sleep 600 & echo $! > {told}")
+        environment = {**os.environ, "PATH": path, "TMPDIR": str(self.folder)}
         words = ["vga-floppy", "run", "--on", "dosbox", self.write("script.vga", "frame\n")]
         with begin(*words, env=environment) as process:
             child = self.wait_for(told, process)
@@ -434,8 +355,6 @@ class Runs(Folder):
 
 
 class Pages(Folder):
-    """Tables of the suite's results, and the cases that a page names."""
-
     def test_cases_that_a_machine_is_asked_have_answers_of_one_and_fit_an_image(self) -> None:
         page = (TOP / "docs" / "REAL-MACHINES.md").read_text("utf-8")
         named = set(re.findall(r"`((?:host|words|ports|crtc|attribute|dac|services|heights|graphics)/[a-z0-9-]+)`", page))
@@ -446,30 +365,19 @@ class Pages(Folder):
         self.assertIn(f" {len(cases)} of them", page)
         self.assertEqual(len(image_for(scripts, "all")), images.IMAGE_SIZE)
 
-    def results(self, name: str, **cases: tuple[str, int, int, str, str]) -> str:
-        rules = [
-            {
-                "rule": f"The {at} | rule.", "folder": "host",
-                "cases": [{"name": f"host/{at}", "answer": answer, "answers": answers, "differing": differing,
-                           "answered": answered, "expected": expected}],
-            }
-            for at, (answer, answers, differing, answered, expected) in cases.items()
-        ]
-        return self.write(name + ".json", json.dumps({"command": f"tools/vga-floppy run --on {name} {{script}}", "rules": rules}))
-
-    def write_page(self, *results: str) -> tuple[int, str, str]:
+    def write_page(self, results: str) -> tuple[int, str, str]:
         page = Path(self.write("page.md", f"Before.\n{FIRST_MARK}\nold\n{LAST_MARK}\nAfter.\n"))
-        status, _, said = call(main, "table", page, *results)
+        status, _, said = call(main, "table", page, results)
         return status, page.read_text(), said
 
     def test_tables_between_the_marks(self) -> None:
-        versions = {name: vars(machine)["version"] for name, machine in MACHINES.items()}
-        self.assertEqual(set(versions), {"qemu", "bochs", "dosbox"})
-        dosbox = MACHINES[DOSBOX]
-        MACHINES[DOSBOX] = type(dosbox)(dosbox.name, dosbox.program, dosbox.package, dosbox.words, lambda: "0.1")
-        self.addCleanup(MACHINES.__setitem__, DOSBOX, dosbox)
-        first = self.results("dosbox", one=("differs", 5, 2, "ax=0001 bx=0002", "ax=0001 bx=0003"), two=("agrees", 2000, 0, "", ""))
-        status, page, said = self.write_page(first)
+        self.patch(mock.patch.dict(MACHINES, {DOSBOX: replace(MACHINES[DOSBOX], version=lambda: "0.1")}))
+        one = {"name": "host/one", "answer": "differs", "answers": 5, "differing": 2,
+               "answered": f"ax=0001 block {'02' * 13}", "expected": "ax=0001 block 03"}
+        two = {"name": "host/two", "answer": "agrees", "answers": 2000, "differing": 0}
+        rules = [{"rule": f"The {case['name']} | rule.", "folder": "host", "cases": [case]} for case in (one, two)]
+        results = {"command": "tools/vga-floppy run --on dosbox {script}", "rules": rules}
+        status, page, said = self.write_page(self.write("results", json.dumps(results)))
         self.assertEqual((status, said), (0, ""))
         self.assertEqual(page, "\n".join((
             "Before.", FIRST_MARK, "", "Compared were dosbox 0.1.", "", "|  | dosbox |", "|---|---|", "| cases that agree | 1 |",
@@ -477,7 +385,7 @@ class Pages(Folder):
             "| cases whose run failed | 0 |", "| bytes, words and registers compared | 2,005 |", "| of these as expected | 2,003 |",
             "", "| Folder: cases that agree, are skipped, differ | dosbox |", "|---|---|", "| `host/` | 1, 0, 1 |", "",
             "| Rule of the suite | Case | dosbox |", "|---|---|---|",
-            "| The one \\| rule. | `host/one` | bx=0002, not bx=0003 |", "", LAST_MARK, "After.", "",
+            "| The host/one \\| rule. | `host/one` | 020202020202020202020202.., not 03 |", "", LAST_MARK, "After.", "",
         )))
 
     def test_files_that_are_wrong(self) -> None:

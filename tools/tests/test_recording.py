@@ -11,16 +11,16 @@ import unittest
 import zlib
 from functools import partial
 from pathlib import Path
+from typing import Sequence
 from unittest import mock
 
-from vga_report.reports import Held
+from vga_report.images import image_of
 from vga_trace import recording
-from vga_trace.known import ALLOWED, PAGE, SEEN, Names, Screen, known, whole_rows
-from vga_trace.passing import Clocked
+from vga_trace.converting import Clocked
 from vga_trace.recording import PHASES, Deed, Machine, Session
-from vga_trace.replaying import _is_nearer
+from vga_trace.replaying import ALLOWED, PAGE, SEEN, Screen, whole_rows
 from vga_trace.state import State
-from vga_trace.step import ADVANCE, FRAME, IN, OUT, PUT, Step
+from vga_trace.step import ADVANCE, FRAME, IN, PUT, Step
 from vga_trace.trace import SCREEN
 from zaklimot.format import Picture
 
@@ -60,7 +60,9 @@ with connection, connection.makefile("rw") as monitor:
             keys = "-".join(key["data"] for key in asked["arguments"].get("keys", ()))
             stream.write(f"{name} {keys}".strip() + "\\n")
         if name == "screendump":
-            open(asked["arguments"]["filename"], "wb").write(open(folder + "/screen", "rb").read())
+            path = asked["arguments"]["filename"]
+            screen = "other" if int(path.split(".")[-2]) % 6 in (0, 5) else "screen"
+            open(path, "wb").write(open(folder + "/" + screen, "rb").read())
         if name == "send-key":
             log.write(lines)
             log.flush()
@@ -97,6 +99,8 @@ class Recorded(Folder):
         """
         self.write("lines", LINES + lines)
         self.write("screen", screen)
+        # The first and the last dump of a screen are far from its picture.
+        self.write("other", ppm(7, 5, bytes(105)))
         self.into = Path(tempfile.mkdtemp(dir=self.folder), "into")
         answers = [answer for count in steps for answer in ["ok"] * count + [picture] * PHASES]
         options = ("--vga", program or self.answering(*answers, picture), "--quiet", "0.2", "--seconds", "20", *options)
@@ -140,7 +144,7 @@ class Recorded(Folder):
             (3, chained, black, PICTURE,
              all_dots, "  chain 4 is on, and no memory was recorded since: --chain-4 does so"),
             (4, chained + memory, black, PICTURE, all_dots, usual),
-            (1, b"", small, PICTURE, size("5x1 and 3x2"), usual), (3, rows, four, small, size("3x4 and 5x1"), line),
+            (1, b"", small, PICTURE, size("5x1 and 7x5"), usual), (3, rows, four, small, size("3x4 and 7x5"), line),
             (3, rows, four, ppm(3, 3, whole), lacks + "the others are equal, 3x3, six bits a component", last),
             (3, rows, four, ppm(3, 3, whole[:-3] + WHITE),
              lacks + "1 of 9 dots differ, in columns 2 to 2 and rows 2 to 2", last, line),
@@ -200,18 +204,13 @@ class Recorded(Folder):
         self.assertEqual((status, said), (2, f"vga-trace: {program}: it ended with status 3: oh\n"))
         self.assertEqual(sorted(path.name for path in self.into.iterdir()), ["script.bin", "trace.gz"])
 
-
-class Parts(unittest.TestCase):
-    """What a recording does, as far as it needs no machine."""
-
     def test_a_key_is_given_time_before_it_is_quiet(self) -> None:
-        keeper = mock.Mock(size=5, last=0.0, trouble=None)
-        session = Session(Machine((), quiet=0.2), mock.Mock(), keeper, Path("base"), mock.Mock())
-        session._acted = 0.0
+        keeper = mock.Mock(size=5, last=0.0)
+        session = Session(Machine((), quiet=0.2), mock.Mock(), keeper, Path("folder"), mock.Mock(), acted=0.0)
         self.assertTrue(session.is_due(Deed()))
-        session._press(mock.Mock(), ["ret"])
+        session.press(mock.Mock(), ["ret"])
         self.assertFalse(session.is_due(Deed()))
-        session._acted -= 0.3
+        session.acted -= 0.3
         self.assertTrue(session.is_due(Deed()))
         keeper.size = 0
         self.assertFalse(session.is_due(Deed()))
@@ -223,91 +222,68 @@ class Parts(unittest.TestCase):
         steps = ["frame", "out 3C2 67", "frame", "frame", "put B8000 41", "frame", "put B8001 1F", "frame", "frame"]
         self.assertEqual(listed(text, frames="screens"), steps)
 
-    def test_the_dump_of_which_fewer_dots_differ(self) -> None:
-        other, far, near = Held(None, ""), Held(5, ""), Held(3, "")
-        hold(self, _is_nearer, (
-            (near, far, True), (far, near, False), (near, near, False), (far, other, True), (other, far, False),
-            (other, other, False),
-        ))
-
 
 class Knowledge(unittest.TestCase):
     def test_each_is_on_the_page(self) -> None:
         page = " ".join((TOP / PAGE).read_text("utf-8").split())
-        for one in (*SEEN, *ALLOWED):
-            self.assertIn(one.name, page)
+        for name in (*SEEN, *ALLOWED):
+            self.assertIn(name, page)
 
-    def state(self, *steps: Step) -> State:
-        """The state behind these steps, in text whose palette is shown."""
+    def state(self, index: int = 0x20, mask: int = 0xFF, word: int = 0, **banks: dict[int, int]) -> State:
+        """A state of text whose palette is shown, but for the attributes' index, the DAC mask, a word, registers."""
         state = State()
-        usual = [Step(OUT, 0x3C2, 0x67), Step(OUT, 0x3C0, 0x20), *crtc(0x07, 0x1F), *crtc(0x09, 0x4F), *crtc(0x14, 0x1F),
-                 *crtc(0x12, 0x8F), *crtc(0x18, 0xFF), *sequencer(4, 2), *sequencer(2, 3), *graphics(6, 0x0E),
-                 *graphics(8, 0xFF)]
-        for step in [*usual, *steps]:
-            state.take(step)
+        state.attr.index, state.dac.mask, state.memory.words[1] = index, mask, word
+        usual = {"crtc": {0x07: 0x1F, 0x09: 0x4F, 0x12: 0x8F, 0x14: 0x1F, 0x18: 0xFF}, "gfx": {6: 0x0E}}
+        for name, values in (*usual.items(), *banks.items()):
+            for number, value in values.items():
+                vars(state)[name].registers[number] = value
         return state
 
-    def names(self, *steps: Step, dots: tuple[tuple[int, int], ...] = ()) -> list[str]:
-        """The names that such a state allows."""
-        found = known(Screen(self.state(*steps), dots))
-        self.assertEqual(list(found.seen), [])
-        return list(found.allowed)
-
     def test_what_may_show_in_a_state(self) -> None:
-        ninth = attribute(0x10, 4)
-        hold(self, lambda steps: self.names(*steps, dots=((8, 0), (17, 3))), (
-            ((), []),
-            ((Step(OUT, 0x3C0, 0x00), Step(OUT, 0x3C0, 0x00)), ["palette address source"]),
-            (sequencer(1, 0x20), ["screen off"]),
-            ((Step(OUT, 0x3C6, 0x0F),), ["DAC mask"]),
-            (sequencer(3, 0x04), ["colour plane enable"]),
-            (crtc(8, 3), ["preset row scan"]),
-            (attribute(0x13, 4), ["panning"]),
-            (crtc(0x18, 0x80) + crtc(7, 0x0F) + crtc(9, 0x0F), ["line compare"]),
-            (crtc(0x18, 0x80) + crtc(7, 0x0F), []),
-            (crtc(0x14, 0x0D), ["underline"]),
-            (attribute(0x10, 8) + [Step(PUT, 0xB8001, 0x87)], ["blinking"]),
-            (attribute(0x10, 8) + [Step(PUT, 0xB8001, 0x07)], []),
-            (ninth, ["ninth dot"]),
+        black, ninth, others = (Picture.of_dots(9, 1, bytes(27 - count) + count * b"\1") for count in (0, 3, 6))
+        hold(self, lambda given: names(self.state(**given), black, ninth).get("may be", []), (
+            ({}, []), ({"index": 0}, ["palette address source"]), ({"seq": {1: 0x20}}, ["screen off"]),
+            ({"mask": 0x0F}, ["DAC mask"]), ({"seq": {3: 0x04}}, ["colour plane enable"]),
+            ({"seq": {3: 0x04}, "attr": {0x12: 8}}, []), ({"crtc": {8: 3}}, ["preset row scan"]),
+            ({"attr": {0x13: 4}}, ["panning"]), ({"attr": {0x13: 8}}, []), ({"crtc": {8: 0x20}}, ["panning"]),
+            ({"crtc": {0x18: 0x80, 7: 0x0F, 9: 0x0F}}, ["line compare"]), ({"crtc": {0x18: 0x80, 7: 0x0F}}, []),
+            ({"crtc": {0x14: 0x0D}}, ["underline"]), ({"attr": {0x10: 8}, "word": 0x8700}, ["blinking"]),
+            ({"attr": {0x10: 8}, "word": 0x0700}, []), ({"attr": {0x10: 4}}, ["ninth dot"]),
         ))
-        self.assertEqual(self.names(*ninth, dots=((8, 0), (9, 0))), [])
-
-    def split(self, here: str, there: str, *steps: Step) -> Names:
-        """What is known of two pictures in graphics, whose line compare is 2 and whose rows have two lines."""
-        picture, image = picture_of(here), picture_of(there)
-        steps = (*graphics(6, 5), *crtc(0x18, 2), *crtc(7, 0x0F), *crtc(9, 1), *crtc(8, 1), *steps)
-        dots = [(x, y) for y in range(picture.height) for x in range(2) if picture.row(y) != image.row(y)]
-        return known(Screen(self.state(*steps), dots, picture, image))
+        self.assertEqual(names(self.state(attr={0x10: 4}), black, others), {})
 
     def test_a_split_within_a_row(self) -> None:
-        found, none = Names(["split within a row"]), Names([], ["preset row scan"])
-        hold(self, lambda here, there, steps: self.split(here, there, *steps), (
+        def split(here: str, there: str, changed: dict[int, int] = {}, text: int = 1) -> dict[str, list[str]]:
+            """What is known of two pictures in graphics, whose line compare is 2 and whose rows have two lines."""
+            state = self.state(gfx={6: text}, crtc={7: 0x0F, 8: 1, 9: 1, 0x18: 2, **changed})
+            return names(state, picture_of(here), picture_of(there))
+
+        found, none = {"is": ["split within a row"]}, {"may be": ["preset row scan"]}
+        hold(self, split, (
             # The second line of a row is under way, of two lines and of four; and three of four have been.
-            ("aab aabbc", "aab abbcc", [], found), ("aab aabb", "aab abbx", [], found),
-            ("aaa aaaabb", "aaa abbbbc", crtc(9, 3), found), ("aaa aaaabb", "aaa abbbbc", crtc(9, 0x81), found),
-            ("aa aaaabb", "aa aabbbb", crtc(9, 3) + crtc(0x18, 1), found),
+            ("aab aabbc", "aab abbcc", found), ("aab aabb", "aab abbx", found),
+            ("aaa aaaabb", "aaa abbbbc", {9: 3}, found), ("aaa aaaabb", "aaa abbbbc", {9: 0x81}, found),
+            ("aa aaaabb", "aa aabbbb", {9: 3, 0x18: 1}, found),
             # Bits 8 and 9 of line compare put it below the picture.
-            ("aab aabbc", "aab abbcc", crtc(7, 0x1F), none), ("aab aabbc", "aab abbcc", crtc(9, 0x41), none),
+            ("aab aabbc", "aab abbcc", {7: 0x1F}, none), ("aab aabbc", "aab abbcc", {9: 0x41}, none),
             # No split, or none within a row, or something else differs.
-            ("aabb aabbc", "aabb abbcc", crtc(0x18, 3), none), ("aab aabbc", "aab abbcx", [], none),
-            ("aab aabbc", "axb abbcc", [], none), ("aab aabbc", "aab aabbx", [], none),
-            ("aab aabbc", "aab abbcc", crtc(0x18, 8), none), ("aab aabbc", "aab abbcc", crtc(9, 0), none),
+            ("aabb aabbc", "aabb abbcc", {0x18: 3}, none), ("aab aabbc", "aab abbcx", none),
+            ("aab aabbc", "axb abbcc", none), ("aab aabbc", "aab aabbx", none),
+            ("aab aabbc", "aab abbcc", {0x18: 8}, none), ("aab aabbc", "aab abbcc", {9: 0}, none),
         ))
-        self.assertNotIn("split within a row", self.split("aab aabbc", "aab abbcc", *graphics(6, 0x0E)).seen)
+        self.assertNotIn("is", split("aab aabbc", "aab abbcc", {}, 0))
 
     def test_a_last_row_that_is_not_whole(self) -> None:
-        picture, rows = picture_of("aaabbbcc"), crtc(9, 2)
-        for steps, height in (
-            (rows, 6), (crtc(9, 3), 8), (crtc(9, 7), 8), (crtc(9, 8), 8), (crtc(9, 0x82), 8), (rows + graphics(6, 5), 8),
-            (crtc(9, 0x42), 6),
-        ):
-            part = whole_rows(self.state(*steps), picture)
+        picture = picture_of("aaabbbcc")
+        for row, mode, height in ((2, 0, 6), (3, 0, 8), (7, 0, 8), (8, 0, 8), (0x82, 0, 8), (2, 1, 8), (0x42, 0, 6)):
+            part = whole_rows(self.state(crtc={9: row}, gfx={6: mode}), picture)
             self.assertEqual((part.height, part is picture), (height, height == 8))
             self.assertEqual([part.row(y) for y in range(height)], [picture.row(y) for y in range(height)])
-        state = self.state(*rows, *crtc(8, 1))
-        cut = "last row of text that isn't whole"
-        self.assertEqual(known(Screen(state, cut=2)), Names([cut]))
-        self.assertEqual(known(Screen(state, [(0, 1)], cut=2)), Names([cut], ["preset row scan"]))
+
+
+def names(state: State, picture: Picture, image: Picture) -> dict[str, list[str]]:
+    """What is known of a screen that qemu shows so."""
+    return Screen(state, picture, image_of(image.ppm, "image")).names
 
 
 def picture_of(rows: str) -> Picture:
@@ -316,53 +292,32 @@ def picture_of(rows: str) -> Picture:
     return Picture.of_dots(2, len(letters), b"".join(bytes([ord(letter) - ord("a")]) * 6 for letter in letters))
 
 
-def register(port: int, index: int, value: int) -> list[Step]:
-    """A register behind the port of its index."""
-    return [Step(OUT, port, index), Step(OUT, port + 1, value)]
-
-
-crtc, sequencer, graphics = (partial(register, port) for port in (0x3D4, 0x3C4, 0x3CE))
-
-
-def attribute(index: int, value: int) -> list[Step]:
-    """A register of the attribute controller, the flip-flop at the data's turn before it."""
-    return [Step(OUT, 0x3C0, 0x20), Step(OUT, 0x3C0, index | 0x20), Step(OUT, 0x3C0, value), Step(OUT, 0x3C0, 0x20)]
-
-
 class RealTime(Folder):
     # Dots of a frame, and its microseconds.
     DOTS, FRAME = 900 * 449, 900 * 449 / 28.322
 
-    def frames(
-        self, *frames: float, longest: float = 1, reads: tuple[float, ...] = ()
-    ) -> tuple[list[tuple[int, int]], Clocked]:
+    def frames(self, longest: float, reads: Sequence[float], *writes: float) -> tuple[list[tuple[int, int]], Clocked]:
         """The frames and dots that pass where something is read, and then written, at so many frames' times."""
         steps = [step._replace(time=0) for step in registers(0x67, 0)]
         steps += [Step(IN, 0x3DA, 0, round(at * self.FRAME)) for at in reads]
-        steps += [Step(PUT, 0xA0000, 1, round(at * self.FRAME)) for at in frames]
+        steps += [Step(PUT, 0xA0000, 1, round(at * self.FRAME)) for at in writes]
         clocked = Clocked(longest)
         return [step[:2] for step in clocked.steps(steps) if step.opcode in (ADVANCE, FRAME)], clocked
 
     def test_a_frame_where_something_is_written(self) -> None:
-        self.assertEqual(self.frames(0.2, 0.4)[0], [])
-        self.assertEqual(self.frames(1.2, 1.4)[0], [(FRAME, 0)])
-        frames, _ = self.frames(1.2, 1.4, 2.2, 5.7)
-        # The first ends at one frame of the usual rate, the second and the third one frame later each.
-        self.assertEqual(frames, [(FRAME, 0), (FRAME, 0), (FRAME, 0), (ADVANCE, 2 * self.DOTS)])
-
-    def test_the_time_that_passes_is_that_of_the_trace(self) -> None:
-        frames, clocked = self.frames(1.2, 41.5, 60.5, longest=10)
-        count = sum(1 for opcode, _ in frames if opcode == FRAME)
-        dots = sum(dots for _, dots in frames)
-        self.assertEqual((count, clocked.shortened), (3, 0))
-        self.assertEqual(count + dots // self.DOTS, 60)
-
-    def test_reads_make_no_frame(self) -> None:
-        frames, _ = self.frames(4.5, reads=(1.2, 2.5, 3.5))
-        self.assertEqual(frames, [(FRAME, 0), (ADVANCE, 3 * self.DOTS)])
+        frame = (FRAME, 0)
+        hold(self, lambda *times: self.frames(*times)[0], (
+            (1, (), 0.2, 0.4, []), (1, (), 1.2, 1.4, [frame]),
+            # The first ends at one frame of the usual rate, the second and the third one frame later each.
+            (1, (), 1.2, 1.4, 2.2, 5.7, [frame, frame, frame, (ADVANCE, 2 * self.DOTS)]),
+            # Reads make none.
+            (1, (1.2, 2.5, 3.5), 4.5, [frame, (ADVANCE, 3 * self.DOTS)]),
+            # The time that passes is that of the trace.
+            (10, (), 1.2, 41.5, 60.5, [frame, frame, (ADVANCE, 39 * self.DOTS), frame, (ADVANCE, 18 * self.DOTS)]),
+        ))
 
     def test_long_silences_are_cut_and_told(self) -> None:
-        frames, clocked = self.frames(1.2, 701.2, 702.5, longest=1)
+        frames, clocked = self.frames(1, (), 1.2, 701.2, 702.5)
         self.assertEqual(clocked.shortened, 1)
         self.assertAlmostEqual(clocked.left_out, 700 * self.FRAME / 1e6 - 1, delta=0.02)
         self.assertEqual(sum(dots for _, dots in frames) // self.DOTS, 69)
@@ -390,6 +345,6 @@ class RealTime(Folder):
 
     def test_a_program_that_fails(self) -> None:
         trace = self.write("trace", BEGIN)
-        program = self.program("vga", "#!/bin/sh\nexit 3\n")
+        program = self.program("vga", "#!/bin/sh\necho oh >&2\nexit 3\n")
         status, _, said = run("pictures", trace, self.folder / "pictures", "--vga", program)
-        self.assertEqual((status, said.startswith("vga-trace: ")), (2, True), said)
+        self.assertEqual((status, said), (2, f"vga-trace: {program}: it ended with status 3: oh\n"))

@@ -8,7 +8,7 @@ import sys
 import unittest
 from pathlib import Path
 
-from .test_floppy import machine
+from .floppy import machine
 from .test_images import png
 from .tools import BLACK, TOP, Folder, ppm, report, run_tool
 
@@ -16,7 +16,7 @@ from .tools import BLACK, TOP, Folder, ppm, report, run_tool
 MEMORY = 1 << 30
 PICTURE, OTHER = ppm(9, 1, BLACK * 9), ppm(9, 1, b"\x3f\0\0" * 9)
 # A floppy's image with what a run has left.
-IMAGE = machine(b"frame\n")[0].run()
+IMAGE = machine(b"frame\n").image
 # What stands in the place of a program: it answers each script with the picture of the report `r`.
 PROGRAM = "#!/bin/sh\n[ \"$1\" = go ] && exec cat \"${0%/*}/r\"\nexit 0\n"
 # A program that writes so many pictures of three megabytes, and the memory that their run may take.

@@ -7,13 +7,10 @@ import gzip
 import hashlib
 import io
 import os
-import resource
 import subprocess
 import unittest
 from functools import partial
 from itertools import product
-from pathlib import Path
-from random import Random
 from typing import Iterable
 from unittest import mock
 
@@ -21,29 +18,24 @@ from vga_report.trouble import Trouble
 from vga_trace import converting
 from vga_trace.checking import count
 from vga_trace.command import main
-from vga_trace.converting import Listing, Wanted
-from vga_trace.folding import Coded, Row, alone, folded
-from vga_trace.passing import Pauses, with_flips, with_frames_every
+from vga_trace.converting import Listing, Pauses, Written, folded, with_flips
 from vga_trace.step import ADVANCE, FRAME, IN, NAMES, OUT, OUTW, PUT, Step, steps_of, without_polls
 from vga_trace.trace import MEMORY, PORT, SCREEN, VBE, Cycle, Trace
-from zaklimot.format import HEADERS, Block, decode, encoded
 
-from .tools import EXAMPLES, SIGNALS, Folder, begin, call, hold, hold_undone, ppm, refused, report, run_texts, run_tool
+from .tools import EXAMPLES, Folder, begin, call, hold, hold_undone, ppm, refused, report, run_texts, run_tool
 
 run = partial(run_tool, "vga-trace")
 # What a trace from power-on begins with.
 BEGIN = b"0 w p 3C2 67 1\n"
 PICTURE = ppm(9, 1, bytes(27))
-POLL, OTHER, WRITE = Step(IN, 0x3DA), Step(IN, 0x3C9), Step(OUT, 0x3C0, 0x20)
+POLL, WRITE = Step(IN, 0x3DA), Step(OUT, 0x3C0, 0x20)
 
 
 def trace(data: bytes) -> Trace:
-    """A trace of these bytes."""
     return Trace(io.BytesIO(data), "trace")
 
 
 def cycles(data: bytes) -> list[Cycle]:
-    """The cycles of a trace."""
     return list(trace(data).cycles())
 
 
@@ -54,20 +46,24 @@ def qemu(words: str, name: str = "vga", front: str = "") -> bytes:
 
 
 def texts(*steps: Step) -> list[str]:
-    """Steps as their lines."""
     return [step.text().decode().strip() for step in steps]
 
 
+def steps_listed(data: bytes, **wanted: object) -> list[Step]:
+    """The steps of a script of a trace."""
+    return list(Listing(trace(data), **wanted).steps())  # type: ignore[arg-type]
+
+
 def listed(data: bytes, **wanted: object) -> list[str]:
-    """The steps of a trace in the plain form, as lines."""
-    return texts(*Listing(trace(data), Wanted(**wanted)).steps())  # type: ignore[arg-type]
+    """The same as lines."""
+    return texts(*steps_listed(data, **wanted))
 
 
 def warned(data: bytes, **wanted: object) -> list[str]:
     """What a trace is told to lack."""
-    listing = Listing(trace(data), Wanted(**wanted))  # type: ignore[arg-type]
+    listing = Listing(trace(data), **wanted)  # type: ignore[arg-type]
     list(listing.steps())
-    return listing.warnings()
+    return list(listing.warnings())
 
 
 class Lines(unittest.TestCase):
@@ -97,7 +93,7 @@ class Lines(unittest.TestCase):
             (BEGIN + b"0 w p 3C4 302 1\n", "2: the value 302 has more than 1 bytes"),
             (BEGIN + b"0 w p FFFF 302 2\n", "2: there is no port of address FFFF"),
             (BEGIN + b"0 w m FFFFFFFF 302 2\n", "2: there is no memory of address FFFFFFFF"),
-            (BEGIN + SCREEN + b"\n", no_cycle),
+            (BEGIN + SCREEN + b"\n", no_cycle), (BEGIN + bytes(1 << 17), "2: the line is longer than any of a trace"),
             (b";\n0 w p 3C2 67\n" + BEGIN, "2: a line before the first cycle is neither a cycle nor a comment"),
             (b"", f" {none}"), (b"; nothing\n", f" {none}"),
             # The line of a mistake, where no line has a cycle.
@@ -119,7 +115,7 @@ class Lines(unittest.TestCase):
             (b"- r p 3CC 0 1\n" + BEGIN + b"- w m A0000 1 1\n", []),
             (b"- r p 3CC 0 1\n- w m B8000 1 1\n" + BEGIN, [begin]),
             (b"- r p 3CC 0 1\n- w p 3C4 1 1\n" + BEGIN, [begin]),
-            (vbe("4", "41"), [enabled]), (vbe("4", "0"), []), (vbe("3", "1"), []),
+            (vbe("4", "41"), [enabled]), (vbe("4", "40"), []), (vbe("3", "1"), []),
             (chained, [silent]), (chained + b"- w p 3C4 0604 2\n- w m A0000 1 1\n", [silent]),
             (BEGIN + b"- w p 3C4 4 1\n- w p 3C5 E 1\n- w p 3C4 0F02 2\n", [silent.replace("3 on", "4 on")]),
             (chained + b"- w p 3C4 0E04 2\n- w m A0000 1 1\n- w p 3C4 0604 2\n", []),
@@ -135,21 +131,6 @@ class Steps(unittest.TestCase):
     def steps(self, *lines: str) -> list[Step]:
         return list(steps_of(cycles("".join(f"- {line}\n" for line in lines).encode())))
 
-    def test_each_kind_of_step(self) -> None:
-        hold(self, lambda made: [(step.text().decode(), step.data().hex(" ").upper()) for step in made], (
-            (self.steps("w p 3C4 2 1"), [("out 3C4 02\n", "01 C4 03 02")]),
-            (self.steps("w p 3C4 302 2"), [("outw 3C4 0302\n", "02 C4 03 02 03")]),
-            (self.steps("r p 3C5 F 1"), [("in 3C5 ; = 0F\n", "03 C5 03")]),
-            (self.steps("r p 3DA 5 1"), [("in 3DA\n", "03 DA 03")]),
-            (self.steps("r p 3C4 F02 2"), [("inw 3C4 ; = 0F02\n", "04 C4 03")]),
-            (self.steps("w m A0000 55 1"), [("put A0000 55\n", "05 00 00 0A 00 55")]),
-            (self.steps("w m A0001 1234 2"), [("putw A0001 1234\n", "06 01 00 0A 00 34 12")]),
-            (self.steps("r m A0000 55 1"), [("get A0000 ; = 55\n", "07 00 00 0A 00")]),
-            (self.steps("r m A0000 55 2"), [("getw A0000 ; = 0055\n", "08 00 00 0A 00")]),
-            ([Step(FRAME)], [("frame\n", "0B")]),
-            ([Step(ADVANCE, 258)], [("advance 258\n", "0A 02 01 00 00")]),
-        ))
-
     def test_which_bytes_become_words(self) -> None:
         hold(self, lambda lines: texts(*self.steps(*lines)), (
             (("w m B8000 41 1", "w m B8001 1F 1"), ["putw B8000 1F41"]),
@@ -164,7 +145,7 @@ class Steps(unittest.TestCase):
             (("w m B8000 41 1", "w m B8001 1F00 2"), ["put B8000 41", "putw B8001 1F00"]),
             (("w m B8000 41 1", "w m B8000 42 1", "w m B8001 43 1"), ["put B8000 41", "putw B8000 4342"]),
             (("w p 3C4 2 1", "w p 3C5 F 1"), ["out 3C4 02", "out 3C5 0F"]),
-            (("w m B8000 41 1",), ["put B8000 41"]),
+            (("w m B8000 41 1",), ["put B8000 41"]), (("r m B8000 55 2",), ["getw B8000 ; = 0055"]),
             # Wider cycles are words from the first.
             (("w m A0000 44332211 4",), ["putw A0000 2211", "putw A0002 4433"]),
             (("r p 3C4 44332211 4",), ["inw 3C4 ; = 2211", "inw 3C6 ; = 4433"]),
@@ -199,11 +180,8 @@ class Passing(unittest.TestCase):
             return [Step(IN, 0x3DA, time=time) for time in times]
 
         hold(self, lambda _, *steps: [step.address for step in Pauses().steps(steps) if step.opcode == ADVANCE], (
-            ("28 MHz", *registers(0x67, 0), *at(0, 1000), [28_322]), ("25 MHz", *registers(0x63, 0), *at(0, 1000), [25_175]),
-            ("half a clock", *registers(0x67, 8), *at(0, 1000), [14_161]),
-            ("two pauses", *registers(0x63, 1), *at(0, 1000, 3000), [25_175, 50_350]),
+            ("two pauses, and half a clock", *registers(0x67, 8), *at(0, 1000, 3000), [14_161, 28_322]),
             ("a frame is the most", *registers(0x67, 0), *at(0, 60_000_000), [900 * 449]),
-            ("a frame of narrow characters", *registers(0x67, 1), *at(0, 60_000_000), [800 * 449]),
             ("short times are put together", *registers(0x67, 0), *at(0, 10, 20, 29, 30, 59, 60), [849, 849]),
             ("no clock that is known", *registers(0x6B, 0), *at(0, 1000), []),
             ("time that runs back", *registers(0x67, 0), *at(2000, 1000, 2000), [28_322]),
@@ -225,24 +203,20 @@ class Passing(unittest.TestCase):
         zero, other = Step(OUTW, 0x3D4, 0x000C), Step(OUTW, 0x3D4, 0x400E)
         hold(self, lambda steps: " ".join(NAMES[step.opcode] for step in with_flips(steps)), (
             ([draw, high, low, draw], "put frame outw outw put"),
-            ([draw, low, draw, high], "put frame outw put frame outw"),
+            ([draw, low, draw, high], "put frame outw put frame outw"), ([high, other, low], "frame outw outw frame outw"),
             # Bytes, and the other place of the controller.
             *(([Step(OUT, port, 0x0C), Step(OUT, port + 1, 0x40), Step(OUT, port, 0x0D), Step(OUT, port + 1, 0x20)],
                "out frame out out out") for port in (0x3D4, 0x3B4)),
             # No frame where the address stays.
             ([zero, other, zero], "outw outw outw"),
         ))
-
-    def test_frames_by_time(self) -> None:
-        steps = [Step(PUT, 0xA0000, 1, time) for time in (0, 400_000, 500_000, 600_000, 5_000_000)]
-        names = [NAMES[step.opcode] for step in with_frames_every(0.5, steps)]
-        self.assertEqual(names, ["put", "put", "frame", "put", "put", "frame", "put"])
-        self.assertEqual(listed(BEGIN + b"600000 w m A0000 1 1\n", frames=0.5), ["out 3C2 67", "frame", "put A0000 01", "frame"])
-
-    def test_at_the_end_alone(self) -> None:
-        self.assertEqual(listed(BEGIN + b"- w p 3D4 400C 2\n"), ["out 3C2 67", "outw 3D4 400C", "frame"])
         flipped = ["out 3C2 67", "frame", "outw 3D4 400C", "frame"]
         self.assertEqual(listed(BEGIN + b"- w p 3D4 400C 2\n", frames="flip"), flipped)
+
+    def test_frames_by_time(self) -> None:
+        puts = b"".join(b"%d w m A0001 1 1\n" % time for time in (400_000, 500_000, 600_000, 5_000_000))
+        names = [NAMES[step.opcode] for step in steps_listed(BEGIN + puts, frames=0.5)]
+        self.assertEqual(names, ["out", "put", "frame", "put", "put", "frame", "put", "frame"])
 
 
 class Converting(Folder):
@@ -278,20 +252,14 @@ class Converting(Folder):
                 self.assertEqual(call(main, "convert", path, script, "--to", str(last))[0], 0)
                 os.unlink(script)
 
-    def test_the_program_takes_what_is_written(self) -> None:
-        text = b"- w p 3C4 302 2\n- w p 3C4 204 2\n- w p 3CE 1005 2\n- w p 3CE E06 2\n- w p 3CE FF08 2\n"
-        path = self.write("trace", BEGIN + text + b"- w m B8000 41 1\n- w m B8001 1F 1\n- r m B8000 1F41 2\n")
-        ran = run_texts({"text": run("convert", path, "-", "--text")[1]})["text"]
-        self.assertEqual(ran.status, 0)
-        self.assertIn(b"\n7 ok\n8 1F41\n9 picture 37\n", ran.report)
-
     def test_version_2_where_there_are_blocks_and_they_are_wanted(self) -> None:
         given = BEGIN + 6 * b"- r p 3C9 0 1\n"
         text = b"version 2\nout 3C2 67\nrepeat 6\nin 3C9 ; = 00\nend\nframe\n"
         said = f"7 cycles, 8 steps, {len(text)} bytes, 1 repeat: 6 in, 1 out, 1 frame\n"
         self.assertEqual(run("convert", "-", "-", "--text", given=given), (0, text, said))
         data = b"VGAS\x02" + bytes.fromhex("01C20367 0D0600 03C903 0E 0B")
-        self.assertEqual(run("convert", "-", "-", given=given)[1], data)
+        said = f"7 cycles, 8 steps, {len(data)} bytes, 1 repeat: 6 in, 1 out, 1 frame\n"
+        self.assertEqual(run("convert", "-", "-", given=given), (0, data, said))
         data = b"VGAS\x01" + bytes.fromhex("01C20367" + 6 * "03C903" + "0B")
         self.assertEqual(run("convert", "-", "-", "--no-repeat", given=given)[1], data)
 
@@ -311,33 +279,16 @@ class Converting(Folder):
 
 
 class Endings(Folder):
-    """Work that is ended from outside, traces without an end, and disks without room."""
-
-    def begun(self, *words: str | Path) -> subprocess.Popen[bytes]:
-        """The command, to which a trace is given bit by bit."""
-        command = begin("vga-trace", *words, stdin=subprocess.PIPE)
-        self.addCleanup(command.communicate)
-        self.addCleanup(command.kill)
-        return command
-
-    def feed(self, command: subprocess.Popen[bytes], data: bytes) -> int:
-        """Gives the command these bytes again and again until it has ended; its exit status."""
-        assert command.stdin is not None
-        with contextlib.suppress(BrokenPipeError):
-            while True:
-                command.stdin.write(data)
-        return command.wait(60)
-
     def test_a_trace_without_an_end(self) -> None:
         script = self.folder / "script"
-        self.assertEqual(self.feed(self.begun("convert", "-", script, "--to", "3"), BEGIN), 0)
-        self.assertEqual(script.read_bytes(), b"VGAS\x01" + 3 * b"\x01\xc2\x03\x67" + b"\x0b")
-
-    def test_a_line_without_an_end(self) -> None:
-        command = self.begun("kinds", "-")
-        self.assertEqual(self.feed(command, BEGIN + b"0 w p 3C2" + bytes(1 << 17)), 2)
-        assert command.stderr is not None
-        self.assertIn(b"standard input:2: the line is longer than any of a trace", command.stderr.read())
+        command = begin("vga-trace", "convert", "-", script, "--to", "3", stdin=subprocess.PIPE)
+        self.addCleanup(command.communicate)
+        self.addCleanup(command.kill)
+        assert command.stdin is not None
+        with contextlib.suppress(BrokenPipeError):
+            for _ in range(1000):
+                command.stdin.write(1000 * BEGIN)
+        self.assertEqual((command.wait(60), script.read_bytes()), (0, b"VGAS\x01" + 3 * b"\x01\xc2\x03\x67" + b"\x0b"))
 
     def test_a_compressed_trace_that_is_cut_off(self) -> None:
         for data, cut in product((BEGIN, os.urandom(1000).hex().encode() + b"\n" + BEGIN), (1, 5, 12, 20)):
@@ -345,26 +296,6 @@ class Endings(Folder):
             told = rf"^vga-trace: {path}:\d+: its compressed bytes are damaged .*\n$"
             hold_undone(self, run("convert", path, self.folder / "script"), told)
             self.assertEqual(self.names(), ["trace"])
-
-    def test_signals_lose_nothing(self) -> None:
-        script = Path(self.write("script", "old"))
-        for number, status in SIGNALS:
-            with self.subTest(number):
-                command = self.begun("convert", "-", script)
-                assert command.stdin is not None
-                command.stdin.write(BEGIN * 5000)
-                command.stdin.flush()
-                self.wait_until(lambda: len(self.names()) == 2, command)
-                command.send_signal(number)
-                self.assertEqual(command.wait(60), status)
-                self.assertEqual((self.names(), script.read_bytes()), (["script"], b"old"))
-
-    def test_a_disk_that_is_full(self) -> None:
-        path = self.write("trace", BEGIN + b"".join(b"- w m A%04X 1 1\n" % at for at in range(0, 30000, 3)))
-        script = Path(self.write("script", "old"))
-        limit = partial(resource.setrlimit, resource.RLIMIT_FSIZE, (4096, resource.RLIM_INFINITY))
-        self.assertEqual(run("convert", path, script, prepare=limit), (2, b"", f"vga-trace: {script}: File too large\n"))
-        self.assertEqual((script.read_bytes(), self.names()), (b"old", ["script", "trace"]))
 
 
 class Checking(Folder):
@@ -388,7 +319,7 @@ class Checking(Folder):
         hold(self, lambda given, *answers: self.check(*answers, given=given), (
             *((self.TRACE, *self.GOOD[:-1], frame,
                (0, ["7 steps, 0 refused, 4 reads answered, 0 differ", index, status, *memory], ""))
-              for frame in (PICTURE, "ragged")),
+              for frame in (PICTURE, "ragged", f"picture {len(PICTURE)} 9x1 {32 * '0'}")),
             (self.TRACE, *self.changed(s5="skipped"),
              (0, ["7 steps, 0 refused, 3 reads answered, 0 differ, 1 skipped", index, status, memory[1]], "")),
             (refusing, "ok", *4 * ["E1 NotDecoded"], "E2 NotInProfile", PICTURE, (1, [
@@ -404,19 +335,15 @@ class Checking(Folder):
         ))
 
     def test_reads_that_differ(self) -> None:
-        def told(step: str, answer: str) -> tuple[int, str, str]:
-            status, lines, _ = self.check(*self.changed(**{step: answer}))
-            return status, lines[0].rpartition(", ")[2], lines[-1]
-
-        front = "  differ          1"
-        hold(self, told, (
-            ("s3", "0E", (1, "1 differ", f"{front} in port 3C5 index 02 (first at step 3: traced 0F, answered 0E)")),
-            ("s4", "35", (1, "1 differ", f"{front} in port 3DA (first at step 4: traced 04, answered 35)")),
-            ("s5", "00", (1, "1 differ", f"{front} get memory A0000 (first at step 5: traced E1, answered 00)")),
-            ("s6", "0034", (1, "1 differ", f"{front} getw memory A0000 (first at step 6: traced 1234, answered 0034)")),
+        front, last = "  differ          1", "  read            1 getw memory A0000"
+        for answers, told in (
+            ({"s4": "35"}, f"{front} in port 3DA (first at step 4: traced 04, answered 35)"),
+            ({"s6": "0034"}, f"{front} getw memory A0000 (first at step 6: traced 1234, answered 0034)"),
             # Where the beam is differs from none.
-            *(("s4", answer, (0, "0 differ", "  read            1 getw memory A0000")) for answer in ("05", "0C", "0D")),
-        ))
+            *(({"s4": answer}, last) for answer in ("05", "0C", "0D")),
+        ):
+            status, lines, _ = self.check(*self.changed(**answers))
+            self.assertEqual((status, lines[-1]), (int(told != last), told))
 
     def test_so_many_kinds_at_most(self) -> None:
         given = BEGIN + b"- r p 3C4 0 1\n- r p 3CE 0 1\n"
@@ -463,26 +390,13 @@ class Example(Folder):
                 self.assertIn(whole if cut == "1" else b" steps, 0 refused, ", out)
                 self.assertEqual(run("check", self.PATH, path)[0], 0 if cut == "1" else 2)
 
-    def test_its_report_is_the_same_without_blocks(self) -> None:
-        texts = {option: run("convert", self.PATH, "-", "--text", *option.split())[1] for option in ("", "--no-repeat")}
-        self.assertTrue(texts[""].startswith(b"version 2\n"))
-        self.assertNotIn(b"repeat", texts["--no-repeat"])
-        runs = run_texts(texts)
-        self.assertEqual(runs[""], runs["--no-repeat"])
-
     def test_what_it_becomes(self) -> None:
         told = b"586 cycles, 586 steps, 2,810 bytes, 2 repeats: 186 in, 184 putw, 121 outw, 93 out, 1 getw, 1 frame\n"
         self.assertEqual(run("convert", self.PATH, self.folder / "script"), (0, told, ""))
 
 
-def coded(steps: Iterable[Step], is_text: bool = False) -> list[Coded]:
-    """Steps as they are folded."""
-    return [Coded(step, step.data(), step.text() if is_text else b"") for step in steps]
-
-
 def lines(steps: Iterable[Step]) -> list[str]:
-    """The lines of the folded steps."""
-    return b"".join(row.text for row in folded(coded(steps, is_text=True))).decode().splitlines()
+    return b"".join(map(Written(True).row, folded(steps, Step.text))).decode().splitlines()
 
 
 class Folding(unittest.TestCase):
@@ -493,10 +407,12 @@ class Folding(unittest.TestCase):
             ([WRITE, *[POLL] * 100, WRITE], ["out 3C0 20", "repeat 100", "in 3DA", "end", "out 3C0 20"]),
             ([POLL, WRITE] * 30 + [POLL], ["repeat 30", "in 3DA", "out 3C0 20", "end", "in 3DA"]),
             (group * 3, ["repeat 3", *texts(*group), "end"]), (nine, texts(*nine)),
+            # More than are looked at ahead.
+            ([POLL, *group * 600, *nine], ["in 3DA", "repeat 601", *texts(*group), "end", *texts(*nine[8:])]),
             # Reads of other values are one row in bytes, and not in text.
             (other, texts(*other)),
         ))
-        self.assertEqual([row.steps for row in folded(coded(other))], [20])
+        self.assertEqual([row.count for row in folded(other, Step.data)], [20])
 
     def test_short_rows_stay(self) -> None:
         # Five polls of three bytes are 15 bytes, and a block of them seven: less than half.
@@ -506,27 +422,7 @@ class Folding(unittest.TestCase):
                 self.assertEqual(lines([step] * least)[0], f"repeat {least}")
 
     def test_more_rounds_than_a_block_has(self) -> None:
-        rows = list(folded(coded([POLL] * (2 * 65535 + 3))))
-        self.assertEqual([row.steps for row in rows], [65535, 65535, 1, 1, 1])
-        self.assertEqual(rows[0].data, bytes.fromhex("0D FFFF 03DA03 0E"))
-
-    def test_the_steps_are_the_same_whatever_they_are(self) -> None:
-        for seed in range(20):
-            random, steps = Random(seed), []
-            while len(steps) < 9000:
-                group = random.choices([POLL, OTHER, WRITE, Step(FRAME), Step(PUT, 0xA0000, 1)], k=random.randint(1, 10))
-                steps += group * random.choice((1, 1, 2, 3, 5, 20, 300))
-            with self.subTest(seed):
-                rows = list(folded(coded(steps)))
-                data = b"".join(row.data for row in rows)
-                plain = b"".join(row.data for row in alone(coded(steps)))
-                script = decode(HEADERS[2] + data)
-                self.assertEqual(b"".join(map(encoded, script.steps())), plain)
-                self.assertGreater(min(item.count for item in script.items if isinstance(item, Block)), 1)
-                self.assertEqual(sum(row.steps for row in rows), len(steps))
-                self.assertLess(len(data), len(plain))
-
-    def test_the_cycle_of_a_row(self) -> None:
-        steps = [POLL._replace(cycle=number) for number in range(1, 11)]
-        self.assertEqual([row.cycle for row in folded(coded([WRITE, *steps, WRITE._replace(cycle=11)]))], [0, 10, 11])
-        self.assertEqual(Row(b"", b"", 1, 1).is_block, False)
+        rows = list(folded([POLL._replace(cycle=number) for number in range(1, 2 * 65535 + 4)], Step.data))
+        self.assertEqual([row.count for row in rows], [65535, 65535, 1, 1, 1])
+        self.assertEqual([row.cycle for row in rows], [65535, 131070, 131071, 131072, 131073])
+        self.assertEqual(Written(False).row(rows[0]), bytes.fromhex("0D FFFF 03DA03 0E"))

@@ -14,10 +14,8 @@ from vga_report.trouble import Trouble
 from vga_report.words import seconds
 from zaklimot.format import MOST_BYTES, Script
 
-from .answers import Reports, report_lines
-from .image import IMAGE_SIZE, Run, image_for, read_image, read_record
-from .machines import LGPL, MACHINES, SEABIOS
-from .running import Wanted, run_on
+from .image import IMAGE_SIZE, Run, image_for, read_image, read_record, report_lines, reports
+from .running import LGPL, MACHINES, SEABIOS, run_on
 from .table_page import write_tables
 
 # A longer file is no image and no record.
@@ -66,7 +64,6 @@ def _parser() -> argparse.ArgumentParser:
 
 
 def _script(path: str) -> Script:
-    """The script of a file."""
     with reading(path) as stream:
         return script_of(stream.read(MOST_BYTES + 1), name_of(path))
 
@@ -82,35 +79,29 @@ def scripts_of(path: str) -> dict[str, Script]:
 
 
 def _write_report(words: argparse.Namespace, run: Run, name: str) -> None:
-    """Writes the report of a run, or those of its scripts into a folder."""
-    scripts = run.table.scripts()
-    if words.report == STANDARD and len(scripts) != 1:
-        raise Trouble(f"it has the answers of {len(scripts)} scripts: name a folder for their reports", name)
+    names = [script for script, _ in run.table.scripts()]
+    if words.report == STANDARD and len(names) != 1:
+        raise Trouble(f"it has the answers of {len(names)} scripts: name a folder for their reports", name)
     # A script of a folder has a name, and its report is a file of a folder too, be it the only one.
-    if words.report == STANDARD or len(scripts) == 1 and not scripts[0].name:
+    if words.report == STANDARD or names == [""]:
         with writing(words.report) as stream:
             stream.writelines(report_lines(run, name, words.all_registers))
         return
-    folder, reports = empty_folder(words.report), Reports(run, name, words.all_registers)
-    for script in scripts:
-        path = folder / f"{script.name}.report"
+    folder = empty_folder(words.report)
+    for script, lines in reports(run, name, words.all_registers):
+        path = folder / f"{script}.report"
         if ".." in path.parts or folder not in path.parents:
-            raise Trouble(f"a script has the name of a file outside of a folder: '{script.name[:40]}'", name)
+            raise Trouble(f"a script has the name of a file outside of a folder: '{script[:40]}'", name)
         path.parent.mkdir(parents=True, exist_ok=True)
         with writing(str(path)) as stream:
-            stream.writelines(reports.lines(script))
-        if reports.has_ended:
-            break
-    reports.check_end()
+            stream.writelines(lines)
 
 
 def _make(words: argparse.Namespace, _: Progress) -> None:
-    """Makes an image."""
     write_file(words.image, image_for(scripts_of(words.script), name_of(words.script), is_disk=words.disk))
 
 
 def _read(words: argparse.Namespace, _: Progress) -> None:
-    """Gives the report of an image or a record."""
     name = name_of(words.file)
     with reading(words.file) as stream:
         data = stream.read(MOST_READ if words.serial else IMAGE_SIZE)
@@ -122,9 +113,8 @@ def _read(words: argparse.Namespace, _: Progress) -> None:
 
 
 def _run(words: argparse.Namespace, _: Progress) -> None:
-    """Runs a script on an emulator."""
-    wanted = Wanted(words.bios, words.seconds, words.picture is not None)
-    run, shown = run_on(MACHINES[words.on], scripts_of(words.script), name_of(words.script), wanted)
+    scripts, name = scripts_of(words.script), name_of(words.script)
+    run, shown = run_on(MACHINES[words.on], scripts, name, words.bios, words.seconds, words.picture is not None)
     if shown is not None:
         # In the six bits of a component that the DAC has.
         save_png(words.picture, shown.picture(2 if shown.most == 255 else 0))
@@ -132,7 +122,6 @@ def _run(words: argparse.Namespace, _: Progress) -> None:
 
 
 def _table(words: argparse.Namespace, _: Progress) -> None:
-    """Writes tables of results into a page."""
     refuse_twice(words.page, *words.results)
     write_tables(words.page, words.results)
 

@@ -1,4 +1,4 @@
-"""The image of a floppy or a disk: boot sector, interpreter, table of steps, and what a run has left.
+"""The image of a floppy or a disk: boot sector, interpreter, table of steps; and the reports of what a run has left.
 
 The layout is that of boot.asm; offsets and lengths are bytes. A run sends its answers over the
 serial port too, as a record: `VGA-FLOPPY 1`, then lines of a letter, a number of six digits, bytes,
@@ -7,15 +7,17 @@ the answers, each from this number on; P tells how many steps were begun; E, the
 number how many bytes of answers there are, and as its bytes their sum.
 """
 
+import io
 import re
 import struct
+from itertools import chain
 from pathlib import Path
-from typing import Iterator, Mapping, NamedTuple, Optional
+from typing import BinaryIO, Iterator, Mapping, NamedTuple, Optional
 
 from vga_report.trouble import Trouble
-from zaklimot.format import Script
+from zaklimot.format import REGISTERS, Script, Step
 
-from .table import HEADER, Table, table_for
+from .table import BYTE, CALL, HEADER, WORD, Table, length_of, table_for
 
 SECTOR = 512
 IMAGE_SIZE = 2880 * SECTOR
@@ -43,6 +45,14 @@ MOST_ANSWERS = 0xFFFF
 BEGIN = b"VGA-FLOPPY 1"
 LINE = re.compile(rb"([TAPE]) ([0-9A-F]{6}) (?:((?:[0-9A-F]{2}){1,16}) )?([0-9A-F]{2})")
 TABLE, ANSWERS, END = b"T", b"A", b"E"
+# The registers in which a service answers, by AH, and those of function 10 by AX; of services that are not here, all.
+AX, BX, CX, DX = range(4)
+ANSWERED: dict[int, tuple[int, ...]] = {
+    0x00: (), 0x01: (), 0x02: (), 0x03: (CX, DX), 0x05: (), 0x06: (), 0x07: (), 0x08: (AX,), 0x09: (), 0x0A: (),
+    0x0C: (), 0x0D: (AX,), 0x0E: (), 0x0F: (AX, BX), 0x11: (), 0x12: (AX, BX, CX), 0x13: (), 0x1A: (AX, BX),
+}
+ANSWERED_BY_PALETTE = {0x1007: (BX,), 0x1008: (BX,), 0x1015: (CX, DX), 0x1019: (BX,), 0x101A: (BX,)}
+PALETTE = 0x10
 
 
 class Run(NamedTuple):
@@ -72,7 +82,6 @@ def image_for(scripts: Mapping[str, Script], name: str, ending: int = WAIT_FOR_K
 
 
 def _partition(code: bytearray) -> None:
-    """Writes a disk's table of partitions into a boot sector."""
     last = IMAGE_SIZE // SECTOR - 1
     # Places as head, sector and cylinder, as on most machines: 63 sectors of a track, and more heads than are needed.
     begin, end = (0, 2, 0), (last // 63, last % 63 + 1, 0)
@@ -144,3 +153,47 @@ def _lines(data: bytes, first: int, name: str) -> Iterator[tuple[int, bytes, int
         if sum(numbered + listed) & 0xFF != int(found[4], 16):
             raise Trouble("the line's sum is wrong: bytes were lost on their way", name, number)
         yield number, found[1], int.from_bytes(numbered, "big"), listed
+
+
+def reports(run: Run, name: str, has_all_registers: bool = False) -> Iterator[tuple[str, Iterator[bytes]]]:
+    """The scripts of a run by their names, each with the lines of its report, which are read before the next.
+
+    Of a run that isn't whole they are the steps whose answers have come. A BIOS may leave anything in a register in
+    which a service doesn't answer: such registers are told as they were handed in, unless all are wanted.
+    """
+    answers = io.BytesIO(run.answers)
+    for script_name, script in run.table.scripts():
+        yield script_name, _report_lines(script, run, answers, name, has_all_registers)
+        if answers.closed:
+            return
+    if run.is_whole and answers.tell() != len(run.answers):
+        raise Trouble(f"it has {len(run.answers):,} bytes of answers, and its steps have {answers.tell():,}", name)
+
+
+def report_lines(run: Run, name: str, has_all_registers: bool = False) -> Iterator[bytes]:
+    """The lines of the reports of a run, script by script."""
+    return chain.from_iterable(lines for _, lines in reports(run, name, has_all_registers))
+
+
+def _report_lines(script: Script, run: Run, answers: BinaryIO, name: str, has_all_registers: bool) -> Iterator[bytes]:
+    """The lines of a script's report; where answers are lacking, they are closed."""
+    for number, answer in enumerate(script.steps(), 1):
+        data = answers.read(length_of(answer))
+        if len(data) < length_of(answer):
+            answers.close()
+            if run.is_whole:
+                raise Trouble(f"it has no answer for step {number}", name)
+            return
+        yield f"{number} {_text(answer, data, has_all_registers)}\n".encode()
+
+
+def _text(answer: Step, data: bytes, has_all_registers: bool) -> str:
+    if answer.name != CALL:
+        return data[::-1].hex().upper() if answer.name in (BYTE, WORD) else answer.name
+    ax = answer.numbers[AX]
+    answered = ANSWERED_BY_PALETTE.get(ax, ()) if ax >> 8 == PALETTE else ANSWERED.get(ax >> 8, (AX, BX, CX, DX))
+    left = struct.unpack_from(f"<{len(REGISTERS)}H", data)
+    values = [left[at] if has_all_registers or at in answered else answer.numbers[at] for at in range(len(REGISTERS))]
+    registers = " ".join(f"{name}={value:04X}" for name, value in zip(REGISTERS, values))
+    block = data[2 * len(REGISTERS):].hex().upper()
+    return f"{registers} block {block}" if block else registers

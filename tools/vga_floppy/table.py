@@ -6,19 +6,18 @@ image, or what came over the serial port, stands alone.
 
 import struct
 import zlib
-from itertools import takewhile
-from typing import Iterable, Iterator, Mapping, NamedTuple, Optional, Union
+from itertools import chain, takewhile
+from typing import Iterable, Iterator, Mapping, Optional
 
 from vga_report.trouble import Trouble
 from zaklimot import format
-from zaklimot.format import Block, Step
+from zaklimot.format import REGISTERS, Block, Script, Step
 from zaklimot.format.script import Item
 
 # The opcodes; those of a script's steps have its numbers.
 FINISH, OUT, OUTW, IN, INW, PUT, PUTW, GET, GETW, INT = range(10)
 PASS_OVER, LOOK_AWAY, FILL, REPEAT, END, SCRIPT, END_OF_RESET = range(10, 17)
 STEPS = {name: form.opcode for name, form in format.FORMS.items() if OUT <= form.opcode <= GETW}
-READS = (IN, INW, GET, GETW)
 FORMS = {opcode: struct.Struct(f"<{fields}") for opcode, fields in {
     OUT: "HB", OUTW: "HH", IN: "H", INW: "H", PUT: "HHB", PUTW: "HHH", GET: "HH", GETW: "HH",
     # ax, bx, cx, dx; where it looks for its block or table; the table's length, and the block's.
@@ -48,31 +47,9 @@ PLACES = {0x1002: AT_DX, 0x1012: AT_DX, 0x1100: AT_BP, 0x1110: AT_BP, 0x1009: TA
 STRING = 0x13
 PALETTE_LENGTH, DAC_ENTRIES = 17, 256
 
-
-# What the steps of a report answer.
+# What the steps of a report answer, and how many bytes of answers each has: a call more of them where it has a table.
 DONE, SKIPPED, BYTE, WORD, CALL = "ok", "skipped", "byte", "word", "call"
 ANSWER_LENGTHS = {DONE: 0, SKIPPED: 0, BYTE: 1, WORD: 2, CALL: 8}
-
-
-class Answer(NamedTuple):
-    """What a row of steps answers, each of them alike; of a call, the registers that it got and its table's length."""
-
-    kind: str
-    count: int = 1
-    registers: tuple[int, ...] = ()
-    table_length: int = 0
-
-    @property
-    def length(self) -> int:
-        """How many bytes of answers one of the steps has."""
-        return ANSWER_LENGTHS[self.kind] + self.table_length
-
-
-class Rounds(NamedTuple):
-    """Answers of a block, which come so many times."""
-
-    count: int
-    answers: tuple[Answer, ...]
 
 
 def is_for_machine(step: Step) -> bool:
@@ -145,11 +122,10 @@ def reset_steps() -> bytes:
 
 
 def _has_call(item: Item) -> bool:
-    """Whether a step, or one of a block, calls a service."""
     return any(map(_has_call, item.steps)) if isinstance(item, Block) else item.name == "int"
 
 
-def table_for(scripts: Mapping[str, format.Script]) -> bytes:
+def table_for(scripts: Mapping[str, Script]) -> bytes:
     """The whole table of scripts by their names, with its header.
 
     A script that calls services finds 03 in miscellaneous output, any other 00: a BIOS may write the CRT controller
@@ -166,13 +142,6 @@ def table_for(scripts: Mapping[str, format.Script]) -> bytes:
     return HEADER.pack(NAME, VERSION, len(parts[0]), len(steps), zlib.crc32(steps)) + steps
 
 
-class Script(NamedTuple):
-    """A script of a table: its name, and what its steps answer, in their order."""
-
-    name: str
-    answers: list[Union[Answer, Rounds]]
-
-
 class Table:
     """A table that was read, from an image or from a record."""
 
@@ -186,26 +155,29 @@ class Table:
         if len(self._steps) < length or zlib.crc32(self._steps) != self.check:
             raise Trouble("its table of steps is damaged", name)
 
-    def scripts(self) -> list[Script]:
-        """Its scripts in their order."""
-        scripts: list[Script] = []
+    def scripts(self) -> list[tuple[str, Script]]:
+        """Its scripts in their order, with their names.
+
+        Their steps are called by what they answer; that of a call has its registers, and how long its table is.
+        """
+        scripts: list[tuple[str, list[Item]]] = []
         steps = self._decoded()
         for opcode, fields, behind in steps:
             if opcode == SCRIPT:
-                scripts.append(Script(behind.decode("utf-8", "surrogateescape"), []))
+                scripts.append((behind.decode("utf-8", "surrogateescape"), []))
             elif opcode == REPEAT:
                 inner = takewhile(lambda step: step[0] != END, steps)
-                scripts[-1].answers.append(Rounds(fields[0], tuple(_answer(*step[:2]) for step in inner)))
+                answers = chain.from_iterable(_answers(*step[:2]) for step in inner)
+                scripts[-1][1].append(Block(fields[0], tuple(answers)))
             elif opcode != FINISH:
-                scripts[-1].answers.append(_answer(opcode, fields))
-        return scripts
+                scripts[-1][1].extend(_answers(opcode, fields))
+        return [(name, Script(tuple(items))) for name, items in scripts]
 
     def answer_length(self) -> int:
         """How many bytes of answers the scripts have."""
-        return sum(_length_of(answer) for script in self.scripts() for answer in script.answers)
+        return sum(length_of(item) for _, script in self.scripts() for item in script.items)
 
     def _decoded(self) -> Iterator[tuple[int, tuple[int, ...], bytes]]:
-        """The opcodes of the scripts, with their fields and the bytes behind these."""
         at = self._first
         while at < len(self._steps):
             opcode = self._steps[at]
@@ -216,21 +188,16 @@ class Table:
             at += length
 
 
-def _answer(opcode: int, fields: tuple[int, ...]) -> Answer:
-    """What a step of the table answers."""
+def _answers(opcode: int, fields: tuple[int, ...]) -> list[Step]:
     if opcode == INT:
-        return Answer(CALL, 1, fields[:4], fields[5])
-    if opcode == PASS_OVER:
-        return Answer(SKIPPED, fields[0])
-    if opcode == LOOK_AWAY:
-        return Answer(SKIPPED)
-    if opcode in READS:
-        return Answer(BYTE if opcode in (IN, GET) else WORD)
-    return Answer(DONE)
+        return [Step(CALL, (*fields[:4], fields[5]))]
+    if opcode in (PASS_OVER, LOOK_AWAY):
+        return [Step(SKIPPED)] * (fields[0] if opcode == PASS_OVER else 1)
+    return [Step(BYTE if opcode in (IN, GET) else WORD if opcode in (INW, GETW) else DONE)]
 
 
-def _length_of(answer: Union[Answer, Rounds]) -> int:
+def length_of(answer: Item) -> int:
     """How many bytes an answer has, or all those of a block."""
-    if isinstance(answer, Rounds):
-        return answer.count * sum(map(_length_of, answer.answers))
-    return answer.count * answer.length
+    if isinstance(answer, Block):
+        return answer.count * sum(map(length_of, answer.steps))
+    return ANSWER_LENGTHS[answer.name] + sum(answer.numbers[len(REGISTERS):])

@@ -4,15 +4,14 @@ from __future__ import annotations
 
 import json
 import re
-from dataclasses import dataclass
-from typing import Any, Iterator, Sequence
+from typing import Any, Iterator, NamedTuple, Sequence
 
 from vga_report.suite import AGREES, DIFFERS, FAILED, SKIPPED
 from vga_report.streams import STANDARD, name_of, read_at_most, write_over
 from vga_report.trouble import Trouble
 from zaklimot.format import MOST_BYTES
 
-from .machines import MACHINES
+from .running import MACHINES
 
 FIRST_MARK = "<!-- What stands from here to the next mark is made by `tools/vga-floppy table`. -->"
 LAST_MARK = "<!-- The end of what `tools/vga-floppy table` makes. -->"
@@ -23,37 +22,36 @@ MOST_ANSWER = 24
 SAME, NOTHING, WORD_FAILED = "same", "not compared", "fails"
 
 
-@dataclass(frozen=True)
-class Results:
-    """What `vga-report suite --json` printed of `vga-floppy run` on one emulator."""
+class Results(NamedTuple):
+    """What `vga-report suite --json` printed of `vga-floppy run` on an emulator: its cases, with rule and folder."""
 
     name: str
     version: str
-    rules: Sequence[dict[str, Any]]
+    cases: Sequence[dict[str, Any]]
 
-    def cases(self, folder: str | None = None, text: str | None = None) -> list[dict[str, Any]]:
-        """All cases, or those of a folder, or those of a rule in it."""
-        rules = (one for one in self.rules if folder in (None, one["folder"]) and text in (None, one["rule"]))
-        return [case for rule in rules for case in rule["cases"]]
+    def of(self, **given: str) -> list[dict[str, Any]]:
+        """The cases of a folder, or those of a rule in it."""
+        return [case for case in self.cases if given.items() <= case.items()]
 
 
 def _read(path: str) -> Results:
-    """The results of a file."""
     name = name_of(path)
     data = read_at_most(path, MOST_BYTES)
     try:
         found = json.loads(data)
-        command, rules = found["command"], found["rules"]
-        for rule, case in ((rule, case) for rule in rules for case in rule["cases"]):
+        command, cases = found["command"], [
+            {**case, "rule": str(rule["rule"]), "folder": str(rule["folder"])}
+            for rule in found["rules"] for case in rule["cases"]
+        ]
+        for case in cases:
             # What lacks a part raises an error.
-            int(case["answers"]) + int(case["differing"])
-            str.format("{}{}{}", rule["rule"], rule["folder"], case["answer"])
+            int(case["answers"]) + int(case["differing"]) + len(case["answer"])
     except (ValueError, KeyError, TypeError) as error:
         raise Trouble("it isn't what `vga-report suite --json` prints", name) from error
     on, bios = ON.search(command), BIOS.search(command)
     if on is None or on[1] not in MACHINES:
         raise Trouble("its command is no `vga-floppy run --on` of an emulator", name)
-    return Results(on[1], MACHINES[on[1]].full_version(bios[1] if bios else None), rules)
+    return Results(on[1], MACHINES[on[1]].full_version(bios[1] if bios else None), cases)
 
 
 def write_tables(page: str, paths: Sequence[str]) -> None:
@@ -77,23 +75,21 @@ def _row(*cells: str) -> str:
 
 
 def _heading(results: Sequence[Results], *cells: str) -> Iterator[str]:
-    """A table's first two lines."""
     names = [*cells, *(result.name for result in results)]
     yield _row(*names)
     yield "|" + "---|" * len(names)
 
 
 def _counts(results: Sequence[Results]) -> Iterator[str]:
-    """How many cases and answers agree."""
     told = {
         AGREES: "cases that agree", SKIPPED: "cases of which a part or all was skipped, and the rest agrees",
         DIFFERS: "cases that differ", FAILED: "cases whose run failed",
     }
     yield from _heading(results, "")
     for answer, text in told.items():
-        yield _row(text, *(f"{sum(case['answer'] == answer for case in result.cases()):,}" for result in results))
-    compared = [sum(case["answers"] for case in result.cases()) for result in results]
-    differing = [sum(case["differing"] for case in result.cases()) for result in results]
+        yield _row(text, *(f"{len(result.of(answer=answer)):,}" for result in results))
+    compared = [sum(case["answers"] for case in result.cases) for result in results]
+    differing = [sum(case["differing"] for case in result.cases) for result in results]
     yield _row("bytes, words and registers compared", *(f"{count:,}" for count in compared))
     yield _row("of these as expected", *(f"{count - wrong:,}" for count, wrong in zip(compared, differing)))
 
@@ -101,8 +97,8 @@ def _counts(results: Sequence[Results]) -> Iterator[str]:
 def _folders(results: Sequence[Results]) -> Iterator[str]:
     """How many cases of each folder agree, are skipped, and differ or fail."""
     yield from _heading(results, "Folder: cases that agree, are skipped, differ")
-    for folder in dict.fromkeys(rule["folder"] for result in results for rule in result.rules):
-        yield _row(f"`{folder}/`", *(_folder_cell(result.cases(folder)) for result in results))
+    for folder in dict.fromkeys(case["folder"] for result in results for case in result.cases):
+        yield _row(f"`{folder}/`", *(_folder_cell(result.of(folder=folder)) for result in results))
 
 
 def _folder_cell(cases: Sequence[dict[str, Any]]) -> str:
@@ -113,9 +109,8 @@ def _folder_cell(cases: Sequence[dict[str, Any]]) -> str:
 def _rules(results: Sequence[Results]) -> Iterator[str]:
     """The rules that one of the emulators doesn't follow, each with what it answers first."""
     yield from _heading(results, "Rule of the suite", "Case")
-    rules = dict.fromkeys((rule["rule"], rule["folder"]) for result in results for rule in result.rules)
-    for text, folder in rules:
-        found = [result.cases(folder, text) for result in results]
+    for text, folder in dict.fromkeys((case["rule"], case["folder"]) for result in results for case in result.cases):
+        found = [result.of(rule=text, folder=folder) for result in results]
         wrong = [case for cases in found for case in cases if case["answer"] in (DIFFERS, FAILED)]
         if wrong:
             yield _row(text, f"`{wrong[0]['name']}`", *map(_rule_cell, found))
@@ -136,8 +131,5 @@ def _difference(answered: str, expected: str) -> str:
     words, others = answered.split(), expected.split()
     if len(words) == len(others) > 1:
         answered, expected = next(((one, other) for one, other in zip(words, others) if one != other), ("", ""))
-    return f"{_cut(answered)}, not {_cut(expected)}"
-
-
-def _cut(text: str) -> str:
-    return text if len(text) <= MOST_ANSWER else text[:MOST_ANSWER] + ".."
+    cut = (text if len(text) <= MOST_ANSWER else text[:MOST_ANSWER] + ".." for text in (answered, expected))
+    return ", not ".join(cut)

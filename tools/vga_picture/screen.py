@@ -15,8 +15,8 @@ from functools import lru_cache
 from itertools import chain, combinations, takewhile
 from typing import Iterator, Mapping, Optional, Sequence
 
-from vga_trace.rebuilding import ALL_PLANES, map_mask, masks_of
-from vga_trace.rebuilding import FIRST_ADDRESS as WINDOW
+from vga_trace.state import ALL_PLANES, map_mask, masks_of
+from vga_trace.state import FIRST_ADDRESS as WINDOW
 from vga_trace.state import PLANES
 from zaklimot import format
 

@@ -36,6 +36,7 @@ PACKAGES = {
     "cc": "gcc", "gcc": "gcc", "g++": "g++", "clang": "clang", "clang++": "clang",
     f"{CROSS}-gcc": f"gcc-{CROSS}", f"{CROSS}-g++": f"g++-{CROSS}",
     "node": "nodejs", "qemu-system-x86_64": "qemu-system-x86", "qemu-aarch64": "qemu-user",
+    "xwininfo": "x11-utils",
     "python3": "python3", "cargo": "cargo", "rustc": "rustc", "rustdoc": "rustc", "cargo-clippy": "rust-clippy",
 }
 SOURCES = {

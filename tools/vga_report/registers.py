@@ -5,6 +5,7 @@ same cases.
 """
 
 from functools import lru_cache, partial
+from math import prod
 from typing import Callable, Iterator, NamedTuple, Optional
 
 from zaklimot.format import MOST_ADVANCE, REGISTERS, Answer, Step, parse_line
@@ -58,6 +59,11 @@ def bytes_written(step: Step) -> tuple[tuple[int, int], ...]:
         return ()
     port, value = step.numbers
     return ((port, value),) if step.name == "out" else ((port, value & 0xFF), (port + 1, value >> 8))
+
+
+def shape_of(clocking: int, total: int, lines: int, overflow: int) -> tuple[int, int, int]:
+    """The lines of a frame, the characters of a line and the dots of a character, by the registers that say so."""
+    return lines + ((overflow & 1) << 8) + ((overflow >> 5 & 1) << 9) + 2, total + 5, 8 if clocking & 1 else 9
 
 
 class Registers:
@@ -141,9 +147,8 @@ class Registers:
         if self._is_of_mode and self.mode is not None:
             dots, is_halved = MODES[self.mode].dots, MODES[self.mode].is_halved
         else:
-            lines = values[LINES] + ((values[OVERFLOW] & 1) << 8) + ((values[OVERFLOW] >> 5 & 1) << 9) + 2
             clocking = values.get(CLOCKING, 0)
-            dots, is_halved = (values[TOTAL] + 5) * (8 if clocking & 1 else 9) * lines, bool(clocking & 8)
+            dots, is_halved = prod(shape_of(clocking, values[TOTAL], values[LINES], values[OVERFLOW])), bool(clocking & 8)
         return dots, clock / (2 if is_halved else 1)
 
 

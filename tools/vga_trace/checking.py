@@ -6,14 +6,13 @@ from typing import Iterable, Iterator, Mapping, Optional
 
 from vga_report.registers import bytes_written
 from vga_report.trouble import Trouble
-from zaklimot.format import Answer
-from zaklimot.format.report import READ, REFUSAL, SKIPPED, VALUE
+from zaklimot.format import Answer, is_answer_to
+from zaklimot.format.picture import Digest
+from zaklimot.format.report import REFUSAL, SKIPPED, VALUE
 
-from .step import BEAM_BITS, FRAME, NAMES, PORTS, READS, WORDS, Step
+from .step import BEAM_BITS, FRAME, NAMES, PORTS, Step
 from .trace import MEMORY, PORT, Cycle
 
-DONE = "ok"
-FRAME_ANSWERS = ("picture", "ragged")
 # The ports of data, each with that of its index.
 INDEX_OF = {0x3C1: 0x3C0, 0x3C5: 0x3C4, 0x3CF: 0x3CE, 0x3D5: 0x3D4, 0x3B5: 0x3B4}
 # Windows of memory, by the 32 KiB that they have.
@@ -50,30 +49,27 @@ class Checked:
         kinds[kind] += 1
         self.examples.setdefault(kind, f"first at step {told}")
 
-    def compare(self, kind: str, step: Step, number: int, answer: str) -> None:
-        """Counts a read. Where the beam is no trace can tell: these bits of input status 1 aren't compared."""
-        self.reads[kind] += 1
-        if (int(answer, 16) ^ step.value) & ~(BEAM_BITS if step.is_status else 0):
-            told = f"{number:,}: traced {step.value:0{len(answer)}X}, answered {answer}"
-            self.note(self.differing, kind, told)
-
-
-def _fits(step: Step, answer: Answer) -> bool:
-    """Whether a step may have this answer."""
-    if answer.kind == REFUSAL or answer.answer == SKIPPED:
-        return True
-    if step.opcode in READS:
-        return READ.fullmatch(answer.answer) is not None and len(answer.answer) == (4 if step.opcode in WORDS else 2)
-    if step.opcode == FRAME:
-        return answer.answer.partition(" ")[0] in FRAME_ANSWERS
-    return answer.answer == DONE
+    def take(self, step: Step, answer: Answer, kind: str) -> None:
+        """Counts a step and its answer. No trace tells where the beam is: these bits of input status 1 don't count."""
+        self.steps += 1
+        if answer.answer == SKIPPED:
+            self.skipped += 1
+        elif answer.kind == REFUSAL:
+            self.note(self.refused, f"{answer.answer}: {kind}", f"{self.steps:,}")
+        elif answer.kind == VALUE:
+            self.reads[kind] += 1
+            if (int(answer.answer, 16) ^ step.value) & ~(BEAM_BITS if step.is_status else 0):
+                traced = f"{step.value:0{len(answer.answer)}X}"
+                self.note(self.differing, kind, f"{self.steps:,}: traced {traced}, answered {answer.answer}")
 
 
 def _judged(step: Step, number: int, answer: Optional[Answer], name: str) -> Answer:
     """The answer of a step; a Trouble where the report has none, or one that is no answer of such a step."""
     if answer is None:
         raise Trouble(f"it ends before step {number:,}, `{NAMES[step.opcode]}`: it is of another script", name)
-    if not _fits(step, answer):
+    is_any = answer.kind == REFUSAL or answer.answer == SKIPPED
+    # A report that is kept as text has no pictures.
+    if not (is_any or isinstance(answer.picture, Digest) and step.opcode == FRAME or is_answer_to(step.step, answer)):
         reason = f"step {number:,} is `{NAMES[step.opcode]}`, and '{answer.answer[:40]}' answers none: it is of another script"
         raise Trouble(reason, name, answer.line)
     return answer
@@ -85,14 +81,7 @@ def check(steps: Iterable[Step], answers: Iterator[Answer], name: str) -> Checke
     checked, indexes = Checked(), dict.fromkeys(INDEX_OF.values(), 0)
     for number, step in enumerate(steps, 1):
         answer = _judged(step, number, next(answers, None), name)
-        kind = f"{NAMES[step.opcode]} {_place(step, indexes)}"
-        checked.steps += 1
-        if answer.answer == SKIPPED:
-            checked.skipped += 1
-        elif answer.kind == REFUSAL:
-            checked.note(checked.refused, f"{answer.answer}: {kind}", f"{number:,}")
-        elif answer.kind == VALUE:
-            checked.compare(kind, step, number, answer.answer)
+        checked.take(step, answer, f"{NAMES[step.opcode]} {_place(step, indexes)}")
         indexes.update((port, value) for port, value in bytes_written(step.step) if port in indexes)
     if next(answers, None) is not None:
         raise Trouble(f"it has more than the {checked.steps:,} steps of the trace: it is of another script", name)
@@ -115,7 +104,6 @@ def count(cycles: Iterable[Cycle]) -> Counter[str]:
 
 
 def _place(step: Step, indexes: Mapping[int, int]) -> str:
-    """A name of what a step is about: a port, with its register if it has some, or a window of memory."""
     if step.opcode not in PORTS:
         return place_of(step.address)
     index = INDEX_OF.get(step.address)

@@ -7,12 +7,12 @@ import sys
 from itertools import islice
 from pathlib import Path
 from tempfile import TemporaryDirectory
-from typing import ContextManager, Optional, Sequence
+from typing import ContextManager, Iterator, Optional, Sequence, Union
 
 from vga_report import cli
 from vga_report.cli import add
-from vga_report.png import Shape, save_png
-from vga_report.program import Built, found_program
+from vga_report.png import Animation, Shape, save_png
+from vga_report.program import found_program
 from vga_report.progress import Progress
 from vga_report.report import Report
 from vga_report.streams import (
@@ -20,11 +20,12 @@ from vga_report.streams import (
 )
 from vga_report.trouble import AGREED, DIFFERED, Trouble
 from vga_report.words import add_program, add_shape, number_to, seconds
+from zaklimot.format import Picture
 
 from .checking import check, count
-from .converting import CLOCK, END, FLIP, SCREENS, Frames, Listing, Wanted, convert
-from .recording import Deed, Machine, chain_4, record
-from .replaying import Moving, pictures_of, replay
+from .converting import CLOCK, END, FLIP, SCREENS, Frames, Listing, convert
+from .recording import TRACE, Deed, Machine, chain_4, record
+from .replaying import replay, shown
 from .trace import Trace, opened
 
 KEEP, FIRST = "keep", "first"
@@ -32,10 +33,11 @@ QUIET = "quiet"
 MOST_CYCLES, MOST_KINDS = 1 << 40, 1 << 20
 # So many kinds of refusals, of reads and of differing reads are told of a recording.
 MOST_TOLD = 10
+# Pictures that move have so many bytes at most.
+MOST_PACKED = 1 << 29
 
 
 def _frames(word: str) -> Frames:
-    """Reads when a frame stands."""
     return word if word in (END, FLIP, SCREENS, CLOCK) else seconds(word)
 
 
@@ -73,7 +75,6 @@ def _deed(word: str) -> Deed:
 
 
 def _screen(word: str) -> Deed:
-    """Reads when the screen is taken."""
     return Deed(None if word == QUIET else seconds(word))
 
 
@@ -131,45 +132,36 @@ def _parser(qemu: Sequence[str] = ()) -> argparse.ArgumentParser:
     return parser
 
 
-def _wanted(words: argparse.Namespace) -> Wanted:
-    _check_range(words)
+def _listing(trace: Trace, words: argparse.Namespace) -> Listing:
     if words.time and words.frames == CLOCK:
         raise Trouble("frames by the clock have the time already: without --time")
-    return Wanted(words.polls == KEEP, words.time, words.frames, words.to, words.from_, words.longest)
-
-
-def _check_range(words: argparse.Namespace) -> None:
-    """Ends the work where no cycle is from the first on that is wanted to the last."""
-    if words.to is not None and words.from_ > words.to:
-        raise Trouble(f"--from {words.from_} is after --to {words.to}: no cycle is both")
+    return Listing(trace, words.polls == KEEP, words.time, words.frames, words.to, words.from_, words.longest)
 
 
 def _opened(words: argparse.Namespace) -> ContextManager[Trace]:
-    """The trace, of which the first cycles may be wanted alone."""
+    if words.to is not None and words.from_ > words.to:
+        raise Trouble(f"--from {words.from_} is after --to {words.to}: no cycle is both")
     return opened(words.trace, is_whole=words.to is None)
 
 
-def _warn(listing: Listing, name: str) -> None:
-    """Tells what a trace of this name lacks."""
-    for line in listing.warnings():
+def _warn(lacking: Union[Listing, Trace], name: str) -> None:
+    for line in lacking.warnings():
         print(f"vga-trace: warning: {name}: {line}", file=sys.stderr)
 
 
 def _convert(words: argparse.Namespace, _: Progress) -> None:
-    """Makes a script, and says what it has and what the trace lacks."""
     with _opened(words) as trace, writing(words.script) as stream:
-        listing = Listing(trace, _wanted(words))
+        listing = _listing(trace, words)
         written = convert(listing, stream, words.text, words.repeat)
     _warn(listing, name_of(words.trace))
     print(written.line(listing), file=sys.stderr if words.script == STANDARD else sys.stdout)
 
 
 def _check(words: argparse.Namespace, _: Progress) -> int:
-    """Holds a report against a trace."""
     refuse_twice(words.trace, words.report)
     name = name_of(words.report)
     with _opened(words) as trace, reading(words.report) as stream:
-        listing = Listing(trace, _wanted(words))
+        listing = _listing(trace, words)
         checked = check(listing.steps(), Report(stream, name).steps(), name)
     _warn(listing, name_of(words.trace))
     print("\n".join(checked.lines(words.most)))
@@ -177,58 +169,62 @@ def _check(words: argparse.Namespace, _: Progress) -> int:
 
 
 def _kinds(words: argparse.Namespace, _: Progress) -> None:
-    """Counts cycles."""
-    _check_range(words)
     with _opened(words) as trace:
-        listing = Listing(trace, Wanted(most=words.to))
-        found = count(islice(listing.watch.cycles(), words.from_ - 1, None))
-    _warn(listing, name_of(words.trace))
+        found = count(islice(trace.cycles(words.to), words.from_ - 1, None))
+    _warn(trace, name_of(words.trace))
     print("\n".join(f"{number:12,} {kind}" for kind, number in found.most_common()))
 
 
 def _pictures(words: argparse.Namespace, _: Progress) -> None:
-    """Makes a script of a trace in real time, runs it, and writes its pictures."""
-    _check_range(words)
     if words.folder is None and words.apng is None:
         raise Trouble("the pictures want a folder, or --apng a file")
-    program, shape = found_program(words.vga), Shape(words.scale, words.aspect)
+    program, shape, found = found_program(words.vga), Shape(words.scale, words.aspect), _opened(words)
     if words.folder is not None:
         check_folder(words.folder)
         os.makedirs(words.folder, exist_ok=True)
     if words.apng is not None:
         check_file(words.apng)
     with TemporaryDirectory(prefix="vga-trace-") as name:
-        script, shown, moving = Path(name) / "script", 0.0, Moving(shape)
-        with _opened(words) as trace, writing(str(script)) as stream:
-            listing = Listing(trace, Wanted(frames=CLOCK, most=words.to, first=words.from_, longest=words.longest))
+        script, begin, width, height = Path(name) / "script", 0.0, 0, 0
+        with found as trace, writing(str(script)) as stream:
+            listing = Listing(trace, frames=CLOCK, most=words.to, first=words.from_, longest=words.longest)
             convert(listing, stream)
         _warn(listing, name_of(words.trace))
-        with Built(program).running(script, words.fonts, None, True) as outcome:
-            for picture, lasts in pictures_of(outcome.report, script, words.longest):
-                if words.folder is not None:
-                    path = Path(words.folder) / f"{shown:09.3f}.png"
-                    save_png(str(path), picture, shape)
-                    write_name(path)
-                if words.apng is not None:
-                    moving.add(picture, lasts)
-                shown += lasts
-        if outcome.status:
-            raise Trouble(f"it ended with status {outcome.status}: {outcome.fault}", program)
-    if words.apng is not None:
-        print(f"{words.apng}: {moving.write(words.apng)}", file=sys.stderr if words.apng == STANDARD else sys.stdout)
+        for picture, lasts in shown(program, words.fonts, script, words.longest):
+            if words.folder is not None:
+                path = Path(words.folder) / f"{begin:09.3f}.png"
+                save_png(str(path), picture, shape)
+                write_name(path)
+            begin, width, height = begin + lasts, max(width, picture.width), max(height, picture.height)
+        if words.apng is not None:
+            pictures = shown(program, words.fonts, script, words.longest)
+            _write_moving(words.apng, Animation(shape, (width, height)), pictures)
+
+
+def _write_moving(path: str, animation: Animation, pictures: Iterator[tuple[Picture, float]]) -> None:
+    """Writes pictures that move, each stretched to the largest size of them, as a monitor shows them."""
+    size = 0
+    for number, (picture, lasts) in enumerate(pictures, 1):
+        animation.add(picture, lasts, f"picture {number}")
+        size += len(animation.frames[-1][0])
+        if size > MOST_PACKED:
+            told = f"more than {MOST_PACKED:,} bytes: --from and --to take a part of the trace"
+            raise Trouble(f"the pictures take {told}")
+    with writing(path) as stream:
+        animation.write(stream)
+    told = f"{path}: {len(animation.frames)} pictures, {animation.seconds:.3f} seconds"
+    print(told, file=sys.stderr if path == STANDARD else sys.stdout)
 
 
 def _record(words: argparse.Namespace, progress: Progress) -> int:
-    """Records, replays, and says how each screen compares."""
     if not words.qemu:
         raise Trouble("qemu needs words after `--`, as `-- -cdrom disc.iso`")
     program, folder = found_program(words.vga), Path(words.folder)
     check_folder(words.folder)
     if folder.exists() and any(folder.iterdir()):
         raise Trouble("it has files: name a new folder", words.folder)
-    deeds = list(words.deeds)
-    if not deeds or deeds[-1].keys:
-        deeds.append(Deed())
+    # A screen is taken at the end at least.
+    deeds = words.deeds if words.deeds and not words.deeds[-1].keys else [*words.deeds, Deed()]
     folder.mkdir(parents=True, exist_ok=True)
     try:
         with TemporaryDirectory(prefix="vga-trace-") as made:
@@ -243,29 +239,26 @@ def _record(words: argparse.Namespace, progress: Progress) -> int:
 
 
 def _judge(machine: Machine, folder: Path, program: str, fonts: str, progress: Progress) -> int:
-    """Records into a folder, and prints what came of it."""
-    trace, dumps = folder / "trace.gz", folder / ".dump"
-
     def say(text: str) -> None:
         progress.clear()
         print(f"vga-trace: {text}", file=sys.stderr)
 
-    screens = record(machine, trace, dumps, say, progress)
+    screens = record(machine, folder, say, progress)
     if progress.is_due():
-        progress.tell(f"{trace}: a script is made")
-    figures, checked, judge = replay(trace, dumps, screens, program, fonts, progress)
+        progress.tell(f"{folder / TRACE}: a script is made")
+    done = replay(folder, program, fonts, progress)
     progress.clear()
-    _warn(judge.listing, str(trace))
-    lines = [figures, *checked.lines(MOST_TOLD)]
-    are_equal = checked.agrees and bool(screens)
-    for number, at in enumerate(screens):
-        verdict = judge.verdicts.get(number)
-        are_equal &= verdict is not None and verdict.is_equal
-        if verdict is None:
-            lines.append(f"screen {number + 1} at {at:.1f} s: here no frame has the shape of a picture")
+    _warn(done.listing, str(folder / TRACE))
+    lines = [done.written.line(done.listing), *done.checked.lines(MOST_TOLD)]
+    are_equal = done.checked.agrees and bool(screens)
+    for number, at in enumerate(screens, 1):
+        screen, front = done.screens.get(number - 1), f"screen {number} at {at:.1f} s"
+        are_equal &= screen is not None and screen.is_equal
+        if screen is None:
+            lines.append(f"{front}: here no frame has the shape of a picture")
             continue
-        lines += verdict.lines()
-        verdict.write(folder)
+        lines += screen.lines(front)
+        screen.write(folder, number)
     print("\n".join(lines))
     return AGREED if are_equal else DIFFERED
 

@@ -1,19 +1,22 @@
-"""From a trace to a script."""
+"""From a trace to a script: its steps, with the time and the frames between them.
+
+Rows of equal steps, and of equal groups of steps, become blocks.
+"""
 
 from collections import Counter
 from dataclasses import dataclass, field
-from typing import BinaryIO, Iterable, Iterator, Optional, Union
+from itertools import islice
+from typing import BinaryIO, Callable, Iterable, Iterator, NamedTuple, Optional, Sequence, Union
 
+from vga_report.registers import Registers, bytes_written
 from vga_report.streams import counted
 from vga_report.trouble import Trouble
-from zaklimot.format import FIRST_LINE, HEADERS, MOST_BYTES, MOST_STEPS
+from zaklimot import format
+from zaklimot.format import FIRST_LINE, HEADERS, MOST_ADVANCE, MOST_BYTES, MOST_STEPS
 
-from .folding import Coded, Row, alone, folded
-from .passing import Clocked, Pauses, with_flips, with_frames_every
-from .rebuilding import rebuilt
-from .state import State
-from .step import FRAME, NAMES, Step, steps_of, without_polls
-from .trace import Trace, Watch
+from .state import State, rebuilt
+from .step import ADVANCE, FRAME, NAMES, OUT, OUTW, PUT, PUTW, Step, steps_of, without_polls
+from .trace import Trace
 
 # When a script has a frame: at its end alone, before each page flip, where a screen was taken, once in each frame of the dot
 # clock in which something was written, or every so many seconds.
@@ -21,76 +24,192 @@ END, FLIP, SCREENS, CLOCK = "end", "flip", "screens", "clock"
 Frames = Union[str, float]
 # Bytes that are kept free, as text: for the steps at the end, and for a row that is no block once it is cut there.
 FOR_THE_END = 1024
+# The bytes of a block but its steps, and the most steps that are looked at as one group.
+BLOCK_BYTES, MOST_GROUP = format.Block(1, ()).size, 8
+# Steps that are looked at ahead: as many as the shortest row that is worth a block may have. More are fetched at once.
+AHEAD, FETCHED = 64, 4096
+# A step as its bytes or its line.
+Code = Callable[[Step], bytes]
+# Microseconds that are put together before they become a step: about a line.
+LEAST_PAUSE = 30
+WRITES = (OUT, OUTW, PUT, PUTW)
+CONTROLLERS = (0x3D4, 0x3B4)
+# The CRT controller's registers of the start address, which a page flip writes.
+START_ADDRESS = (0x0C, 0x0D)
 
 
-@dataclass(frozen=True)
-class Wanted:
-    """How cycles become steps: whether all polls stay, whether time passes, when a frame stands.
+class Pauses:
+    """The time between steps, as dots of the clock that the steps before have chosen."""
 
-    `most` is how many cycles count. The script begins with the cycle of the number `first`, and with steps that rebuild what
-    those before it have done. With frames by the clock a time without a write lasts `longest` seconds at most.
+    def __init__(self) -> None:
+        self._registers = Registers()
+        self._last: Optional[int] = None
+        self._owed = 0
+        self.backwards = 0
+
+    def steps(self, steps: Iterable[Step]) -> Iterator[Step]:
+        """The steps, with the clock advanced before those to which time has passed."""
+        for step in steps:
+            dots = self._dots(step.time)
+            if dots:
+                yield Step(ADVANCE, dots)
+            self._registers.take(step.step)
+            yield step
+
+    def _dots(self, now: Optional[int]) -> int:
+        """The dots of the time that has passed until now, a frame's at most; 0 of less than a line, kept for later."""
+        if now is not None:
+            passed = 0 if self._last is None else now - self._last
+            self._last = now
+            self.backwards += passed < 0
+            self._owed += max(passed, 0)
+        if self._owed < LEAST_PAUSE:
+            return 0
+        owed, self._owed = self._owed, 0
+        speed = self._registers.speed()
+        return 0 if speed is None else min(int(owed * speed[1] / 1_000_000), speed[0])
+
+
+class Clocked:
+    """Real time: a frame at the end of each frame of the dot clock in which something was written.
+
+    Behind it so many frames pass as went by until the next that is drawn; a time without a write is cut to `longest` seconds.
     """
 
-    keeps_polls: bool = True
-    has_time: bool = False
-    frames: Frames = END
-    most: Optional[int] = None
-    first: int = 1
-    longest: float = 1
+    def __init__(self, longest: float) -> None:
+        self.longest = longest
+        self._registers = Registers()
+        # When the last frame that was drawn ended, and when the one ends that is under way.
+        self._drawn: Optional[float] = None
+        self._ends: Optional[float] = None
+        self._is_changed = False
+        self.shortened, self.left_out = 0, 0.0
+
+    def steps(self, steps: Iterable[Step]) -> Iterator[Step]:
+        """The steps, with the frames that end before them, and the time until the end of the last."""
+        for step in steps:
+            if step.time is not None:
+                yield from self._frames(step.time / 1_000_000)
+            self._is_changed |= step.opcode in WRITES
+            self._registers.take(step.step)
+            yield step
+        yield from self._passed()
+
+    def _frames(self, now: float) -> Iterator[Step]:
+        frame = self._registers.frame()
+        if self._ends is None:
+            self._ends = now + frame
+        if now < self._ends:
+            return
+        if self._is_changed:
+            yield from self._passed()
+            yield Step(FRAME)
+            self._drawn, self._is_changed = self._ends, False
+        self._ends += ((now - self._ends) // frame + 1) * frame
+
+    def _passed(self) -> Iterator[Step]:
+        seconds = 0.0 if self._drawn is None or self._ends is None else self._ends - self._drawn
+        if seconds > self.longest:
+            self.shortened += 1
+            self.left_out += seconds - self.longest
+        speed, frames = self._registers.speed(), round(min(seconds, self.longest) / self._registers.frame()) - 1
+        dots = 0 if speed is None else speed[0] * max(frames, 0)
+        for left in range(dots, 0, -MOST_ADVANCE):
+            yield Step(ADVANCE, min(left, MOST_ADVANCE))
+
+
+def with_flips(steps: Iterable[Step]) -> Iterator[Step]:
+    """The steps, with a frame before each write that changes the start address: what was drawn until then.
+
+    There is one frame for the two halves of an address.
+    """
+    index, address, is_flipping = 0, dict.fromkeys(START_ADDRESS, 0), False
+    for step in steps:
+        written = [(port & 1, value) for port, value in bytes_written(step.step) if port & ~1 in CONTROLLERS]
+        last = dict(address)
+        for is_data, value in written:
+            if not is_data:
+                index = value
+            elif index in address:
+                address[index] = value
+        # A step that goes on with a flip that another has begun has no frame of its own.
+        if address != last and not is_flipping:
+            yield Step(FRAME, time=step.time)
+        is_flipping = address != last or (is_flipping and bool(written) and index in address)
+        yield step
+
+
+def with_frames_every(seconds: float, steps: Iterable[Step]) -> Iterator[Step]:
+    """The steps, with a frame each time that so many seconds have passed by their times."""
+    pause = max(int(seconds * 1_000_000), 1)
+    due: Optional[int] = None
+    for step in steps:
+        if step.time is not None and (due is None or step.time >= due):
+            if due is not None:
+                yield Step(FRAME, time=step.time)
+            due = step.time + pause
+        yield step
 
 
 class Listing:
-    """The steps of a trace, in the order of the script; `watch` has the cycles, as many as are wanted."""
+    """The steps of a trace, in the order of the script, and how cycles become steps.
 
-    def __init__(self, trace: Trace, wanted: Wanted) -> None:
+    That is whether all polls stay, whether time passes, when a frame stands, and how many cycles count. The script
+    begins with the cycle of the number `first`, and with steps that rebuild what those before it have done. With frames
+    by the clock a time without a write lasts `longest` seconds at most.
+    """
+
+    def __init__(
+        self, trace: Trace, keeps_polls: bool = True, has_time: bool = False, frames: Frames = END,
+        most: Optional[int] = None, first: int = 1, longest: float = 1,
+    ) -> None:
         self.trace = trace
-        self._wanted = wanted
-        self.watch = Watch(trace, wanted.most)
-        self._pauses = Pauses()
-        self._clocked = Clocked(wanted.longest)
+        self._keeps_polls, self._has_time, self._frames = keeps_polls, has_time, frames
+        self._is_timed = has_time or frames == CLOCK or isinstance(frames, float)
+        self._most, self._first = most, first
+        self._pauses, self._clocked = Pauses(), Clocked(longest)
         self.rebuilding = 0
 
     def steps(self) -> Iterator[Step]:
         """The steps, and the frame at the end. Where time passes there are two: the first began amid the cycles."""
-        wanted = self._wanted
-        steps = steps_of(self.watch.cycles(), self.trace.screens)
-        if not wanted.keeps_polls:
+        steps = steps_of(self.trace.cycles(self._most), self.trace.screens)
+        if self._is_timed:
+            steps = self._timed(steps)
+        if not self._keeps_polls:
             steps = without_polls(steps)
-        if wanted.frames == FLIP:
+        if self._frames == FLIP:
             steps = with_flips(steps)
-        elif wanted.frames == SCREENS:
+        elif self._frames == SCREENS:
             steps = self._with_screens(steps)
-        elif wanted.frames == CLOCK:
-            steps = self._clocked.steps(self._timed(steps))
-        elif isinstance(wanted.frames, float):
-            steps = with_frames_every(wanted.frames, self._timed(steps))
-        if wanted.has_time:
-            steps = self._pauses.steps(self._timed(steps))
-        yield from steps if wanted.first == 1 else self._from_the_middle(steps)
-        yield from [Step(FRAME)] * (2 if wanted.has_time else 1)
+        elif self._frames == CLOCK:
+            steps = self._clocked.steps(steps)
+        elif isinstance(self._frames, float):
+            steps = with_frames_every(self._frames, steps)
+        if self._has_time:
+            steps = self._pauses.steps(steps)
+        yield from steps if self._first == 1 else self._from_the_middle(steps)
+        yield from [Step(FRAME)] * (2 if self._has_time else 1)
 
-    def warnings(self) -> list[str]:
+    def warnings(self) -> Iterator[str]:
         """What the trace lacks, a line each; the steps must have passed."""
-        told = self.watch.warnings()
+        yield from self.trace.warnings()
         if self._pauses.backwards:
-            told.append(f"the time runs back {self._pauses.backwards:,} times, which is no pause")
-        if self._clocked.shortened:
-            silences = counted(self._clocked.shortened, "silence")
-            told.append(f"{silences} cut to {self._wanted.longest:g} s, and {self._clocked.left_out:,.1f} s left out so")
-        is_time_used = self._wanted.has_time or self._wanted.frames == CLOCK or isinstance(self._wanted.frames, float)
-        if is_time_used and self.watch.untimed:
-            told.append(f"{self.watch.untimed:,} cycles have no time, and come without a pause")
-        return told
+            yield f"the time runs back {self._pauses.backwards:,} times, which is no pause"
+        clocked = self._clocked
+        if clocked.shortened:
+            silences = counted(clocked.shortened, "silence")
+            yield f"{silences} cut to {clocked.longest:g} s, and {clocked.left_out:,.1f} s left out so"
+        if self._is_timed and self.trace.untimed:
+            yield f"{self.trace.untimed:,} cycles have no time, and come without a pause"
 
     def _from_the_middle(self, steps: Iterator[Step]) -> Iterator[Step]:
-        """The steps from the first cycle that is wanted on, behind those that rebuild what was done before."""
         state = State()
         for step in steps:
-            if step.cycle >= self._wanted.first:
+            if step.cycle >= self._first:
                 break
             state.take(step)
         else:
-            told = f"it has {self.watch.count:,} cycles, and none from {self._wanted.first:,} on becomes a step"
+            told = f"it has {self.trace.count:,} cycles, and none from {self._first:,} on becomes a step"
             raise Trouble(told, self.trace.name)
         for rebuilding in rebuilt(state):
             self.rebuilding += 1
@@ -99,7 +218,6 @@ class Listing:
         yield from steps
 
     def _with_screens(self, steps: Iterator[Step]) -> Iterator[Step]:
-        """The steps, with a frame at each place where a screen was taken."""
         screens, taken = self.trace.screens, 0
         for step in steps:
             while taken < len(screens) and screens[taken] < step.cycle:
@@ -109,11 +227,66 @@ class Listing:
         yield from [Step(FRAME)] * (len(screens) - taken)
 
     def _timed(self, steps: Iterator[Step]) -> Iterator[Step]:
-        """The steps, of which the first must have a time."""
         for number, step in enumerate(steps):
             if number == 0 and step.time is None:
                 raise self.trace.trouble("the first cycle has no time, and time is asked for")
             yield step
+
+
+class Row(NamedTuple):
+    """Steps with their codes, which a script has so often; the cycle of the last one, 0 where it is none's."""
+
+    steps: Sequence[Step]
+    codes: Sequence[bytes]
+    count: int
+    cycle: int
+
+
+def folded(steps: Iterable[Step], code: Code, has_blocks: bool = True) -> Iterator[Row]:
+    """The steps, but rows of equal steps or equal groups as blocks where these have at most half of the bytes.
+
+    Steps are equal if their codes are. As lines, what is read is expected to be equal too: a line has one answer.
+    """
+    ahead = _Ahead(iter(steps), code)
+    while ahead.has(AHEAD):
+        size, at, count = ahead.group() if has_blocks else 0, ahead.at, 1
+        group, codes = ahead.steps[at:at + (size or 1)], ahead.codes[at:at + (size or 1)]
+        last, ahead.at = group[-1], at + len(group)
+        while size and count < format.MOST_COUNT and ahead.has(size) and ahead.codes[ahead.at:ahead.at + size] == codes:
+            ahead.at, count = ahead.at + size, count + 1
+            last = ahead.steps[ahead.at - 1]
+        yield Row(group, codes, count, last.cycle)
+
+
+class _Ahead:
+    """The steps that come next, from a place on, and their codes."""
+
+    def __init__(self, rest: Iterator[Step], code: Code) -> None:
+        self._rest, self._code = rest, code
+        self.steps: list[Step] = []
+        self.codes: list[bytes] = []
+        self.at = 0
+
+    def has(self, wanted: int) -> bool:
+        """Whether there is a step. So many are fetched, if there are."""
+        if len(self.steps) - self.at < wanted:
+            more = list(islice(self._rest, FETCHED))
+            self.steps, self.codes = self.steps[self.at:] + more, self.codes[self.at:] + list(map(self._code, more))
+            self.at = 0
+        return self.at < len(self.steps)
+
+    def group(self) -> int:
+        """The size of the smallest group that stands here so often that it is worth a block; else 0."""
+        codes, at = self.codes, self.at
+        if codes[at] not in codes[at + 1:at + 1 + MOST_GROUP]:
+            return 0
+        for size in range(1, MOST_GROUP + 1):
+            if codes[at:at + size] == codes[at + size:at + 2 * size]:
+                length = sum(step.size for step in self.steps[at:at + size])
+                least = -(-2 * (BLOCK_BYTES + length) // length)
+                if codes[at:at + least * size] == codes[at:at + size] * least:
+                    return size
+        return 0
 
 
 @dataclass
@@ -122,27 +295,29 @@ class Written:
 
     is_text: bool
     kinds: Counter[str] = field(default_factory=Counter)
-    steps: int = 0
     blocks: int = 0
     script_bytes: int = len(HEADERS[1])
     text_bytes: int = 0
     last_cycle: int = 0
 
-    def coded(self, steps: Iterable[Step]) -> Iterator[Coded]:
-        """Steps with their bytes and lines, counted by kind."""
-        for step in steps:
-            self.kinds[NAMES[step.opcode]] += 1
-            yield Coded(step, step.data(), step.text() if self.is_text else b"")
+    @property
+    def steps(self) -> int:
+        """How many steps it means."""
+        return sum(self.kinds.values())
 
-    def takes(self, row: Row) -> bool:
-        """Counts a row, and tells whether a script may still have it."""
-        self.steps += row.steps
-        self.blocks += row.is_block
-        self.script_bytes += len(row.data)
-        self.text_bytes += len(row.text)
-        fits = max(self.script_bytes, self.text_bytes) <= MOST_BYTES - FOR_THE_END and self.steps <= MOST_STEPS - FOR_THE_END
-        self.last_cycle = row.cycle or self.last_cycle if fits else self.last_cycle
-        return fits
+    def row(self, row: Row) -> bytes:
+        """Counts a row; what the script has of it."""
+        body = b"".join(row.codes)
+        for step in row.steps:
+            self.kinds[NAMES[step.opcode]] += row.count
+            self.script_bytes += step.size
+        if row.count > 1:
+            ends = format.encoded(format.Block(row.count, ()))
+            words = f"{format.REPEAT} {row.count}\n".encode(), f"{format.END}\n".encode()
+            front, end = words if self.is_text else (ends[:-1], ends[-1:])
+            self.blocks, self.script_bytes, body = self.blocks + 1, self.script_bytes + len(ends), front + body + end
+        self.text_bytes += len(body) if self.is_text else 0
+        return body
 
     def header(self) -> bytes:
         """What stands before the rows: version 2 alone has blocks."""
@@ -154,7 +329,7 @@ class Written:
         """The figures."""
         length = self.text_bytes + len(self.header()) if self.is_text else self.script_bytes
         kinds = ", ".join(f"{count:,} {kind}" for kind, count in self.kinds.most_common())
-        parts = [f"{listing.watch.count:,} cycles", f"{self.steps:,} steps", f"{length:,} bytes"]
+        parts = [f"{listing.trace.count:,} cycles", f"{self.steps:,} steps", f"{length:,} bytes"]
         if self.blocks:
             parts.append(f"{self.blocks:,} repeat{'s' * (self.blocks != 1)}")
         if listing.rebuilding:
@@ -167,15 +342,14 @@ def convert(listing: Listing, stream: BinaryIO, is_text: bool = False, has_block
 
     Rows of equal steps become blocks, which version 2 has, if these are wanted.
     """
-    written = Written(is_text)
-    body = bytearray()
-    coded = written.coded(listing.steps())
-    for row in folded(coded) if has_blocks else alone(coded):
-        if not written.takes(row):
+    written, body = Written(is_text), bytearray()
+    for row in folded(listing.steps(), Step.text if is_text else Step.data, has_blocks):
+        body += written.row(row)
+        if max(written.script_bytes, written.text_bytes) > MOST_BYTES - FOR_THE_END or written.steps > MOST_STEPS - FOR_THE_END:
             last, most = written.last_cycle, f"more than {MOST_BYTES:,} bytes, or means more than {MOST_STEPS:,} steps"
             part = f"; `--to {last}` ends before that, and `--from {last + 1}` goes on after it"
             raise Trouble(f"the script has {most}{part if last else ', and no cycle fits'}", listing.trace.name)
-        body += row.text if is_text else row.data
+        written.last_cycle = row.cycle or written.last_cycle
     stream.write(written.header())
     stream.write(body)
     return written

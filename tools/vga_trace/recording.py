@@ -6,7 +6,7 @@ import subprocess
 import tempfile
 import time
 from contextlib import ExitStack, contextmanager, suppress
-from dataclasses import dataclass
+from dataclasses import dataclass, field
 from pathlib import Path
 from threading import Thread
 from typing import BinaryIO, Callable, Iterator, NamedTuple, Optional, Sequence
@@ -30,6 +30,8 @@ BARE = ("-accel", "tcg", "-machine", "pc,smm=off", "-nodefaults", "-m", "128", "
 LOOK, PRESSING, PHASE, BEGINNING = 0.05, 0.1, 0.12, 0.3
 # Screens are taken again and again, since qemu blinks by a clock of its own.
 PHASES = 6
+# The trace in the folder of a recording.
+TRACE = "trace.gz"
 # So many bytes of lines are kept, about twenty million cycles, and so many are read at a time.
 MOST_LINES, CHUNK = 1 << 31, 1 << 16
 Say = Callable[[str], None]
@@ -85,80 +87,83 @@ class Keeper(Thread):
                     self.trouble = Trouble(f"its trace can't be kept: {error.strerror or error}", QEMU)
 
 
+@dataclass
 class Session:
-    """A machine that runs: what is done to it, and the seconds at which each of its screens was taken."""
+    """A machine that runs, with its dumps in a folder: what is done to it, and the seconds of its screens."""
 
-    def __init__(
-        self, machine: Machine, process: subprocess.Popen[bytes], keeper: Keeper, base: Path, progress: Progress
-    ) -> None:
-        self._machine, self._process, self._keeper, self._base = machine, process, keeper, base
-        self._progress = progress
-        self._began = self._acted = time.monotonic()
-        self.screens: list[float] = []
-
-    def passed(self) -> float:
-        """The seconds since power-on."""
-        return time.monotonic() - self._began
+    machine: Machine
+    process: subprocess.Popen[bytes]
+    keeper: Keeper
+    folder: Path
+    progress: Progress
+    screens: list[float] = field(default_factory=list)
+    began: float = field(default_factory=time.monotonic)
+    acted: float = field(default_factory=time.monotonic)
 
     def has_ended(self) -> bool:
         """Whether the machine has ended by itself; a Trouble where its lines can't be kept."""
-        if self._keeper.trouble:
-            raise self._keeper.trouble
-        return self._process.poll() is not None
+        if self.keeper.trouble:
+            raise self.keeper.trouble
+        return self.process.poll() is not None
 
     def is_due(self, deed: Deed) -> bool:
         """Whether a deed is to be done now."""
+        now = time.monotonic()
         if deed.at is not None:
-            return self.passed() >= deed.at
-        last = max(self._acted, self._keeper.last)
-        return self._keeper.size > 0 and time.monotonic() - last > self._machine.quiet
-
-    def wait(self, deed: Deed) -> bool:
-        """Waits until a deed is to be done; whether it came to that before the machine's last second."""
-        while not self.is_due(deed):
-            if self.has_ended() or self.passed() >= self._machine.most:
-                return False
-            if self._progress.is_due():
-                self._progress.tell(f"recording: {self.passed():.0f} s")
-            time.sleep(LOOK)
-        return True
+            return now - self.began >= deed.at
+        return self.keeper.size > 0 and now - max(self.acted, self.keeper.last) > self.machine.quiet
 
     def act(self, do: Monitor, log: BinaryIO, say: Say) -> None:
         """Does all that is to be done. The last screen is taken in the last second at the latest."""
-        for number, deed in enumerate(self._machine.deeds, 1):
-            is_due, is_last = self.wait(deed), number == len(self._machine.deeds)
+        for number, deed in enumerate(self.machine.deeds, 1):
+            is_due, is_last = self._wait(deed), number == len(self.machine.deeds)
             if self.has_ended():
-                say(f"the machine ended by itself after {self.passed():.1f} seconds")
+                say(f"the machine ended by itself after {time.monotonic() - self.began:.1f} seconds")
                 return
             if not is_due and (deed.keys or not is_last):
-                over = f"{self._machine.most:g} seconds were over before it was time for {deed}"
+                over = f"{self.machine.most:g} seconds were over before it was time for {deed}"
                 say(f"{over}: the screen is taken now, and the rest left out")
             elif not is_due:
                 say("the software was still busy when its screen was taken")
-            self._press(do, deed.keys) if is_due and deed.keys else self._take_screen(do, log)
+            if is_due and deed.keys:
+                self.press(do, deed.keys)
+            else:
+                self._take_screen(do, log)
             if not is_due:
                 return
 
-    def _press(self, do: Monitor, keys: Sequence[str]) -> None:
+    def _wait(self, deed: Deed) -> bool:
+        """Waits until a deed is to be done; whether it came to that before the machine's last second."""
+        while not self.is_due(deed):
+            passed = time.monotonic() - self.began
+            if self.has_ended() or passed >= self.machine.most:
+                return False
+            if self.progress.is_due():
+                self.progress.tell(f"recording: {passed:.0f} s")
+            time.sleep(LOOK)
+        return True
+
+    def press(self, do: Monitor, keys: Sequence[str]) -> None:
+        """Presses keys one after the other."""
         for key in keys:
             do("send-key", keys=[{"type": "qcode", "data": part} for part in key.split("-")])
             time.sleep(PRESSING)
-        self._acted = time.monotonic()
+        self.acted = time.monotonic()
 
     def _take_screen(self, do: Monitor, log: BinaryIO) -> None:
         """Takes the screen at several phases of the cursor. A line of the log tells the place of each among the cycles."""
-        self.screens.append(self.passed())
+        first = PHASES * len(self.screens)
+        self.screens.append(time.monotonic() - self.began)
         do("stop")
-        for phase in range(PHASES):
-            if phase:
+        for number in range(first, first + PHASES):
+            if number > first:
                 do("cont")
                 time.sleep(PHASE)
                 do("stop")
             log.write(SCREEN + b"\n")
-            path = dump(self._base, PHASES * (len(self.screens) - 1) + phase)
-            do("screendump", filename=str(path.resolve()))
+            do("screendump", filename=str(dump(self.folder, number).resolve()))
         do("cont")
-        self._acted = time.monotonic()
+        self.acted = time.monotonic()
 
 
 def chain_4(folder: Path) -> list[str]:
@@ -168,13 +173,12 @@ def chain_4(folder: Path) -> list[str]:
     return ["-plugin", str(plugin.resolve()), "-d", "plugin"]
 
 
-def dump(base: Path, number: int) -> Path:
+def dump(folder: Path, number: int) -> Path:
     """The file of a dump, counted from 0: a screen has as many as phases."""
-    return base.with_name(f"{base.name}.{number}.ppm")
+    return folder / f".dump.{number}.ppm"
 
 
 def _qemu(machine: Machine, folder: Path) -> list[str]:
-    """The command. Its log goes into a pipe."""
     (folder / "events").write_text(EVENTS, encoding="ascii")
     return [
         "nice", "-n", "10", QEMU, *BARE, "-msg", "timestamp=on", "-trace", f"events={folder}/events", "-D", f"{folder}/log",
@@ -198,8 +202,8 @@ def _reached(folder: Path, process: subprocess.Popen[bytes]) -> Iterator[tuple[M
         yield do, log
 
 
-def record(machine: Machine, trace: Path, base: Path, say: Say, progress: Progress) -> list[float]:
-    """Leaves a trace, by gzip, and the dumps BASE.0.ppm and so on beside it; answers the seconds of each screen.
+def record(machine: Machine, kept: Path, say: Say, progress: Progress) -> list[float]:
+    """Leaves a trace and the dumps of screens in a folder; answers the seconds of each screen.
 
     `say` tells what may spoil them.
     """
@@ -208,7 +212,7 @@ def record(machine: Machine, trace: Path, base: Path, say: Say, progress: Progre
     with ExitStack() as stack:
         folder = Path(stack.enter_context(tempfile.TemporaryDirectory(prefix="vga-recording-")))
         os.mkfifo(folder / "log")
-        target = stack.enter_context(gzip.open(stack.enter_context(writing(str(trace))), "wb", 6))
+        target = stack.enter_context(gzip.open(stack.enter_context(writing(str(kept / TRACE))), "wb", 6))
         keepers: list[Keeper] = []
         stack.callback(lambda: [keeper.join(DRAINING) for keeper in keepers])
         filtering = stack.enter_context(started(
@@ -219,23 +223,18 @@ def record(machine: Machine, trace: Path, base: Path, say: Say, progress: Progre
         keepers[0].start()
         said = stack.enter_context(open(folder / "said", "wb"))
         process = stack.enter_context(started(_qemu(machine, folder), stdout=said, stderr=said, preexec_fn=end_with_parent))
-        session = Session(machine, process, keepers[0], base, progress)
+        session = Session(machine, process, keepers[0], kept, progress)
         # A machine that has ended by itself hears nothing more.
         with suppress(BrokenPipeError), _reached(folder, process) as (do, log):
             session.act(do, log, say)
             if not session.has_ended():
                 do("quit")
-        _wait_for_end(process, QEMU)
-        _wait_for_end(filtering, "grep")
+        for ending, name in ((process, QEMU), (filtering, "grep")):
+            try:
+                ending.wait(ANSWERING)
+            except subprocess.TimeoutExpired as error:
+                raise Trouble(f"it doesn't end within {ANSWERING} seconds", name) from error
         keepers[0].join(DRAINING)
         if keepers[0].trouble:
             raise keepers[0].trouble
     return session.screens
-
-
-def _wait_for_end(process: subprocess.Popen[bytes], name: str) -> None:
-    """Waits until a program ends that has nothing left to do."""
-    try:
-        process.wait(ANSWERING)
-    except subprocess.TimeoutExpired as error:
-        raise Trouble(f"it doesn't end within {ANSWERING} seconds", name) from error

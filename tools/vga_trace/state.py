@@ -1,11 +1,18 @@
-"""What cycles leave of the adapter: its registers, its DAC, its memory and the beam's place."""
+"""What cycles leave of the adapter: its registers, its DAC, its memory and the beam's place.
+
+Steps rebuild such a state from power-on, so that a script can begin in the middle of a trace.
+"""
 
 from __future__ import annotations
 
+from functools import partial
+from math import prod
 from operator import and_, or_, xor
-from typing import Callable, Mapping, NamedTuple, Optional, Sequence
+from typing import Callable, Iterable, Iterator, Mapping, Optional, Sequence, TypeVar
 
-from .step import ADVANCE, FRAME, GET, GETW, IN, INW, OUT, OUTW, PUT, PUTW, Step
+from vga_report.registers import shape_of
+
+from .step import ADVANCE, FRAME, GET, GETW, IN, INW, OUT, OUTW, PUT, PUTW, READS, WORDS, Step
 
 ATTRIBUTE, ATTRIBUTE_READ, MISC, SEQUENCER, MASK = 0x3C0, 0x3C1, 0x3C2, 0x3C4, 0x3C6
 DAC_READ, DAC_WRITE, DAC_DATA, MISC_READ, GRAPHICS = 0x3C7, 0x3C8, 0x3C9, 0x3CC, 0x3CE
@@ -16,7 +23,7 @@ STATUS = 6
 IS_COLOUR, ENABLE_MEMORY, MISC_KEPT = 0x01, 0x02, 0xEF
 # First address and bytes of the window, by the memory map.
 WINDOWS = ((0xA0000, 0x20000), (0xA0000, 0x10000), (0xB0000, 0x8000), (0xB8000, 0x8000))
-PLANE_BYTES, PLANES = 1 << 16, 4
+FIRST_ADDRESS, PLANE_BYTES, PLANES, ALL_PLANES = 0xA0000, 1 << 16, 4, 0x0F
 # A byte in each of the four bytes of a word, and words of which the bytes of some planes are FF.
 EACH = 0x01010101
 SPREAD = tuple(sum(0xFF << 8 * plane for plane in range(PLANES) if planes >> plane & 1) for planes in range(16))
@@ -32,6 +39,12 @@ PROTECT, COMPARE_8 = 0x80, 0x10
 FRAMES = 32
 # The CRT controller's registers that are taken at a frame's first dot: preset row scan, start address.
 TAKEN = (0x08, 0x0C, 0x0D)
+# Sequencer and graphics controller such that a byte goes to the planes of the map mask, at its address' offset.
+PLANAR = ((SEQUENCER, 0x04, 0x06), *((GRAPHICS, index, 0) for index in range(6)), (GRAPHICS, 0x06, 0x04), (GRAPHICS, 0x08, 0xFF))
+MAP_MASK, RETRACE_END = 0x02, 0x11
+# The lines of a frame, the characters of a line, and the dots of a character.
+Shape = tuple[int, int, int]
+Value = TypeVar("Value")
 
 
 class State:
@@ -39,10 +52,14 @@ class State:
 
     def __init__(self) -> None:
         self.misc = 0
-        self.seq = Bank("033D0F3F0E", 0x07, {})
+        self.seq = Bank("033D0F3F0E", 0x07)
         self.gfx = Bank("0F0F0F1F037B0F0FFF", 0x0F, {5: (0x20, 0)})
-        self.crtc = Controller()
-        self.attr = Attributes()
+        crtc_kept, crtc_wanted = "FF" * 8 + "7FFF3F7F" + "FF" * 8 + "7FFFFFEFFF", {0x14: (0x20, 0), 0x17: (0x0F, 0x03)}
+        self.crtc = Bank(crtc_kept, 0x1F, crtc_wanted, _unprotected)
+        self.crtc.registers[0x17] = 0x03
+        self.attr = Bank("3F" * PALETTE + "EFFF3F0F0F", 0x3F, {}, _unlocked)
+        # Whether the next write to the attribute controller is data.
+        self.is_data = False
         self.dac = Dac()
         self.memory = Memory(self.seq.registers, self.gfx.registers)
         self.beam = Beam()
@@ -56,31 +73,27 @@ class State:
     def shape(self) -> Shape:
         """The shape of the frame."""
         crtc = self.crtc.registers
-        lines = crtc[6] + ((crtc[7] & 1) << 8) + ((crtc[7] >> 5 & 1) << 9) + 2
-        return Shape(8 if self.seq.registers[1] & 1 else 9, crtc[0] + 5, lines)
+        return shape_of(self.seq.registers[1], crtc[0], crtc[6], crtc[7])
 
     def take(self, step: Step) -> Optional[int]:
         """Takes a step, and answers what it reads; None of a write and of a refusal. Of input status 1 all bits are 0."""
         opcode, address, value = step.opcode, step.address, step.value
+        size = 2 if opcode in WORDS else 1
         if opcode in (PUT, PUTW):
-            for place, byte in zip(self._places(address, 1 if opcode == PUT else 2), value.to_bytes(2, "little")):
+            for place, byte in zip(self._places(address, size), value.to_bytes(2, "little")):
                 self.memory.put(place, byte)
-        elif opcode == OUT:
-            if self._takes(address, value):
-                self._write(address, value)
-        elif opcode == OUTW:
-            self._out_word(address, value & 0xFF, value >> 8)
+        elif opcode in (OUT, OUTW):
+            self._write(address, value.to_bytes(size, "little"))
         elif opcode == ADVANCE:
             self.beam.advance(address, self.shape, self.crtc.registers)
         elif opcode == FRAME:
             self.beam.end_frame()
         elif opcode in (GET, GETW):
-            read = bytes(map(self.memory.get, self._places(address, 1 if opcode == GET else 2)))
+            read = bytes(map(self.memory.get, self._places(address, size)))
             return int.from_bytes(read, "little") if read else None
         elif opcode in (IN, INW):
-            ports = range(address, address + (1 if opcode == IN else 2))
-            if all(map(self._answers, ports)):
-                return int.from_bytes(bytes(map(self._read, ports)), "little")
+            readers = [reader for reader in map(self._reader, range(address, address + size)) if reader is not None]
+            return int.from_bytes(bytes(reader() for reader in readers), "little") if len(readers) == size else None
         return None
 
     def _places(self, address: int, count: int) -> Sequence[int]:
@@ -91,77 +104,63 @@ class State:
             return ()
         return [place + at & 0xFFFF for at in range(count)]
 
-    def _chosen(self, port: int) -> Optional[Bank]:
-        """The bank whose index is written and read at a port."""
+    def _bank(self, port: int) -> Optional[Bank]:
         if port == self.controller:
             return self.crtc
         return self.seq if port == SEQUENCER else self.gfx if port == GRAPHICS else None
 
-    def _out_word(self, port: int, low: int, high: int) -> None:
-        """Writes a word: whole, or not at all. The first byte decides on the second where it is its index."""
-        bank = self._chosen(port)
+    def _write(self, port: int, data: bytes) -> None:
+        """Writes a byte or a word: whole, or not at all. The first byte decides on the second where it is its index."""
+        bank = self._bank(port)
+        writers = [self._writer(port, data[0], None)]
+        if len(data) > 1:
+            writers.append(self._writer(port + 1, data[1], None if bank is None else data[0] & bank.index_kept))
+        if None not in writers:
+            for writer in writers:
+                writer()  # type: ignore[misc]
+
+    def _writer(self, port: int, value: int, index: Optional[int]) -> Optional[Callable[[], None]]:
+        """What writes a value to a port, whose index may be another then; None where that is refused."""
+        bank, bank_of_data = self._bank(port), self._bank(port - 1)
         if bank is not None:
-            was = bank.index
-            bank.choose(low)
-            if bank.takes(high):
-                bank.write(high)
-            else:
-                bank.index = was
-        elif self._takes(port, low) and self._takes(port + 1, high):
-            self._write(port, low)
-            self._write(port + 1, high)
-
-    def _takes(self, port: int, value: int) -> bool:
-        """Whether a write to a port is taken."""
-        if port == ATTRIBUTE:
-            return not self.attr.is_data or self.attr.has_register
-        if port in (MISC, MASK, DAC_READ, DAC_WRITE, DAC_DATA) or self._chosen(port) is not None:
-            return True
-        bank = self._chosen(port - 1)
-        return bank is not None and bank.takes(value)
-
-    def _write(self, port: int, value: int) -> None:
-        """Does a write that is taken."""
-        bank, bank_of_data = self._chosen(port), self._chosen(port - 1)
-        if bank is not None:
-            bank.choose(value)
-        elif bank_of_data is not None:
-            bank_of_data.write(value)
-        elif port == ATTRIBUTE:
-            self.attr.write_next(value)
-        elif port == MISC:
-            self.misc = value & MISC_KEPT
-        elif port == MASK:
-            self.dac.mask = value
-        elif port == DAC_DATA:
-            self.dac.write(value)
-        else:
-            self.dac.choose(value)
-
-    def _answers(self, port: int) -> bool:
-        """Whether a read of a port is answered."""
-        if port == ATTRIBUTE_READ:
-            return self.attr.has_register
-        if port in (ATTRIBUTE, MASK, DAC_WRITE, DAC_DATA, MISC_READ, self.controller + STATUS):
-            return True
-        bank = self._chosen(port - 1)
-        return self._chosen(port) is not None or bank is not None and bank.has_register
-
-    def _read(self, port: int) -> int:
-        """Does a read that is answered."""
-        bank, bank_of_data = self._chosen(port), self._chosen(port - 1)
-        if bank is not None:
-            return bank.index
+            return partial(setattr, bank, "index", value & bank.index_kept)
         if bank_of_data is not None:
-            return bank_of_data.read()
+            is_taken = bank_of_data.takes(bank_of_data.index if index is None else index, value)
+            return partial(bank_of_data.write, value) if is_taken else None
+        if port == ATTRIBUTE:
+            return None if self.is_data and not self.attr.has_register else partial(self._write_attribute, value)
+        if port == MISC:
+            return partial(setattr, self, "misc", value & MISC_KEPT)
+        if port == MASK:
+            return partial(setattr, self.dac, "mask", value)
         if port == DAC_DATA:
-            return self.dac.read()
+            return partial(self.dac.write, value)
+        return partial(self.dac.choose, value) if port in (DAC_READ, DAC_WRITE) else None
+
+    def _write_attribute(self, value: int) -> None:
+        if self.is_data:
+            self.attr.write(value)
+        else:
+            self.attr.index = value & self.attr.index_kept
+        self.is_data = not self.is_data
+
+    def _reader(self, port: int) -> Optional[Callable[[], int]]:
+        bank, bank_of_data = self._bank(port), self.attr if port == ATTRIBUTE_READ else self._bank(port - 1)
+        if bank is not None:
+            return partial(getattr, bank, "index")
+        if bank_of_data is not None:
+            read = partial(bank_of_data.registers.__getitem__, bank_of_data.number)
+            return read if bank_of_data.has_register else None
         if port == self.controller + STATUS:
-            self.attr.is_data = False
-            return 0
-        if port == ATTRIBUTE_READ:
-            return self.attr.read()
-        return {ATTRIBUTE: self.attr.index, MASK: self.dac.mask, DAC_WRITE: self.dac.index, MISC_READ: self.misc}[port]
+            return self._read_status
+        if port == DAC_DATA:
+            return self.dac.read
+        values = {ATTRIBUTE: self.attr.index, MASK: self.dac.mask, DAC_WRITE: self.dac.index, MISC_READ: self.misc}
+        return partial(values.__getitem__, port) if port in values else None
+
+    def _read_status(self) -> int:
+        self.is_data = False
+        return 0
 
 
 class Memory:
@@ -178,35 +177,31 @@ class Memory:
 
     def put(self, place: int, value: int) -> None:
         """Writes a byte. The latches stay."""
-        reached = SPREAD[self._reached(place)]
-        offset = self._offset(place)
+        planes, offset = self._seq[2], self._offset(place)
+        if self._seq[4] & 8:
+            planes &= 1 << (place & 3)
+        elif not self._seq[4] & 4:
+            planes &= ODD if place & 1 else EVEN
         stored = self.latches if self._gfx[5] & 3 == 1 else self._stored(value)
-        self.words[offset] = self.words[offset] & ~reached | stored & reached
+        self.words[offset] = self.words[offset] & ~SPREAD[planes] | stored & SPREAD[planes]
 
     def get(self, place: int) -> int:
         """Reads a byte, which loads the latches."""
         self.latches = self.words[self._offset(place)]
         if self._gfx[5] & 8:
-            return self._compared()
+            # Read mode 1: a 1 where each plane that counts has the bit of colour compare.
+            differing = (self.latches ^ SPREAD[self._gfx[2]]) & SPREAD[self._gfx[7]]
+            differing |= differing >> 16
+            return ~(differing | differing >> 8) & 0xFF
         plane = place & 3 if self._seq[4] & 8 else self._gfx[4] & 2 | place & 1 if self._gfx[5] & 0x10 else self._gfx[4]
         return self.latches >> 8 * plane & 0xFF
 
     def _offset(self, place: int) -> int:
-        """The offset in the planes: by chain 4, by chain odd/even, or the place itself."""
         if self._seq[4] & 8:
             return place & 0xFFFC
         return place & 0xFFFE if self._gfx[6] & 2 else place
 
-    def _reached(self, place: int) -> int:
-        """The planes that a write reaches."""
-        if self._seq[4] & 8:
-            return self._seq[2] & 1 << (place & 3)
-        if self._seq[4] & 4:
-            return self._seq[2]
-        return self._seq[2] & (ODD if place & 1 else EVEN)
-
     def _stored(self, value: int) -> int:
-        """What write modes 0, 2 and 3 store in all planes."""
         mode, mask, latches = self._gfx[5] & 3, self._gfx[8], self.latches
         rotated = (value << 8 | value) >> (self._gfx[3] & 7) & 0xFF
         if mode == 0:
@@ -219,24 +214,32 @@ class Memory:
         data, mask = FUNCTIONS[self._gfx[3] >> 3](data, latches), mask * EACH
         return data & mask | latches & ~mask
 
-    def _compared(self) -> int:
-        """Read mode 1: a 1 where each plane that counts has the bit of colour compare."""
-        differing = (self.latches ^ SPREAD[self._gfx[2]]) & SPREAD[self._gfx[7]]
-        differing |= differing >> 16
-        return ~(differing | differing >> 8) & 0xFF
+
+def _unprotected(crtc: Bank) -> int:
+    """The bits of the register that may be written: the first eight may be protected, but for line compare."""
+    if not crtc.registers[RETRACE_END] & PROTECT or crtc.number > 7:
+        return 0xFF
+    return COMPARE_8 if crtc.number == 7 else 0
+
+
+def _unlocked(attributes: Bank) -> int:
+    # While the palette is looked at, it isn't written.
+    return 0 if attributes.index & SOURCE and attributes.number < PALETTE else 0xFF
 
 
 class Bank:
     """Registers behind an index.
 
     `kept` has the bits that each register keeps, `index_kept` those of the index. `wanted` has, of some registers, bits
-    and the value that these must have, or a write is refused.
+    and the value that these must have, or a write is refused. `opened` tells which bits a write changes now.
     """
 
-    def __init__(self, kept: str, index_kept: int, wanted: Mapping[int, tuple[int, int]]) -> None:
-        self._kept = bytes.fromhex(kept)
-        self._index_kept = index_kept
-        self._wanted = wanted
+    def __init__(
+        self, kept: str, index_kept: int, wanted: Mapping[int, tuple[int, int]] = {},
+        opened: Callable[[Bank], int] = lambda _: 0xFF,
+    ) -> None:
+        self._kept, self._wanted, self._opened = bytes.fromhex(kept), wanted, opened
+        self.index_kept = index_kept
         self.registers = [0] * len(self._kept)
         self.index = 0
 
@@ -250,54 +253,15 @@ class Bank:
         """Whether there is such a register."""
         return self.number < len(self.registers)
 
-    def choose(self, index: int) -> None:
-        """Writes the index."""
-        self.index = index & self._index_kept
-
-    def takes(self, value: int) -> bool:
-        """Whether the register of the index takes a value."""
-        bits, value_wanted = self._wanted.get(self.number, (0, 0))
-        return self.has_register and value & bits == value_wanted
-
-    def read(self) -> int:
-        """The register of the index."""
-        return self.registers[self.number]
+    def takes(self, index: int, value: int) -> bool:
+        """Whether the register of an index takes a value."""
+        bits, value_wanted = self._wanted.get(index, (0, 0))
+        return index < len(self.registers) and value & bits == value_wanted
 
     def write(self, value: int) -> None:
         """Writes the register of the index, which is there."""
-        self.registers[self.number] = value & self._kept[self.number]
-
-
-class Controller(Bank):
-    """The CRT controller, whose first eight registers may be protected."""
-
-    def __init__(self) -> None:
-        kept = "FF" * 8 + "7FFF3F7F" + "FF" * 8 + "7FFFFFEFFF"
-        super().__init__(kept, 0x1F, {0x14: (0x20, 0), 0x17: (0x0F, 0x03)})
-        self.registers[0x17] = 0x03
-
-    def write(self, value: int) -> None:
-        """Writes the register of the index; of one that is protected, the bit of line compare alone."""
-        if not (self.registers[0x11] & PROTECT and self.number < 8):
-            super().write(value)
-        elif self.number == 7:
-            self.registers[7] = self.registers[7] & ~COMPARE_8 | value & COMPARE_8
-
-
-class Attributes(Bank):
-    """The attribute controller, which takes an index and data in turn."""
-
-    def __init__(self) -> None:
-        super().__init__("3F" * PALETTE + "EFFF3F0F0F", 0x3F, {})
-        self.is_data = False
-
-    def write_next(self, value: int) -> None:
-        """Writes the index or the data, whichever is next. While the palette is looked at, it isn't written."""
-        if not self.is_data:
-            self.choose(value)
-        elif not (self.index & SOURCE and self.number < PALETTE):
-            self.write(value)
-        self.is_data = not self.is_data
+        bits = self._kept[self.number] & self._opened(self)
+        self.registers[self.number] = self.registers[self.number] & ~bits | value & bits
 
 
 class Dac:
@@ -329,68 +293,155 @@ class Dac:
 
     def _go_on(self) -> None:
         self.next = (self.next + 1) % COMPONENTS
-        if self.next == 0:
-            self.index = (self.index + 1) % ENTRIES
-
-
-class Shape(NamedTuple):
-    """The dots of a character, the characters of a line, and the lines of a frame."""
-
-    dots: int
-    characters: int
-    lines: int
-
-    @property
-    def line(self) -> int:
-        """The dots of a line."""
-        return self.dots * self.characters
-
-    @property
-    def frame(self) -> int:
-        """The dots of a frame."""
-        return self.line * self.lines
+        self.index = (self.index + (self.next == 0)) % ENTRIES
 
 
 class Beam:
-    """Where the next dot is: frame, line, character and dot of it.
+    """Where the next dot is: its frame, and in it the line, the character of the line, and the dot of the character.
 
     A place that registers have since left outside is as good as the last one: what it is in ends with the next dot.
     """
 
     def __init__(self) -> None:
-        self.frame = self.line = self.character = self.dot = 0
+        self.frame, self.place = 0, (0, 0, 0)
         # What was taken of the registers at the first dot of the frame under way.
         self.taken = dict.fromkeys(TAKEN, 0)
 
     @property
     def is_at_begin(self) -> bool:
         """Whether the next dot is a frame's first."""
-        return not (self.line or self.character or self.dot)
+        return not any(self.place)
 
     def drawn(self, shape: Shape) -> int:
         """The dots of the frame under way that are drawn; of a place that is outside, those up to the last one inside."""
-        line, character = min(self.line, shape.lines - 1), min(self.character, shape.characters - 1)
-        return line * shape.line + character * shape.dots + min(self.dot, shape.dots - 1)
+        line, character, dot = (min(at, most - 1) for at, most in zip(self.place, shape))
+        return (line * shape[1] + character) * shape[2] + dot
 
-    def advance(self, dots: int, shape: Shape, crtc: Sequence[int]) -> None:
+    def advance(self, count: int, shape: Shape, crtc: Sequence[int]) -> None:
         """Goes on by so many dots. The line and the character stay as they are, inside or outside, until they end."""
-        frame, was_at_begin, begin = self.frame, self.is_at_begin, self.drawn(shape)
-        end = begin + dots
-        if end // shape.dots == begin // shape.dots:
-            self.dot += dots
-        elif end // shape.line == begin // shape.line:
-            self.character += end // shape.dots - begin // shape.dots
-            self.dot = end % shape.dots
+        _, characters, dots = shape
+        (line, character, dot), was_at_begin, begin = self.place, self.is_at_begin, self.drawn(shape)
+        end, frames = begin + count, 0
+        if end // dots == begin // dots:
+            self.place = line, character, dot + count
+        elif end // (dots * characters) == begin // (dots * characters):
+            self.place = line, character + end // dots - begin // dots, end % dots
         else:
-            frames, rest = divmod(end, shape.frame)
-            self.frame += frames
-            self.line, rest = divmod(rest, shape.line)
-            self.character, self.dot = divmod(rest, shape.dots)
-        if (was_at_begin or self.frame != frame) and not self.is_at_begin:
+            frames, rest = divmod(end, prod(shape))
+            self.place = rest // (dots * characters), rest // dots % characters, rest % dots
+        if (was_at_begin or frames) and not self.is_at_begin:
             self.taken = {index: crtc[index] for index in TAKEN}
-        self.frame %= FRAMES
+        self.frame = (self.frame + frames) % FRAMES
 
     def end_frame(self) -> None:
         """Goes on to the end of the frame."""
-        self.frame = (self.frame + 1) % FRAMES
-        self.line = self.character = self.dot = 0
+        self.frame, self.place = (self.frame + 1) % FRAMES, (0, 0, 0)
+
+
+def rebuilt(state: State) -> Iterator[Step]:
+    """The steps that take the adapter from power-on to a state. What they read is what it answers then."""
+    taking = State()
+    for step in _steps(state, taking):
+        read = taking.take(step)
+        yield step._replace(value=read) if step.opcode in READS and read is not None else step
+
+
+def _register(port: int, index: int, value: int) -> Step:
+    return Step(OUTW, port, value << 8 | index)
+
+
+def map_mask(planes: int) -> Step:
+    """Lets writes reach these planes alone."""
+    return _register(SEQUENCER, MAP_MASK, planes)
+
+
+def masks_of(values: Iterable[Value]) -> dict[Value, int]:
+    """The planes of each value, of the values of all planes."""
+    masks: dict[Value, int] = {}
+    for plane, value in enumerate(values):
+        masks[value] = masks.get(value, 0) | 1 << plane
+    return masks
+
+
+def _steps(state: State, begin: State) -> Iterator[Step]:
+    if state.beam.frame:
+        # A frame at power-on has fewer dots than any other.
+        yield Step(ADVANCE, state.beam.frame * prod(begin.shape))
+    yield Step(OUT, MISC, state.misc | ENABLE_MEMORY)
+    yield from (_register(*setting) for setting in PLANAR)
+    yield from _latches(state.memory.latches)
+    yield from _planes(state.memory.words)
+    for port, bank in ((GRAPHICS, state.gfx), (SEQUENCER, state.seq)):
+        yield from (_register(port, index, value) for index, value in enumerate(bank.registers))
+    yield from _attributes(state)
+    yield from _dac(state)
+    yield from _controller(state)
+    for port, bank in ((GRAPHICS, state.gfx), (SEQUENCER, state.seq), (state.controller, state.crtc)):
+        yield Step(OUT, port, bank.index)
+    if not state.misc & ENABLE_MEMORY:
+        yield Step(OUT, MISC, state.misc)
+
+
+def _latches(latches: int) -> Iterator[Step]:
+    """Latches are loaded from memory, which has them for as long."""
+    if not latches:
+        return
+    for plane in range(PLANES):
+        yield map_mask(1 << plane)
+        yield Step(PUT, FIRST_ADDRESS, latches >> 8 * plane & 0xFF)
+    yield Step(GET, FIRST_ADDRESS)
+    yield map_mask(ALL_PLANES)
+    yield Step(PUT, FIRST_ADDRESS, 0)
+
+
+def _planes(words: list[int]) -> Iterator[Step]:
+    """What isn't 0 in the planes, two offsets a step, and once for all planes that have the same there."""
+    steps: dict[int, list[Step]] = {}
+    for offset in range(0, PLANE_BYTES, 2):
+        low, high = words[offset], words[offset + 1]
+        if not (low or high):
+            continue
+        values = (low >> 8 * plane & 0xFF | (high >> 8 * plane & 0xFF) << 8 for plane in range(PLANES))
+        for value, planes in masks_of(values).items():
+            if value:
+                steps.setdefault(planes, []).append(Step(PUTW, FIRST_ADDRESS + offset, value))
+    for planes in sorted(steps):
+        yield map_mask(planes)
+        yield from steps[planes]
+
+
+def _attributes(state: State) -> Iterator[Step]:
+    """The attribute controller: its palette is written before it is looked at; what is written next is as it was."""
+    status = state.controller + STATUS
+    yield Step(IN, status)
+    for index, value in enumerate(state.attr.registers):
+        yield Step(OUT, ATTRIBUTE, index)
+        yield Step(OUT, ATTRIBUTE, value)
+    yield Step(OUT, ATTRIBUTE, state.attr.index)
+    if not state.is_data:
+        yield Step(IN, status)
+
+
+def _dac(state: State) -> Iterator[Step]:
+    """The DAC: its entries, what waits for blue, and which component is next, by reading those before it."""
+    dac = state.dac
+    yield Step(OUT, MASK, dac.mask)
+    yield Step(OUT, DAC_WRITE, 0)
+    yield from (Step(OUT, DAC_DATA, component) for component in dac.components)
+    yield from (Step(OUT, DAC_DATA, component) for component in dac.waiting)
+    yield Step(OUT, DAC_WRITE, dac.index)
+    yield from [Step(IN, DAC_DATA)] * dac.next
+
+
+def _controller(state: State) -> Iterator[Step]:
+    """The CRT controller, and the beam's place in its frame, which began with registers of that time."""
+    port, registers = state.controller, state.crtc.registers
+    taken = {} if state.beam.is_at_begin else state.beam.taken
+    yield _register(port, RETRACE_END, registers[RETRACE_END] & ~PROTECT)
+    for index, value in enumerate(registers):
+        if index != RETRACE_END:
+            yield _register(port, index, taken.get(index, value))
+    yield _register(port, RETRACE_END, registers[RETRACE_END])
+    if not state.beam.is_at_begin:
+        yield Step(ADVANCE, state.beam.drawn(state.shape))
+        yield from (_register(port, index, registers[index]) for index in TAKEN)

@@ -1,5 +1,6 @@
 """Steps of a script: what cycles become, as bytes and as text."""
 
+from itertools import groupby, islice
 from typing import Iterable, Iterator, NamedTuple, Optional, Sequence
 
 from vga_report import format
@@ -38,6 +39,11 @@ class Step(NamedTuple):
     def step(self) -> format.Step:
         """The step of a script."""
         return format.Step(NAMES[self.opcode], (self.address, self.value)[:len(FORMS[NAMES[self.opcode]].fields)])
+
+    @property
+    def size(self) -> int:
+        """How many bytes it has in a script of bytes."""
+        return FORMS[NAMES[self.opcode]].size
 
     def data(self) -> bytes:
         """The step as bytes of a script."""
@@ -85,8 +91,5 @@ def steps_of(cycles: Iterable[Cycle], apart: Sequence[int] = ()) -> Iterator[Ste
 
 def without_polls(steps: Iterable[Step]) -> Iterator[Step]:
     """The steps, but of a row of reads of input status 1, with nothing between them, the first alone."""
-    last: Optional[Step] = None
-    for step in steps:
-        if not (step.is_status and last is not None and last.is_status and last.address == step.address):
-            yield step
-        last = step
+    for port, row in groupby(steps, lambda step: step.address if step.is_status else None):
+        yield from row if port is None else islice(row, 1)

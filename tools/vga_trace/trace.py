@@ -7,6 +7,7 @@ import gzip
 import io
 import re
 import zlib
+from collections import defaultdict
 from contextlib import contextmanager
 from itertools import islice
 from typing import BinaryIO, Iterator, NamedTuple, Optional
@@ -25,29 +26,27 @@ GZIP = b"\x1f\x8b"
 # What each cycle of qemu's log has, of whatever device.
 EVENT = b"memory_region_ops_"
 QEMU = re.compile(
-    rb"(?:\d+@(\d+)\.(\d{6}):)?memory_region_ops_(read|write) cpu -?\d+ mr (?:0x[0-9a-f]+|\(nil\)) "
-    rb"addr 0x([0-9a-f]+) value 0x([0-9a-f]+) size (\d) name '([^']*)'\s*"
+    rb"(?:\d+@(?P<time>\d+\.\d{6}):)?memory_region_ops_(?P<kind>read|write) cpu -?\d+ mr (?:0x[0-9a-f]+|\(nil\)) "
+    rb"addr 0x(?P<address>[0-9a-f]+) value 0x(?P<value>[0-9a-f]+) size (?P<size>\d) name '(?P<place>[^']*)'\s*"
 )
-# The regions of qemu's VGA cards, and of a plugin that sees chain 4.
-REGIONS = {
-    b"vga": PORT, b"cirrus-io": PORT,
-    b"vga-lowmem": MEMORY, b"cirrus-low-memory": MEMORY, b"vga-chain4": MEMORY,
-    b"vbe": VBE,
-}
 PLAIN = re.compile(
-    rb"\s*(-|[0-9]{1,18})\s+([rw])\s+([pm])\s+([0-9A-Fa-f]{1,8})\s+([0-9A-Fa-f]{1,16})\s+(\d)\s*(?:;.*)?", re.DOTALL
+    rb"\s*(?:-|(?P<time>[0-9]{1,18}))\s+(?P<kind>[rw])\s+(?P<place>[pm])\s+(?P<address>[0-9A-Fa-f]{1,8})\s+"
+    rb"(?P<value>[0-9A-Fa-f]{1,16})\s+(?P<size>\d)\s*(?:;.*)?", re.DOTALL
 )
+# What the plain form's letters are, and the regions of qemu's VGA cards, and of a plugin that sees chain 4.
+SPACES = {
+    b"p": PORT, b"vga": PORT, b"cirrus-io": PORT, b"vbe": VBE,
+    b"m": MEMORY, b"vga-lowmem": MEMORY, b"cirrus-low-memory": MEMORY, b"vga-chain4": MEMORY,
+}
 # The line of a log that tells where a screen was taken. The filter of the log keeps it with those of the VGA.
 SCREEN = b"screen of 'vga-trace'"
 # A line of the plain form without a cycle: blanks, and a comment.
 PASSED = re.compile(rb"\s*(?:;.*)?", re.DOTALL)
 # What tells that a trace lacks something: registers of the VGA, and of the Bochs VBE extensions.
-MISCELLANEOUS_OUTPUT = 0x3C2
-SEQUENCER_INDEX, SEQUENCER_DATA = 0x3C4, 0x3C5
-MAP_MASK, MEMORY_MODE = 2, 4
+MISCELLANEOUS_OUTPUT, SEQUENCER, VBE_INDEX = 0x3C2, 0x3C4, 0x1CE
+INDEX_OF = {0x3C5: SEQUENCER, 0x1CF: VBE_INDEX, 0x1D0: VBE_INDEX}
+MAP_MASK, MEMORY_MODE, VBE_ENABLE = (SEQUENCER, 2), (SEQUENCER, 4), (VBE_INDEX, 4)
 ALL_PLANES, CHAIN_4 = 0x0F, 0x08
-VBE_INDEX, VBE_DATA = 0x1CE, (0x1CF, 0x1D0)
-VBE_ENABLE = 4
 
 
 class Cycle(NamedTuple):
@@ -72,30 +71,38 @@ class Cycle(NamedTuple):
 
 
 class Trace:
-    """The cycles of a trace that is read from a stream, and what was found of its lines."""
+    """The cycles of a trace that is read from a stream, and what was found of its lines and cycles."""
 
     def __init__(self, stream: BinaryIO, name: str) -> None:
-        self._stream = stream
-        self.name = name
+        self._stream, self.name = stream, name
         self._is_plain: Optional[bool] = None
         self._first_other = 0
         self.line = 0
-        self.count = 0
+        # How many cycles came so far, and how many of them have no time.
+        self.count = self.untimed = 0
         # How many cycles stand before each screen that was taken.
         self.screens: list[int] = []
-        self.damaged = 0
-        self.first_damaged = 0
+        self._damaged = self._first_damaged = 0
+        # The first write, where that is not one of power-on; and the first that turned VBE on; 0 if never.
+        self._begins_late: Optional[int] = None
+        self._vbe_enabled = 0
+        # What was written to ports, and behind those of an index.
+        self._ports: defaultdict[int, int] = defaultdict(int)
+        self._registers: defaultdict[tuple[int, int], int] = defaultdict(int)
+        self._is_chained = False
+        # The cycle from which on chain 4 has had none of memory so far, and the first that ended so; 0 if never.
+        self._silent = self._first_silent = 0
 
-    def cycles(self) -> Iterator[Cycle]:
-        """The cycles in their order; a Trouble where there is none, or where the trace can't be read on."""
+    def cycles(self, most: Optional[int] = None) -> Iterator[Cycle]:
+        """The cycles in their order, so many at most; a Trouble where there is none, or the trace can't be read on."""
+        return islice(self._cycles(), most)
+
+    def _cycles(self) -> Iterator[Cycle]:
         for line in self._lines():
             self.line += 1
             cycle = self._cycle(line)
             if cycle is not None:
-                fault = cycle.fault()
-                if fault is not None:
-                    raise self.trouble(fault)
-                self.count += 1
+                self._watch(cycle)
                 yield cycle
         if self._is_plain is None:
             raise self._without_cycle("it has no cycle, neither of qemu's log nor of the plain form")
@@ -133,12 +140,33 @@ class Trace:
             return None
         if self._is_plain is None:
             self._is_plain = self._found_form(line)
-        if self._is_plain is None:
+        # A log has other lines too.
+        if self._is_plain is None or not self._is_plain and EVENT not in line:
             return None
-        return self._plain(line) if self._is_plain else self._qemu(line)
+        found = (PLAIN if self._is_plain else QEMU).fullmatch(line)
+        if found is None:
+            self._pass(line)
+            return None
+        time, kind, place, address, value, size = found.group("time", "kind", "place", "address", "value", "size")
+        if place not in SPACES:
+            return None
+        # A log has seconds with six digits behind the point.
+        micros = None if time is None else int(time.replace(b".", b""))
+        cycle = Cycle(kind[:1] == b"w", SPACES[place], int(address, 16), int(value, 16), int(size), micros)
+        fault = cycle.fault()
+        if fault is not None:
+            raise self.trouble(fault)
+        return cycle
+
+    def _pass(self, line: bytes) -> None:
+        """Passes a line that is no cycle: one of a log is damaged, and the plain form has nothing else but comments."""
+        if not self._is_plain:
+            self._damaged += 1
+            self._first_damaged = self._first_damaged or self.line
+        elif PASSED.fullmatch(line) is None:
+            raise self.trouble("it is no cycle: `TIME r|w p|m ADDRESS VALUE SIZE` is one")
 
     def _found_form(self, line: bytes) -> Optional[bool]:
-        """Whether the trace is of the plain form, as far as this line tells."""
         if EVENT in line:
             return False
         if PLAIN.fullmatch(line) is None:
@@ -149,118 +177,55 @@ class Trace:
             raise Trouble("a line before the first cycle is neither a cycle nor a comment", self.name, self._first_other)
         return True
 
-    def _qemu(self, line: bytes) -> Optional[Cycle]:
-        """The cycle of a line of qemu's log. A log may have other lines, but none of a cycle may be damaged."""
-        if EVENT not in line:
-            return None
-        found = QEMU.fullmatch(line)
-        if found is None:
-            self.damaged += 1
-            self.first_damaged = self.first_damaged or self.line
-            return None
-        seconds, micros, kind, address, value, size, region = found.groups()
-        space = REGIONS.get(region)
-        if space is None:
-            return None
-        time = None if seconds is None else 1_000_000 * int(seconds) + int(micros)
-        return Cycle(kind == b"write", space, int(address, 16), int(value, 16), int(size), time)
+    def _watch(self, cycle: Cycle) -> None:
+        self.count += 1
+        self.untimed += cycle.time is None
+        if cycle.space == MEMORY:
+            self._silent = 0
+        if not cycle.is_write:
+            return
+        if self._begins_late is None:
+            self._begins_late = 0 if cycle.address == MISCELLANEOUS_OUTPUT else self.count
+        if cycle.space == VBE:
+            self._write(cycle.address, cycle.value)
+        elif cycle.space == PORT:
+            for at in range(cycle.size):
+                self._write(cycle.address + at, cycle.value >> 8 * at & 0xFF)
 
-    def _plain(self, line: bytes) -> Optional[Cycle]:
-        """The cycle of a line of the plain form, which has nothing but cycles and comments."""
-        found = PLAIN.fullmatch(line)
-        if found is None:
-            if PASSED.fullmatch(line) is None:
-                raise self.trouble("it is no cycle: `TIME r|w p|m ADDRESS VALUE SIZE` is one")
-            return None
-        time, kind, space, address, value, size = found.groups()
-        return Cycle(
-            kind == b"w", PORT if space == b"p" else MEMORY, int(address, 16), int(value, 16), int(size),
-            None if time == b"-" else int(time),
-        )
-
-
-class Watch:
-    """The cycles of a trace, counted and looked at."""
-
-    def __init__(self, trace: Trace, most: Optional[int] = None) -> None:
-        self._trace = trace
-        self._most = most
-        self._is_begun = False
-        self._other_begin: Optional[int] = None
-        self._vbe_index = 0
-        self._vbe_enabled: Optional[int] = None
-        self._index = 0
-        self._sequencer = {MAP_MASK: 0, MEMORY_MODE: 0}
-        self._is_chained = False
-        # The cycle from which on chain 4 has had no cycle of memory so far, and the first time that it ended so.
-        self._silent: Optional[int] = None
-        self._first_silent: Optional[int] = None
-        self.count = 0
-        self.untimed = 0
-
-    def cycles(self) -> Iterator[Cycle]:
-        """The cycles, so many at most."""
-        for cycle in islice(self._trace.cycles(), self._most):
-            self.count += 1
-            self.untimed += cycle.time is None
-            if cycle.is_write and not self._is_begun:
-                # The first write of a video BIOS is that of miscellaneous output.
-                self._is_begun = True
-                if cycle.space == MEMORY or cycle.address != MISCELLANEOUS_OUTPUT:
-                    self._other_begin = self.count
-            if cycle.space == MEMORY:
-                self._silent = None
-            elif cycle.is_write:
-                self._write(cycle)
-            yield cycle
+    def _write(self, port: int, value: int) -> None:
+        """Follows registers: under chain 4 with all planes an emulator may serve memory without telling."""
+        if port not in INDEX_OF:
+            self._ports[port] = value
+            return
+        registers, was_chained = self._registers, self._is_chained
+        registers[INDEX_OF[port], self._ports[INDEX_OF[port]]] = value
+        if registers[VBE_ENABLE] & 1:
+            self._vbe_enabled = self._vbe_enabled or self.count
+        self._is_chained = registers[MAP_MASK] & ALL_PLANES == ALL_PLANES and registers[MEMORY_MODE] & CHAIN_4 != 0
+        if self._is_chained != was_chained:
+            self._first_silent = self._first_silent or self._silent
+            self._silent = self.count if self._is_chained else 0
 
     @property
     def lacking(self) -> str:
         """Why a picture may be another one here: what the cycles lack so far that a screen shows."""
-        if self._vbe_enabled is not None:
+        if self._vbe_enabled:
             return "VBE is on: what qemu shows is no VGA's"
-        if self._silent is not None:
-            return "chain 4 is on, and no memory was recorded since: --chain-4 does so"
-        return ""
+        return "chain 4 is on, and no memory was recorded since: --chain-4 does so" if self._silent else ""
 
-    def warnings(self) -> list[str]:
+    def warnings(self) -> Iterator[str]:
         """What the cycles up to now lack, a line each."""
-        told = []
-        if self._trace.damaged:
-            told.append(f"{self._trace.damaged:,} lines of cycles are damaged and left out, line {self._trace.first_damaged:,} first")
-        if self._other_begin is not None:
-            told.append(f"cycle {self._other_begin:,} writes first, and not port 3C2: the trace doesn't begin at power-on")
-        if self._vbe_enabled is not None:
-            told.append(f"cycle {self._vbe_enabled:,} turns VBE on: what follows is no VGA's, and its memory isn't traced")
         silent = self._first_silent or self._silent
-        if silent is not None:
-            told.append(f"chain 4 with map mask 0F has no cycle of memory, first from cycle {silent:,} on: "
-                        "qemu traces none there without the plugin")
-        return told
-
-    def _write(self, cycle: Cycle) -> None:
-        """Follows a write to ports."""
-        if cycle.space == VBE:
-            if cycle.address == VBE_INDEX:
-                self._vbe_index = cycle.value
-            elif cycle.address in VBE_DATA and self._vbe_index == VBE_ENABLE and cycle.value & 1:
-                self._vbe_enabled = self._vbe_enabled or self.count
-            return
-        for at in range(cycle.size):
-            port, value = cycle.address + at, cycle.value >> 8 * at & 0xFF
-            if port == SEQUENCER_INDEX:
-                self._index = value
-            elif port == SEQUENCER_DATA and self._index in self._sequencer:
-                self._sequencer[self._index] = value
-                self._look_at_chain()
-
-    def _look_at_chain(self) -> None:
-        """Sees whether memory is now such that an emulator may serve it without telling."""
-        is_open = self._sequencer[MAP_MASK] & ALL_PLANES == ALL_PLANES
-        was_chained, self._is_chained = self._is_chained, is_open and self._sequencer[MEMORY_MODE] & CHAIN_4 != 0
-        if self._is_chained != was_chained:
-            self._first_silent = self._first_silent or self._silent
-            self._silent = self.count if self._is_chained else None
+        if self._damaged:
+            yield f"{self._damaged:,} lines of cycles are damaged and left out, line {self._first_damaged:,} first"
+        # The first write of a video BIOS is that of miscellaneous output.
+        if self._begins_late:
+            yield f"cycle {self._begins_late:,} writes first, and not port 3C2: the trace doesn't begin at power-on"
+        if self._vbe_enabled:
+            yield f"cycle {self._vbe_enabled:,} turns VBE on: what follows is no VGA's, and its memory isn't traced"
+        if silent:
+            yield (f"chain 4 with map mask 0F has no cycle of memory, first from cycle {silent:,} on: "
+                   "qemu traces none there without the plugin")
 
 
 @contextmanager
