@@ -1,4 +1,4 @@
-"""Recordings: a machine's keys and screens, the verdicts on them, and pictures in real time."""
+"""Recordings: a machine's keys and screens, the verdicts on them, pictures in real time, and the table of software."""
 
 from __future__ import annotations
 
@@ -6,26 +6,31 @@ import gzip
 import os
 import re
 import struct
+import sys
 import tempfile
 import unittest
 import zlib
+from collections import Counter
 from functools import partial
 from pathlib import Path
+from types import SimpleNamespace as Namespace
 from typing import Sequence
 from unittest import mock
 
+from emulator_tests.traces import row as row_of
 from vga_report.images import image_of
 from vga_trace import recording
-from vga_trace.converting import Clocked
+from vga_trace.checking import Checked
+from vga_trace.converting import Clocked, Written
 from vga_trace.recording import PHASES, Deed, Machine, Session
-from vga_trace.replaying import ALLOWED, PAGE, SEEN, Screen, whole_rows
+from vga_trace.replaying import ALLOWED, PAGE, SEEN, Replay, Screen, whole_rows
 from vga_trace.state import State
 from vga_trace.step import ADVANCE, FRAME, IN, PUT, Step
 from vga_trace.trace import SCREEN
 from zaklimot.format import Picture
 
 from .test_trace import BEGIN, listed, qemu, registers
-from .tools import BLACK, RED, TOP, WHITE, Folder, hold, png_rows, ppm, run_tool
+from .tools import BLACK, RED, TOP, WHITE, Folder, ended, hold, hold_undone, png_rows, ppm, run_tool
 
 run = partial(run_tool, "vga-trace")
 PICTURE = ppm(3, 2, RED * 3 + WHITE * 3)
@@ -78,6 +83,7 @@ with connection, connection.makefile("rw") as monitor:
 """
 # A line that the filter of the log keeps, and one of another device.
 LINES = qemu("write 3c2 67 1") + qemu("write 70 f 1", "rtc")
+PROGRAM = Path(__file__).resolve().parents[1] / "emulator_tests" / "traces.py"
 
 
 class Recorded(Folder):
@@ -348,3 +354,20 @@ class RealTime(Folder):
         program = self.program("vga", "#!/bin/sh\necho oh >&2\nexit 3\n")
         status, _, said = run("pictures", trace, self.folder / "pictures", "--vga", program)
         self.assertEqual((status, said), (2, f"vga-trace: {program}: it ended with status 3: oh\n"))
+
+
+class Traces(unittest.TestCase):
+    def test_rows_and_whether_they_are_as_known(self) -> None:
+        verdict = Namespace(held=Namespace(count=0))
+        written = Written(False, Counter({"out": 10, "frame": 1}), script_bytes=30)
+        checked, listing = Checked(reads=Counter(a=4, b=3)), Namespace(trace=Namespace(count=1000))
+        replayed = Replay(written, listing, Path(), (), checked, screens={0: verdict})
+        front = "| name | 1,000 | 11 | 30 | 46 | 7 | 0 | 0 |"
+        for dots, picture in ((0, "the same"), (8, "8 dots differ"), (None, "another size")):
+            verdict.held.count = dots
+            self.assertEqual(row_of("name", replayed, 0, 8), (f"{front} {picture} |", dots == 8))
+
+    def test_the_command_tells_its_software(self) -> None:
+        status, told, _ = ended(sys.executable, PROGRAM, "--help")
+        self.assertEqual((status, "grub-planar" in told), (0, True))
+        hold_undone(self, ended(sys.executable, PROGRAM, "folder", "none"), "there is no software none")
