@@ -16,7 +16,7 @@ from unittest import mock
 
 from vga_report.trouble import Trouble
 from vga_trace import converting
-from vga_trace.checking import count
+from vga_trace.converting import count
 from vga_trace.command import main
 from vga_trace.converting import Listing, Pauses, Written, folded, with_flips
 from vga_trace.step import ADVANCE, FRAME, IN, NAMES, OUT, OUTW, PUT, Step, steps_of, without_polls

@@ -22,7 +22,7 @@ from vga_report.trouble import AGREED, DIFFERED, Trouble
 from vga_report.words import add_program, add_shape, number_to, seconds
 from zaklimot.format import Picture
 
-from .checking import check, count
+from .converting import check, count
 from .converting import CLOCK, END, FLIP, SCREENS, Frames, Listing, convert
 from .recording import TRACE, Deed, Machine, chain_4, record
 from .replaying import replay, shown

@@ -27,7 +27,7 @@ from zaklimot.format import Answer, Picture
 from zaklimot.format.answers import RAGGED
 from zaklimot.format.picture import marks_in_row
 
-from .checking import Checked, check
+from .converting import Checked, check
 from .converting import SCREENS, Listing, Written, convert
 from .recording import PHASES, TRACE, dump
 from .state import State
