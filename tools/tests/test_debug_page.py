@@ -13,10 +13,10 @@ from unittest import mock
 from urllib.parse import unquote
 
 from page_tests import command as tests_command, scripts
-from vga_page import command, page, wasm
+from vga_page import command, making, page
 from vga_page.page import DATA, SCRIPT, STYLE, Sources, about, joined, make_page, packed, page_text
-from vga_page.retargeting import LAYOUTS, TRIPLES, retargeted
-from vga_page.wasm import check_module, with_kit
+from vga_page.making import LAYOUTS, TRIPLES, retargeted
+from vga_page.making import check_module, with_kit
 from vga_report import debugging
 from vga_report.debugging import DOCS, PAGE, data_element, page_data
 from vga_report.trouble import Wrong
@@ -149,7 +149,7 @@ def module_of(names: list[str], *more: tuple[int, bytes], memory: int = 4) -> by
     exported = [*((name, 0) for name in names), ("memory", 2), ("__heap_base", 3)]
     listed = b"".join(leb(len(name)) + name.encode() + bytes([kind, 0]) for name, kind in exported)
     parts = [*more, (5, bytes([1, memory, 1])), (7, leb(len(exported)) + listed)]
-    return wasm.MAGIC + b"".join(bytes([number]) + leb(len(data)) + data for number, data in parts)
+    return making.MAGIC + b"".join(bytes([number]) + leb(len(data)) + data for number, data in parts)
 
 
 class Modules(unittest.TestCase):

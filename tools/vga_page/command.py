@@ -13,7 +13,7 @@ from vga_report.words import number_to
 
 from .making import made_modules
 from .page import MOST_BYTES, make_page, read_sources
-from .wasm import MOST_MODULE, check_module
+from .making import MOST_MODULE, check_module
 
 MOST_MEBIBYTES = 4096
 

@@ -1,22 +1,90 @@
-"""Makes the module: the crate's proof, its LLVM module, that one for wasm64, and the linked module."""
+"""Makes the module: the crate's proof, its LLVM module, and of that, turned from x86-64 to wasm64, the linked module.
+
+It is held to what the page relies on: what it imports and exports, and what it calls.
+"""
 
 from __future__ import annotations
 
 import argparse
+import io
+import re
 import shlex
 import tempfile
 from pathlib import Path
-from typing import Callable, Optional, Sequence
+from typing import BinaryIO, Callable, Iterator, Optional, Sequence
 
 from vga_library.toolchain import CRATE, KEPT, kit_folder, kit_line, proving_words
 from vga_report.crates import phases
 from vga_report.processes import Hearer, ended_well
 from vga_report.progress import Progress
 from vga_report.trouble import Trouble
+from vga_report.version import HEADER, calls_of
 
-from .retargeting import CPU, WASM, retargeted
-from .wasm import check_module, with_kit
+MAGIC = b"\0asm\1\0\0\0"
+# A section for tools, and the name of the one that tells the kit.
+CUSTOM, KIT = 0, b"kit"
+IMPORTS, TABLES, MEMORIES, EXPORTS, ELEMENTS = 2, 4, 5, 7, 9
+FUNCTION = 0
+# What the module exports besides the header's calls: its memory, where the heap begins, and how the page
+# takes memory from it.
+OWN = frozenset(("memory", "__heap_base", "page_take", "page_give"))
+# A memory of 64-bit addresses.
+IS_64 = 4
+MOST_MODULE = 16 << 20
+NAME = "the module for x86-64"
+TRIPLES = ("x86_64-unknown-linux-gnu", "wasm64-unknown-unknown")
+WASM = TRIPLES[1]
+LAYOUTS = (
+    "e-m:e-p270:32:32-p271:32:32-p272:64:64-i64:64-i128:128-f80:128-n8:16:32:64-S128",
+    "e-m:e-p:64:64-p10:8:8-p20:8:8-i64:64-i128:128-n32:64-S128-ni:1:10:20",
+)
+CPU = "lime1"
+# The attributes that are those of x86-64: its stack is probed page by page.
+NATIVE = re.compile(r'"probe-stack"="inline-asm" "stack-probe-size"="\d+" "target-cpu"="x86-64-v2"')
+# LLVM would make calls of these functions out of loops, and the module has none of them.
+QUIET = '"no-builtin-bcmp" "no-builtin-memcmp" "no-builtin-strlen"'
+ATTRIBUTES = f'nounwind {QUIET} "target-cpu"="{CPU}"'
+# All that the module may call: these mean the same on both targets. What else it calls is to be looked at
+# first.
+INTRINSICS = frozenset(("llvm.memset.p0.i64", "llvm.memmove.p0.p0.i64", "llvm.memcpy.p0.p0.i64", "llvm.trap"))
+MEMORY_CALLS = frozenset(("rattle_alloc", "rattle_realloc", "rattle_dealloc"))
+DECLARED = re.compile(r'^declare [^\n]*?@"?([^"(\n]+)"?\(', re.M)
+# What a module for x86-64 alone may have, each with the words that tell it.
+FOREIGN = {
+    "inline assembly": re.compile(r"\basm (?:sideeffect |alignstack |inteldialect )*\""),
+    "an address space": re.compile(r"\baddrspace\("),
+    "a vector": re.compile(r"<\d+ x "),
+    "a call by a pointer": re.compile(r"\bcall [^@\n]*?%[\w.]+\("),
+}
+# A function that the module shows: what it answers, its name, its parameters, and the number of its attributes.
+EXPORT = re.compile(r"^define noundef (\S+) @(\w+)\((.*)\) #(\d+) \{$", re.M)
+PARAMETER = re.compile(r"(\S+)(?: noundef| zeroext| signext)* (%\w+)")
+# Numbers of attributes that the module itself doesn't reach.
+FIRST_NUMBER = 9000
+# How the page takes and gives back memory for what it hands over; page_take answers 0 where there is none.
+MEMORY = f"""
+define noundef i64 @page_take(i64 noundef %bytes) #{FIRST_NUMBER - 2} {{
+start:
+  %tried = call {{ i64, i64 }} @rattle_alloc(i64 %bytes, i64 16)
+  %ok = extractvalue {{ i64, i64 }} %tried, 0
+  %block = extractvalue {{ i64, i64 }} %tried, 1
+  %none = icmp eq i64 %ok, 0
+  %answer = select i1 %none, i64 0, i64 %block
+  ret i64 %answer
+}}
 
+define void @page_give(ptr noundef %block) #{FIRST_NUMBER - 1} {{
+start:
+  call void @rattle_dealloc(ptr %block)
+  ret void
+}}
+
+declare noundef zeroext i1 @__rattle_enter() nounwind
+declare void @__rattle_leave() nounwind
+declare void @__rattle_trap() nounwind
+attributes #{FIRST_NUMBER - 2} = {{ {ATTRIBUTES} "wasm-export-name"="page_take" }}
+attributes #{FIRST_NUMBER - 1} = {{ {ATTRIBUTES} "wasm-export-name"="page_give" }}
+"""
 HEAP = Path(__file__).resolve().parent / "heap.c"
 # As Rattle calls clang for this target.
 TARGET = (
@@ -32,6 +100,142 @@ C = ("-O2", "-std=c17", "-ffreestanding", "-nostdinc", "-Wall", "-Wextra")
 PROVED = "logic=proved "
 # A clang that keeps the LLVM module which Rattle hands to it. Of the object for x86-64 nothing is used.
 KEEPER = "#!/bin/sh\n/bin/cp module.bc {kept} && : > module.o\n"
+
+
+def _taken(stream: BinaryIO, count: int) -> bytes:
+    data = stream.read(min(count, MOST_MODULE))
+    if len(data) < count:
+        raise Trouble("it is cut off", "the module")
+    return data
+
+
+def _number(stream: BinaryIO) -> int:
+    """A number in LEB128."""
+    value = shift = 0
+    while True:
+        (byte,) = _taken(stream, 1)
+        value |= (byte & 127) << shift
+        shift += 7
+        if byte < 128:
+            return value
+
+
+def _sections(module: bytes) -> Iterator[tuple[int, bytes]]:
+    if not module.startswith(MAGIC):
+        raise Trouble("it is no WebAssembly module", "the module")
+    stream = io.BytesIO(module[len(MAGIC):])
+    while number := stream.read(1):
+        yield number[0], _taken(stream, _number(stream))
+
+
+def with_kit(module: bytes, kit: str) -> bytes:
+    """A module that tells the kit which has made it, in a section that engines pass over."""
+    content = bytes([len(KIT)]) + KIT + kit.encode("ascii")
+    if len(content) > 127:
+        raise Trouble("it has more letters than a kit's line", kit)
+    return module + bytes([CUSTOM, len(content)]) + content
+
+
+def kit_of(module: bytes) -> str:
+    """The kit that has made a module; nothing where it doesn't tell."""
+    begin = bytes([len(KIT)]) + KIT
+    found = [data for number, data in _sections(module) if number == CUSTOM and data.startswith(begin)]
+    return found[-1][len(begin):].decode("ascii", "replace") if found else ""
+
+
+def exports_of(section: bytes) -> dict[str, int]:
+    """The names that a section of exports has, in its order, each with its kind: 0 is a function."""
+    stream, found = io.BytesIO(section), {}
+    for _ in range(_number(stream)):
+        name = _taken(stream, _number(stream)).decode("utf-8", "replace")
+        (found[name],) = _taken(stream, 1)
+        # Its place among others of its kind.
+        _number(stream)
+    return found
+
+
+def check_module(module: bytes) -> str:
+    """Holds a module to what the page relies on, and answers what was seen.
+
+    It has no imports and no table, its memory has 64-bit addresses, and it exports the header's calls.
+    """
+    if len(module) > MOST_MODULE:
+        raise Trouble(f"it has more than {MOST_MODULE:,} bytes", "the module")
+    found = dict(_sections(module))
+    for number, what in ((IMPORTS, "imports"), (TABLES, "a table"), (ELEMENTS, "elements of a table")):
+        if number in found:
+            raise Trouble(f"it has {what}, which it must not have", "the module")
+    if not found.get(MEMORIES, b"")[1:2] or not found[MEMORIES][1] & IS_64:
+        raise Trouble("its memory is not one of 64-bit addresses", "the module")
+    exports = exports_of(found.get(EXPORTS, b"\0"))
+    calls = set(calls_of(HEADER.read_text("ascii")))
+    shown = {name for name, kind in exports.items() if kind == FUNCTION} - OWN
+    lacking, more = sorted((calls - shown) | (OWN - exports.keys())), sorted(exports.keys() - calls - OWN)
+    if lacking:
+        raise Trouble(f"it lacks {', '.join(lacking)}", "the module")
+    if more:
+        raise Trouble(f"it exports what is not in {HEADER.name}: {', '.join(more)}", "the module")
+    return f"{len(module):,} bytes, {len(calls)} calls, no imports, no table"
+
+
+def _refuse_unknown(text: str) -> None:
+    """Ends the work where the module has something that is not known to mean the same on both targets."""
+    unknown = sorted(set(DECLARED.findall(text)) - INTRINSICS - MEMORY_CALLS)
+    if unknown:
+        raise Trouble(f"it calls {', '.join(unknown)}, and that isn't known to mean the same on wasm64", NAME)
+    for what, pattern in FOREIGN.items():
+        found = pattern.search(text)
+        if found is not None:
+            line = text.count("\n", 0, found.start()) + 1
+            raise Trouble(f"it has {what}, and that isn't known to mean the same on wasm64", NAME, line)
+
+
+def _with_target(text: str) -> str:
+    for word, (old, new) in (("datalayout", LAYOUTS), ("triple", TRIPLES)):
+        line = f'target {word} = "{old}"'
+        if text.count(line) != 1:
+            raise Trouble(f"its {word} is not the one that is known: {line}", NAME)
+        text = text.replace(line, f'target {word} = "{new}"')
+    text = NATIVE.sub(f'{QUIET} "target-cpu"="{CPU}"', text)
+    if "x86" in text:
+        line = text.count("\n", 0, text.index("x86")) + 1
+        raise Trouble("x86 is still named", NAME, line)
+    return text
+
+
+def _wrapper(result: str, name: str, parameters: str, number: int) -> str:
+    """The function that is seen in place of an export, as Rattle's lowering for wasm64 writes it."""
+    read = [PARAMETER.fullmatch(parameter) for parameter in parameters.split(", ") if parameter]
+    if None in read:
+        raise Trouble(f"the parameters of {name} are not read: {parameters}", NAME)
+    arguments = ", ".join(f"{word[1]} {word[2]}" for word in read if word is not None)
+    return f"""
+define noundef {result} @{name}({parameters}) #{number} {{
+start:
+  %was_inside = call i1 @__rattle_enter()
+  br i1 %was_inside, label %spent, label %run
+spent:
+  call void @__rattle_trap()
+  unreachable
+run:
+  %answer = call {result} @"rattle::export {name}"({arguments})
+  call void @__rattle_leave()
+  ret {result} %answer
+}}
+attributes #{number} = {{ {ATTRIBUTES} "wasm-export-name"="{name}" }}
+"""
+
+
+def retargeted(text: str) -> str:
+    """The module for wasm64, each export in a wrapper. It also shows `page_take` and `page_give`."""
+    _refuse_unknown(text)
+    text = _with_target(text)
+    exports = EXPORT.findall(text)
+    if not exports:
+        raise Trouble("it exports nothing", NAME)
+    text = EXPORT.sub(r'define internal noundef \1 @"rattle::export \2"(\3) noinline #\4 {', text)
+    wrappers = (_wrapper(*export[:3], number) for number, export in enumerate(exports, FIRST_NUMBER))
+    return text + MEMORY + "".join(wrappers)
 
 
 class Maker:
