@@ -10,7 +10,7 @@ from typing import Callable, Iterator, Mapping, Sequence
 from vga_report.trouble import Trouble
 from zaklimot import format
 
-from .choosing import Colour, distance
+from .colours import Colour, distance
 from .colours import Indexed
 from .mode import Mode
 from .steps import Item, runs, service

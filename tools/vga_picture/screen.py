@@ -15,9 +15,7 @@ from functools import lru_cache
 from itertools import chain, combinations, takewhile
 from typing import Iterator, Mapping, Optional, Sequence
 
-from vga_trace.state import ALL_PLANES, map_mask, masks_of
-from vga_trace.state import FIRST_ADDRESS as WINDOW
-from vga_trace.state import PLANES
+from vga_trace.state import ALL_PLANES, FIRST_ADDRESS as WINDOW, PLANES, map_mask, masks_of
 from zaklimot import format
 
 from .mode import Kind, Mode
