@@ -1,19 +1,314 @@
-"""The page of a run and that of two reports: well formed, and referring to nothing outside."""
+"""Pages: listings with their pictures, and the page that runs scripts, as it is made and as `run --debug` opens it."""
+
+from __future__ import annotations
 
 import base64
 import json
 import re
+import shutil
+import sys
+import unittest
+from functools import partial
 from html.parser import HTMLParser
-from typing import Optional
+from pathlib import Path
+from typing import Any, Optional
+from unittest import mock
+from urllib.parse import unquote
+
+from page_tests import command as tests_command, scripts
+from vga_page import command, making, page
+from vga_page.making import LAYOUTS, TRIPLES, check_module, retargeted, with_kit
+from vga_page.page import DATA, SCRIPT, STYLE, Sources, about, joined, make_page, packed, page_text
+from vga_report import debugging
+from vga_report.debugging import DOCS, PAGE, data_element, page_data
+from vga_report.trouble import Wrong
+from vga_report.version import HEADER, calls_of
 
 from .test_command import PICTURE, run
 from .test_run import Fake
-from .tools import BLACK, RED, png_rows, ppm
+from .tools import BLACK, RED, Folder, call, hold, hold_refused, hold_undone, png_rows, ppm, refused
 
+FRAME = f"<!DOCTYPE html>\n{STYLE}\n{DATA}\n{SCRIPT}\n"
+TEXT = "; A script.\nint ax=3 ; = ax=0003\nframe ; <!-- </script> \u00e9\n"
+OTHER_FONTS = bytes(9728)
 # Elements that have no end.
 VOID = {"meta", "input", "img", "br"}
 # What would load something, in a script or a style.
 LOADING = re.compile(r"https?:|//[a-z]|\burl\(|@import|\bimport\b|\bfetch\(|XMLHttpRequest|WebSocket|EventSource|\bsrc\s*=")
+
+
+class Bundling(unittest.TestCase):
+    def test_what_is_not_as_a_module_is_to_be(self) -> None:
+        others = {"a.js": "export const a = 1;\n"}
+        hold_refused(self, joined, (({"main.js": f"\n{line}\n", **others}, f"^main.js:2: .*{told}") for line, told in (
+            ('import * as a from "./a.js";', "an import is a line"),
+            ('import { a as b } from "./a.js";', "an import is a line"), ("import {", "an import is a line"),
+            ("export { a };", "`export` stands before"), ("export const [a] = b;", "`export` stands before"),
+            ('  await import("./a.js");', "by a line at the top alone"),
+            ('const a = "</script>";', "the end of a script"), ("// <!-- a", "the end of a script"),
+        )))
+
+    def test_what_does_not_fit_together(self) -> None:
+        one = 'import { a } from "./a.js";\n'
+        hold(self, partial(refused, joined), (
+            ({"main.js": one}, "a.js: there is no such module, and main.js imports it"),
+            ({"main.js": one, "a.js": "const a = 1;\n"}, "main.js: it imports a, which a.js doesn't export"),
+            ({"main.js": one, "a.js": 'import { b } from "./b.js";\nexport const a = b;\n',
+              "b.js": 'import { a } from "./a.js";\nexport const b = a;\n'},
+             "a.js: it is imported in a circle: a.js imports b.js imports a.js"),
+            ({"main.js": "", "a.js": ""}, "a.js: no module that main.js leads to imports it"),
+            ({"a.js": ""}, "main.js: there is no such module, and the page imports it"),
+        ))
+
+
+def small_sources(script: str = "start();\n", style: str = "p {}\n") -> Sources:
+    return Sources(FRAME, style, {"main.js": script})
+
+
+class Pages(unittest.TestCase):
+    def test_the_page_as_built(self) -> None:
+        # It holds the order of modules, the place of each part, and what the page is given.
+        built = tests_command.built_page()
+        module = tests_command.module_in(built)
+        self.assertRegex(tests_command.check_built(module, built), "its module is the one that the crate makes$")
+        self.assertRegex(check_module(module), r"^[\d,]+ bytes, \d+ calls, no imports, no table$")
+        # No time is in what is packed.
+        self.assertEqual(packed(b"module")[4:8], bytes(4))
+
+    def test_a_frame_that_lacks_a_place(self) -> None:
+        frames = (FRAME.replace(STYLE, ""), FRAME + DATA, FRAME.replace(SCRIPT, ""))
+        hold_refused(self, lambda sources: page_text(sources, {}), (
+            *((Sources(frame, "", {"main.js": ""}), "index.html: <!-- zaklimot:") for frame in frames),
+            (small_sources(style="a::after { content: '</Style>' }"), "style.css: "),
+        ))
+
+    def test_a_page_that_is_too_large(self) -> None:
+        length = len(make_page(b"", small_sources("")))
+        fits = "x" * (page.MOST_BYTES - length)
+        self.assertEqual(len(make_page(b"", small_sources(f"{fits}\n"))), page.MOST_BYTES)
+        told = refused(make_page, b"", small_sources(f"{fits}x\n"))
+        self.assertEqual(told, "zaklimot.html: it would have 400,001 bytes, and 400,000 are the most")
+
+    def test_what_an_example_is_about(self) -> None:
+        hold(self, about, (
+            ("; A screen. Numbers are\n; hexadecimal.\n\nframe\n", "A screen."), ("\n; one\n\n; two\n", "one"),
+            ("; A screen\n; of text.\nframe ; a picture\n", "A screen of text."), ("frame\n; more.\n", ""), ("", ""),
+        ))
+
+
+NATIVE = f"""target datalayout = "{LAYOUTS[0]}"
+target triple = "{TRIPLES[0]}"
+
+define noundef i32 @zak_open(ptr noundef %card, ptr noundef %0, i64 noundef %length) #7 {{
+start:
+  %tried = call {{ i64, i64 }} @rattle_alloc(i64 %length, i64 8)
+  ret i32 0
+}}
+
+define internal void @inside() #8 {{
+  call void @llvm.trap()
+  unreachable
+}}
+
+declare void @llvm.trap() #9
+declare {{ i64, i64 }} @rattle_alloc(i64, i64)
+attributes #7 = {{ nounwind "probe-stack"="inline-asm" "stack-probe-size"="4096" "target-cpu"="x86-64-v2" }}
+"""
+
+
+class Retargeting(unittest.TestCase):
+    def test_an_export_gets_a_wrapper(self) -> None:
+        text = retargeted(NATIVE)
+        for part in (
+            f'target triple = "{TRIPLES[1]}"', 'attributes #7 = { nounwind "no-builtin-bcmp"',
+            'define internal noundef i32 @"rattle::export zak_open"(ptr noundef %card, ptr noundef %0, i64',
+            '%answer = call i32 @"rattle::export zak_open"(ptr %card, ptr %0, i64 %length)',
+            '"wasm-export-name"="zak_open"', '"wasm-export-name"="page_take"',
+        ):
+            self.assertIn(part, text)
+        self.assertNotIn("x86", text)
+        self.assertNotIn('"wasm-export-name"="inside"', text)
+
+    def test_what_is_not_known_is_refused(self) -> None:
+        front = "^the module for x86-64"
+        hold_refused(self, lambda line: retargeted(f"{NATIVE}{line}\n"), ((line, f"{front}.*{told}") for line, told in (
+            ("declare i32 @puts(ptr)", "it calls puts, and"),
+            ("declare double @llvm.sqrt.f64(double)", "it calls llvm.sqrt.f64, and"),
+            ('declare void @"a b"()', "it calls a b, and"),
+            ('  call void asm sideeffect "nop", ""()', "it has inline assembly, and"),
+            ("  %v = load <4 x i32>, ptr %p", "it has a vector, and"),
+            ("  %p = load ptr addrspace(10), ptr %q", "it has an address space, and"),
+            ("  %r = call i32 %f(i32 1)", "it has a call by a pointer, and"),
+            ('attributes #8 = { "x86" }', "x86 is still named"),
+        )))
+        hold_refused(self, lambda old, new: retargeted(NATIVE.replace(old, new, 1)), ((*row, f"{front}: ") for row in (
+            (LAYOUTS[0], "e"), (TRIPLES[0], "aarch64"),
+            ("define noundef i32 @zak", "define i32 @zak"), ("%card,", "%card zz,"),
+        )))
+
+
+def leb(value: int) -> bytes:
+    return bytes([value & 127 | 128, value >> 7]) if value > 127 else bytes([value])
+
+
+def module_of(names: list[str], *more: tuple[int, bytes], memory: int = 4) -> bytes:
+    """A module that exports functions of these names and its memory, with more sections."""
+    exported = [*((name, 0) for name in names), ("memory", 2), ("__heap_base", 3)]
+    listed = b"".join(leb(len(name)) + name.encode() + bytes([kind, 0]) for name, kind in exported)
+    parts = [*more, (5, bytes([1, memory, 1])), (7, leb(len(exported)) + listed)]
+    return making.MAGIC + b"".join(bytes([number]) + leb(len(data)) + data for number, data in parts)
+
+
+class Modules(unittest.TestCase):
+    calls = calls_of(HEADER.read_text("ascii"))
+    right = [*calls, "page_take", "page_give"]
+
+    def test_what_is_otherwise(self) -> None:
+        hold_refused(self, check_module, (
+            (module_of(self.right, (2, b"\0")), "it has imports"),
+            (module_of(self.right, (4, b"\0")), "it has a table"),
+            (module_of(self.right, (9, b"\0")), "it has elements of a table"),
+            (module_of(self.right, memory=0), "64-bit addresses"),
+            (module_of(self.right[1:]), f"it lacks {self.right[0]}"),
+            (module_of(self.calls), "it lacks page_give, page_take"),
+            (module_of([*self.right, "zak_more"]), "it exports what is not in zaklimot.h: zak_more"),
+            (module_of(self.right)[:-1], "it is cut off"), (b"\x7fELF", "it is no WebAssembly module"),
+        ))
+
+
+class Tests(Folder):
+    """That a page is made around a module, and that the page's tests can fail."""
+
+    def test_a_module_that_was_made_already(self) -> None:
+        self.patch(mock.patch.object(command, "read_sources", small_sources))
+        module, made = Path(self.write("module", with_kit(module_of(Modules.right), "kit 1"))), self.folder / "page"
+        status, output, _ = call(command.main, "make", made, "--module", module)
+        self.assertEqual((status, tests_command.module_in(made.read_bytes())), (0, module.read_bytes()))
+        self.assertIn(f"{made}: {made.stat().st_size:,} bytes; its module has", output)
+
+    def test_a_page_of_other_sources(self) -> None:
+        module, other = (with_kit(module_of(Modules.right), kit) for kit in ("one", "other"))
+        self.patch(mock.patch.object(tests_command, "read_sources", small_sources))
+        made = make_page(module, small_sources())
+        self.assertRegex(tests_command.check_built(other, made), "of another kit, one: the suite judges that$")
+        data, empty = page_data(made.decode("utf-8")), base64.b64encode(packed(b"[]")).decode("ascii")
+        hold_refused(self, tests_command.check_built, (
+            (with_kit(module_of(Modules.right, (1, b"\0")), "one"), made, "is not the one that the crate makes"),
+            (module, make_page(module, small_sources("end();\n")), "is not the page that its sources make, from line 8 on"),
+            *((module, page_text(small_sources(), {**data, "examples": examples}).encode("utf-8"), told)
+              for examples, told in ((empty, "other data .* examples;"), ("AAAA", "is not packed as it"))),
+        ))
+
+    def test_what_is_wrong(self) -> None:
+        ways, wrong = {"bytes": 2, scripts.STEPS: 2}, [{"name": "n", "way": "w", "reason": "r"}]
+        told = f"by bytes 2; by {scripts.STEPS} 2; of 2 cases"
+        self.assertEqual(scripts.judged({"ways": ways, "wrong": []}, 2), told)
+        hold_refused(self, lambda *answer: scripts.judged(dict(zip(("ways", "wrong"), answer)), 2), (
+            (ways, wrong, "\n  n, by w: r$"), ({**ways, "text": 0}, [], "^too few cases were run"),
+        ))
+        module = module_of(Modules.right)
+        self.assertIn("the same twice", tests_command.check_modules([module, module]))
+        hold_refused(self, tests_command.check_modules, [([module, with_kit(module, "kit")], "two modules")])
+        told = '{"agree": 2, "differ": 1, "expected": 3, "lines": ["a: r"]}'
+        with mock.patch.object(scripts, "run_node", return_value=told):
+            self.assertRaisesRegex(Wrong, "\n  a: r$", scripts.check_own, Path("module"))
+
+    @unittest.skipIf(shutil.which(scripts.NODE) is None, "node is lacking")
+    def test_nodes_tests_pass_or_are_named(self) -> None:
+        front = 'import test from "node:test";\n'
+        others = "".join(f'test("other {number}", () => {{}});\n' for number in range(100))
+        bad = f'{front}test("bad", () => {{ throw Error("why"); }});\n{others}'
+        # What runs in a browser, and what has no test, is left out.
+        self.write("browser.mjs", bad)
+        self.write("helper.mjs", "throw Error();")
+        for text, told in (
+            (bad, "(?s)failing tests:.*bad.*why"),
+            (f'{front}test.skip("left out", () => {{}});\n{others}', "100 pass, .*'skipped': '1'"),
+        ):
+            self.write("one.mjs", text)
+            self.assertRaisesRegex(Wrong, told, scripts.check_scripts, Path("module"), None, self.folder)
+        self.write("one.mjs", front + others)
+        told = scripts.check_scripts(Path("module"), None, self.folder)
+        self.assertEqual(told, "100 tests of the page's scripts pass")
+
+    def test_node_that_is_lacking_or_too_old(self) -> None:
+        with mock.patch("shutil.which", return_value=None):
+            told = "^vga-page-tests: node: it is not in the path: install the package nodejs\n"
+            hold_undone(self, call(tests_command.main), told)
+        with mock.patch.multiple(scripts, shutil=mock.Mock(), _answer=lambda _: "v18.19.0"):
+            told = refused(scripts.node_words)
+        self.assertEqual(told, "node: it is v18.19.0, and the tests need 20 or newer: the package nodejs")
+
+
+@unittest.skipIf(sys.platform == "win32", "a script is a program on POSIX")
+class Opened(Fake):
+    def setUp(self) -> None:
+        super().setUp()
+        self.script, self.made = self.write("script.vga", TEXT), self.folder / "debug.html"
+
+    def opened(self, page: str) -> dict[str, Any]:
+        """What a page is told to open. Nothing else of it is otherwise than the page as built."""
+        whole = PAGE.read_text("utf-8")
+        data, built = page_data(page), page_data(whole)
+        self.assertEqual({**data, "open": None, "pages": built["pages"]}, built)
+        # No character of the script ends the element of the data.
+        self.assertTrue(page == whole.replace(data_element(built), data_element(data)))
+        self.assertEqual(page.count("</script"), whole.count("</script"))
+        return data["open"]  # type: ignore[no-any-return]
+
+    def test_what_is_opened(self) -> None:
+        self.write("fonts", OTHER_FONTS)
+        own, given, coded = ("--fonts", "fonts"), b"VGAS\x01\x0b\xff", base64.b64encode
+        for words, data, wanted in (
+            (("-",), TEXT.encode(), {"text": TEXT, "fonts": None}),
+            # Bytes of a text that are no text.
+            (("-",), b"frame ; \xff\n\0\n", {"text": "frame ; \ufffd\n\0\n", "fonts": None}),
+            (("-", *own), given, {"bytes": coded(given).decode(), "fonts": coded(OTHER_FONTS).decode()}),
+        ):
+            status, page, said = self.debugged(*words, given=data)
+            self.assertEqual((status, said), (0, ""))
+            self.assertEqual(self.opened(page), {"name": "standard input", **wanted})
+
+    def debugged(self, path: str, *words: str, given: bytes = b"", made: str = "-") -> tuple[int, str, str]:
+        """Exit status, standard output and standard error of a run that writes a page, and nothing else."""
+        return self.run_tool("run", path, "--debug", made, *words, given=given)
+
+    def test_how_it_is_opened_at_a_step(self) -> None:
+        made = str(self.made)
+        told = f"{made}: open it in Chromium or Firefox, for instance as {self.made.as_uri()}"
+        self.assertEqual(self.debugged(self.script, made=made), (0, f"{told}\n", ""))
+        self.assertEqual(self.debugged(self.script, "--until", "2", made=made), (0, f"{told}#step=2\n", ""))
+        pages = unquote(page_data(self.made.read_text("utf-8"))["pages"])
+        self.assertEqual((self.folder / pages).resolve(), DOCS)
+
+    def test_a_page_that_is_not_there_or_another(self) -> None:
+        built = self.folder / "built.html"
+        with mock.patch.object(debugging, "PAGE", built):
+            told = "the page is not built: `tools/vga-page make page/zaklimot.html` builds it"
+            hold_undone(self, self.debugged(self.script, made=str(self.made)), told)
+            built.write_text("<!DOCTYPE html>\n")
+            told = "^vga-report: built.html: it is not the page that runs scripts\n$"
+            hold_undone(self, self.debugged(self.script, made=str(self.made)), told)
+            built.write_bytes(PAGE.read_bytes())
+            hold_undone(self, self.debugged(self.script, made=str(built)), f"^vga-report: {built}: it is read as ")
+        self.assertFalse(self.made.exists())
+
+    def test_the_listing_links_to_it(self) -> None:
+        (self.folder / "x y").mkdir()
+        html, made = self.folder / "page.html", self.folder / "x y" / "debug.html"
+        for path in (self.path, "-"):
+            with self.subTest(path):
+                words = ("--html", str(html), "--debug", str(made))
+                status, output, said = self.run_script(*words, path=path, given=Path(self.path).read_bytes())
+                self.assertEqual((status, said), (0, ""))
+                self.assertTrue(output.endswith("\n6 steps, 1 refused, 1 picture, 4 of 4 answers as expected\n"))
+                self.assertIn('<a href="x%20y/debug.html">Run it step by step</a>', html.read_text("utf-8"))
+                self.assertEqual(self.opened(made.read_text("utf-8"))["text"], Path(self.path).read_text())
+
+    def test_the_page_of_a_script_with_a_mistake(self) -> None:
+        status, _, said = self.run_text("frame\nmove 1\n", "--debug", str(self.made), "--html", "page.html")
+        self.assertEqual((status, "F7 BadLine(2)" in said), (2, True), said)
+        self.assertEqual(self.opened(self.made.read_text("utf-8"))["text"], "frame\nmove 1\n")
 
 
 class Reader(HTMLParser):
@@ -42,7 +337,7 @@ class Reader(HTMLParser):
             self.texts[self.open[-1]] = self.texts.get(self.open[-1], "") + data
 
 
-class Pages(Fake):
+class Listings(Fake):
     """Pages that stand alone."""
 
     def assert_stands_alone(self, page: str) -> Reader:
