@@ -13,12 +13,10 @@ from vga_report.progress import Progress
 from vga_report.trouble import Trouble
 
 from .checks import (
-    COUNTED, WAYS, check_cases, check_counted, check_examples, check_header, check_memory, check_misuse, check_names,
-    check_scripts, check_threads,
+    COUNTED, WAYS, check_cases, check_counted, check_examples, check_header, check_installing, check_memory, check_misuse,
+    check_names, check_pc, check_scripts, check_threads,
 )
 from .compilers import Built, lacking, laid_library, make_check
-from .installing import check_installing
-from .pc import check_pc
 
 Check = Callable[[Built, Path], str]
 # Those of the library of each compiler, and those of one alone.
