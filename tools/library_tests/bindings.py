@@ -12,7 +12,7 @@ from functools import partial
 from pathlib import Path
 from typing import Callable
 
-from vga_library.toolchain import BACKENDS, X86_64
+from vga_library.making import BACKENDS, X86_64
 from vga_report import TOP, cli
 from vga_report.crates import phases
 from vga_report.processes import captured, tested

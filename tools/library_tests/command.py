@@ -6,7 +6,7 @@ from functools import partial
 from pathlib import Path
 from typing import Callable, Sequence
 
-from vga_library.toolchain import TARGETS, X86_64, Target
+from vga_library.making import TARGETS, X86_64, Target
 from vga_report import cli
 from vga_report.crates import phases
 from vga_report.progress import Progress

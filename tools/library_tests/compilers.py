@@ -10,7 +10,7 @@ from pathlib import Path
 from typing import Any, Callable, Iterable, NamedTuple, Sequence
 
 from vga_library.making import MOVING, Place, make_library
-from vga_library.toolchain import AARCH64, X86_64, Target, built_archive, gated_archive, memory_part
+from vga_library.making import AARCH64, X86_64, Target, built_archive, gated_archive, memory_part
 from vga_report.processes import BINUTILS, SOURCES, Hearer, captured, tested
 
 STRICT = ("-Wall", "-Wextra", "-Wpedantic", "-Wconversion", "-Werror")

@@ -14,7 +14,7 @@ from pathlib import Path
 from typing import Callable, Iterator, Optional, Sequence
 
 from library_tests.compilers import make_check
-from vga_library.toolchain import kit_line
+from vga_library.making import kit_line
 from vga_page.making import made_modules
 from vga_page.page import MOST_BYTES, data_of, page_text, read_sources
 from vga_page.making import MOST_MODULE, check_module, kit_of

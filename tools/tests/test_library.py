@@ -20,9 +20,9 @@ from unittest import mock
 
 from library_tests import bindings, checks, compilers
 from library_tests.compilers import run
-from vga_library import command, making, toolchain
+from vga_library import command, making
 from vga_library.making import MOVING, Place, described
-from vga_library.toolchain import AARCH64, HEAP, HEAP_OPTIONS, TARGETS, X86_64
+from vga_library.making import AARCH64, HEAP, HEAP_OPTIONS, TARGETS, X86_64
 from vga_release import command as release
 from vga_release.command import FRONT, INSTALL, LINKS, MADE_OF, PATHS, Commit, Entry, File, settled
 from vga_report import TOP, crates
@@ -87,8 +87,8 @@ class Making(unittest.TestCase):
 
     def test_what_the_gate_has_not_left(self) -> None:
         told = r"^nowhere/crates/vga_bits/out/rlib/vga_bits\.rlib: it is not there: run rt ci first.* crates/\*/out"
-        with mock.patch.object(toolchain, "TOP", Path("nowhere")), self.assertRaisesRegex(Trouble, told):
-            toolchain.rlib("vga_bits")
+        with mock.patch.object(making, "TOP", Path("nowhere")), self.assertRaisesRegex(Trouble, told):
+            making.rlib("vga_bits")
 
 
 class Made(Folder):
@@ -373,7 +373,7 @@ class OtherProcessors(Folder):
         self.patch(
             mock.patch.dict(os.environ, {"PATH": path, "NOTES": str(self.notes), "KIT": str(kit)}),
             mock.patch.multiple(
-                toolchain, CRATE=self.crate, KEPT=self.crate / "out" / "incremental",
+                making, CRATE=self.crate, KEPT=self.crate / "out" / "incremental",
                 rlib=lambda name: Path(f"{name}.rlib"),
             ),
             mock.patch.object(making, "FOLDER", self.crate / "out" / "made"),

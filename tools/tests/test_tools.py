@@ -15,7 +15,7 @@ from pathlib import Path
 from threading import Event
 from unittest import mock
 
-from vga_library.toolchain import AARCH64
+from vga_library.making import AARCH64
 from vga_report import cli
 from vga_report.crates import phases
 from vga_report.listing import _wait_for

@@ -15,7 +15,7 @@ from vga_report.streams import check_folder, to_read
 from vga_report.trouble import Trouble
 
 from .making import MOVING, Place, keep, kept, make_library
-from .toolchain import ARCHIVE, BACKENDS, TARGETS, X86_64, Target, built_archive, memory_part
+from .making import ARCHIVE, BACKENDS, TARGETS, X86_64, Target, built_archive, memory_part
 
 # Where files go that a package names no other place for.
 USUAL_PREFIX = "/usr/local"

@@ -13,7 +13,7 @@ import tempfile
 from pathlib import Path
 from typing import BinaryIO, Callable, Iterator, Optional, Sequence
 
-from vga_library.toolchain import CRATE, KEPT, kit_folder, kit_line, proving_words
+from vga_library.making import CRATE, KEPT, kit_folder, kit_line, proving_words
 from vga_report.crates import phases
 from vga_report.processes import Hearer, ended_well
 from vga_report.progress import Progress

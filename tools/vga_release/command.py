@@ -18,7 +18,7 @@ from typing import AbstractSet, BinaryIO, Mapping, Match, NamedTuple, Optional, 
 
 from vga_library.command import check_given
 from vga_library.making import MOVING, Place, make_library
-from vga_library.toolchain import AARCH64, BACKENDS, X86_64, Target, built_archive, kit_line, memory_part
+from vga_library.making import AARCH64, BACKENDS, X86_64, Target, built_archive, kit_line, memory_part
 from vga_report import TOP, cli
 from vga_report.crates import phases
 from vga_report.processes import check_program, ended_well, run
