@@ -410,12 +410,21 @@ class Model(unittest.TestCase):
 
 
 class Modules(unittest.TestCase):
-    """What stands beside the tools names none of their modules that is not there."""
+    """Each module of a tool stands in a table, and no page, script or test names one that is not there."""
 
     NAMED = re.compile(
         r"from ((?:vga|page|library|bindings|emulator)_\w+)\.(\w+) import"
         r"|tools/(\w+/\w+\.(?:py|css|js|c))\b"
     )
+
+    def test_tables_have_them_all(self) -> None:
+        form = r"(?m)^\| Module of `(\w+)` \|.*\n\|---\|---\|\n((?:\|.*\n)+)"
+        tables = dict(re.findall(form, (TOOLS / "README.md").read_text("utf-8")))
+        self.assertEqual(set(tables), {path.parent.name for path in TOOLS.glob("[!t]*/__init__.py")})
+        for name, rows in tables.items():
+            named = re.findall(r"`(\w+)`", "".join(row.split(" | ")[0] for row in rows.splitlines()))
+            there = [path.stem for path in (TOOLS / name).glob("[!_]*") if path.is_file() and path.suffix in (".py", "")]
+            self.assertEqual(sorted(named), sorted(there), name)
 
     def test_each_is_there(self) -> None:
         ends, seen = ("mjs", "js", "py", "md"), 0
