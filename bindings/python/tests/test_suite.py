@@ -28,7 +28,7 @@ def difference(report: bytes, case: Case) -> Optional[str]:
         own = Report(io.BufferedReader(io.BytesIO(report)), "the report").steps()
         wanted = Expected(stream, str(case.expected)).steps()
         for found in Comparison().differences(own, wanted):
-            return found.told().text
+            return found.told()
     return None
 
 
