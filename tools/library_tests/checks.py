@@ -11,8 +11,7 @@ import sys
 from pathlib import Path
 from typing import Any, Optional, Sequence
 
-from vga_library.making import FONTS, MOVING, Place, make_library
-from vga_library.making import memory_part
+from vga_library.making import FONTS, MOVING, Place, make_library, memory_part
 from vga_report import TOP
 from vga_report.cases import read_cases
 from vga_report.processes import captured

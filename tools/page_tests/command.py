@@ -15,12 +15,10 @@ from typing import Callable, Iterator, Optional, Sequence
 
 from library_tests.compilers import make_check
 from vga_library.making import kit_line
-from vga_page.making import made_modules
 from vga_page.page import MOST_BYTES, data_of, page_text, read_sources
-from vga_page.making import MOST_MODULE, check_module, kit_of
+from vga_page.making import MOST_MODULE, check_module, kit_of, made_modules
 from vga_report import cli
-from vga_report.debugging import MOST_PAGE, page_data, read_at_most
-from vga_report.debugging import PAGE as BUILT_PAGE
+from vga_report.debugging import MOST_PAGE, PAGE as BUILT_PAGE, page_data, read_at_most
 from vga_report.progress import Progress
 from vga_report.trouble import Trouble, Wrong
 

@@ -39,13 +39,11 @@ class _Result(unittest.TextTestResult):
 
 
 def _run_here(names: list[str]) -> int:
-    """Runs the tests of these modules, classes or methods in this process."""
     tests = unittest.defaultTestLoader.loadTestsFromNames(names)
     return PASSED if unittest.TextTestRunner(resultclass=_Result).run(tests).wasSuccessful() else FAILED
 
 
 def _run_apart(name: str, variables: Mapping[str, str], is_ended: Event) -> Done:
-    """How the tests of a module end in a process of their own."""
     def heed(_: str) -> None:
         if is_ended.is_set():
             raise Trouble("the tests were ended")
@@ -57,13 +55,11 @@ def _run_apart(name: str, variables: Mapping[str, str], is_ended: Event) -> Done
 
 
 def _modules() -> list[str]:
-    """The names of all modules of tests, the largest first."""
     paths = sorted(HERE.glob("test_*.py"), key=lambda path: path.stat().st_size, reverse=True)
     return [f"{HERE.name}.{path.stem}" for path in paths]
 
 
 def _run(parsed: argparse.Namespace, _: object) -> int:
-    """Runs the tests of the modules that are wanted, and tells what came of each."""
     if parsed.here:
         return _run_here(parsed.modules)
     ran, skipped, failed, begun, is_ended = 0, 0, 0, time.monotonic(), Event()

@@ -50,7 +50,6 @@ class Machine:
         self.image = bytes(left)
 
     def _take(self, at: int) -> int:
-        """Takes the step at a place; where the next one is."""
         opcode = self._steps[at]
         fields = FORMS[opcode].unpack_from(self._steps, at + 1)
         at += 1 + FORMS[opcode].size + (fields[-1] if opcode in BEHIND else 0)

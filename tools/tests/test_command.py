@@ -138,6 +138,7 @@ class Streams(Folder):
             (self.folder / "none", "2>&-", (2, "", "")),
             (long, ">/dev/full", (2, "", told("out", "No space left on device"))),
             (path, f">>{path}", (2, "", told("out", f"it is read as {path}, so it isn't written"))),
+            ("-", f"<{path} >>{path}", (2, "", told("out", "it is read as standard input, so it isn't written"))),
         ))
         self.assertEqual(Path(path).read_bytes(), b"1 ok\n")
 

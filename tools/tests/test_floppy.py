@@ -17,8 +17,7 @@ from pathlib import Path
 from typing import Callable
 from unittest import mock
 
-from vga_floppy import image as images
-from vga_floppy import running
+from vga_floppy import image as images, running
 from vga_floppy.command import main
 from vga_floppy.image import CODE, Run, image_for, read_image, read_record, report_lines
 from vga_floppy.running import DOSBOX, MACHINES

@@ -77,6 +77,7 @@ class Table(unittest.TestCase):
         self.assertEqual([(int(number), name) for number, name in told], list(REFUSALS.items()))
         faults = re.findall(r"^\| `F(\d+) (\w+)(?:\((\w+)\))?` \|", page("REPORT.md"), re.M)
         self.assertEqual([(int(number), name, place) for number, name, place in faults], list(FAULTS.values()))
+        self.assertEqual((len(FAULTS), "one of the eleven faults" in (TOP / "tools" / "README.md").read_text("utf-8")), (11, True))
 
     def test_the_sources_of_the_program(self) -> None:
         opcodes = (CRATES / "vga_script" / "src" / "opcode.rt").read_text("utf-8")

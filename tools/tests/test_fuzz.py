@@ -100,6 +100,7 @@ class Fuzzing(Folder):
             (bad, "", "vga go: step 1 is answered, and the script has none"),
             (bad, "pass", "vga go answers done, and not F7 BadLine(1)"),
             (TEXT, "print('1 55' if command == 'go' else '1 FF')", "vga go and vga run have reports that differ"),
+            (Input(True, b"in 3C0\n", "text"), "", "vga asm: the script has other steps than the text"),
             # A printed text may answer otherwise.
             (SCRIPT, "print('1 54' if command == 'go' else '1 55')",
              "vga run and vga go of what vga dis prints have reports that differ"),

@@ -21,8 +21,7 @@ from unittest import mock
 from library_tests import bindings, checks, compilers
 from library_tests.compilers import run
 from vga_library import command, making
-from vga_library.making import MOVING, Place, described
-from vga_library.making import AARCH64, HEAP, HEAP_OPTIONS, TARGETS, X86_64
+from vga_library.making import AARCH64, HEAP, HEAP_OPTIONS, MOVING, TARGETS, X86_64, Place, described
 from vga_release import command as release
 from vga_release.command import FRONT, INSTALL, LINKS, MADE_OF, PATHS, Commit, Entry, File, settled
 from vga_report import TOP, crates
@@ -89,6 +88,9 @@ class Making(unittest.TestCase):
         told = r"^nowhere/crates/vga_bits/out/rlib/vga_bits\.rlib: it is not there: run rt ci first.* crates/\*/out"
         with mock.patch.object(making, "TOP", Path("nowhere")), self.assertRaisesRegex(Trouble, told):
             making.rlib("vga_bits")
+        with mock.patch.object(making, "run") as ran:
+            making.built_archive("llvm", X86_64, print)
+        ran.assert_called_once_with(["rt", "lib"], making.CRATE, print)
 
 
 class Made(Folder):

@@ -373,6 +373,8 @@ class Cases(unittest.TestCase):
         page = (TOP / "docs" / "SUITE.md").read_text("utf-8").partition("## What the folders hold")[2]
         folders = {case.name.partition("/")[0] for case in read_cases(str(SUITE))}
         self.assertEqual(sorted(folder for folder in folders if f"`{folder}/`" not in page.partition("\n## ")[0]), [])
+        self.assertIn("not UTF-8", page)
+        self.assertIn("vga asm s.vga s.vga", (TOOLS / "README.md").read_text("utf-8"))
 
 
 class Lines(unittest.TestCase):

@@ -14,8 +14,7 @@ from pathlib import Path
 from typing import Iterator, NamedTuple, Sequence
 
 from vga_picture.cells import FONTS_AT, Chooser, Chosen
-from vga_picture.colours import Colour, Nearest, distance, middle_colours, outer_colours
-from vga_picture.colours import Fewer, indexed
+from vga_picture.colours import Colour, Fewer, Nearest, distance, indexed, middle_colours, outer_colours
 from vga_picture.command import main
 from vga_picture.mode import MODES
 from vga_report.png import write_png

@@ -20,8 +20,7 @@ from unittest import mock
 from emulator_tests.traces import row as row_of
 from vga_report.images import image_of
 from vga_trace import recording
-from vga_trace.converting import Checked
-from vga_trace.converting import Clocked, Written
+from vga_trace.converting import Checked, Clocked, Written
 from vga_trace.recording import PHASES, Deed, Machine, Session
 from vga_trace.replaying import ALLOWED, PAGE, SEEN, Replay, Screen, whole_rows
 from vga_trace.state import State

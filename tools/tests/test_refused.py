@@ -8,6 +8,8 @@ import sys
 import unittest
 from pathlib import Path
 
+from vga_floppy.table_page import FIRST_MARK, LAST_MARK
+
 from .floppy import machine
 from .test_images import png
 from .tools import BLACK, TOP, Folder, ppm, report, run_tool
@@ -29,7 +31,8 @@ FILES: dict[str, str | bytes] = {
     "r": report(PICTURE), "r2": report(OTHER), "i": PICTURE, "s.vga": "frame\n", "m": IMAGE,
     "t": "- w p 3C4 02 1\n", "empty/notes": "",
     "ok": report("ok", PICTURE), "none": report("ok"), "move.vga": "frame\nmove\n", "font": bytes(9727),
-    "sizes": report(PICTURE, ppm(1, 1, BLACK)), "end.vga": "version 2\nend\n", "cut": b"VGAS\1\1",
+    "sizes": report(PICTURE, ppm(1, 1, BLACK)), "end.vga": "version 2\nend\n", "cut": b"VGAS\1\1", "zero.vga": "frame\n", "list": "zero\n",
+    "marks": f"{FIRST_MARK}\n{LAST_MARK}\n",
 }
 NAMES = "out, outw, in, inw, put, putw, get, getw, advance, frame, int, show, version, repeat, end"
 MOVE = f"vga-floppy: {{move}}:2: F7 BadLine(2): there is no step 'move'; the steps are {NAMES}\n  move\n  ^^^^\n"
@@ -50,7 +53,10 @@ REFUSED = {
     "floppy make /dev/zero {o}": "F6 TooLong: ",
     "floppy table /dev/full {r}": "/dev/full: it has more than 16,777,216 bytes",
     "floppy table {s} /dev/zero": "it lacks the marks",
-    "page make {o} --module /dev/zero": "",
+    "page make {o} --module /dev/zero": "/dev/zero: it has more than 16,777,216 bytes",
+    "floppy table {marks} /dev/zero": "/dev/zero: it has more than 16,777,216 bytes",
+    "report suite true{{script}} --machine --list {list}": "zero.txt:1: the line is longer than any answer",
+    f"page make {TOP}/examples/byte-screen.vga --module {{s}}": f"{TOP}/examples/byte-screen.vga: it is read as {TOP}",
     # What is wrong with folders and files is said before any work.
     "library make {s}": "s.vga: it is not a folder",
     "library make {s}/kit": "s.vga: it is not a folder",
@@ -237,6 +243,7 @@ class Refused(Folder):
         super().setUp()
         for name, content in FILES.items():
             self.write(name, content)
+        (self.folder / "zero.txt").symlink_to("/dev/zero")
         self.places = {name.removesuffix(".vga"): str(self.folder / name) for name in (*FILES, "o", "in")}
         self.places.update(p=self.program("p", PROGRAM), d=str(self.folder))
 

@@ -29,7 +29,7 @@ from vga_report.words import parser
 from zaklimot.format import count_in, lines_in, places_in, steps_in, words_in
 
 from .test_command import run
-from .tools import BLACK, EXAMPLES, RED, TOP, Folder, begin, ended, hold, hold_refused, hold_undone, ppm, want_program
+from .tools import BLACK, EXAMPLES, RED, TOP, Folder, begin, ended, hold, hold_refused, hold_undone, ppm, refused, want_program
 
 # A program that understands texts of a few steps: `asm` copies, `dis` prints in upper case, `go` answers by the name.
 FAKE = """import sys
@@ -49,8 +49,8 @@ elif words[0] in ("go", "run"):
     out = sys.stdout.buffer
     stop = min(int(words[5]) if words[4:] else len(numbered), len(numbered))
     for number, (_, step) in enumerate(numbered[:stop], 1):
-        answer = {{b"get": b"E6", b"frame": b"picture 37\\n" + {picture!r}, b"show": b"a\\nb", b"in": b"E1 NotDecoded",
-                  b"int": b"ax=0003 bx=0000 cx=0000 dx=0000"}}.get(step[0], b"ok")
+        answer = {{b"get": b"E6", b"frame": b"picture 37\\n" + {picture!r}, b"show": b"a\\nb" if b"regs" in step else b"misc 67",
+                  b"in": b"E1 NotDecoded", b"int": b"ax=0003 bx=0000 cx=0000 dx=0000"}}.get(step[0], b"ok")
         out.write(b"%d %s\\n" % (number, answer))
     if words[4:]:
         out.write(b"".join(b"%d look\\n" % (stop + at) for at in (1, 2, 3, 4)))
@@ -67,6 +67,7 @@ while len(glob.glob(sys.argv[0] + ".*")) < 2: time.sleep(0.01)
 DECODED = "               No part of the adapter decodes port 0{}.\n".format
 NAMES = "out, outw, in, inw, put, putw, get, getw, advance, frame, int, show, version, repeat, end"
 RUNS: list[tuple[str, str, int, list[str]]] = [
+    ("show dac 0 ; = misc 63\n", "", 1, [" answers misc 67, not misc 63: misc: 67, not 63\n"]),
     ("get 0 ; = 55\nget 1 ; = *\nframe ; = picture 9x2\n", "--only differs", 1, [
         "     1      1  GET 0               E6   not 55\n", "\n3 steps, 1 picture, 1 of 3 answers as expected\n",
         "t.vga:1: step 1: GET 0 answers E6, not 55\nt.vga:3: step 3: FRAME answers picture 9x1 ",
@@ -358,6 +359,9 @@ class Calls(Fake):
         return sum(entry.callcount for entry in profile.getstats())
 
     def test_of_a_step(self) -> None:
+        with mock.patch("vga_report.listing._wait_for") as waited:
+            self.calls("get 0\n")
+        waited.assert_called_once()
         for line in ("out 3c4 2\n", "put b8000 55\n", "get 0 ; a comment\n", "in 3da\n"):
             few, many = self.calls(line * 100), self.calls(line * 600)
             with self.subTest(line, calls=(many - few) / 500):
@@ -389,6 +393,8 @@ class Several(Fake):
             f"{a}: 1 step, 0 pictures, 1 of 1 answers as expected\n{b}:1: step 1: GET 0 answers E6, not 55\n"
             f"{b}: 2 steps, 1 refused, 0 pictures, 0 of 1 answers as expected\n2 scripts, 1 differs\n"
         ))
+        output = self.run_script("--strict", "--diff", path=str(self.tests))[1]
+        self.assertIn("\n-get 0 ; = 55\n-in 60\n+get 0 ; = E6\n+in 60 ; = E1 NotDecoded\n", output)
 
     def test_no_script_is_written_over(self) -> None:
         script = str(self.tests / "a.vga")
@@ -421,14 +427,15 @@ class Several(Fake):
 
     def test_the_program_is_built_or_tried_where_it_is_lacking(self) -> None:
         # A toolchain that notes what it is asked for, builds the program once that is there, and tries none to its end.
-        build = f"mkdir -p out; cp {self.folder}/ready out/vga || exit 3"
+        build = f"mkdir -p out; cp {self.folder}/ready out/vga || {{ echo crate vga >&2; exit 3; }}"
         rt = self.program("bin/rt", f"#!/bin/sh\nwords=$*; echo \"${{words%% --data*}}\" >> asked; {build}\n")
         crate, told = Path(self.write("crate/src/main.rt", "")).parents[1], self.run_script()[1].encode()
         path = {"PATH": f"{Path(rt).parent}{os.pathsep}{os.environ['PATH']}"}
         limits = "60 seconds and 1 MiB of output, which two pictures of text fill"
         with mock.patch.dict(os.environ, path), mock.patch.multiple(program, CRATE=crate, PROGRAM=crate / "out/vga"):
-            self.assertIn("vga-report: rt: it ended with status 3\n", run("run", self.path, "--build")[2])
-            self.assertIn(f" not run it to its end, within {limits}: cp: ", run("run", self.path, "--try")[2])
+            self.assertIn("rt: it ended with status 3\n", refused(program.build_program, progress := mock.Mock()))
+            self.assertRegex(progress.tell.call_args[0][0], r" building the program: vga, crate (\d+) of \1$")
+            self.assertIn(f" not run it to its end, within {limits}: crate vga\n", run("run", self.path, "--try")[2])
             self.vga.rename(self.folder / "ready")
             for _ in "12":
                 self.assertEqual(run("run", self.path, "--build"), (0, told, ""))

@@ -111,7 +111,7 @@ class Words(unittest.TestCase):
             with self.subTest(name):
                 status, output, _ = call(main_of(name), "--help")
                 self.assertEqual(status, 0)
-                self.assertRegex(output, rf"Example:\n  tools/{name}\b(?s:.*)\nExit status: 0 ")
+                self.assertRegex(output, rf"Example:\n  tools/{name}\b(?s:.*)\nExit status: 0 .*; 2 the work can't be done\.\n")
                 page = re.search(r"^(\S+\.md) tells more\.$", output, re.M)
                 assert page is not None
                 self.assertTrue((TOP / page[1]).exists(), page[1])

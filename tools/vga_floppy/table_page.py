@@ -95,7 +95,6 @@ def _counts(results: Sequence[Results]) -> Iterator[str]:
 
 
 def _folders(results: Sequence[Results]) -> Iterator[str]:
-    """How many cases of each folder agree, are skipped, and differ or fail."""
     yield from _heading(results, "Folder: cases that agree, are skipped, differ")
     for folder in dict.fromkeys(case["folder"] for result in results for case in result.cases):
         yield _row(f"`{folder}/`", *(_folder_cell(result.of(folder=folder)) for result in results))
@@ -127,7 +126,6 @@ def _rule_cell(cases: Sequence[dict[str, Any]]) -> str:
 
 
 def _difference(answered: str, expected: str) -> str:
-    """Two answers, of registers and tables the first that differs."""
     words, others = answered.split(), expected.split()
     if len(words) == len(others) > 1:
         answered, expected = next(((one, other) for one, other in zip(words, others) if one != other), ("", ""))

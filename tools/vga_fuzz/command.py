@@ -70,7 +70,6 @@ def _at_hand() -> tuple[list[bytes], list[bytes]]:
 
 
 def _check(program: Program) -> None:
-    """Ends the work where a program is none that assembles a text."""
     try:
         script = program.assembled(FIRST_TEXT)
     except Wrong as wrong:
@@ -117,7 +116,6 @@ def _fuzz(words: argparse.Namespace, folder: Path) -> int:
 
 
 def _run(words: argparse.Namespace, _: Progress) -> int:
-    """Looks at the words, and does the work."""
     if not os.path.isfile(words.program) or not os.access(words.program, os.X_OK):
         raise Trouble("it is no program; (cd crates/vga && rt run -- --help) builds it", words.program)
     if words.keep is not None:

@@ -163,7 +163,6 @@ class Program:
         return script.read_bytes()
 
     def _file(self, name: str, data: bytes) -> Path:
-        """A file of the folder with these bytes."""
         path = self._folder / name
         path.write_bytes(data)
         return path

@@ -140,7 +140,6 @@ def _field(random: Random, field: Field, is_word: bool) -> int:
 
 
 def _call(random: Random) -> Step:
-    """A call of the BIOS."""
     function = random.choice(FUNCTIONS) if random.random() < 0.95 else random.getrandbits(8)
     part = _number(random, {0: MODES, 0x10: PALETTE, 0x11: GLYPHS, 0x13: (0, 1, 2, 3)}.get(function, BYTES), 8)
     bx, dx = (random.getrandbits(16) & random.choice((0x0F0F, 0x7FF, 0xFFFF)) for _ in range(2))
@@ -156,7 +155,6 @@ def _call(random: Random) -> Step:
 
 
 def _dump(random: Random) -> Step:
-    """A dump, all its fields in range."""
     form = random.choice(list(SHOWN.values()))
     if DUMPED in form.fields:
         offset = random.getrandbits(16)

@@ -11,9 +11,8 @@ from vga_report.streams import STANDARD, check_file, read_at_most, to_read, writ
 from vga_report.trouble import Trouble
 from vga_report.words import number_to
 
-from .making import made_modules
-from .page import MOST_BYTES, make_page, read_sources
-from .making import MOST_MODULE, check_module
+from .making import MOST_MODULE, check_module, made_modules
+from .page import MOST_BYTES, examples, make_page, read_sources
 
 MOST_MEBIBYTES = 4096
 
@@ -65,7 +64,7 @@ def _write(path: str, data: bytes, told: str) -> None:
 
 def _make(words: argparse.Namespace, progress: Progress) -> None:
     # What is wrong with the sources is told before the long work; none of them is written.
-    sources = read_sources()
+    sources, _ = read_sources(), examples()
     module = _made_module(words, progress)
     page = make_page(module, sources)
     _write(words.file, page, f"{len(page):,} bytes; its module has {check_module(module)}")
