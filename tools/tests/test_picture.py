@@ -17,6 +17,7 @@ from vga_picture.cells import FONTS_AT, Chooser, Chosen
 from vga_picture.colours import Colour, Fewer, Nearest, distance, indexed, middle_colours, outer_colours
 from vga_picture.command import main
 from vga_picture.mode import MODES
+from vga_picture.screen import MASKS, least_writes
 from vga_report.png import write_png
 from vga_report.program import FONTS
 from zaklimot.format import Picture, encode, parse_text
@@ -123,8 +124,8 @@ class Case(NamedTuple):
 def of_pixels() -> Iterator[Case]:
     """Each mode, long and short; all colours that it has, and one; and rows of cells that are alike."""
     for mode, long, short in (
-        ("0D", "1,842 steps, 68,320", "1,589 steps, 72,082"), ("10", "2,469 steps, 68,947", "2,127 steps, 71,279"),
-        ("12", "2,000 steps, 68,478", "1,798 steps, 69,466"), ("13", "30,850 steps, 97,880", "19,680 steps, 112,663"),
+        ("0D", "1,838 steps, 68,316", "1,589 steps, 72,082"), ("10", "2,466 steps, 68,944", "2,125 steps, 71,277"),
+        ("12", "1,967 steps, 68,445", "1,783 steps, 69,451"), ("13", "30,850 steps, 97,880", "19,680 steps, 112,663"),
     ):
         dots = some_dots(MODES[mode].width, MODES[mode].height, min(200, len(MODES[mode].entries)))
         yield Case(ppm_of(dots), f"--mode {mode}", f" colours; {long} cycles, ", shown(dots, mode))
@@ -231,6 +232,27 @@ class Drawing(Folder):
         told = f"it has {len(set(chain(*MANY))):,} colours of six bits a component, and the mode 16"
         ways = "--nearest takes the nearest of 16, --dither mixes them"
         self.assertEqual(refused(indexed, MANY, 16, Fewer.REFUSED, "image"), f"image: {told}: {ways}")
+
+
+class Writes(unittest.TestCase):
+    def writes(self, *words: str) -> int:
+        """How many writes make one word another: a letter a plane, of the low bytes and then of the high ones."""
+        have, want = (tuple(map(bytes, zip(*map(str.encode, word.split())))) for word in words)
+        made, planes = least_writes(have, want), list(map(bytearray, have))
+        self.assertEqual([mask for mask, *_ in made], sorted({mask for mask, *_ in made}, key=MASKS.index))
+        for (mask, first, data), plane in product(made, range(4)):
+            if mask >> plane & 1:
+                planes[plane][first:first + len(data)] = data
+        self.assertEqual(tuple(map(bytes, planes)), want)
+        return len(made)
+
+    def test_a_word_takes_as_few_as_can_be(self) -> None:
+        hold(self, self.writes, (
+            ("---- ----", "aaaa xxxx", 1), ("---- ----", "-aa- -xx-", 1), ("a-b- xx--", "a-bc xxxx", 2),
+            ("---- ----", "aabb xxyy", 2), ("---- ----", "aabb xxxy", 3), ("---- ----", "abcd xxyy", 4),
+            # All get a and x, then two of them b, and two y: fewer than the words, and than the bytes.
+            ("---- ----", "aabb xyxy", 3), ("---- ----", "aaab xxyx", 3),
+        ))
 
 
 class Colours(unittest.TestCase):

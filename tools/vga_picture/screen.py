@@ -2,7 +2,8 @@
 
 Pixels of sixteen colours have a bit in each of four planes. A write goes to the planes of a map mask, and is a byte to
 the low address, one to the high address, or a word to both. Bits are not masked, and nothing is read: each write stores
-what it has. All words of an image share one order of masks, those of more planes first, so that each mask is set once.
+what it has. All words of an image share one order of masks, those of more planes first, so that each mask is set once; a
+write to more planes may so be written over by one to fewer.
 
 A shorter script takes more cycles: the video BIOS draws areas of one colour, and rows of cells that are alike. Pixels
 are looked at in cells then, as the BIOS has them: eight columns for a character, and so many lines as it is high.
@@ -15,7 +16,7 @@ from functools import lru_cache
 from itertools import chain, combinations, takewhile
 from typing import Iterator, Mapping, Optional, Sequence
 
-from vga_trace.state import ALL_PLANES, FIRST_ADDRESS as WINDOW, PLANES, map_mask, masks_of
+from vga_trace.state import ALL_PLANES, FIRST_ADDRESS as WINDOW, PLANES, map_mask
 from zaklimot import format
 
 from .mode import Kind, Mode
@@ -70,7 +71,7 @@ def drawing(have: Planes, want: Planes) -> list[Item]:
     for at in range(0, len(want[0]), 2):
         old, new = (tuple(plane[at:at + 2] for plane in planes) for planes in (have, want))
         if old != new:
-            for mask, first, data in few_writes(old, new):
+            for mask, first, data in least_writes(old, new):
                 passes[mask].update(enumerate(data, at + first))
     steps: list[Item] = []
     for mask in MASKS:
@@ -81,22 +82,47 @@ def drawing(have: Planes, want: Planes) -> list[Item]:
 
 
 @lru_cache(maxsize=None)
-def few_writes(have: Word, want: Word) -> Writes:
-    """The writes that make one word another: one for each different word, or for each different byte if that is fewer.
-
-    A write of a word is one of a byte where the word's other byte is there already.
-    """
-    changed = [sum(1 << plane for plane in range(PLANES) if have[plane][at] != want[plane][at]) for at in (0, 1)]
-    by_bytes: Writes = [
-        (mask & changed[at], at, bytes([byte]))
-        for at in (0, 1) for byte, mask in masks_of(word[at] for word in want).items() if mask & changed[at]
+def least_writes(have: Word, want: Word) -> Writes:
+    """The fewest writes that make one word another, in the order of masks."""
+    # They hang on which bytes are alike, and not on what these are.
+    values = [list(dict.fromkeys(word[at] for word in (*have, *want))) for at in (0, 1)]
+    named = (tuple(bytes(map(list.index, values, word)) for word in words) for words in (have, want))
+    return [
+        (mask, first, bytes(values[at][number] for at, number in enumerate(numbers, first)))
+        for mask, first, numbers in _least(*named)
     ]
-    by_words: Writes = []
-    for word, mask in masks_of(want).items():
-        first, end = 0 if mask & changed[0] else 1, 2 if mask & changed[1] else 1
-        if first < end:
-            by_words.append((mask & (changed[0] | changed[1]), first, word[first:end]))
-    return min(by_words, by_bytes, key=len)
+
+
+@lru_cache(maxsize=None)
+def _least(have: Word, want: Word) -> Writes:
+    """The same, found from the last write backwards: what is left then are the bytes that no later write makes.
+
+    Bytes that are left have a bit each: four those of the low address, and four above them those of the high one.
+    """
+    # The different bytes that the planes of each mask are to have; and so many writes are needed at least for what is left.
+    low, high = (
+        [{word[at] for plane, word in enumerate(want) if mask >> plane & 1} for mask in range(16)] for at in (0, 1)
+    )
+    changed = [sum(1 << plane for plane in range(PLANES) if have[plane][at] != want[plane][at]) for at in (0, 1)]
+    needed = [max(len(low[left & changed[0]]), len(high[left >> PLANES & changed[1]])) for left in range(256)]
+
+    def search(left: int, masks: Sequence[int], most: int) -> Optional[Writes]:
+        """So many writes at most, of these masks, that make what is left; None where there are none."""
+        if not needed[left]:
+            return []
+        for place, mask in enumerate(masks if needed[left] <= most else ()):
+            made = low[left & mask], high[left >> PLANES & mask]
+            for first, end, reached in ((0, 1, mask), (1, 2, mask << PLANES), (0, 2, mask * 0x11)):
+                if needed[left & ~reached] < most and all(len(alike) == 1 for alike in made[first:end]):
+                    before = search(left & ~reached, masks[place + 1:], most - 1)
+                    if before is not None:
+                        return [*before, (mask, first, bytes(map(min, made[first:end])))]
+        return None
+
+    # A write for each plane is always enough.
+    enough = [(1 << plane, 0, word) for plane, word in enumerate(want)]
+    found = (search(255, MASKS[::-1], most) for most in range(needed[255], PLANES))
+    return next((writes for writes in found if writes is not None), enough)
 
 
 def _cycles(words: Sequence[tuple[int, int]], numbers: Sequence[int]) -> int:
