@@ -16,9 +16,8 @@ from unittest import mock
 
 from vga_report.trouble import Trouble
 from vga_trace import converting
-from vga_trace.converting import count
 from vga_trace.command import main
-from vga_trace.converting import Listing, Pauses, Written, folded, with_flips
+from vga_trace.converting import Listing, Pauses, Written, count, folded, with_flips
 from vga_trace.step import ADVANCE, FRAME, IN, NAMES, OUT, OUTW, PUT, Step, steps_of, without_polls
 from vga_trace.trace import MEMORY, PORT, SCREEN, VBE, Cycle, Trace
 
@@ -328,9 +327,9 @@ class Checking(Folder):
                 "  refused         2 E1 NotDecoded: out port 3B5 index 01 (first at step 3)",
                 "  refused         1 E2 NotInProfile: in port 3C7 (first at step 6)",
             ], "")),
-            (BEGIN + b"- w p 3C0 10 1\n- r p 3C1 0 1\n", "ok", "ok", "01", PICTURE, (1, [
-                "4 steps, 0 refused, 1 reads answered, 1 differ", "  read            1 in port 3C1 index 10",
-                "  differ          1 in port 3C1 index 10 (first at step 3: traced 00, answered 01)",
+            (BEGIN + b"- w p 3C0 10 1\n- w p 3C0 C 1\n- r p 3C1 0 1\n", *3 * ["ok"], "01", PICTURE, (1, [
+                "5 steps, 0 refused, 1 reads answered, 1 differ", "  read            1 in port 3C1 index 10",
+                "  differ          1 in port 3C1 index 10 (first at step 4: traced 00, answered 01)",
             ], "")),
         ))
 

@@ -6,9 +6,9 @@ Rows of equal steps, and of equal groups of steps, become blocks.
 from collections import Counter
 from dataclasses import dataclass, field
 from itertools import islice
-from typing import BinaryIO, Callable, Iterable, Iterator, Mapping, NamedTuple, Optional, Sequence, Union
+from typing import BinaryIO, Callable, Iterable, Iterator, NamedTuple, Optional, Sequence, Union
 
-from vga_report.registers import Registers, bytes_written
+from vga_report.registers import ATTRIBUTE, ATTRIBUTES, INDEX_PORTS, Registers, bytes_written
 from vga_report.streams import counted
 from vga_report.trouble import Trouble
 from zaklimot import format
@@ -38,8 +38,6 @@ WRITES = (OUT, OUTW, PUT, PUTW)
 CONTROLLERS = (0x3D4, 0x3B4)
 # The CRT controller's registers of the start address, which a page flip writes.
 START_ADDRESS = (0x0C, 0x0D)
-# The ports of data, each with that of its index.
-INDEX_OF = {0x3C1: 0x3C0, 0x3C5: 0x3C4, 0x3CF: 0x3CE, 0x3D5: 0x3D4, 0x3B5: 0x3B4}
 # Windows of memory, by the 32 KiB that they have.
 WINDOWS = {0x14: "A0000", 0x15: "A0000", 0x16: "B0000", 0x17: "B8000"}
 
@@ -419,12 +417,11 @@ def _judged(step: Step, number: int, answer: Optional[Answer], name: str) -> Ans
 
 def check(steps: Iterable[Step], answers: Iterator[Answer], name: str) -> Checked:
     """Holds the answers of a report, which messages call by a name, against the steps of a trace."""
-    # The indexes that were last written, by their ports: they name the register that a step is about.
-    checked, indexes = Checked(), dict.fromkeys(INDEX_OF.values(), 0)
+    checked, registers = Checked(), Registers()
     for number, step in enumerate(steps, 1):
         answer = _judged(step, number, next(answers, None), name)
-        checked.take(step, answer, f"{NAMES[step.opcode]} {_place(step, indexes)}")
-        indexes.update((port, value) for port, value in bytes_written(step.step) if port in indexes)
+        checked.take(step, answer, f"{NAMES[step.opcode]} {_place(step, registers)}")
+        registers.take(step.step)
     if next(answers, None) is not None:
         raise Trouble(f"it has more than the {checked.steps:,} steps of the trace: it is of another script", name)
     return checked
@@ -445,8 +442,9 @@ def count(cycles: Iterable[Cycle]) -> Counter[str]:
     return found
 
 
-def _place(step: Step, indexes: Mapping[int, int]) -> str:
+def _place(step: Step, registers: Registers) -> str:
+    """What a step is about: a window of memory, or a port; of a port of data also the index of its register."""
     if step.opcode not in PORTS:
         return place_of(step.address)
-    index = INDEX_OF.get(step.address)
-    return f"{PORT} {step.address:03X}" + ("" if index is None else f" index {indexes[index]:02X}")
+    group = ATTRIBUTES if step.address == ATTRIBUTE + 1 else INDEX_PORTS.get(step.address - 1)
+    return f"{PORT} {step.address:03X}" + ("" if group is None else f" index {registers.indexes[group]:02X}")
