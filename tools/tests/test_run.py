@@ -22,11 +22,11 @@ from xml.etree import ElementTree
 
 from vga_report import program
 from vga_report.expecting import dumps_in, expected_in
-from vga_report.listing import chosen
+from vga_report.listing import Blessing, Row, chosen
 from vga_report.mistakes import text_of
 from vga_report.progress import Progress
 from vga_report.words import parser
-from zaklimot.format import count_in, lines_in, places_in, steps_in, words_in
+from zaklimot.format import Answer, count_in, lines_in, places_in, steps_in, words_in
 
 from .test_command import run
 from .tools import BLACK, EXAMPLES, RED, TOP, Folder, begin, ended, hold, hold_refused, hold_undone, ppm, refused, want_program
@@ -61,8 +61,8 @@ TOGETHER = """import glob, os, time
 open(f"{sys.argv[0]}.{os.getppid()}", "w").close()
 while len(glob.glob(sys.argv[0] + ".*")) < 2: time.sleep(0.01)
 """
-
-
+# What it does first where no two are to be: it fails while another runs.
+ALONE = "import fcntl, time; own = open(sys.argv[0]); fcntl.flock(own, fcntl.LOCK_EX | fcntl.LOCK_NB); time.sleep(0.1)\n"
 # Texts, the words of a run, its status, and what is told.
 DECODED = "               No part of the adapter decodes port 0{}.\n".format
 NAMES = "out, outw, in, inw, put, putw, get, getw, advance, frame, int, show, version, repeat, end"
@@ -255,6 +255,12 @@ class Listings(Fake):
             *((good, (0, "t.vga: 0 answers written\n", good)) for good in (whole, met)),
         ))
 
+    def test_a_step_that_answers_otherwise_when_it_is_repeated(self) -> None:
+        blessing = Blessing(b"version 2\nrepeat 2\nget 0\nend\n", True)
+        for answer in ("55", "66"):
+            blessing.take(Row(Answer(1, 1, answer), "get 0", 3, None, (), "", False))
+        self.assertEqual(blessing.text(), "version 2\nrepeat 2\nget 0 ; = *\nend\n")
+
     def test_a_dump_that_stands_whole(self) -> None:
         whole = "show regs ; = 2 lines dd8c6a395b5dd36c56d23275028f526c ; more\n;| a\n;| b\nget 0 ; = E6\n"
         self.assertEqual(self.blessed("show regs ; more\n;| old\nget 0 ; = E6\n")[::2], (0, whole))
@@ -393,8 +399,13 @@ class Several(Fake):
             f"{a}: 1 step, 0 pictures, 1 of 1 answers as expected\n{b}:1: step 1: GET 0 answers E6, not 55\n"
             f"{b}: 2 steps, 1 refused, 0 pictures, 0 of 1 answers as expected\n2 scripts, 1 differs\n"
         ))
+        # One at a time, if no more are asked for; and each gets the options.
+        self.begin_program(ALONE)
         output = self.run_script("--strict", "--diff", path=str(self.tests))[1]
         self.assertIn("\n-get 0 ; = 55\n-in 60\n+get 0 ; = E6\n+in 60 ; = E1 NotDecoded\n", output)
+        self.begin_program("if sys.argv[1] == 'go' and sys.argv[3:] != ['--fonts', 'f', '--until', '1']: sys.exit(9)\n")
+        output = self.run_script("--until", "1", "--fonts", "f", path=str(self.tests))[1]
+        self.assertEqual(output.count(": 5 steps, "), 2)
 
     def test_no_script_is_written_over(self) -> None:
         script = str(self.tests / "a.vga")
@@ -461,6 +472,7 @@ class Several(Fake):
 
     def test_it_runs_again_when_the_script_changes(self) -> None:
         words = ["run", self.path, "--vga", self.vga, "--quiet", "--watch", "--html", page := self.folder / "page"]
+        words += ["--fonts", fonts := self.write("fonts", "1")]
         process = begin("vga-report", *words, text=True)
         assert process.stdout is not None and process.stderr is not None
         with process.stdout, process.stderr:
@@ -472,6 +484,8 @@ class Several(Fake):
             told = process.stdout.readline(), process.stdout.readline()
             self.assertEqual(told, (f"{self.path} has changed\n", f"{self.path}: 1 step, 1 picture\n"))
             self.assertIn("1 step, 1 picture", page.read_text("utf-8"))
+            self.write("fonts", "2")
+            self.assertEqual(process.stdout.readline() + process.stdout.readline(), "".join(told).replace(self.path, fonts, 1))
             self.write("s.vga", "move\n")
             self.assertEqual(process.stdout.readline(), f"{self.path} has changed\n")
             self.assertIn("F7 BadLine(1)", process.stderr.readline())

@@ -326,9 +326,10 @@ def _watched(words: argparse.Namespace, work: Work, progress: Progress) -> NoRet
             sys.stdout.flush()
             sys.stderr.write(f"vga-report: {trouble}\n")
         sys.stdout.flush()
-        while _changes(words) == before:
+        while (now := _changes(words)) == before:
             time.sleep(LOOK)
-        write(f"{name_of(words.script)} has changed\n")
+        changed = next(file for file in {**now, **before} if now.get(file, 0) != before.get(file, 0))
+        write(f"{changed} has changed\n")
 
 
 def _changes(words: argparse.Namespace) -> dict[str, Optional[int]]:
