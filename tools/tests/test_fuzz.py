@@ -109,6 +109,11 @@ class Fuzzing(Folder):
     def test_a_text_that_spells_another_script(self) -> None:
         path = self.program("program", GOOD.replace("buffer.write(data)", "buffer.write(data + b'x')"))
         self.assertEqual(self.fed(SCRIPT, path), "vga asm: what vga dis prints spells another script")
+        # What can't be assembled or printed has no run either.
+        for given, first, name in ((TEXT, "go", "asm"), (SCRIPT, "run", "dis")):
+            ends = f"if command == '{name}': sys.exit('vga: F7 BadLine(1)')\ndata ="
+            path = self.program("program", GOOD.replace("data =", ends, 1))
+            self.assertEqual(self.fed(given, path), f"vga {first} answers done, vga {name} F7 BadLine(1)")
 
     def test_a_report_that_fills_its_room(self) -> None:
         full = "\n    try:\n        for n in range(1, 100000): sys.stdout.buffer.write(b'%d 55\\n' % n)\n"

@@ -6,6 +6,7 @@ import os
 import resource
 import sys
 import unittest
+from functools import partial
 from pathlib import Path
 
 from vga_floppy.table_page import FIRST_MARK, LAST_MARK
@@ -14,15 +15,13 @@ from .floppy import machine
 from .test_images import png
 from .tools import BLACK, TOP, Folder, ppm, report, run_tool
 
-# Each tool may take so much memory, in bytes.
-MEMORY = 1 << 30
 PICTURE, OTHER = ppm(9, 1, BLACK * 9), ppm(9, 1, b"\x3f\0\0" * 9)
 # A floppy's image with what a run has left.
 IMAGE = machine(b"frame\n").image
 # What stands in the place of a program: it answers each script with the picture of the report `r`.
 PROGRAM = "#!/bin/sh\n[ \"$1\" = go ] && exec cat \"${0%/*}/r\"\nexit 0\n"
-# A program that writes so many pictures of three megabytes, and the memory that their run may take.
-PICTURES, ROOM = 100, 1 << 27
+# A program that writes so many pictures of three megabytes, and the memory that their run may take; and that of all else.
+PICTURES, ROOM, MEMORY = 100, 1 << 27, 1 << 28
 MANY = f"""import sys
 for number in range(1, {PICTURES + 1} if sys.argv[1] == "go" else 1):
     sys.stdout.buffer.write(b"%d picture 3000016\\nP6\\n1000 1000\\n63\\n" % number + bytes(3_000_000) + b"\\n")
@@ -237,6 +236,12 @@ READ_AND_WRITTEN = [
 ]
 
 
+def limit_memory(room: int) -> None:
+    """Lets a process take so many bytes more than it has."""
+    room += resource.getpagesize() * int(Path("/proc/self/statm").read_text().split()[0])
+    resource.setrlimit(resource.RLIMIT_AS, (room, room))
+
+
 @unittest.skipUnless(sys.platform == "linux", "the limits are those of Linux")
 class Refused(Folder):
     def setUp(self) -> None:
@@ -256,7 +261,7 @@ class Refused(Folder):
         tool, *rest = words.split(" ")
         status, output, said = run_tool(
             f"vga-{tool}", *(word.format(**self.places) for word in rest),
-            prepare=lambda: resource.setrlimit(resource.RLIMIT_AS, (MEMORY, MEMORY)),
+            prepare=partial(limit_memory, MEMORY),
         )
         self.assertEqual(status, 2, said)
         self.assertNotIn("Traceback", said)
@@ -292,10 +297,6 @@ class Refused(Folder):
                     other.unlink()
 
     def test_memory_holds_one_picture(self) -> None:
-        def limit() -> None:
-            room = resource.getpagesize() * int(Path("/proc/self/statm").read_text().split()[0]) + ROOM
-            resource.setrlimit(resource.RLIMIT_AS, (room, room))
-
         path, program = self.write("many.vga", "frame\n" * PICTURES), self.program("many", MANY)
-        done = run_tool("vga-report", "run", path, "--vga", program, "--quiet", prepare=limit)
+        done = run_tool("vga-report", "run", path, "--vga", program, "--quiet", prepare=partial(limit_memory, ROOM))
         self.assertEqual(done, (0, f"{path}: {PICTURES} steps, {PICTURES} pictures\n".encode(), ""))
