@@ -15,7 +15,7 @@ from typing import Any, Optional
 from unittest import mock
 from urllib.parse import unquote
 
-from page_tests import command as tests_command, scripts
+from page_tests import command as tests_command
 from vga_page import command, making, page
 from vga_page.making import LAYOUTS, TRIPLES, check_module, retargeted, with_kit
 from vga_page.page import DATA, SCRIPT, STYLE, Sources, about, joined, make_page, packed, page_text
@@ -200,20 +200,20 @@ class Tests(Folder):
         ))
 
     def test_what_is_wrong(self) -> None:
-        ways, wrong = {"bytes": 2, scripts.STEPS: 2}, [{"name": "n", "way": "w", "reason": "r"}]
-        told = f"by bytes 2; by {scripts.STEPS} 2; of 2 cases"
-        self.assertEqual(scripts.judged({"ways": ways, "wrong": []}, 2), told)
-        hold_refused(self, lambda *answer: scripts.judged(dict(zip(("ways", "wrong"), answer)), 2), (
+        ways, wrong = {"bytes": 2, tests_command.STEPS: 2}, [{"name": "n", "way": "w", "reason": "r"}]
+        told = f"by bytes 2; by {tests_command.STEPS} 2; of 2 cases"
+        self.assertEqual(tests_command.judged({"ways": ways, "wrong": []}, 2), told)
+        hold_refused(self, lambda *answer: tests_command.judged(dict(zip(("ways", "wrong"), answer)), 2), (
             (ways, wrong, "\n  n, by w: r$"), ({**ways, "text": 0}, [], "^too few cases were run"),
         ))
         module = module_of(Modules.right)
         self.assertIn("the same twice", tests_command.check_modules([module, module]))
         hold_refused(self, tests_command.check_modules, [([module, with_kit(module, "kit")], "two modules")])
         told = '{"agree": 2, "differ": 1, "expected": 3, "lines": ["a: r"]}'
-        with mock.patch.object(scripts, "run_node", return_value=told):
-            self.assertRaisesRegex(Wrong, "\n  a: r$", scripts.check_own, Path("module"))
+        with mock.patch.object(tests_command, "run_node", return_value=told):
+            self.assertRaisesRegex(Wrong, "\n  a: r$", tests_command.check_own, Path("module"))
 
-    @unittest.skipIf(shutil.which(scripts.NODE) is None, "node is lacking")
+    @unittest.skipIf(shutil.which(tests_command.NODE) is None, "node is lacking")
     def test_nodes_tests_pass_or_are_named(self) -> None:
         front = 'import test from "node:test";\n'
         others = "".join(f'test("other {number}", () => {{}});\n' for number in range(100))
@@ -226,17 +226,17 @@ class Tests(Folder):
             (f'{front}test.skip("left out", () => {{}});\n{others}', "100 pass, .*'skipped': '1'"),
         ):
             self.write("one.mjs", text)
-            self.assertRaisesRegex(Wrong, told, scripts.check_scripts, Path("module"), None, self.folder)
+            self.assertRaisesRegex(Wrong, told, tests_command.check_scripts, Path("module"), None, self.folder)
         self.write("one.mjs", front + others)
-        told = scripts.check_scripts(Path("module"), None, self.folder)
+        told = tests_command.check_scripts(Path("module"), None, self.folder)
         self.assertEqual(told, "100 tests of the page's scripts pass")
 
     def test_node_that_is_lacking_or_too_old(self) -> None:
         with mock.patch("shutil.which", return_value=None):
             told = "^vga-page-tests: node: it is not in the path: install the package nodejs\n"
             hold_undone(self, call(tests_command.main), told)
-        with mock.patch.multiple(scripts, shutil=mock.Mock(), _answer=lambda _: "v18.19.0"):
-            told = refused(scripts.node_words)
+        with mock.patch.multiple(tests_command, shutil=mock.Mock(), _answer=lambda _: "v18.19.0"):
+            told = refused(tests_command.node_words)
         self.assertEqual(told, "node: it is v18.19.0, and the tests need 20 or newer: the package nodejs")
 
 

@@ -12,7 +12,7 @@ from pathlib import Path
 from typing import Iterator
 from unittest import mock
 
-from page_tests import scripts
+from page_tests import command
 from vga_page.page import examples
 from vga_report.cases import read_cases
 from vga_report.program import FONTS
@@ -260,8 +260,8 @@ class Tutorial(unittest.TestCase):
 
     def test_the_check_in_a_browser_does_what_it_says(self) -> None:
         fakes = {"run_node": lambda words, *_: f"{words[0].name}\n", "CHROMIUM": [sys.executable]}
-        with mock.patch.multiple(scripts, **fakes):
-            self.assertEqual(scripts.check_browser(), "browser.mjs; tutorial.mjs")
+        with mock.patch.multiple(command, **fakes):
+            self.assertEqual(command.check_browser(), "browser.mjs; tutorial.mjs")
 
     def test_the_program_writes_the_script(self) -> None:
         environment = {**os.environ, "PYTHONPATH": str(TOP / "bindings" / "python" / "src")}
