@@ -9,8 +9,9 @@ import time
 from pathlib import Path
 from typing import Any, Callable, Iterable, NamedTuple, Sequence
 
-from vga_library.making import MOVING, Place, make_library
-from vga_library.making import AARCH64, X86_64, Target, built_archive, gated_archive, memory_part
+from vga_library.making import (
+    AARCH64, MOVING, X86_64, Place, Target, built_archive, gated_archive, make_library, memory_part,
+)
 from vga_report.processes import BINUTILS, SOURCES, Hearer, captured, tested
 
 STRICT = ("-Wall", "-Wextra", "-Wpedantic", "-Wconversion", "-Werror")
@@ -32,9 +33,7 @@ COMPILERS = {
 }
 # The emulator takes the C library of the cross compiler. The sanitizers can't look for leaks in it, but for all
 # else. They read their options where the system has those of the emulator.
-RUNNERS = {
-    X86_64: (), AARCH64: ("env", "ASAN_OPTIONS=detect_leaks=0", "qemu-aarch64", "-L", "/usr/aarch64-linux-gnu"),
-}
+RUNNERS = {X86_64: (), AARCH64: ("env", "ASAN_OPTIONS=detect_leaks=0", "qemu-aarch64", "-L", "/usr/aarch64-linux-gnu")}
 
 
 class Built(NamedTuple):

@@ -16,13 +16,12 @@ from typing import Any, Mapping
 
 from vga_report import cli
 from vga_report.processes import Done, captured, in_parallel
-from vga_report.trouble import Trouble
+from vga_report.trouble import AGREED as PASSED, DIFFERED as FAILED, Trouble
 
 from .tools import BUILT
 
 HERE = Path(__file__).resolve().parent
 TOOL = HERE.parent / "tests-of-tools"
-PASSED, FAILED = 0, 1
 # So many modules run at a time at most, and so many seconds may one take.
 MOST_WORKERS, MOST_SECONDS = 4, 900
 # What unittest says of tests that have passed; nothing else stands there where no test has printed or warned.
@@ -38,11 +37,6 @@ class _Result(unittest.TextTestResult):
         super().addError(test, err)
 
 
-def _run_here(names: list[str]) -> int:
-    tests = unittest.defaultTestLoader.loadTestsFromNames(names)
-    return PASSED if unittest.TextTestRunner(resultclass=_Result).run(tests).wasSuccessful() else FAILED
-
-
 def _run_apart(name: str, variables: Mapping[str, str], is_ended: Event) -> Done:
     def heed(_: str) -> None:
         if is_ended.is_set():
@@ -54,16 +48,13 @@ def _run_apart(name: str, variables: Mapping[str, str], is_ended: Event) -> Done
         return Done(FAILED, b"", f"{trouble}\n".encode())
 
 
-def _modules() -> list[str]:
-    paths = sorted(HERE.glob("test_*.py"), key=lambda path: path.stat().st_size, reverse=True)
-    return [f"{HERE.name}.{path.stem}" for path in paths]
-
-
 def _run(parsed: argparse.Namespace, _: object) -> int:
     if parsed.here:
-        return _run_here(parsed.modules)
+        tests = unittest.defaultTestLoader.loadTestsFromNames(parsed.modules)
+        return PASSED if unittest.TextTestRunner(resultclass=_Result).run(tests).wasSuccessful() else FAILED
     ran, skipped, failed, begun, is_ended = 0, 0, 0, time.monotonic(), Event()
-    names = parsed.modules or _modules()
+    paths = sorted(HERE.glob("test_*.py"), key=lambda path: path.stat().st_size, reverse=True)
+    names = parsed.modules or [f"{HERE.name}.{path.stem}" for path in paths]
     with tempfile.TemporaryDirectory(prefix="vga-tests-") as compiled:
         # The tools that tests start are compiled once, and not at each start.
         variables = {"PYTHONDONTWRITEBYTECODE": "", "PYTHONPYCACHEPREFIX": compiled, BUILT: "1" if parsed.built else ""}

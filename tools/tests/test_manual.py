@@ -24,9 +24,7 @@ FILES = [*BARS, "fonts", "one two.vga", FONT]
 # An option as a help lists it: its names, what its value is, if it has one, and what it does.
 Option = tuple[tuple[str, ...], str, str]
 # How zsh and fish offer a value, by its name in the help.
-OFFERS = {
-    "": ("", ""), "N": (":N: ", " -x"), "FILE": (':FILE:_files -g "*.fnt"', " -x -k -a '(__vga_files .fnt)'"),
-}
+OFFERS = {"": ("", ""), "N": (":N: ", " -x"), "FILE": (':FILE:_files -g "*.fnt"', " -x -k -a '(__vga_files .fnt)'")}
 
 
 def options_of(text: str) -> set[Option]:

@@ -15,7 +15,7 @@ from vga_report.program import FONTS, PROGRAM
 from vga_report.progress import Progress
 from vga_report.streams import to_read, write_file
 from vga_report.suite import empty_folder
-from vga_report.trouble import Trouble
+from vga_report.trouble import AGREED, DIFFERED, Trouble
 from vga_report.words import number_to, seconds
 from zaklimot.format import ScriptFault, encode, parse_text
 
@@ -30,7 +30,6 @@ MOST_TEXT = 1 << 14
 FIRST_TEXT = b"in 3DA\n"
 # The largest numbers of options: MiB that a run may take, and inputs.
 MOST_MEBIBYTES, MOST_NUMBER = 1 << 16, 1 << 62
-NOTHING_WRONG, SOMETHING_WRONG = 0, 1
 # What stands for the answer of a run with which something is wrong.
 WRONG = "wrong"
 
@@ -112,7 +111,7 @@ def _fuzz(words: argparse.Namespace, folder: Path) -> int:
     finally:
         # The figures are told of a run that the user ends, too.
         print(_figures(made, answers, words.seed, time.monotonic() - begin), flush=True)
-    return SOMETHING_WRONG if answers[WRONG] else NOTHING_WRONG
+    return DIFFERED if answers[WRONG] else AGREED
 
 
 def _run(words: argparse.Namespace, _: Progress) -> int:

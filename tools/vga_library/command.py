@@ -14,8 +14,9 @@ from vga_report.progress import Progress
 from vga_report.streams import check_folder, to_read
 from vga_report.trouble import Trouble
 
-from .making import MOVING, Place, keep, kept, make_library
-from .making import ARCHIVE, BACKENDS, TARGETS, X86_64, Target, built_archive, memory_part
+from .making import (
+    ARCHIVE, BACKENDS, MOVING, TARGETS, X86_64, Place, Target, built_archive, keep, kept, make_library, memory_part,
+)
 
 # Where files go that a package names no other place for.
 USUAL_PREFIX = "/usr/local"

@@ -171,12 +171,6 @@ def growing(source: str) -> str:
     return source.replace(MAIN, FIRST + MAIN) + GROW
 
 
-def _refuse_calls() -> None:
-    """Refuses each allocation of the calls that take memory: those that are made first move the one that is refused."""
-    cases = [("", ("memory", str(first))) for first in range(ALLOCATION)]
-    judge("the calls", map(calls_ending, try_cases(CRATES / "vga_tests", cases)))
-
-
 def _refuse_program() -> None:
     """Refuses each allocation of the program in each job, from the reading of its first word on.
 
@@ -195,7 +189,9 @@ def _refuse_program() -> None:
 
 
 def _refuse(*_: object) -> None:
-    _refuse_calls()
+    # Of the calls that take memory, allocations that are made first move the one that is refused.
+    cases = [("", ("memory", str(first))) for first in range(ALLOCATION)]
+    judge("the calls", map(calls_ending, try_cases(CRATES / "vga_tests", cases)))
     _refuse_program()
 
 

@@ -17,10 +17,6 @@ from .page import MOST_BYTES, examples, make_page, read_sources
 MOST_MEBIBYTES = 4096
 
 
-def _mebibytes(word: str) -> int:
-    return number_to(MOST_MEBIBYTES)(word) * MEBIBYTE
-
-
 def _parser() -> argparse.ArgumentParser:
     parser = cli.tool_parser(
         "vga-page", "Makes the page that runs scripts in a browser.", "tools/vga-page make page/zaklimot.html",
@@ -37,7 +33,7 @@ def _parser() -> argparse.ArgumentParser:
     made = cli.command(commands, "module", _module, "makes the module alone", description=told)
     cli.add(made, "FILE", "the module")
     told = "fixes the size of its memory, so that tests see it spent (default: it grows)"
-    cli.add(made, "--memory MIB", told, type=_mebibytes)
+    cli.add(made, "--memory MIB", told, type=lambda word: number_to(MOST_MEBIBYTES)(word) * MEBIBYTE)
     cli.add_proof(made, usually=usually)
     made.set_defaults(module=None)
     return parser

@@ -10,8 +10,7 @@ from typing import Callable, Iterator, Mapping, Sequence
 from vga_report.trouble import Trouble
 from zaklimot import format
 
-from .colours import Colour, distance
-from .colours import Indexed
+from .colours import Colour, Indexed, distance
 from .mode import Mode
 from .steps import Item, runs, service
 

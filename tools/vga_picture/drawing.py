@@ -6,8 +6,7 @@ from zaklimot import format
 from zaklimot.format import Picture
 
 from .cells import cells_of, loading, own_glyphs, put_cells, rows_of, typed_cells, with_glyphs
-from .colours import Colour
-from .colours import Indexed
+from .colours import Colour, Indexed
 from .mode import Kind, Mode
 from .screen import Areas, best_numbers, drawn
 from .steps import Item, Part, runs, service

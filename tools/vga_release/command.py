@@ -17,8 +17,9 @@ from pathlib import Path, PurePosixPath
 from typing import AbstractSet, BinaryIO, Mapping, Match, NamedTuple, Optional, Sequence, Union
 
 from vga_library.command import check_given
-from vga_library.making import MOVING, Place, make_library
-from vga_library.making import AARCH64, BACKENDS, X86_64, Target, built_archive, kit_line, memory_part
+from vga_library.making import (
+    AARCH64, BACKENDS, MOVING, X86_64, Place, Target, built_archive, kit_line, make_library, memory_part,
+)
 from vga_report import TOP, cli
 from vga_report.crates import phases
 from vga_report.processes import check_program, ended_well, run
@@ -31,8 +32,7 @@ PROGRAM = TOP / "crates" / "vga"
 MACHINE = "x86_64-linux"
 # The file beside the archive, which `sha256sum --check` reads.
 SUM = "sha256"
-EXECUTABLE = 0o100
-PLAIN, RUN = 0o644, 0o755
+EXECUTABLE, PLAIN, RUN = 0o100, 0o644, 0o755
 LEVEL = 9
 
 

@@ -51,10 +51,11 @@ def explained(fault: str, script: str, fonts: str) -> str:
     name, place = found[2], None if found[3] is None else int(found[3])
     file, reason = script, SYSTEM.get(name, UNKNOWN)
     if name == "ReadFault":
-        unread = [(path, _unread(what, path)) for what, path in (("font file", fonts), ("script", script))]
-        file, reason = next((one for one in unread if one[1]), (file, reason))
+        unread = ((path, what, _read(path)[1]) for path, what in ((fonts, "font file"), (script, "script")))
+        told = ((path, f"the {what} can't be read: {why}") for path, what, why in unread if why)
+        file, reason = next(told, (file, reason))
     elif name == "FontSize":
-        data = _read(fonts)
+        data, _ = _read(fonts)
         count = f"{len(data):,}" if len(data) <= MOST_BYTES else f"more than {MOST_BYTES:,}"
         rows = f"; a font of {len(data) // 256} rows alone has so many, and a font file has those of 8, 14 and 16 rows"
         is_script = data.startswith(MAGIC)
@@ -62,27 +63,17 @@ def explained(fault: str, script: str, fonts: str) -> str:
         file, reason = fonts, f"the font file has {count} bytes, and {FONT_BYTES:,} are right{hint}"
     elif name in FAULTS and name not in SYSTEM:
         file = f"{script}:{place}" if FAULTS[name].place == "line" else script
-        reason = reason_of(name, place, _read(script))
+        reason = reason_of(name, place, _read(script)[0])
     return f"{file}: {found[0]}: {reason}"
 
 
-def _unread(what: str, path: str) -> str:
-    """Why a file can't be read; empty where it can."""
+def _read(path: str) -> tuple[bytes, Optional[str]]:
+    """A file's bytes, but no more than one past the most; none where it can't be read, and why."""
     try:
         with open(path, "rb") as stream:
-            stream.read(1)
+            return stream.read(MOST_BYTES + 1), None
     except OSError as error:
-        return f"the {what} can't be read: {error.strerror}"
-    return ""
-
-
-def _read(path: str) -> bytes:
-    """A file's bytes, but no more than one past the most; none where it can't be read."""
-    try:
-        with open(path, "rb") as stream:
-            return stream.read(MOST_BYTES + 1)
-    except OSError:
-        return b""
+        return b"", error.strerror
 
 
 def reason_of(name: str, place: Optional[int], data: bytes) -> str:

@@ -29,8 +29,6 @@ PUNCTUATION = ",;:."
 # The steps whose name is one word, with numbers alone behind it; and the first words of all lines.
 SHAPES = {name: form.fields for name, form in FORMS.items() if " " not in name and not form.has_block}
 NAMES = [*SHAPES, "int", "show", *BLOCK_LINES]
-
-
 # A word of a line, and where it begins.
 Word = re.Match[str]
 

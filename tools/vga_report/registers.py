@@ -30,9 +30,7 @@ READ_ALONE, CRT_PORTS = {0x3C1, 0x3CA, 0x3CC}, {0x3B4, 0x3B5, 0x3BA, 0x3D4, 0x3D
 READ_AND_WRITTEN = {0x3C0, 0x3C2, 0x3C3, 0x3C4, 0x3C5, 0x3C6, 0x3C7, 0x3C8, 0x3C9, 0x3CE, 0x3CF}
 LEFT_OUT = {0x3C2: "input status 0", 0x3C3: "subsystem enable", 0x3C7: "the DAC state", 0x3CA: "feature control"}
 # Registers whose bit 5 is left out.
-LEFT_OUT_BITS = {
-    (GRAPHICS, 5): "graphics mode, shift register mode", (CRT, 0x14): "underline location, count by four",
-}
+LEFT_OUT_BITS = {(GRAPHICS, 5): "graphics mode, shift register mode", (CRT, 0x14): "underline location, count by four"}
 CYCLES = {name + width for name in ("out", "in", "put", "get") for width in ("", "w")}
 # How the steps begin that may change what refusals hang on: `out`, `in` and `int`.
 CHANGING = "oOiI"

@@ -2,7 +2,6 @@
 
 from typing import Optional
 
-
 # The exit statuses of a tool: nothing differs, something differs or is wrong, and the work can't be done.
 AGREED, DIFFERED, TROUBLE = 0, 1, 2
 

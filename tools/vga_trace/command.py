@@ -22,23 +22,17 @@ from vga_report.trouble import AGREED, DIFFERED, Trouble
 from vga_report.words import add_program, add_shape, number_to, seconds
 from zaklimot.format import Picture
 
-from .converting import check, count
-from .converting import CLOCK, END, FLIP, SCREENS, Frames, Listing, convert
+from .converting import CLOCK, END, FLIP, SCREENS, Listing, check, convert, count
 from .recording import TRACE, Deed, Machine, chain_4, record
 from .replaying import replay, shown
 from .trace import Trace, opened
 
-KEEP, FIRST = "keep", "first"
-QUIET = "quiet"
+KEEP, FIRST, QUIET = "keep", "first", "quiet"
 MOST_CYCLES, MOST_KINDS = 1 << 40, 1 << 20
 # So many kinds of refusals, of reads and of differing reads are told of a recording.
 MOST_TOLD = 10
 # Pictures that move have so many bytes at most.
 MOST_PACKED = 1 << 29
-
-
-def _frames(word: str) -> Frames:
-    return word if word in (END, FLIP, SCREENS, CLOCK) else seconds(word)
 
 
 def _add_trace(parser: argparse.ArgumentParser) -> None:
@@ -57,7 +51,8 @@ def _add_listing(parser: argparse.ArgumentParser) -> None:
     add(parser, "--time", "lets the clock run by the trace's times, at most a frame for each pause")
     told = "adds frames: only at the end, before each change of the start address, where `record` took a screen, " \
         "in each frame of the dot clock with a write, or every SECONDS by the trace's times"
-    add(parser, "--frames end|flip|screens|clock|SECONDS", told, type=_frames, default=END)
+    frames = {"default": END, "type": lambda word: word if word in (END, FLIP, SCREENS, CLOCK) else seconds(word)}
+    add(parser, "--frames end|flip|screens|clock|SECONDS", told, **frames)
     _add_longest(parser)
 
 
@@ -74,16 +69,13 @@ def _deed(word: str) -> Deed:
     return Deed(seconds(time) if colon else None, tuple(keys.split(",")))
 
 
-def _screen(word: str) -> Deed:
-    return Deed(None if word == QUIET else seconds(word))
-
-
 def _add_record(parser: argparse.ArgumentParser) -> None:
     add(parser, "FOLDER", "a new folder, or an empty one")
     told = "presses keys so many seconds after power-on, or once the software is quiet; may be repeated"
     add(parser, "--key [SECONDS:]KEY,..", told, dest="deeds", action="append", default=[], type=_deed)
     told = "dumps the screen, among the keys in the order of the words (default: at the end, once it is quiet)"
-    add(parser, "--screen quiet|SECONDS", told, dest="deeds", action="append", type=_screen)
+    screen = {"dest": "deeds", "action": "append", "type": lambda word: Deed(None if word == QUIET else seconds(word))}
+    add(parser, "--screen quiet|SECONDS", told, **screen)
     told = "takes the software as quiet after so long without a cycle (default: 3)"
     add(parser, "--quiet SECONDS", told, type=seconds, default=3)
     add(parser, "--seconds SECONDS", "ends the machine after so many seconds (default: 60)", type=seconds, default=60)

@@ -27,8 +27,7 @@ from zaklimot.format import Answer, Picture
 from zaklimot.format.answers import RAGGED
 from zaklimot.format.picture import marks_in_row
 
-from .converting import Checked, check
-from .converting import SCREENS, Listing, Written, convert
+from .converting import SCREENS, Checked, Listing, Written, check, convert
 from .recording import PHASES, TRACE, dump
 from .state import State
 from .step import Step
@@ -167,10 +166,6 @@ def _has_two_fonts(screen: Screen) -> bool:
     return screen.is_text and fonts[0] != fonts[1] and not screen.state.attr.registers[0x12] & 8
 
 
-def _is_panned(screen: Screen) -> bool:
-    return screen.state.attr.registers[0x13] not in (0, 8) or bool(screen.state.crtc.registers[8] & 0x60)
-
-
 def _is_split_within_row(screen: Screen) -> bool:
     """Whether all that differs is that qemu begins no row where a split begins within one.
 
@@ -208,7 +203,7 @@ ALLOWED: Mapping[str, Callable[[Screen], bool]] = {
     "ninth dot": _is_ninth,
     "colour plane enable": _has_two_fonts,
     "preset row scan": lambda screen: bool(screen.state.crtc.registers[8] & 0x1F),
-    "panning": _is_panned,
+    "panning": lambda screen: screen.state.attr.registers[0x13] not in (0, 8) or screen.state.crtc.registers[8] & 0x60 > 0,
     "line compare": _is_split,
     "underline": _has_underline,
     "blinking": _has_blinking,
