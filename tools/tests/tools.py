@@ -164,6 +164,8 @@ def _heed_signals() -> None:
     # What runs in the background of a shell ignores some of them, and so would a tool.
     for number, _ in SIGNALS:
         signal.signal(number, signal.SIG_DFL)
+    # A tool for which a test waits in vain ends all the same.
+    signal.alarm(MOST_SECONDS)
 
 
 def begin(name: str, *words: str | Path, **options: Any) -> subprocess.Popen[bytes]:
