@@ -241,7 +241,8 @@ HANDED: list[tuple[str, dict[str, str], str, dict[str, str] | str]] = [
     *(("bytes one\n", {"one.hex": f"56\n{word}\n"}, "", "{folder}/one.hex:2: " + f"'{word}' is no byte")
       for word in ("5", "567", "GG", "56*", "56*0", "56*x")),
     ("one\n", {"one.vga": ""}, "--only x", "{folder}/list: no case has a name as --only and --except want it"),
-    ("fonts big\none\n", {"one.vga": "", "big": BIG}, "", "{folder}/big: it has more than 16,777,216 bytes"),
+    *((line, {"one.vga": "", name: BIG}, "", f"{{folder}}/{name}: it has more than 16,777,216 bytes")
+      for line, name in (("fonts big\none\n", "big"), ("front big\none\n", "big"), ("one\n", "one.vga"))),
 ]
 
 

@@ -251,7 +251,7 @@ class Writes(unittest.TestCase):
             ("---- ----", "aaaa xxxx", 1), ("---- ----", "-aa- -xx-", 1), ("a-b- xx--", "a-bc xxxx", 2),
             ("---- ----", "aabb xxyy", 2), ("---- ----", "aabb xxxy", 3), ("---- ----", "abcd xxyy", 4),
             # All get a and x, then two of them b, and two y: fewer than the words, and than the bytes.
-            ("---- ----", "aabb xyxy", 3), ("---- ----", "aaab xxyx", 3),
+            ("---- ----", "aabb xyxy", 3), ("---- ----", "aabb xyxz", 3),
         ))
 
 

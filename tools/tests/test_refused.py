@@ -31,7 +31,7 @@ FILES: dict[str, str | bytes] = {
     "t": "- w p 3C4 02 1\n", "empty/notes": "",
     "ok": report("ok", PICTURE), "none": report("ok"), "move.vga": "frame\nmove\n", "font": bytes(9727),
     "sizes": report(PICTURE, ppm(1, 1, BLACK)), "end.vga": "version 2\nend\n", "cut": b"VGAS\1\1", "zero.vga": "frame\n", "list": "zero\n",
-    "marks": f"{FIRST_MARK}\n{LAST_MARK}\n",
+    "endless": "endless\n", "marks": f"{FIRST_MARK}\n{LAST_MARK}\n",
 }
 NAMES = "out, outw, in, inw, put, putw, get, getw, advance, frame, int, show, version, repeat, end"
 MOVE = f"vga-floppy: {{move}}:2: F7 BadLine(2): there is no step 'move'; the steps are {NAMES}\n  move\n  ^^^^\n"
@@ -50,6 +50,8 @@ REFUSED = {
     "picture script {i} {o} --mode 3 --scale --fonts /dev/zero": "/dev/zero: it has more than 16,777,216 bytes",
     "trace convert /dev/zero {o}": "/dev/zero:1: the line is longer than any of a trace",
     "floppy make /dev/zero {o}": "F6 TooLong: ",
+    "floppy make {d}/empty {o}": "empty/list.txt: it has more than 16,777,216 bytes",
+    "report suite true{{script}} --list {endless}": "endless.vga: it has more than 16,777,216 bytes",
     "floppy table /dev/full {r}": "/dev/full: it has more than 16,777,216 bytes",
     "floppy table {s} /dev/zero": "it lacks the marks",
     "page make {o} --module /dev/zero": "/dev/zero: it has more than 16,777,216 bytes",
@@ -248,7 +250,8 @@ class Refused(Folder):
         super().setUp()
         for name, content in FILES.items():
             self.write(name, content)
-        (self.folder / "zero.txt").symlink_to("/dev/zero")
+        for name in ("zero.txt", "endless.vga", "empty/list.txt"):
+            (self.folder / name).symlink_to("/dev/zero")
         self.places = {name.removesuffix(".vga"): str(self.folder / name) for name in (*FILES, "o", "in")}
         self.places.update(p=self.program("p", PROGRAM), d=str(self.folder))
 

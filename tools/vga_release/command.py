@@ -71,7 +71,6 @@ LINKS: Mapping[str, Entry] = {
     "kit/include": "../include", "kit/lib": "../lib", "kit/share": "../share",
 }
 MADE_OF = "MADE-OF"
-SCRIPTS = "scripts"
 PACKAGE = "bindings/python"
 # What the package is made of, where it lies in the repository.
 SOURCES = (PACKAGE, "fonts")
@@ -107,13 +106,6 @@ def library_files(files: Mapping[str, File], target: Target, archive: Path) -> d
     return made if target == X86_64 else {f"{target.name}/{place}": entry for place, entry in made.items()}
 
 
-def suite_scripts() -> dict[str, Entry]:
-    """The suite's scripts, each whole, as `vga-report scripts` writes them."""
-    with tempfile.TemporaryDirectory(prefix="vga-release-") as name:
-        run([sys.executable, TOP / "tools" / "vga-report", "scripts", Path(name) / SCRIPTS])
-        return laid_files(Path(name))
-
-
 def settled(entries: Mapping[str, Entry]) -> dict[str, Entry]:
     """All that is in a release, by its place there: pages lead to no more than that."""
     moved = [MOVED.get(place, place) for place in entries]
@@ -141,7 +133,11 @@ def release_entries(commit: Commit, program: Path, archives: Mapping[Target, Pat
     for target, archive in archives.items():
         built.update(library_files(files, target, archive))
     install = File((Path(__file__).parent / INSTALL).read_bytes(), True)
-    entries = {**files, **suite_scripts(), **built, **LINKS, INSTALL: install}
+    with tempfile.TemporaryDirectory(prefix="vga-release-") as name:
+        # The suite's scripts, each whole.
+        run([sys.executable, TOP / "tools" / "vga-report", "scripts", Path(name) / "scripts"])
+        scripts = laid_files(Path(name))
+    entries = {**files, **scripts, **built, **LINKS, INSTALL: install}
     return settled({**entries, MADE_OF: made_of(commit, kit_line(), built)})
 
 
