@@ -146,9 +146,9 @@ def _linux(has_font: bool, folder: Path, unpacked: Optional[Path]) -> Machine:
     archive = root.with_suffix(".initrd")
     archive.write_bytes(ended_well(["cpio", "--create", "--format=newc"], root, given=names.encode()).output)
     kernel = _file(unpacked, "boot/vmlinuz-*")
-    # Without its own drivers of the card the kernel's text console stays.
+    # Without its own drivers of the card the kernel's text console stays. While it unpacks itself, no cycle comes.
     words = ["-kernel", str(kernel), "-initrd", str(archive), "-append", "nomodeset vga=normal consoleblank=0"]
-    return Machine([*_card(SEA), *words], quiet=15, most=240)
+    return Machine([*_card(SEA), *words], quiet=45, most=240)
 
 
 def _memtest(_: Path, unpacked: Optional[Path]) -> Machine:
