@@ -36,7 +36,7 @@ WRONG = "wrong"
 
 def _parser() -> argparse.ArgumentParser:
     parser = cli.tool_parser(
-        "vga-fuzz", "Feeds vga with scripts and texts made at random.", "tools/vga-fuzz --seed 1 --seconds 3600 --keep found",
+        "vga-fuzz", "Feeds vga with scripts and texts made at random.", "tools/vga-fuzz --seed 1 --seconds 300 --keep found",
         "tools/README.md", cli.JUDGES,
     )
     told = "the program (default: the one that is built)"
