@@ -27,7 +27,7 @@ extern "C" {
 /* The interface that this header describes. The major number grows when a call, a struct or a
  * status changes; the minor number grows when calls, structs or statuses are added. */
 #define ZAK_API_MAJOR 1
-#define ZAK_API_MINOR 4
+#define ZAK_API_MINOR 5
 #define ZAK_API_VERSION (65536u * ZAK_API_MAJOR + ZAK_API_MINOR) /* as zak_version() answers it */
 
 /* What a call answers. 1 to 13 are the refusals E1 to E13 of docs/REPORT.md; 102 and up are the
@@ -57,6 +57,7 @@ enum {
     ZAK_BAD_ARGUMENT = 26,   /* an argument is not in the range that the call names */
     ZAK_BAD_CARD = 27,       /* corrupt BIOS data: the card's memory was overwritten */
     ZAK_NO_SCREEN = 28,      /* the adapter shows no plain screen (docs/SCREENS.md) */
+    ZAK_BROKEN = 29,         /* of portable/zaklimot.c alone: it was compiled wrongly; see there */
     ZAK_STATE_MAGIC = 30,    /* of zak_restore: the bytes are no saved state */
     ZAK_STATE_VERSION = 31,  /* the state has another version of the format */
     ZAK_STATE_LENGTH = 32,   /* the state is cut off, or bytes follow it */

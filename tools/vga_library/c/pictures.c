@@ -1,0 +1,131 @@
+/* Whether a call that had no room has written the numbers all the same. */
+static bool is_told(zak_status status)
+{
+    return status == ZAK_OK || status == ZAK_NO_ROOM;
+}
+
+static zak_status frame(module *self, zak_size *size, uint8_t *rgb, size_t rgb_len)
+{
+    self->outside = rgb;
+    zak_status status = module_zak_frame(self, CARD, TOLD, OUTSIDE, rgb_len);
+    if (is_told(status))
+        *size = (zak_size){told32(self, 0), told32(self, 4)};
+    return status;
+}
+
+zak_status zak_frame(zak_card *card, zak_size *size, uint8_t *rgb, size_t rgb_len)
+{
+    BEGIN(card);
+    END(card, frame(self, size, rgb, rgb_len));
+}
+
+/* A picture in words lies on the desk without what the caller's rows have beside it. */
+typedef struct canvas {
+    uint32_t *pixels;
+    size_t pitch;     /* of the caller's rows, in words */
+    size_t desk_rows; /* those that the caller has room for, */
+    u32 desk_pitch;   /* and how they lie on the desk */
+} canvas;
+
+static canvas canvas_of(uint32_t *pixels, size_t pixels_len, size_t pitch)
+{
+    size_t rows = pitch ? least(pixels_len / pitch, ZAK_HIGHEST) : 0;
+    return (canvas){pixels, pitch, rows, (u32)least(pitch, ZAK_WIDEST)};
+}
+
+static void get_words(module *self, uint32_t *words, u32 at, size_t count)
+{
+#if LOW_BYTE_FIRST
+    get_back(self, words, at, 4 * count);
+#else
+    for (size_t i = 0; i < count; i++)
+        words[i] = number32(self->memory + at + 4 * i);
+#endif
+}
+
+static void get_rows(module *self, const canvas *canvas, uint32_t width, uint32_t height)
+{
+    for (uint32_t y = 0; y < height; y++)
+        get_words(self, canvas->pixels + canvas->pitch * y,
+                  DESK + 4 * canvas->desk_pitch * y, width);
+}
+
+static zak_status frame_xrgb(module *self, zak_size *size, const canvas *canvas)
+{
+    zak_status status = module_zak_frame_xrgb(self, CARD, TOLD, DESK,
+                                              canvas->desk_rows * canvas->desk_pitch,
+                                              canvas->desk_pitch);
+    if (is_told(status))
+        *size = (zak_size){told32(self, 0), told32(self, 4)};
+    if (status == ZAK_OK)
+        get_rows(self, canvas, size->width, size->height);
+    return status;
+}
+
+zak_status zak_frame_xrgb(zak_card *card, zak_size *size, uint32_t *pixels, size_t pixels_len,
+                          size_t pitch)
+{
+    canvas canvas = canvas_of(pixels, pixels_len, pitch);
+    BEGIN(card);
+    END(card, frame_xrgb(self, size, &canvas));
+}
+
+static zak_status frame_words(module *self, uint32_t flags, zak_picture *picture,
+                              const canvas *canvas)
+{
+    zak_status status = module_zak_frame_words(self, CARD, flags, TOLD, DESK,
+                                               canvas->desk_rows * canvas->desk_pitch,
+                                               canvas->desk_pitch);
+    if (is_told(status))
+        *picture = (zak_picture){told32(self, 0), told32(self, 4), told32(self, 8),
+                                 told32(self, 12)};
+    if (status == ZAK_OK)
+        get_rows(self, canvas, picture->width, picture->height);
+    return status;
+}
+
+zak_status zak_frame_words(zak_card *card, uint32_t flags, zak_picture *picture, uint32_t *pixels,
+                           size_t pixels_len, size_t pitch)
+{
+    canvas canvas = canvas_of(pixels, pixels_len, pitch);
+    BEGIN(card);
+    END(card, frame_words(self, flags, picture, &canvas));
+}
+
+static zak_status line(module *self, uint32_t flags, zak_scan_line *line, uint32_t *pixels,
+                       size_t pixels_len)
+{
+    zak_status status = module_zak_line(self, CARD, flags, TOLD, DESK,
+                                        least(pixels_len, ZAK_WIDEST));
+    if (is_told(status))
+        *line = (zak_scan_line){told32(self, 0), told32(self, 4), told8(self, 8) != 0};
+    if (status == ZAK_OK)
+        get_words(self, pixels, DESK, line->width);
+    return status;
+}
+
+zak_status zak_line(zak_card *card, uint32_t flags, zak_scan_line *scan_line, uint32_t *pixels,
+                    size_t pixels_len)
+{
+    BEGIN(card);
+    END(card, line(self, flags, scan_line, pixels, pixels_len));
+}
+
+static zak_status frame_lines(module *self, uint32_t *widths, uint8_t *rgb, size_t rgb_len,
+                              size_t *rgb_used)
+{
+    self->outside = rgb;
+    zak_status status = module_zak_frame_lines(self, CARD, TOLD, OUTSIDE, rgb_len, DESK);
+    if (is_told(status)) {
+        get_words(self, widths, TOLD, ZAK_HIGHEST);
+        *rgb_used = (size_t)number64(self->memory + DESK);
+    }
+    return status;
+}
+
+zak_status zak_frame_lines(zak_card *card, uint32_t widths[ZAK_HIGHEST], uint8_t *rgb,
+                           size_t rgb_len, size_t *rgb_used)
+{
+    BEGIN(card);
+    END(card, frame_lines(self, widths, rgb, rgb_len, rgb_used));
+}
