@@ -1,7 +1,7 @@
 """Counts the instructions and the time of each call of the library: python3 bench/library.py FOLDER [CALL ..]
 
-FOLDER is one that `tools/vga-library make` has made. CALL is a name in the table; without one, all are
-counted. Debian's packages gcc and valgrind are needed.
+FOLDER is one that `tools/vga-library make` has made, or `portable`, the repository's folder of the one C file. CALL is
+a name in the table; without one, all are counted. Debian's packages gcc and valgrind are needed.
 """
 
 from __future__ import annotations
@@ -84,14 +84,17 @@ def main() -> int:
         print(__doc__, file=sys.stderr)
         return 2
     library = Path(sys.argv[1])
-    if not (library / "lib" / "libzaklimot.a").is_file():
+    # The one C file, or an archive.
+    parts = [library / "zaklimot.c", library / "lib" / "libzaklimot.a"]
+    part = next(filter(Path.is_file, parts), None)
+    if part is None:
         print(f"library.py: {library} has no library: tools/vga-library make {library}", file=sys.stderr)
         return 2
     print("| Call | Mode | Instructions | ns |\n|---|---|---|---|")
     with tempfile.TemporaryDirectory(prefix="bench-library-") as name:
         folder = Path(name)
         program = folder / "calls"
-        words = ["gcc", "-std=c99", "-O2", "-I", library / "include", SOURCE, library / "lib" / "libzaklimot.a"]
+        words = ["gcc", "-std=c99", "-O2", "-I", TOP / "include", SOURCE, part]
         subprocess.run([*words, "-o", program], check=True)
         for call in (call for call in CALLS if call.name in wanted):
             counts = [instructions(program, call, times, folder) for times in (0, call.counted)]

@@ -97051,8 +97051,13 @@ static void start(module *self)
 /* The longest that a call hands over or gets back but for scripts, reports, and states of one size:
  * a picture in words. */
 #define DESK_LEN (4u * ZAK_WIDEST * ZAK_HIGHEST)
-/* What a machine takes of the module's memory beside the desk, a screen that is read among it. */
+/* What a machine takes of the module's memory beside that, a screen that is read among it. With
+ * ZAKLIMOT_TIGHT it takes none at first, so that tests see memory refused. */
+#if defined(ZAKLIMOT_TIGHT)
+#define MACHINE 0u
+#else
 #define MACHINE 9437184u
+#endif
 /* A script or its text, and what a service reads of the caller's memory, have at most so many bytes. */
 #define MOST_SCRIPT 16777216u
 #define MOST_BLOCK 16711425u

@@ -105,7 +105,7 @@ def check_names(built: Built, _: Path) -> str:
 
 # A line of misuse.txt that tells a call's status; functions of misuse.c make some.
 CALL = re.compile(r"^(?:zak_\w+|restore_with|assemble|print|take)\(", re.M)
-WRAPPED = "-Wl,--wrap=malloc,--wrap=realloc,--wrap=free"
+WRAPPED = "-Wl,--wrap=malloc,--wrap=calloc,--wrap=realloc,--wrap=free"
 # Programs that write how much they have compared: how each is built, how much it is to try, and what is told behind it.
 COUNTED: dict[str, tuple[Sequence[str], Sequence[str], str]] = {
     # What is read of the state and of the screen says what the dumps say, so that structs are the proved side's.

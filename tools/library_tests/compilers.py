@@ -26,28 +26,45 @@ class Compiler(NamedTuple):
     sanitizers: str
 
 
+# Those for which there is the library as one C file alone: none of Rattle's compilers makes files for them.
+I386 = Target("i386", "i686-linux-gnu", (), "i686-linux-gnu-")
+S390X = Target("s390x", "s390x-linux-gnu", (), "s390x-linux-gnu-")
+WINDOWS = Target("windows", "x86_64-w64-mingw32", (), "x86_64-w64-mingw32-")
+PORTABLE_TARGETS = {target.name: target for target in (X86_64, AARCH64, I386, S390X, WINDOWS)}
 # What programs for a processor are built by, and the words that stand before one where it runs.
 COMPILERS = {
     X86_64: (Compiler("gcc", "g++", "libgcc-12-dev"), Compiler("clang", "clang++", "libclang-rt-dev")),
     AARCH64: (Compiler(AARCH64.tool("gcc"), AARCH64.tool("g++"), "libgcc-12-dev-arm64-cross"),),
+    I386: (Compiler(I386.tool("gcc"), I386.tool("g++"), "libgcc-12-dev-i386-cross"),),
+    S390X: (Compiler(S390X.tool("gcc"), S390X.tool("g++"), "libgcc-12-dev-s390x-cross"),),
+    WINDOWS: (Compiler(WINDOWS.tool("gcc"), WINDOWS.tool("g++"), ""),),
 }
 # The emulator takes the C library of the cross compiler. The sanitizers can't look for leaks in it, but for all
 # else. They read their options where the system has those of the emulator.
-RUNNERS = {X86_64: (), AARCH64: ("env", "ASAN_OPTIONS=detect_leaks=0", "qemu-aarch64", "-L", "/usr/aarch64-linux-gnu")}
+RUNNERS = {
+    X86_64: (), WINDOWS: ("env", "WINEDEBUG=-all", "wine"),
+    I386: ("/usr/i686-linux-gnu/lib/ld-linux.so.2", "--library-path", "/usr/i686-linux-gnu/lib"),
+    AARCH64: ("env", "ASAN_OPTIONS=detect_leaks=0", "qemu-aarch64", "-L", "/usr/aarch64-linux-gnu"),
+    S390X: ("qemu-s390x", "-L", "/usr/s390x-linux-gnu"),
+}
 
 
 class Built(NamedTuple):
-    """A library as it was laid into a folder, and the crate's archive that it was made of."""
+    """A library as it was laid into a folder, and the crate's archive that it was made of.
+
+    Programs with it are built by the compilers of its target, or by its own alone.
+    """
 
     name: str
     folder: Path
     archive: Path
     target: Target = X86_64
+    own: tuple[Compiler, ...] = ()
 
     @property
     def compilers(self) -> tuple[Compiler, ...]:
         """Those that build programs with it."""
-        return COMPILERS[self.target]
+        return self.own or COMPILERS[self.target]
 
     @property
     def static(self) -> Path:

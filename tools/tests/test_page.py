@@ -17,7 +17,7 @@ from urllib.parse import unquote
 
 from page_tests import command as tests_command
 from vga_page import command, making, page
-from vga_page.making import LAYOUTS, TRIPLES, check_module, retargeted, with_kit
+from vga_page.making import LAYOUTS, OF_C, OF_PAGE, TRIPLES, check_module, retargeted, with_kit
 from vga_page.page import DATA, SCRIPT, STYLE, Sources, about, joined, make_page, packed, page_text
 from vga_report import debugging
 from vga_report.debugging import DOCS, PAGE, data_element, page_data
@@ -117,21 +117,35 @@ attributes #7 = {{ nounwind "probe-stack"="inline-asm" "stack-probe-size"="4096"
 
 
 class Retargeting(unittest.TestCase):
-    def test_an_export_gets_a_wrapper(self) -> None:
-        text = retargeted(NATIVE)
+    def test_the_page_takes_numbers_of_32_bits_and_is_guarded(self) -> None:
+        text = retargeted(NATIVE, OF_PAGE)
         for part in (
             f'target triple = "{TRIPLES[1]}"', 'attributes #7 = { nounwind "no-builtin-bcmp"',
             'define internal noundef i32 @"rattle::export zak_open"(ptr noundef %card, ptr noundef %0, i64',
-            '%answer = call i32 @"rattle::export zak_open"(ptr %card, ptr %0, i64 %length)',
+            "define noundef i32 @zak_open(i32 noundef %card, i32 noundef %0, i32 noundef %length) #9000 {",
+            "%was_inside = call i1 @__rattle_enter()", "call void @__rattle_leave()",
+            "%card.wide = zext i32 %card to i64", "%0.place = inttoptr i64 %0.wide to ptr",
+            '%answer = call i32 @"rattle::export zak_open"(ptr %card.place, ptr %0.place, i64 %length.wide)',
+            "define noundef i32 @page_take(i32 noundef %bytes)", "%low = trunc i64 %answer to i32",
             '"wasm-export-name"="zak_open"', '"wasm-export-name"="page_take"',
         ):
             self.assertIn(part, text)
         self.assertNotIn("x86", text)
         self.assertNotIn('"wasm-export-name"="inside"', text)
 
+    def test_the_c_file_takes_them_as_they_are_and_guards_itself(self) -> None:
+        text = retargeted(NATIVE, OF_C)
+        for part in (
+            "define noundef i32 @zak_open(ptr noundef %card, ptr noundef %0, i64 noundef %length) #9000 {",
+            '%answer = call i32 @"rattle::export zak_open"(ptr %card, ptr %0, i64 %length)',
+            "define noundef i64 @page_take(i64 noundef %bytes)",
+        ):
+            self.assertIn(part, text)
+        self.assertNotIn("__rattle_", text)
+
     def test_what_is_not_known_is_refused(self) -> None:
         front = "^the module for x86-64"
-        hold_refused(self, lambda line: retargeted(f"{NATIVE}{line}\n"), ((line, f"{front}.*{told}") for line, told in (
+        hold_refused(self, lambda line: retargeted(f"{NATIVE}{line}\n", OF_PAGE), ((line, f"{front}.*{told}") for line, told in (
             ("declare i32 @puts(ptr)", "it calls puts, and"),
             ("declare double @llvm.sqrt.f64(double)", "it calls llvm.sqrt.f64, and"),
             ('declare void @"a b"()', "it calls a b, and"),
@@ -141,7 +155,7 @@ class Retargeting(unittest.TestCase):
             ("  %r = call i32 %f(i32 1)", "it has a call by a pointer, and"),
             ('attributes #8 = { "x86" }', "x86 is still named"),
         )))
-        hold_refused(self, lambda old, new: retargeted(NATIVE.replace(old, new, 1)), ((*row, f"{front}: ") for row in (
+        hold_refused(self, lambda old, new: retargeted(NATIVE.replace(old, new, 1), OF_PAGE), ((*row, f"{front}: ") for row in (
             (LAYOUTS[0], "e"), (TRIPLES[0], "aarch64"),
             ("define noundef i32 @zak", "define i32 @zak"), ("%card,", "%card zz,"),
         )))
@@ -151,7 +165,7 @@ def leb(value: int) -> bytes:
     return bytes([value & 127 | 128, value >> 7]) if value > 127 else bytes([value])
 
 
-def module_of(names: list[str], *more: tuple[int, bytes], memory: int = 4) -> bytes:
+def module_of(names: list[str], *more: tuple[int, bytes], memory: int = 0) -> bytes:
     """A module that exports functions of these names and its memory, with more sections."""
     exported = [*((name, 0) for name in names), ("memory", 2), ("__heap_base", 3)]
     listed = b"".join(leb(len(name)) + name.encode() + bytes([kind, 0]) for name, kind in exported)
@@ -168,7 +182,7 @@ class Modules(unittest.TestCase):
             (module_of(self.right, (2, b"\0")), "it has imports"),
             (module_of(self.right, (4, b"\0")), "it has a table"),
             (module_of(self.right, (9, b"\0")), "it has elements of a table"),
-            (module_of(self.right, memory=0), "64-bit addresses"),
+            (module_of(self.right, memory=4), "32-bit addresses"),
             (module_of(self.right[1:]), f"it lacks {self.right[0]}"),
             (module_of(self.calls), "it lacks page_give, page_take"),
             (module_of([*self.right, "zak_more"]), "it exports what is not in zaklimot.h: zak_more"),

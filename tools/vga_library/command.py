@@ -11,9 +11,11 @@ from vga_report.cli import add
 from vga_report.crates import phases
 from vga_report.processes import check_program
 from vga_report.progress import Progress
-from vga_report.streams import check_folder, to_read
+from vga_report.streams import check_file, check_folder, to_read, write_file
 from vga_report.trouble import Trouble
+from vga_page.making import made_for_c
 
+from .portable import TRANSLATORS, one_file, written_by_wasm2c
 from .making import (
     ARCHIVE, BACKENDS, MOVING, TARGETS, X86_64, Place, Target, built_archive, keep, kept, make_library, memory_part,
 )
@@ -51,6 +53,13 @@ def _parser() -> argparse.ArgumentParser:
     add(made, "--destdir FOLDER", "stands before the prefix while files are installed (default: nothing)")
     add(made, "--libdir NAME", "the folder of libraries below the prefix (default: lib)", default="lib")
     _add_archive(made)
+    made = cli.command(
+        commands, "one-file", _one_file, "makes it as one C file, portable/zaklimot.c in the repository",
+        description="Makes the library as one C file, which any C compiler takes. "
+        "It is made of the proved crate, by programs that no proof covers.",
+    )
+    add(made, "FILE", "the C file")
+    cli.add_proof(made, usually=" (default: `rt check` proves)")
     return parser
 
 
@@ -96,6 +105,16 @@ def _install(words: argparse.Namespace, progress: Progress) -> None:
         raise Trouble("the folder of libraries is named from the prefix on", words.libdir)
     stage = words.destdir if words.destdir is not None else os.environ.get("DESTDIR", "")
     _lay(words, Place(prefix, words.libdir, stage), prefix, progress, takes_made=True)
+
+
+def _one_file(words: argparse.Namespace, progress: Progress) -> None:
+    cli.refuse_to_check(words)
+    for name in TRANSLATORS:
+        check_program(name)
+    check_file(words.file)
+    made = one_file(written_by_wasm2c(made_for_c(words, progress))).encode("ascii")
+    write_file(words.file, made)
+    print(f"{words.file}: {len(made):,} bytes")
 
 
 # Runs a command line, and answers its exit status.

@@ -12,15 +12,22 @@ import tempfile
 from pathlib import Path
 from typing import Iterator, NamedTuple
 
+from vga_report import TOP
 from vga_report.processes import run
 from vga_report.streams import filled
 from vga_report.trouble import Trouble
+from vga_page.making import WASM_OPT
 
+# The file as the repository has it, and the program over it.
+C_FILE, PROGRAM = (TOP / "portable" / name for name in ("zaklimot.c", "vga.c"))
 HAND = Path(__file__).resolve().parent / "c"
 HEAD, MEMORY = HAND / "head.c", HAND / "memory.c"
 CALLS = [HAND / name for name in ("cards.c", "pictures.c", "readings.c", "scripts.c")]
 # The program that writes C, and the name that the module gets in what it writes.
-WASM2C, WASM_OPT, NAME = "wasm2c", "wasm-opt", "zaklimot"
+WASM2C, NAME = "wasm2c", "zaklimot"
+TRANSLATORS = (WASM_OPT, WASM2C)
+# The file has at most so many bytes.
+MOST_BYTES = 3_000_000
 INSTANCE = f"Z_{NAME}_instance_t"
 NAMED = "what wasm2c wrote"
 # The parts of what wasm2c writes.
@@ -49,6 +56,8 @@ REPLACED = (
     (re.compile(r"^  FUNC_EPILOGUE;\n", re.M), ""),
     (re.compile(r"\binstance\b"), "self"),
 )
+# How a function ends that meets a trap. One that answers a number of 32 bits may be a call, which answers its status.
+LEAVES = {"void": "return;", "u32": "return ZAK_BROKEN;", "u64": "return 0;"}
 GROWS, TRAPS = "memory_grow(self", "UNREACHABLE;"
 # A division, which traps where its divisor is 0.
 DIVISION = re.compile(r"^( *)(\w+) = (DIV|REM)_U\((\w+), (\w+)\);$", re.M)
@@ -79,15 +88,6 @@ class Function(NamedTuple):
     body: str
 
 
-# The module's guard: no call begins within another, or after a trap. The C file sees to that itself.
-GUARDED = re.compile(
-    r"  w2c_i0 = (w2c_f\d+)\(self\);\n  w2c_i0 = !\(w2c_i0\);\n  if \(w2c_i0\) \{goto (w2c_B\d+);\}\n"
-    r"  w2c_f\d+\(self\);\n  UNREACHABLE;\n  \2:;\n"
-)
-LEAVING = re.compile(r"^  w2c_f\d+\(self\);\n", re.M)
-SEEN = "w2c_zak_"
-
-
 def _functions(text: str) -> list[Function]:
     first = FIRST_FUNCTION.search(text)
     if first is None or END not in text:
@@ -112,17 +112,6 @@ def _rewritten(body: str) -> str:
     if unknown:
         raise Trouble(f"it has words that are not known: {', '.join(sorted(unknown))}", NAMED)
     return DIVISION.sub(_division, body)
-
-
-def _unguarded(name: str, body: str) -> str:
-    """The body of a call that is seen, without what guards the module."""
-    if not name.startswith(SEEN):
-        return body
-    body, guards = GUARDED.subn("", body)
-    body, left = LEAVING.subn("", body)
-    if (guards, left) != (1, 1):
-        raise Trouble("its guard is not as it is known", name)
-    return body
 
 
 def _reaching(bodies: dict[str, str], word: str) -> frozenset[str]:
@@ -187,27 +176,24 @@ class Writer:
         self._growing = _reaching(bodies, GROWS)
         self._trapping = _reaching(bodies, TRAPS)
 
-    def _line(self, line: str, has_memory: bool, leave: str, is_seen: bool) -> str:
+    def _line(self, line: str, has_memory: bool, leave: str) -> str:
         called = set(CALLED.findall(line))
         if has_memory and (GROWS in line or called & self._growing):
             line += " m = self->memory;"
-        if called & self._trapping and not is_seen:
+        if called & self._trapping:
             line += f" if (NEVER(self->is_broken)) {leave}"
         return line.replace(TRAPS, f"{{ self->is_broken = true; {leave} }}")
 
     def written(self, function: Function) -> str:
         """A function as C."""
-        # A call that is seen answers what the one function answers that it calls.
-        leave = "return;" if function.answer == "void" else "return ZAK_BROKEN;"
-        is_seen = function.name.startswith(SEEN)
+        leave = LEAVES[function.answer]
         body = self._bodies[function.name]
         has_memory = re.search(r"_(?:load|store|copy|fill)", body) is not None
         begin = "  u8 *m = self->memory;\n" if has_memory else ""
         body = body.replace("  FUNC_PROLOGUE;\n", begin, 1)
         places = Places()
         lines = (
-            self._line(places.line(line), has_memory, leave, is_seen)
-            for line in body.splitlines()
+            self._line(places.line(line), has_memory, leave) for line in body.splitlines()
         )
         head = f"static {function.answer} {function.name}(module *self{function.parameters})"
         return _short("\n".join((f"\n{head} {{", *lines, "}\n")))
@@ -220,11 +206,7 @@ def _short(text: str) -> str:
 def _written(text: str) -> Iterator[str]:
     """The functions as C with names of its own, each declared before the first."""
     functions = _functions(text)
-    writer = Writer(
-        {
-            function.name: _unguarded(function.name, _rewritten(function.body))
-            for function in functions
-        })
+    writer = Writer({function.name: _rewritten(function.body) for function in functions})
     for answer, name, parameters in PROTOTYPE.findall(text):
         yield _short(f"static {answer} {name}(module *{parameters});\n")
     for function in functions:
@@ -285,7 +267,10 @@ def one_file(text: str) -> str:
         "".join(_start(text)),
         *(path.read_text("ascii") for path in CALLS),
     ]
-    return "\n".join(parts)
+    whole = "\n".join(parts)
+    if len(whole) > MOST_BYTES:
+        raise Trouble(f"it would have {len(whole):,} bytes, and {MOST_BYTES:,} are the most", "the C file")
+    return whole
 
 
 def written_by_wasm2c(module: bytes) -> str:

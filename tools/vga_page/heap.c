@@ -25,8 +25,10 @@ struct block {
 #define HEADER sizeof(struct block)
 #define ALIGNMENT 16ul
 #define PAGE 65536ul
+/* Memory of 32-bit addresses has at most so many pages. */
+#define MOST_PAGES 65536ul
 /* Larger requests can't be met, and their rounding could overflow. */
-#define MOST_BYTES (1ul << 40)
+#define MOST_BYTES (MOST_PAGES * PAGE)
 
 extern byte __heap_base;
 static struct block *free_blocks;
@@ -82,8 +84,9 @@ static int grow(size_t size)
         return 1;
     }
     size_t pages = size / PAGE + 1;
+    /* Where there is none, this is -1 in 32 bits, which the lowering of memory makes 64 by zeros. */
     size_t at = __builtin_wasm_memory_grow(0, pages);
-    if (at == (size_t)-1)
+    if (at >= MOST_PAGES)
         return 0;
     struct block *block = (struct block *)(at * PAGE);
     block->size = pages * PAGE;

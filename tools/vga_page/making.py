@@ -1,6 +1,7 @@
 """Makes the module: the crate's proof, its LLVM module, and of that, turned from x86-64 to wasm64, the linked module.
 
-It is held to what the page relies on: what it imports and exports, and what it calls.
+The proved code has addresses of 64 bits. The linked module's memory is made one of 32 bits, which every browser knows,
+by Debian's binaryen. It is held to what the page relies on: what it imports and exports, and what it calls.
 """
 
 from __future__ import annotations
@@ -11,7 +12,7 @@ import re
 import shlex
 import tempfile
 from pathlib import Path
-from typing import BinaryIO, Callable, Iterator, Optional, Sequence
+from typing import BinaryIO, Callable, Iterator, NamedTuple, Optional, Sequence
 
 from vga_library.making import CRATE, KEPT, kit_folder, kit_line, proving_words
 from vga_report.crates import phases
@@ -30,6 +31,10 @@ FUNCTION = 0
 OWN = frozenset(("memory", "__heap_base", "page_take", "page_give"))
 # A memory of 64-bit addresses.
 IS_64 = 4
+# What makes its addresses 32 bits wide: no address has more, since memory ends below 4 GiB.
+WASM_OPT = "wasm-opt"
+LOWERING = ("--enable-memory64", "--enable-bulk-memory", "--memory64-lowering")
+SMALLER = "-O3"
 MOST_MODULE = 16 << 20
 NAME = "the module for x86-64"
 TRIPLES = ("x86_64-unknown-linux-gnu", "wasm64-unknown-unknown")
@@ -61,29 +66,38 @@ EXPORT = re.compile(r"^define noundef (\S+) @(\w+)\((.*)\) #(\d+) \{$", re.M)
 PARAMETER = re.compile(r"(\S+)(?: noundef| zeroext| signext)* (%\w+)")
 # Numbers of attributes that the module itself doesn't reach.
 FIRST_NUMBER = 9000
-# How the page takes and gives back memory for what it hands over; page_take answers 0 where there is none.
-MEMORY = f"""
-define noundef i64 @page_take(i64 noundef %bytes) #{FIRST_NUMBER - 2} {{
+# How the module's user takes and gives back memory for what it hands over; page_take answers 0 where there is none.
+MEMORY = """
+define internal noundef i64 @"rattle::export page_take"(i64 noundef %bytes) nounwind {
 start:
-  %tried = call {{ i64, i64 }} @rattle_alloc(i64 %bytes, i64 16)
-  %ok = extractvalue {{ i64, i64 }} %tried, 0
-  %block = extractvalue {{ i64, i64 }} %tried, 1
+  %tried = call { i64, i64 } @rattle_alloc(i64 %bytes, i64 16)
+  %ok = extractvalue { i64, i64 } %tried, 0
+  %block = extractvalue { i64, i64 } %tried, 1
   %none = icmp eq i64 %ok, 0
   %answer = select i1 %none, i64 0, i64 %block
   ret i64 %answer
-}}
+}
 
-define void @page_give(ptr noundef %block) #{FIRST_NUMBER - 1} {{
+define internal noundef i32 @"rattle::export page_give"(ptr noundef %block) nounwind {
 start:
   call void @rattle_dealloc(ptr %block)
-  ret void
-}}
-
+  ret i32 0
+}
+"""
+OF_MEMORY = (("i64", "page_take", "i64 noundef %bytes"), ("i32", "page_give", "ptr noundef %block"))
+GUARD = """
 declare noundef zeroext i1 @__rattle_enter() nounwind
 declare void @__rattle_leave() nounwind
 declare void @__rattle_trap() nounwind
-attributes #{FIRST_NUMBER - 2} = {{ {ATTRIBUTES} "wasm-export-name"="page_take" }}
-attributes #{FIRST_NUMBER - 1} = {{ {ATTRIBUTES} "wasm-export-name"="page_give" }}
+"""
+# How a guarded call begins.
+ENTER = """\
+  %was_inside = call i1 @__rattle_enter()
+  br i1 %was_inside, label %spent, label %run
+spent:
+  call void @__rattle_trap()
+  unreachable
+run:
 """
 HEAP = Path(__file__).resolve().parent / "heap.c"
 # As Rattle calls clang for this target.
@@ -157,7 +171,7 @@ def exports_of(section: bytes) -> dict[str, int]:
 def check_module(module: bytes) -> str:
     """Holds a module to what the page relies on, and answers what was seen.
 
-    It has no imports and no table, its memory has 64-bit addresses, and it exports the header's calls.
+    It has no imports and no table, its memory has 32-bit addresses, and it exports the header's calls.
     """
     if len(module) > MOST_MODULE:
         raise Trouble(f"it has more than {MOST_MODULE:,} bytes", "the module")
@@ -165,8 +179,8 @@ def check_module(module: bytes) -> str:
     for number, what in ((IMPORTS, "imports"), (TABLES, "a table"), (ELEMENTS, "elements of a table")):
         if number in found:
             raise Trouble(f"it has {what}, which it must not have", "the module")
-    if not found.get(MEMORIES, b"")[1:2] or not found[MEMORIES][1] & IS_64:
-        raise Trouble("its memory is not one of 64-bit addresses", "the module")
+    if not found.get(MEMORIES, b"")[1:2] or found[MEMORIES][1] & IS_64:
+        raise Trouble("its memory is not one of 32-bit addresses", "the module")
     exports = exports_of(found.get(EXPORTS, b"\0"))
     calls = set(calls_of(HEADER.read_text("ascii")))
     shown = {name for name, kind in exports.items() if kind == FUNCTION} - OWN
@@ -203,39 +217,80 @@ def _with_target(text: str) -> str:
     return text
 
 
-def _wrapper(result: str, name: str, parameters: str, number: int) -> str:
-    """The function that is seen in place of an export, as Rattle's lowering for wasm64 writes it."""
-    read = [PARAMETER.fullmatch(parameter) for parameter in parameters.split(", ") if parameter]
-    if None in read:
-        raise Trouble(f"the parameters of {name} are not read: {parameters}", NAME)
-    arguments = ", ".join(f"{word[1]} {word[2]}" for word in read if word is not None)
-    return f"""
-define noundef {result} @{name}({parameters}) #{number} {{
-start:
-  %was_inside = call i1 @__rattle_enter()
-  br i1 %was_inside, label %spent, label %run
-spent:
-  call void @__rattle_trap()
-  unreachable
-run:
-  %answer = call {result} @"rattle::export {name}"({arguments})
-  call void @__rattle_leave()
-  ret {result} %answer
-}}
-attributes #{number} = {{ {ATTRIBUTES} "wasm-export-name"="{name}" }}
-"""
+class Form(NamedTuple):
+    """How a module shows its calls."""
+
+    # After a trap no call runs over memory that is half written, as Rattle's own lowering for wasm64 has it.
+    is_guarded: bool
+    # Addresses and lengths come and go in 32 bits, which are plain numbers in JavaScript. Else they have 64.
+    is_narrow: bool
 
 
-def retargeted(text: str) -> str:
-    """The module for wasm64, each export in a wrapper. It also shows `page_take` and `page_give`."""
+# The page's module, and the one of which C is made, whose calls guard it themselves.
+OF_PAGE, OF_C = Form(True, True), Form(False, False)
+WIDE = ("ptr", "i64")
+
+
+class Shown:
+    """A call that a module shows: a function round the proved one."""
+
+    def __init__(self, result: str, name: str, parameters: str, form: Form) -> None:
+        read = [PARAMETER.fullmatch(parameter) for parameter in parameters.split(", ") if parameter]
+        if None in read:
+            raise Trouble(f"the parameters of {name} are not read: {parameters}", NAME)
+        self._parameters = [(word[1], word[2], word[0]) for word in read if word is not None]
+        self._result, self._name, self._form = result, name, form
+
+    def _is_widened(self, kind: str) -> bool:
+        return self._form.is_narrow and kind in WIDE
+
+    def _widening(self) -> Iterator[str]:
+        for kind, name, _ in self._parameters:
+            if self._is_widened(kind):
+                yield f"  {name}.wide = zext i32 {name} to i64\n"
+                if kind == "ptr":
+                    yield f"  {name}.place = inttoptr i64 {name}.wide to ptr\n"
+
+    def _arguments(self) -> Iterator[str]:
+        for kind, name, _ in self._parameters:
+            yield f"{kind} {name}" + {"ptr": ".place", "i64": ".wide"}.get(kind, "") * self._is_widened(kind)
+
+    def _answer(self) -> str:
+        if self._is_widened(self._result):
+            return f"  %low = trunc {self._result} %answer to i32\n  ret i32 %low\n"
+        return f"  ret {self._result} %answer\n"
+
+    def text(self, number: int, is_guarded: bool) -> str:
+        """The function, with the attributes of this number."""
+        result = "i32" if self._is_widened(self._result) else self._result
+        given = ", ".join(
+            f"i32 noundef {name}" if self._is_widened(kind) else whole for kind, name, whole in self._parameters
+        )
+        call = f'  %answer = call {self._result} @"rattle::export {self._name}"({", ".join(self._arguments())})\n'
+        enter = ENTER if is_guarded else ""
+        leave = "  call void @__rattle_leave()\n" if is_guarded else ""
+        return (
+            f"\ndefine noundef {result} @{self._name}({given}) #{number} {{\nstart:\n{enter}"
+            f"{''.join(self._widening())}{call}{leave}{self._answer()}}}\n"
+            f'attributes #{number} = {{ {ATTRIBUTES} "wasm-export-name"="{self._name}" }}\n'
+        )
+
+
+def retargeted(text: str, form: Form) -> str:
+    """The module for wasm64, which shows its calls in a form. It also shows `page_take` and `page_give`."""
     _refuse_unknown(text)
     text = _with_target(text)
-    exports = EXPORT.findall(text)
+    exports = [found[:3] for found in EXPORT.findall(text)]
     if not exports:
         raise Trouble("it exports nothing", NAME)
-    text = EXPORT.sub(r'define internal noundef \1 @"rattle::export \2"(\3) noinline #\4 {', text)
-    wrappers = (_wrapper(*export[:3], number) for number, export in enumerate(exports, FIRST_NUMBER))
-    return text + MEMORY + "".join(wrappers)
+    kept = "noinline " if form.is_guarded else ""
+    text = EXPORT.sub(rf'define internal noundef \1 @"rattle::export \2"(\3) {kept}#\4 {{', text)
+    shown = [(export, form.is_guarded) for export in exports] + [(export, False) for export in OF_MEMORY]
+    wrappers = (
+        Shown(*export, form).text(number, is_guarded)
+        for number, (export, is_guarded) in enumerate(shown, FIRST_NUMBER)
+    )
+    return text + MEMORY + (GUARD if form.is_guarded else "") + "".join(wrappers)
 
 
 class Maker:
@@ -299,12 +354,20 @@ class Maker:
         self._run("archiving", [self._tools / "llvm-ar", "rcsD", "--format=gnu", archive, *objects])
         return archive
 
-    def _linked(self, archive: Path, memory: Optional[int]) -> bytes:
+    def _linked(self, archive: Path, memory: Optional[int]) -> Path:
         module = archive.with_name("linked.wasm")
         words = ["--target", WASM, "--toolchain", self._kit / "toolchain"]
         words += [] if memory is None else ["--memory", str(memory)]
         self._run("linking", [self._kit / "bin" / "rattle-link", *words, "-o", module, archive])
-        return with_kit(module.read_bytes(), kit_line())
+        return module
+
+    def _lowered(self, module: Path, *options: str) -> bytes:
+        """The linked module with memory of 32 bits, which tells the kit."""
+        made = module.with_name("lowered.wasm")
+        self._run("lowering memory", [WASM_OPT, *LOWERING, *options, module, "-o", made])
+        lowered = with_kit(made.read_bytes(), kit_line())
+        check_module(lowered)
+        return lowered
 
     def modules(self, building: Sequence[str | Path], memories: Sequence[Optional[int]]) -> list[bytes]:
         """Modules of the proved crate, held to what the page relies on, one for each size of memory.
@@ -312,11 +375,25 @@ class Maker:
         A size is a number of bytes, a multiple of 65,536; None is a memory that grows.
         """
         with tempfile.TemporaryDirectory(dir=self._folder) as name:
-            archive = self._archive(retargeted(self._llvm_text(building, Path(name))), Path(name))
-            modules = [self._linked(archive, memory) for memory in memories]
-        for module in modules:
-            check_module(module)
-        return modules
+            text = retargeted(self._llvm_text(building, Path(name)), OF_PAGE)
+            archive = self._archive(text, Path(name))
+            return [self._lowered(self._linked(archive, memory), SMALLER) for memory in memories]
+
+    def module_for_c(self, building: Sequence[str | Path]) -> bytes:
+        """The module of which C is made: each of its places in memory is the low half of an address, as it stands."""
+        with tempfile.TemporaryDirectory(dir=self._folder) as name:
+            text = retargeted(self._llvm_text(building, Path(name)), OF_C)
+            return self._lowered(self._linked(self._archive(text, Path(name)), None))
+
+
+def made_for_c(words: argparse.Namespace, progress: Progress) -> bytes:
+    """Proves the crate, and makes the module of which C is made; --gated and --proof as for `made_modules`."""
+    with tempfile.TemporaryDirectory(prefix="vga-page-") as name:
+        maker = Maker(Path(name), phases(progress))
+        building = maker.prove((words.proof or Path(name) / "proof").absolute() if words.gated else None)
+        module = maker.module_for_c(building)
+    progress.clear()
+    return module
 
 
 def made_modules(

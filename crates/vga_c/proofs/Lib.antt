@@ -8,3 +8,4 @@ pub mod SavedLemmas
 pub mod FixedLemmas
 pub mod ScreenLemmas
 pub mod CardsMove
+pub mod ColourLemmas

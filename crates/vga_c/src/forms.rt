@@ -37,11 +37,13 @@ pub struct Form {
     pub above: u32,
 }
 
-/// Eight bits of a component of six.
-fn eight_bits(six: u8) -> u32
-    ensures { result ≡ eight_bits_of six }
+/// Eight bits of each of three components of six, all at once: red, green and blue from above.
+#[tactic(auto, using(crate::proofs::ColourLemmas::high_halves))]
+fn eight_bits_each(red: u8, green: u8, blue: u8) -> u32
+    ensures { result ≡ 0x1_0000 * eight_bits_of red + (0x100 * eight_bits_of green + eight_bits_of blue) }
 {
-    4 * six as u32 + six as u32 / 16
+    let six = 0x1_0000 * red as u32 + (0x100 * green as u32 + blue as u32);
+    4 * six + (six / 16 & 0xF_0F0F)
 }
 
 /// The word of dot i of a picture.
@@ -49,10 +51,7 @@ fn dot_word(bytes: &[u8], i: usize) -> u32
     requires { 3 * i + 2 < length bytes.now }
     ensures { result ≡ dot_word_of bytes.now i }
 {
-    let red = eight_bits(bytes[3 * i]);
-    let green = eight_bits(bytes[3 * i + 1]);
-    let blue = eight_bits(bytes[3 * i + 2]);
-    0x1_0000 * red + (0x100 * green + blue)
+    eight_bits_each(bytes[3 * i], bytes[3 * i + 1], bytes[3 * i + 2])
 }
 
 /// Writes a word of every so many dots of a picture, from dot `first` on, to the caller's, from

@@ -2,7 +2,8 @@
  * ZAK_OUT_OF_MEMORY, keeps no memory, and leaves the card and what its pointers name. If no
  * allocation is refused, it answers ZAK_OK. Only zak_run_on may have taken some of the first steps:
  * the card is then as after one of them, and goes on. Other calls make no allocation. The program is
- * linked with --wrap for malloc, realloc and free.
+ * linked with --wrap for malloc, calloc, realloc and free. With the word `kept` behind the font file
+ * a card keeps memory that a call has taken, so a later call may take none.
  *
  * A line for each call tells how many of its allocations were refused. */
 #include <stdbool.h>
@@ -19,9 +20,11 @@
 #define STEPS 9u
 
 void *__real_malloc(size_t bytes);
+void *__real_calloc(size_t count, size_t bytes);
 void *__real_realloc(void *block, size_t bytes);
 void __real_free(void *block);
 void *__wrap_malloc(size_t bytes);
+void *__wrap_calloc(size_t count, size_t bytes);
 void *__wrap_realloc(void *block, size_t bytes);
 void __wrap_free(void *block);
 
@@ -41,6 +44,13 @@ void *__wrap_malloc(size_t bytes)
     return made;
 }
 
+void *__wrap_calloc(size_t count, size_t bytes)
+{
+    void *made = is_refused() ? NULL : __real_calloc(count, bytes);
+    held += made != NULL;
+    return made;
+}
+
 void *__wrap_realloc(void *block, size_t bytes)
 {
     void *made = is_refused() ? NULL : __real_realloc(block, bytes);
@@ -53,6 +63,9 @@ void __wrap_free(void *block)
     held -= block != NULL;
     __real_free(block);
 }
+
+/* Whether a card keeps memory. */
+static bool is_kept;
 
 static uint8_t fonts[ZAK_FONTS_SIZE], answer[MOST_STATE], rgb[ZAK_MOST_RGB];
 static uint32_t pixels[640 * 480], widths[ZAK_HIGHEST];
@@ -302,10 +315,10 @@ static void refuse_all(const struct job *job)
         save_steps();
     while (number < MOST_ALLOCATIONS && refuse_allocation(job, number))
         number++;
-    if (number == 1)
+    if (number == 1 && !is_kept)
         wrong(job->name, "it takes no memory");
     if (job->takes_steps) {
-        if (steps_taken(STEPS) != STEPS || refused_after < STEPS - 2)
+        if (steps_taken(STEPS) != STEPS || (refused_after < STEPS - 2 && !is_kept))
             wrong(job->name, "allocations of the last steps are not refused");
         restore(&after_steps[0]);
     }
@@ -356,10 +369,11 @@ static zak_status other_calls(void)
 int main(int argc, char **argv)
 {
     static char out[4096];
-    FILE *file = argc == 2 ? fopen(argv[1], "rb") : NULL;
+    FILE *file = argc >= 2 ? fopen(argv[1], "rb") : NULL;
     if (!file || fread(fonts, 1, sizeof fonts, file) != sizeof fonts)
         return 2;
     fclose(file);
+    is_kept = argc == 3 && strcmp(argv[2], "kept") == 0;
     /* So that printing takes no memory among the calls. */
     setvbuf(stdout, out, _IOFBF, sizeof out);
     held = 0;

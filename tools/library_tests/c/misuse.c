@@ -255,6 +255,15 @@ static void little_pixels(void)
     free(pixels);
 }
 
+/* The struct has a byte that no call writes. */
+static bool are_alike(const zak_beam *one, const zak_beam *other)
+{
+    return one->line == other->line && one->character == other->character &&
+           one->dot == other->dot && one->base == other->base && one->scan == other->scan &&
+           one->rows == other->rows && one->frame == other->frame && one->half == other->half &&
+           one->split == other->split;
+}
+
 static void pixels_once(void)
 {
     zak_picture picture = {7, 7, 7, 7};
@@ -268,7 +277,7 @@ static void pixels_once(void)
     SHOW(zak_frame_words(&card, 4, &picture, pixels, room, 321));
     SHOW(zak_frame_words(&card, 0xFFFFFFFF, &picture, pixels, room, 321));
     zak_read_beam(&card, &after);
-    SHOW(memcmp(&before, &after, sizeof before) == 0 && picture.width == 7 && pixels[0] == 0xEEEEEEEE);
+    SHOW(are_alike(&before, &after) && picture.width == 7 && pixels[0] == 0xEEEEEEEE);
     SHOW(zak_frame_words(&card, ZAK_ONCE, &picture, pixels, room, 319));
     SHOW(zak_frame_words(&card, ZAK_ONCE, &picture, pixels, room - 1, 321));
     SHOW(zak_frame_words(&card, 0, &picture, pixels, room, 640));

@@ -12,9 +12,15 @@
 /* The longest that a call hands over or gets back but for scripts, reports, and states of one size:
  * a picture in words. */
 #define DESK_LEN (4u * ZAK_WIDEST * ZAK_HIGHEST)
-/* What a machine takes of the module's memory beside the desk, a screen that is read among it. */
+/* What a machine takes of the module's memory beside that, a screen that is read among it. With
+ * ZAKLIMOT_TIGHT it takes none at first, so that tests see memory refused. */
+#if defined(ZAKLIMOT_TIGHT)
+#define MACHINE 0u
+#else
 #define MACHINE 9437184u
-/* A script or its text, and what a service reads of the caller's memory, have at most so many bytes. */
+#endif
+/* A script or its text, and what a service reads of the caller's memory, have at most so many
+ * bytes. */
 #define MOST_SCRIPT 16777216u
 #define MOST_BLOCK 16711425u
 
@@ -57,7 +63,8 @@ static u32 room(module *self, size_t len)
 {
     if (len <= DESK_LEN)
         return DESK;
-    return len > MOST_PAGES * (u64)PAGE - 1 ? 0 : (u32)module_page_take(self, len);
+    u64 taken = len;
+    return taken >= MOST_PAGES * (u64)PAGE ? 0 : (u32)module_page_take(self, taken);
 }
 
 static void give_room(module *self, u32 at)
@@ -109,7 +116,7 @@ static void close_broken(zak_card *card)
 #define BEGIN(card)                                                                                \
     module *const self = (card)->machine;                                                          \
     if (!(card)->is_open)                                                                          \
-        return ZAK_NO_CARD
+    return ZAK_NO_CARD
 #define END(card, outcome)                                                                         \
     zak_status status = (outcome);                                                                 \
     if (NEVER(status == ZAK_BROKEN))                                                               \
@@ -241,8 +248,8 @@ static zak_status put_bytes(module *self, uint32_t address, const uint8_t *bytes
     do {
         size_t piece = least(len - done, DESK_LEN), at = down ? len - done - piece : done;
         hand_over(self, DESK, bytes + at, piece);
-        zak_status status = module_zak_put_bytes(self, CARD, address + (u32)at, DESK,
-                                                 piece, down, TOLD);
+        zak_status status =
+            module_zak_put_bytes(self, CARD, address + (u32)at, DESK, piece, down, TOLD);
         if (status != ZAK_OK)
             return status;
         sum += told_size(self, 0);
@@ -260,8 +267,8 @@ static zak_status get_bytes(module *self, uint32_t address, uint8_t *bytes, size
         return ZAK_BAD_ARGUMENT;
     do {
         size_t piece = least(len - done, DESK_LEN), at = down ? len - done - piece : done;
-        zak_status status = module_zak_get_bytes(self, CARD, address + (u32)at, DESK,
-                                                 piece, down, TOLD);
+        zak_status status =
+            module_zak_get_bytes(self, CARD, address + (u32)at, DESK, piece, down, TOLD);
         if (status != ZAK_OK)
             return status;
         get_back(self, bytes + at, DESK, piece);
@@ -291,7 +298,7 @@ zak_status zak_fill_bytes(zak_card *card, uint32_t address, uint8_t value, size_
 {
     BEGIN(card);
     END_WITH(card, module_zak_fill_bytes(self, CARD, address, value, count, down, TOLD),
-          *decoded = told_size(self, 0));
+             *decoded = told_size(self, 0));
 }
 
 zak_status zak_move_bytes(zak_card *card, uint32_t from, uint32_t to, size_t count, bool down,
@@ -299,7 +306,7 @@ zak_status zak_move_bytes(zak_card *card, uint32_t from, uint32_t to, size_t cou
 {
     BEGIN(card);
     END_WITH(card, module_zak_move_bytes(self, CARD, from, to, count, down, TOLD),
-          *decoded = told_size(self, 0));
+             *decoded = told_size(self, 0));
 }
 
 static zak_timing told_timing(module *self)

@@ -106,10 +106,10 @@ NUMBER(64)
 #define i64_store32(at, value) put32(AT(at, 4), (u32)(value))
 #define i64_store(at, value) put64(AT(at, 8), value)
 #define memory_copy(to, from, len)                                                                 \
-    ((void)(IS_KNOWN(len) ? memmove(AT(to, len), AT(from, len), (size_t)(len))                     \
-                          : memmove((to) >= OUTSIDE ? self->outside + (size_t)((to) - OUTSIDE)     \
-                                                    : AT(to, len),                                 \
-                                    AT(from, len), (size_t)(len))))
+    ((void)(IS_KNOWN(len)                                                                          \
+                ? memmove(AT(to, len), AT(from, len), (size_t)(len))                               \
+                : memmove((to) >= OUTSIDE ? self->outside + (size_t)((to)-OUTSIDE) : AT(to, len),  \
+                          AT(from, len), (size_t)(len))))
 #define memory_fill(at, value, len) ((void)memset(AT(at, len), (int)(value), (size_t)(len)))
 #if defined(__GNUC__)
 #define I32_CTZ(x) ((x) == 0 ? 32u : (u32)__builtin_ctz(x))

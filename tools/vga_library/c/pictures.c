@@ -46,15 +46,14 @@ static void get_words(module *self, uint32_t *words, u32 at, size_t count)
 static void get_rows(module *self, const canvas *canvas, uint32_t width, uint32_t height)
 {
     for (uint32_t y = 0; y < height; y++)
-        get_words(self, canvas->pixels + canvas->pitch * y,
-                  DESK + 4 * canvas->desk_pitch * y, width);
+        get_words(self, canvas->pixels + canvas->pitch * y, DESK + 4 * canvas->desk_pitch * y,
+                  width);
 }
 
 static zak_status frame_xrgb(module *self, zak_size *size, const canvas *canvas)
 {
-    zak_status status = module_zak_frame_xrgb(self, CARD, TOLD, DESK,
-                                              canvas->desk_rows * canvas->desk_pitch,
-                                              canvas->desk_pitch);
+    zak_status status = module_zak_frame_xrgb(
+        self, CARD, TOLD, DESK, canvas->desk_rows * canvas->desk_pitch, canvas->desk_pitch);
     if (is_told(status))
         *size = (zak_size){told32(self, 0), told32(self, 4)};
     if (status == ZAK_OK)
@@ -73,12 +72,11 @@ zak_status zak_frame_xrgb(zak_card *card, zak_size *size, uint32_t *pixels, size
 static zak_status frame_words(module *self, uint32_t flags, zak_picture *picture,
                               const canvas *canvas)
 {
-    zak_status status = module_zak_frame_words(self, CARD, flags, TOLD, DESK,
-                                               canvas->desk_rows * canvas->desk_pitch,
-                                               canvas->desk_pitch);
+    zak_status status = module_zak_frame_words(
+        self, CARD, flags, TOLD, DESK, canvas->desk_rows * canvas->desk_pitch, canvas->desk_pitch);
     if (is_told(status))
-        *picture = (zak_picture){told32(self, 0), told32(self, 4), told32(self, 8),
-                                 told32(self, 12)};
+        *picture =
+            (zak_picture){told32(self, 0), told32(self, 4), told32(self, 8), told32(self, 12)};
     if (status == ZAK_OK)
         get_rows(self, canvas, picture->width, picture->height);
     return status;
@@ -95,8 +93,8 @@ zak_status zak_frame_words(zak_card *card, uint32_t flags, zak_picture *picture,
 static zak_status line(module *self, uint32_t flags, zak_scan_line *line, uint32_t *pixels,
                        size_t pixels_len)
 {
-    zak_status status = module_zak_line(self, CARD, flags, TOLD, DESK,
-                                        least(pixels_len, ZAK_WIDEST));
+    zak_status status =
+        module_zak_line(self, CARD, flags, TOLD, DESK, least(pixels_len, ZAK_WIDEST));
     if (is_told(status))
         *line = (zak_scan_line){told32(self, 0), told32(self, 4), told8(self, 8) != 0};
     if (status == ZAK_OK)

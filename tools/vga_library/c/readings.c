@@ -21,8 +21,8 @@ static zak_status int10(module *self, zak_regs *regs, const uint8_t *block, size
         return ZAK_OUT_OF_MEMORY;
     hand_registers(self, regs);
     hand_over(self, at + ZAK_MOST_TABLE, block, len);
-    zak_status status = module_zak_int10(self, CARD, TOLD, at + ZAK_MOST_TABLE, len,
-                                         at, cap, TOLD + REGISTERS);
+    zak_status status =
+        module_zak_int10(self, CARD, TOLD, at + ZAK_MOST_TABLE, len, at, cap, TOLD + REGISTERS);
     if (is_told(status)) {
         *regs = (zak_regs){told16(self, 0), told16(self, 2), told16(self, 4), told16(self, 6)};
         *table_len = told_size(self, REGISTERS);
@@ -43,8 +43,7 @@ zak_status zak_int10(zak_card *card, zak_regs *regs, const uint8_t *block, size_
 static zak_status block_of(module *self, const zak_regs *regs, zak_source *source)
 {
     hand_registers(self, regs);
-    zak_status status =
-        module_zak_block(self, CARD, TOLD, TOLD + REGISTERS);
+    zak_status status = module_zak_block(self, CARD, TOLD, TOLD + REGISTERS);
     if (status == ZAK_OK)
         *source = (zak_source){told_size(self, REGISTERS), told8(self, REGISTERS + 8) != 0};
     return status;
@@ -72,8 +71,7 @@ static zak_status give_desk(module *self, zak_status status, uint8_t *bytes, siz
     {                                                                                              \
         BEGIN(card);                                                                               \
         size_t cap = least(text_cap, ZAK_MOST_TEXT);                                               \
-        zak_status shown = module_##name(self, CARD, __VA_ARGS__ DESK, cap,            \
-                                         TOLD);                                              \
+        zak_status shown = module_##name(self, CARD, __VA_ARGS__ DESK, cap, TOLD);                 \
         END(card, give_desk(self, shown, text, text_len));                                         \
     }
 #define TEXT uint8_t *text, size_t text_cap, size_t *text_len
@@ -117,7 +115,7 @@ static zak_registers told_registers(module *self)
 static zak_beam told_beam(module *self)
 {
     return (zak_beam){
-        told16(self, 0),  told16(self, 2), told16(self, 4),  told16(self, 6),  told16(self, 8),
+        told16(self, 0),  told16(self, 2), told16(self, 4), told16(self, 6), told16(self, 8),
         told16(self, 10), told8(self, 12), told8(self, 13), told8(self, 14),
     };
 }
@@ -139,15 +137,14 @@ static zak_bda told_bda(module *self)
 zak_status zak_read_registers(zak_card *card, zak_registers *registers)
 {
     BEGIN(card);
-    END_WITH(card, module_zak_read_registers(self, CARD, TOLD),
-          *registers = told_registers(self));
+    END_WITH(card, module_zak_read_registers(self, CARD, TOLD), *registers = told_registers(self));
 }
 
 zak_status zak_read_colour(zak_card *card, uint8_t index, zak_colour *colour)
 {
     BEGIN(card);
     END_WITH(card, module_zak_read_colour(self, CARD, index, TOLD),
-          *colour = ((zak_colour){told8(self, 0), told8(self, 1), told8(self, 2)}));
+             *colour = ((zak_colour){told8(self, 0), told8(self, 1), told8(self, 2)}));
 }
 
 zak_status zak_read_beam(zak_card *card, zak_beam *beam)
@@ -160,7 +157,7 @@ zak_status zak_read_latches(zak_card *card, zak_latches *latches)
 {
     BEGIN(card);
     END_WITH(card, module_zak_read_latches(self, CARD, TOLD),
-          get_back(self, latches->plane, TOLD, sizeof latches->plane));
+             get_back(self, latches->plane, TOLD, sizeof latches->plane));
 }
 
 zak_status zak_read_bda(zak_card *card, zak_bda *bda)
@@ -176,16 +173,16 @@ zak_status zak_read_plane(zak_card *card, uint8_t plane, uint16_t offset, uint8_
     /* More bytes than the desk has go past the plane's end as well. */
     size_t len = least(bytes_len, DESK_LEN);
     END_WITH(card, module_zak_read_plane(self, CARD, plane, offset, DESK, len),
-          get_back(self, bytes, DESK, len));
+             get_back(self, bytes, DESK, len));
 }
 
 zak_status zak_screen_read(zak_card *card, zak_screen *screen)
 {
     BEGIN(card);
     END_WITH(card, module_zak_screen_read(self, CARD, TOLD),
-          *screen = ((zak_screen){told32(self, 0), told32(self, 4), told16(self, 8),
-                                  told16(self, 10), told8(self, 12), told8(self, 13),
-                                  told8(self, 14), told8(self, 15)}));
+             *screen = ((zak_screen){told32(self, 0), told32(self, 4), told16(self, 8),
+                                     told16(self, 10), told8(self, 12), told8(self, 13),
+                                     told8(self, 14), told8(self, 15)}));
 }
 
 zak_status zak_screen_cell(zak_card *card, uint8_t page, uint8_t row, uint8_t column,
@@ -193,21 +190,20 @@ zak_status zak_screen_cell(zak_card *card, uint8_t page, uint8_t row, uint8_t co
 {
     BEGIN(card);
     END_WITH(card, module_zak_screen_cell(self, CARD, page, row, column, TOLD),
-          *cell = ((zak_cell){told8(self, 0), told8(self, 1)}));
+             *cell = ((zak_cell){told8(self, 0), told8(self, 1)}));
 }
 
 zak_status zak_screen_pixel(zak_card *card, uint8_t page, uint16_t x, uint16_t y, uint8_t *pixel)
 {
     BEGIN(card);
-    END_WITH(card, module_zak_screen_pixel(self, CARD, page, x, y, TOLD),
-          *pixel = told8(self, 0));
+    END_WITH(card, module_zak_screen_pixel(self, CARD, page, x, y, TOLD), *pixel = told8(self, 0));
 }
 
 zak_status zak_screen_cursor(zak_card *card, uint8_t page, zak_place *place)
 {
     BEGIN(card);
     END_WITH(card, module_zak_screen_cursor(self, CARD, page, TOLD),
-          *place = ((zak_place){told8(self, 0), told8(self, 1)}));
+             *place = ((zak_place){told8(self, 0), told8(self, 1)}));
 }
 
 zak_status zak_save_size(zak_card *card, size_t *len)
@@ -219,8 +215,7 @@ zak_status zak_save_size(zak_card *card, size_t *len)
 zak_status zak_save(zak_card *card, uint8_t *bytes, size_t bytes_cap, size_t *len)
 {
     BEGIN(card);
-    zak_status saved = module_zak_save(self, CARD, DESK,
-                                       least(bytes_cap, ZAK_MOST_STATE), TOLD);
+    zak_status saved = module_zak_save(self, CARD, DESK, least(bytes_cap, ZAK_MOST_STATE), TOLD);
     END(card, give_desk(self, saved, bytes, len));
 }
 
@@ -232,7 +227,7 @@ zak_status zak_save(zak_card *card, uint8_t *bytes, size_t bytes_cap, size_t *le
         if (!at)                                                                                   \
             return ZAK_OUT_OF_MEMORY;                                                              \
         hand_over(self, at, bytes, len);                                                           \
-        zak_status status = module_zak_##name(self, CARD, at, len);                          \
+        zak_status status = module_zak_##name(self, CARD, at, len);                                \
         give_room(self, at);                                                                       \
         return status;                                                                             \
     }

@@ -71,7 +71,8 @@ zak_status zak_run(const uint8_t *script, size_t script_len, const uint8_t *font
                    uint8_t *report, size_t report_cap, size_t *report_len, size_t *place)
 {
     /* A longer file is as wrong as one that is one byte too long. */
-    size_t len = least(script_len, MOST_SCRIPT + 1), font_len = least(fonts_len, ZAK_FONTS_SIZE + 1);
+    size_t len = least(script_len, MOST_SCRIPT + 1),
+           font_len = least(fonts_len, ZAK_FONTS_SIZE + 1);
     module *self = new_script_module(script, len, MACHINE);
     u32 fonts_at = self ? (u32)module_page_take(self, font_len) : 0;
     zak_status status = ZAK_OUT_OF_MEMORY;
