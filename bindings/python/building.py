@@ -1,43 +1,73 @@
 """The backend by which pip builds the package (PEP 517 and 660). It needs the standard library alone.
 
-Where ZAKLIMOT_DIR names a folder of `tools/vga-library make`, the wheel carries that library; else the
-package looks for one when it is used.
+A wheel carries a library: the one of the folder that ZAKLIMOT_DIR names, as `tools/vga-library make`
+lays it, or else the one that the C compiler makes of zaklimot.c. With ZAKLIMOT_PORTABLE=1 it is the
+latter in any case. With ZAKLIMOT_PORTABLE=0 nothing is compiled: without ZAKLIMOT_DIR the wheel has
+no library then, and the package looks for one when it is used.
 """
 
 from __future__ import annotations
 
 import base64
+import gzip
 import hashlib
 import io
 import os
+import platform
 import re
+import runpy
+import shlex
+import shutil
+import struct
+import subprocess
+import sys
 import sysconfig
 import tarfile
+import tempfile
 import zipfile
 from pathlib import Path
 from typing import Any, Mapping, Optional
 
 HERE = Path(__file__).resolve().parent
 SOURCES, PACKAGE = HERE / "src", "zaklimot"
-LIBRARY, FONTS = "libzaklimot.so", "zaklimot.fnt"
-# The font of the repository, and the same in a source distribution.
-OWN_FONTS = (HERE.parents[1] / "fonts" / FONTS, HERE / FONTS)
+# What the package itself knows of library files.
+FILES = runpy.run_path(str(SOURCES / PACKAGE / "_file.py"))
+LIBRARY: str = FILES["FILE"]
+FONTS: str = FILES["FONTS"]
+NOTE: str = FILES["NOTE"]
+# What a library is made of: the folder of each file in the repository. A source distribution has
+# all of them in one folder.
+PARTS = {"zaklimot.c": "portable", "zaklimot.h": "include", FONTS: "fonts"}
+TOGETHER = "library"
 FIELD = re.compile(r'^([a-z-]+) = "(.*)"$', re.M)
 # The time of files in a wheel, the first that a ZIP can tell: the same sources make the same bytes.
 TIME = (1980, 1, 1, 0, 0, 0)
+OPTIONS = ("-std=c99", "-O2", "-fPIC", "-shared")
+# Asks a library for its version, in a process of its own, which a wrong one may end.
+ASKING = "import ctypes, sys; print(ctypes.CDLL(sys.argv[1]).zak_version())"
+# Where Python is told what it builds for, it can't run that here.
+OTHER_MACHINE = "_PYTHON_HOST_PLATFORM"
+NO_COMPILER = """there is no C compiler {}. Install one, as Debian's packages gcc and libc6-dev, or
+name yours in CC. If you have the library, name its folder in ZAKLIMOT_DIR instead: docs/PYTHON.md"""
 
 
-class Lacking(Exception):
-    """What a wheel is to be built of is not there."""
+class Lacking(SystemExit):
+    """What a wheel is to be built of is not there. It ends the build with a reason alone."""
 
 
 def project() -> dict[str, str]:
     """The single values of pyproject.toml, and the version."""
     fields = dict(FIELD.findall((HERE / "pyproject.toml").read_text("utf-8")))
+    major, minor = numbers()
+    return {**fields, "version": f"{major}.{minor}"}
+
+
+def numbers() -> tuple[int, int]:
+    """The version of the interface that the package is written for."""
     told = (SOURCES / PACKAGE / "_version.py").read_text("utf-8")
-    numbers = re.search(r"^API_MAJOR, API_MINOR = (\d+), (\d+)$", told, re.M)
-    assert numbers is not None
-    return {**fields, "version": f"{numbers[1]}.{numbers[2]}"}
+    found = re.search(r"^API_MAJOR, API_MINOR = (\d+), (\d+)$", told, re.M)
+    assert found is not None
+    return int(found[1]), int(found[2])
 
 
 def metadata() -> str:
@@ -45,36 +75,123 @@ def metadata() -> str:
     fields = project()
     head = {
         "Metadata-Version": "2.1", "Name": fields["name"], "Version": fields["version"],
-        "Summary": fields["description"], "License": "MIT", "Requires-Python": fields["requires-python"],
+        "Summary": fields["description"], "License": "MIT",
+        "Requires-Python": fields["requires-python"],
         "Description-Content-Type": "text/markdown",
     }
     lines = "".join(f"{name}: {value}\n" for name, value in head.items())
     return f"{lines}\n{(HERE / fields['readme']).read_text('utf-8')}"
 
 
-def carried() -> list[Path]:
-    """The library and its font where ZAKLIMOT_DIR names them; else the font alone."""
-    folder = os.environ.get("ZAKLIMOT_DIR")
-    if not folder:
-        return [path for path in OWN_FONTS if path.is_file()][:1]
-    files = [Path(folder) / "lib" / LIBRARY, Path(folder) / "share" / PACKAGE / FONTS]
-    for file in files:
+def part(name: str) -> Path:
+    """A file that a library is made of: of this source distribution, or of the repository."""
+    places = (HERE / TOGETHER / name, HERE.parent.parent / PARTS[name] / name)
+    for path in places:
+        if path.is_file():
+            return path
+    raise Lacking(
+        f"there is no {PARTS[name]}/{name} of the repository two folders above {HERE}. A pip before"
+        " 21.3 builds a copy that lies elsewhere: type `pip install --upgrade pip` first")
+
+
+def machines() -> str:
+    """The word of a wheel's name for the machines that a library is for."""
+    return machine_word(sysconfig.get_platform(), platform.machine(), 8 * struct.calcsize("P"))
+
+
+def machine_word(told: str, machine: str, bits: int) -> str:
+    """The same of what Python tells: of the platform, the machine, and the bits of a pointer."""
+    if told.startswith("macosx-"):
+        # Python may be for both of Apple's processors; what is compiled here is for one of them.
+        _, release, kind = told.split("-", 2)
+        kind = machine if kind == "universal2" else kind
+        if kind == "arm64" and int(release.partition(".")[0]) < 11:
+            release = "11.0"
+        told = f"macosx-{release}-{kind}"
+    elif bits == 32:
+        told = {"linux-x86_64": "linux-i686", "linux-aarch64": "linux-armv8l"}.get(told, told)
+    return re.sub("[-.]", "_", told)
+
+
+def compiler_words(machine: str) -> list[str]:
+    """The C compiler, $CC or else the system's, with the options for machines of this word."""
+    own = shlex.split(os.environ.get("CC", "")) or ["gcc" if os.name == "nt" else "cc"]
+    words = [*own, *OPTIONS]
+    if machine.startswith("macosx_"):
+        _, major, minor, kind = machine.split("_", 3)
+        words += ["-arch", kind, f"-mmacosx-version-min={major}.{minor}"]
+    return [*words, *shlex.split(os.environ.get("CFLAGS", ""))]
+
+
+def compiled() -> bytes:
+    """The library, compiled of zaklimot.c."""
+    words = compiler_words(machines())
+    source, header = part("zaklimot.c"), part("zaklimot.h")
+    if not shutil.which(words[0]):
+        raise Lacking(NO_COMPILER.format(words[0]))
+    with tempfile.TemporaryDirectory(prefix="zaklimot-") as name:
+        made = Path(name) / LIBRARY
+        words += ["-I", str(header.parent), str(source), "-o", str(made)]
+        print(f"This takes some 17 seconds: {shlex.join(words)}", file=sys.stderr, flush=True)
+        done = subprocess.run(words, stdin=subprocess.DEVNULL, stderr=subprocess.PIPE)
+        if done.returncode or not made.is_file():
+            said = done.stderr.decode("utf-8", "replace").strip()
+            raise Lacking(f"{words[0]} ended with status {done.returncode}, and said:\n{said}")
+        check(made)
+        return made.read_bytes()
+
+
+def check(library: Path) -> None:
+    """Ends the build where this Python can't load a library, or where it is an older one."""
+    if os.environ.get(OTHER_MACHINE):
+        return
+    words = [sys.executable, "-c", ASKING, str(library)]
+    done = subprocess.run(words, stdin=subprocess.DEVNULL, capture_output=True)
+    if done.returncode:
+        lines = done.stderr.decode("utf-8", "replace").strip().splitlines() or ["nothing"]
+        raise Lacking(f"the compiler made a library that Python can't load: {lines[-1]}")
+    (major, minor), told = numbers(), int(done.stdout)
+    if told // 65536 != major or told % 65536 < minor:
+        own = f"{told // 65536}.{told % 65536}"
+        raise Lacking(f"zaklimot.c is of version {own}, and this package of {major}.{minor}")
+
+
+def given(folder: str) -> dict[str, bytes]:
+    """The library and its font of a folder, and of which kind it says that the library is."""
+    library, fonts = Path(folder) / "lib" / LIBRARY, Path(folder) / "share" / PACKAGE / FONTS
+    for file in (library, fonts):
         if not file.is_file():
-            raise Lacking(f"ZAKLIMOT_DIR is {folder}, and there is no {file}: type tools/vga-library make {folder}")
-    return files
+            raise Lacking(
+                f"ZAKLIMOT_DIR is {folder}, and there is no {file}: type tools/vga-library make"
+                f" {folder}, or unset the variable, and zaklimot.c is compiled")
+    kind = FILES["kind_of"](str(library))
+    return {LIBRARY: library.read_bytes(), FONTS: fonts.read_bytes(), NOTE: note(kind)}
 
 
-def tag() -> str:
-    """Which machines a wheel is for: all, or those of the library that it carries."""
-    has_library = any(file.name == LIBRARY for file in carried())
-    return f"py3-none-{re.sub('[-.]', '_', sysconfig.get_platform()) if has_library else 'any'}"
+def note(kind: str) -> bytes:
+    """What a wheel tells of its library."""
+    return f"kind={kind}\n".encode("ascii")
 
 
-def package_files() -> dict[str, bytes]:
-    """The files of the package, by their places in a wheel."""
-    paths = sorted(path for path in (SOURCES / PACKAGE).rglob("*") if path.suffix == ".py" or path.name == "py.typed")
-    files = {str(path.relative_to(SOURCES)): path.read_bytes() for path in paths}
-    return {**files, **{f"{PACKAGE}/carried/{file.name}": file.read_bytes() for file in carried()}}
+def carried() -> dict[str, bytes]:
+    """The library, its kind and its font, by their names; or the font alone."""
+    folder, wanted = os.environ.get("ZAKLIMOT_DIR"), os.environ.get("ZAKLIMOT_PORTABLE") or None
+    if wanted not in (None, "0", "1"):
+        raise Lacking(f"ZAKLIMOT_PORTABLE is {wanted}, and it is to be 0 or 1")
+    if folder and wanted != "1":
+        return given(folder)
+    fonts = {FONTS: part(FONTS).read_bytes()}
+    if wanted == "0":
+        return fonts
+    return {LIBRARY: compiled(), **fonts, NOTE: note(FILES["PORTABLE"])}
+
+
+def sources() -> dict[str, bytes]:
+    """The modules of the package, by their places in a wheel."""
+    paths = sorted(
+        path for path in (SOURCES / PACKAGE).rglob("*")
+        if path.suffix == ".py" or path.name == "py.typed")
+    return {path.relative_to(SOURCES).as_posix(): path.read_bytes() for path in paths}
 
 
 def _record(files: Mapping[str, bytes], place: str) -> str:
@@ -86,19 +203,22 @@ def _record(files: Mapping[str, bytes], place: str) -> str:
     return "".join([*lines, f"{place},,\n"])
 
 
+def _information() -> str:
+    """The folder of a wheel that tells of the package."""
+    return f"{PACKAGE}-{project()['version']}.dist-info"
+
+
 def _write_wheel(folder: str, files: Mapping[str, bytes], kind: str) -> str:
     """Writes a wheel of these files, and answers its name."""
-    fields = project()
-    stem = f"{PACKAGE}-{fields['version']}"
     pure = "true" if kind.endswith("-any") else "false"
     told = f"Wheel-Version: 1.0\nGenerator: zaklimot\nRoot-Is-Purelib: {pure}\nTag: {kind}\n"
     whole = {
-        **files, f"{stem}.dist-info/METADATA": metadata().encode("utf-8"),
-        f"{stem}.dist-info/WHEEL": told.encode("ascii"),
+        **files, f"{_information()}/METADATA": metadata().encode("utf-8"),
+        f"{_information()}/WHEEL": told.encode("ascii"),
     }
-    record = f"{stem}.dist-info/RECORD"
+    record = f"{_information()}/RECORD"
     whole[record] = _record(whole, record).encode("utf-8")
-    name = f"{stem}-{kind}.whl"
+    name = f"{PACKAGE}-{project()['version']}-{kind}.whl"
     with zipfile.ZipFile(Path(folder) / name, "w", zipfile.ZIP_DEFLATED) as wheel:
         for place, data in whole.items():
             entry = zipfile.ZipInfo(place, TIME)
@@ -107,27 +227,57 @@ def _write_wheel(folder: str, files: Mapping[str, bytes], kind: str) -> str:
     return name
 
 
-def build_wheel(wheel_directory: str, config_settings: Any = None, metadata_directory: Optional[str] = None) -> str:
-    """PEP 517: a wheel of the package, with the library where ZAKLIMOT_DIR names one."""
-    return _write_wheel(wheel_directory, package_files(), tag())
+def build_wheel(
+    wheel_directory: str, config_settings: Any = None, metadata_directory: Optional[str] = None
+) -> str:
+    """PEP 517: a wheel of the package, with a library and its font."""
+    own = carried()
+    kind = f"py3-none-{machines() if LIBRARY in own else 'any'}"
+    files = {**sources(), **{f"{PACKAGE}/carried/{name}": data for name, data in own.items()}}
+    return _write_wheel(wheel_directory, files, kind)
 
 
-def build_editable(wheel_directory: str, config_settings: Any = None, metadata_directory: Optional[str] = None) -> str:
-    """PEP 660: a wheel that names the sources where they lie, for `pip install --editable`."""
+def build_editable(
+    wheel_directory: str, config_settings: Any = None, metadata_directory: Optional[str] = None
+) -> str:
+    """PEP 660: a wheel that names the sources where they lie, for `pip install --editable`.
+
+    A library that is compiled goes among these sources, where the package looks for its own.
+    """
+    if not os.environ.get("ZAKLIMOT_DIR"):
+        folder = SOURCES / PACKAGE / "carried"
+        for name, data in carried().items():
+            folder.mkdir(exist_ok=True)
+            # The old file may be in use, and goes only when the new one is whole.
+            (folder / f"{name}.new").write_bytes(data)
+            os.replace(folder / f"{name}.new", folder / name)
     return _write_wheel(wheel_directory, {f"{PACKAGE}.pth": f"{SOURCES}\n".encode()}, "py3-none-any")
 
 
+def prepare_metadata_for_build_wheel(metadata_directory: str, config_settings: Any = None) -> str:
+    """PEP 517: what a wheel will tell of the package, for which nothing need be compiled."""
+    folder = Path(metadata_directory) / _information()
+    folder.mkdir()
+    (folder / "METADATA").write_text(metadata(), "utf-8")
+    return folder.name
+
+
+prepare_metadata_for_build_editable = prepare_metadata_for_build_wheel
+
+
 def build_sdist(sdist_directory: str, config_settings: Any = None) -> str:
-    """PEP 517: the sources, with the font."""
+    """PEP 517: the sources, with all that a wheel is made of."""
     stem = f"{PACKAGE}-{project()['version']}"
     own = ("pyproject.toml", "building.py", "README.md")
     files = {name: (HERE / name).read_bytes() for name in own}
-    files.update({f"src/{place}": data for place, data in package_files().items() if "/carried/" not in place})
-    files.update({FONTS: path.read_bytes() for path in OWN_FONTS[:1] if path.is_file()})
+    files.update({f"src/{place}": data for place, data in sources().items()})
+    files.update({f"{TOGETHER}/{name}": part(name).read_bytes() for name in PARTS})
     files["PKG-INFO"] = metadata().encode("utf-8")
-    with tarfile.open(Path(sdist_directory) / f"{stem}.tar.gz", "w:gz") as archive:
-        for place, data in files.items():
-            entry = tarfile.TarInfo(f"{stem}/{place}")
-            entry.size = len(data)
-            archive.addfile(entry, io.BytesIO(data))
+    with open(Path(sdist_directory) / f"{stem}.tar.gz", "wb") as stream:
+        with gzip.GzipFile(filename="", mode="wb", fileobj=stream, mtime=0) as packed:
+            with tarfile.open(fileobj=packed, mode="w", format=tarfile.PAX_FORMAT) as archive:
+                for place, data in files.items():
+                    entry = tarfile.TarInfo(f"{stem}/{place}")
+                    entry.size = len(data)
+                    archive.addfile(entry, io.BytesIO(data))
     return f"{stem}.tar.gz"

@@ -73,6 +73,7 @@ class Making(unittest.TestCase):
         package, cmake, told = described("/usr", "lib/x", Version(1, 2)).values()
         for text, part in (
             (package, "prefix=/usr\nlibdir=${prefix}/lib/x\n"), (package, "Version: 1.2\n"),
+            (package, "\nkind=proved\n"), (package, "video BIOS, proved\n"),
             (next(iter(described(MOVING, "lib/x", version()).values())), "prefix=${pcfiledir}/../../..\n"),
             (cmake, '"${CMAKE_CURRENT_LIST_DIR}/../../../.." ABSOLUTE'), (told, 'set(PACKAGE_VERSION "1.2")'),
             (cmake, '"${_zaklimot_prefix}/lib/x/libzaklimot.so.1.2"\n    IMPORTED_SONAME "libzaklimot.so.1"'),
@@ -508,7 +509,11 @@ class Finding(unittest.TestCase):
 
     def built(self, **names: str) -> tuple[int, str, str]:
         """How the build ends, what it tells cargo, and what it says."""
-        return ended(self.folder / "build", env={"PATH": os.environ["PATH"], **names})
+        cargo = {
+            "CARGO_MANIFEST_DIR": str(self.folder / "crate"), "OUT_DIR": str(self.folder / "out"),
+            "TARGET": "x86_64-unknown-linux-gnu", "HOST": "x86_64-unknown-linux-gnu",
+        }
+        return ended(self.folder / "build", env={"PATH": os.environ["PATH"], **cargo, **names})
 
     def test_what_is_found(self) -> None:
         full = self.folder / "full"
@@ -517,13 +522,93 @@ class Finding(unittest.TestCase):
                 status, told, said = self.built(**names)
                 self.assertEqual((status, said), (0, ""))
                 self.assertIn("cargo:rustc-link-lib=static=zaklimot\n", told)
+                self.assertIn("cargo:rustc-env=ZAKLIMOT_KIND=proved\n", told)
                 folders = dict(line.partition("=")[::2] for line in told.splitlines())
                 self.assertTrue(os.path.samefile(folders["cargo:rustc-link-search"].partition("=")[2], full / "lib"))
 
+    def test_what_a_folder_tells_of_its_kind(self) -> None:
+        for name, text, kind in (
+            ("some", "kind=portable\n", "portable"), ("other", "kind=provedly\n", "unknown"), ("none", "", "unknown"),
+        ):
+            library = self.folder / name / "lib"
+            (library / "pkgconfig").mkdir(parents=True)
+            (library / "libzaklimot.so").touch()
+            if text:
+                (library / "pkgconfig" / "zaklimot.pc").write_text(text)
+            status, told, said = self.built(ZAKLIMOT_DIR=str(library.parent))
+            self.assertEqual((status, said), (0, ""))
+            self.assertIn(f"cargo:rustc-env=ZAKLIMOT_KIND={kind}\n", told)
+            self.assertIn("cargo:rustc-link-lib=dylib=zaklimot\n", told)
+
+    def crate(self) -> Path:
+        """The crate's folder, with its files; one that git has written in the place of a link among them."""
+        folder = self.folder / "crate" / "portable"
+        shutil.rmtree(folder.parent, ignore_errors=True)
+        folder.mkdir(parents=True)
+        (self.folder / "out").mkdir(exist_ok=True)
+        for name in ("zaklimot.c", "zaklimot.h", "zaklimot.fnt"):
+            (self.folder / name).write_text(600 * "x")
+            (folder / name).write_text(f"../../{name}" if name == "zaklimot.c" else 600 * "x")
+        return folder
+
+    def compiled(self, **names: str) -> tuple[dict[str, str], list[str]]:
+        """What the build tells cargo where compiler and archiver write down their words, and these."""
+        notes = self.folder / "notes"
+        notes.unlink(missing_ok=True)
+        fake = self.folder / "fake"
+        fake.write_text(f'#!/bin/sh\necho "$0 $*" >>{notes}\n')
+        fake.chmod(0o755)
+        for name in ("ar", "cc", "aarch64-linux-gnu-gcc", "aarch64-linux-gnu-ar"):
+            (self.folder / "bin").mkdir(exist_ok=True)
+            (self.folder / "bin" / name).unlink(missing_ok=True)
+            (self.folder / "bin" / name).symlink_to(fake)
+        path = {"PATH": f"{self.folder / 'bin'}:{os.environ['PATH']}"}
+        status, told, said = self.built(**{**path, "ZAKLIMOT_PORTABLE": "1", **names})
+        self.assertEqual((status, said), (0, ""))
+        lines = [line.replace(f"{self.folder}/", "") for line in notes.read_text().splitlines()]
+        return dict(line.partition("=")[::2] for line in told.splitlines()), lines
+
+    def test_what_is_compiled(self) -> None:
+        self.crate()
+        told, lines = self.compiled(ZAKLIMOT_DIR=str(self.folder / "full"), ZAKLIMOT_SHARED="1")
+        self.assertEqual(lines, [
+            "bin/cc -std=c99 -O2 -I crate/portable -fPIC -c crate/portable/../../zaklimot.c -o out/zaklimot.o",
+            "bin/ar crs out/libzaklimot.a out/zaklimot.o",
+        ])
+        wanted = {
+            "cargo:rustc-link-lib": "static=zaklimot", "cargo:rustc-env": "ZAKLIMOT_KIND=portable",
+            "cargo:rustc-link-search": f"native={self.folder}/out",
+            "cargo:fonts": f"{self.folder}/crate/portable/zaklimot.fnt",
+        }
+        self.assertEqual({name: told[name] for name in wanted}, wanted)
+        self.assertNotEqual(told["cargo:rerun-if-changed"], f"{self.folder}/out")
+
+    def test_for_other_targets_and_by_other_programs(self) -> None:
+        self.crate()
+        target = {"TARGET": "aarch64-unknown-linux-gnu"}
+        for names, compiler, archiver in (
+            (target, "bin/aarch64-linux-gnu-gcc -std", "bin/aarch64-linux-gnu-ar crs"),
+            ({**target, "CC": "cc -march=native", "AR": "ar"}, "bin/cc -march=native -std", "bin/ar crs"),
+            ({**target, "CC": "no-cc", "CC_aarch64-unknown-linux-gnu": "cc"}, "bin/cc -std", "bin/aarch64"),
+            ({**target, "CC": "no-cc", "CC_aarch64_unknown_linux_gnu": "cc", "AR": " "}, "bin/cc -std", "bin/aarch64"),
+            ({"CC": str(self.folder / "bin" / "cc"), "CC_other": "no-cc"}, "bin/cc -std", "bin/ar crs"),
+        ):
+            with self.subTest(names):
+                _, lines = self.compiled(**names)
+                self.assertEqual([line[:len(begins)] for line, begins in zip(lines, (compiler, archiver))], [compiler, archiver])
+        _, lines = self.compiled(CFLAGS="-O3 -g")
+        self.assertIn(" -fPIC -O3 -g -c ", lines[0])
+        _, lines = self.compiled(TARGET="x86_64-pc-windows-gnu", CC="cc", AR="ar")
+        self.assertNotIn("-fPIC", lines[0])
+
     def test_without_a_library_each_way_to_one_is_told(self) -> None:
         empty, ways = str(self.folder / "empty"), ("a release", "./install.sh", "tools/vga-library install", "PKG_CONFIG_PATH")
+        folder, packages = self.crate(), {"PKG_CONFIG_PATH": f"{empty}/lib/pkgconfig"}
         for names, begins in (
-            ({"PKG_CONFIG_PATH": f"{empty}/lib/pkgconfig"}, "there is no library libzaklimot.\n"),
+            ({**packages, "ZAKLIMOT_PORTABLE": "0"}, "there is no library libzaklimot.\n"),
+            ({**packages, "CC": "no-such-cc"}, "there is no library libzaklimot, and no-such-cc can't be run: "),
+            ({**packages, "CC": "false"}, "false ended with exit status: 1, and compiles no library.\n"),
+            ({"ZAKLIMOT_PORTABLE": "yes"}, "ZAKLIMOT_PORTABLE is yes, and it is to be 0 or 1.\n"),
             ({"ZAKLIMOT_DIR": empty}, f"ZAKLIMOT_DIR is {empty}, and there is no lib/libzaklimot.a or .so.\n"),
             ({"ZAKLIMOT_DIR": "kit"}, "ZAKLIMOT_DIR is kit, and a path is to begin with a slash.\n"),
         ):
@@ -531,5 +616,10 @@ class Finding(unittest.TestCase):
                 status, told, said = self.built(**names)
                 self.assertEqual((status, said[:len(begins)]), (1, begins))
                 self.assertNotIn("rustc-link", told)
-                for way in (*ways, "tools/vga-library make kit", "set ZAKLIMOT_DIR"):
+                for way in (*ways, "tools/vga-library make kit", "set ZAKLIMOT_DIR", "Debian's packages gcc and libc6-dev"):
                     self.assertIn(way, said)
+        # A link that leads nowhere.
+        (self.folder / "zaklimot.c").unlink()
+        status, _, said = self.built(ZAKLIMOT_PORTABLE="1")
+        told = f"there is no library libzaklimot, and no {folder}/../../zaklimot.c to compile.\n"
+        self.assertEqual((status, said[:len(told)]), (1, told))

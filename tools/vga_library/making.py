@@ -15,6 +15,7 @@ from vga_report.processes import Hearer, run
 from vga_report.streams import filled, refuse_input, to_read
 from vga_report.trouble import Trouble
 from vga_report.version import HEADER, Version, version
+from zaklimot._file import PROVED
 
 CRATE = TOP / "crates" / "vga_c"
 ARCHIVE = CRATE / "out" / "libvga_c.a"
@@ -162,16 +163,20 @@ class Place(NamedTuple):
         return Path(self.stage) / PurePosixPath(self.prefix).relative_to("/") / name
 
 
-def described(prefix: str, library_folder: str, told: Version) -> dict[str, str]:
+def described(
+    prefix: str, library_folder: str, told: Version, kind: str = PROVED
+) -> dict[str, str]:
     """What `pkg-config` and CMake read, by the names of the files below the folder of libraries.
 
     CMake finds the library from its files' own place, wherever that is, and so does `pkg-config` where it is MOVING.
+    The packages for Python and Rust find the library's kind there.
     """
     cmake, version_words = f"cmake/{CMAKE_NAME}", {"VERSION": str(told), "MAJOR": str(told.major)}
     upwards, moving = ("/".join([".."] * len(Path(library_folder, name).parts)) for name in (cmake, "pkgconfig"))
     prefix = prefix or "${pcfiledir}/" + moving
     return {
-        f"pkgconfig/{NAME}.pc": filled(PACKAGE, PREFIX=prefix, LIBRARY_FOLDER=library_folder, VERSION=str(told)),
+        f"pkgconfig/{NAME}.pc":
+            filled(PACKAGE, PREFIX=prefix, LIBRARY_FOLDER=library_folder, VERSION=str(told), KIND=kind),
         f"{cmake}/{CMAKE_NAME}Config.cmake":
             filled(CMAKE / "config.cmake.in", UPWARDS=upwards, LIBRARY_FOLDER=library_folder, **version_words),
         f"{cmake}/{CMAKE_NAME}ConfigVersion.cmake": filled(CMAKE / "version.cmake.in", **version_words),
@@ -198,16 +203,18 @@ def make_shared(whole: Path, folder: Path, told: Version, target: Target) -> Non
         (folder / link).symlink_to(file)
 
 
-def make_library(archive: Path, memory: Path, place: Place, prefix: str, target: Target = X86_64) -> list[Path]:
+def make_library(
+    archive: Path, memory: Path, place: Place, prefix: str, target: Target = X86_64, kind: str = PROVED
+) -> list[Path]:
     """Lays headers, libraries, fonts, and what `pkg-config` and CMake read. Answers what was laid.
 
     The archive and the functions that take its memory are for this processor. The file for `pkg-config`
-    names this prefix, or one that goes with the folder where it is MOVING.
+    names this prefix, or one that goes with the folder where it is MOVING, and the library's kind.
     """
     told = version()
     include, libraries = place.folder("include"), place.folder(place.library_folder)
     share = place.folder(f"share/{NAME}")
-    texts = {libraries / file: text for file, text in described(prefix, place.library_folder, told).items()}
+    texts = {libraries / file: text for file, text in described(prefix, place.library_folder, told, kind).items()}
     with tempfile.TemporaryDirectory(prefix="vga-library-") as name:
         made = Path(name) / "lib"
         made.mkdir()

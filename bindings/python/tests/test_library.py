@@ -3,6 +3,7 @@
 from __future__ import annotations
 
 import os
+import shutil
 import subprocess
 import sys
 import tempfile
@@ -11,17 +12,18 @@ from pathlib import Path
 
 import header
 import zaklimot
-from zaklimot import _library, _version
+from zaklimot import _file, _library, _version
 
 SOURCES = header.TOP / "bindings" / "python" / "src"
 OPEN = "import zaklimot; zaklimot.Card().close(); print(zaklimot.library_path())"
+KIND = "import zaklimot; print(zaklimot.library().kind)"
 TRIED = f"import zaklimot\ntry:\n    {OPEN[17:]}\nexcept zaklimot.LibraryMissing as error: print('missing:', error)"
 
 
-def said(program: str, **names: str) -> str:
+def said(program: str, *given: str, **names: str) -> str:
     """What a program writes, in an environment with these names and none of the library's own."""
     kept = {name: value for name, value in os.environ.items() if not name.startswith(("ZAKLIMOT_", "LD_LIBRARY"))}
-    words = [sys.executable, "-B", "-c", program]
+    words = [sys.executable, "-B", "-c", program, *given]
     done = subprocess.run(
         words, env={**kept, "PYTHONPATH": str(SOURCES), **names}, capture_output=True, text=True, timeout=60)
     if done.returncode:
@@ -44,13 +46,17 @@ class Finding(unittest.TestCase):
         path = zaklimot.library_path()
         with tempfile.TemporaryDirectory() as name:
             (Path(name) / "libzaklimot.so.1").symlink_to(path)
-            self.assertIn("libzaklimot.so", said(OPEN, LD_LIBRARY_PATH=name))
+            # Which file it took, the loader doesn't say.
+            self.assertRegex(said(f"{OPEN}; {KIND}", LD_LIBRARY_PATH=name), "libzaklimot.so.*\nunknown")
 
     def test_a_file_that_is_not_there(self) -> None:
         for names in ({"ZAKLIMOT_LIBRARY": "/no-such-file"}, {"ZAKLIMOT_DIR": "/no-such-folder"}):
             told = said(TRIED, **names)
             self.assertIn(*names.values(), told)
-            for word in ("missing: ", "tools/vga-library make kit", "export ZAKLIMOT_DIR=$PWD/kit"):
+            for word in (
+                "missing: ", "pip install bindings/python", "cc -O2 -fPIC -shared -Iinclude portable/zaklimot.c",
+                "export ZAKLIMOT_LIBRARY=", "tools/vga-library make kit", "export ZAKLIMOT_DIR=$PWD/kit",
+            ):
                 self.assertIn(word, told)
 
     def test_another_library(self) -> None:
@@ -69,6 +75,52 @@ class Finding(unittest.TestCase):
         own = Path(_library.__file__).resolve()
         self.assertEqual(_library._in_sources(own), [header.TOP / "fonts" / "zaklimot.fnt"])
         self.assertEqual(_library._in_sources(Path("/opt/zaklimot/_library.py")), [])
+
+
+class Kinds(unittest.TestCase):
+    """Whether the library is the proved one or the portable one, which a file beside it tells."""
+
+    def kind(self, folder: Path, name: str = "libzaklimot.so.1.5") -> str:
+        (folder / name).touch()
+        return _file.kind_of(str(folder / name))
+
+    def test_of_what_is_loaded(self) -> None:
+        found = zaklimot.library()
+        self.assertEqual((found.path, found.version), (zaklimot.library_path(), zaklimot.version()))
+        self.assertIn(found.kind, ("proved", "portable", "unknown"))
+        self.assertEqual(said(KIND, ZAKLIMOT_LIBRARY=found.path), found.kind)
+        with tempfile.TemporaryDirectory() as name:
+            copy, link = Path(name) / "libzaklimot.so", Path(name) / "linked.so"
+            shutil.copy(found.path, copy)
+            link.symlink_to(found.path)
+            self.assertEqual(said(KIND, ZAKLIMOT_LIBRARY=str(copy)), "unknown")
+            # A link is the file that it leads to.
+            self.assertEqual(said(KIND, ZAKLIMOT_LIBRARY=str(link)), found.kind)
+
+    def test_by_the_file_beside_it(self) -> None:
+        for place in ("kind", "pkgconfig/zaklimot.pc"):
+            with tempfile.TemporaryDirectory() as name:
+                note = Path(name) / place
+                note.parent.mkdir(exist_ok=True)
+                self.assertEqual(self.kind(Path(name)), "unknown")
+                for text, kind in (
+                    ("prefix=/usr\nkind=proved\nName: x\n", "proved"), ("kind=portable\n", "portable"),
+                    ("kind=unknown\n", "unknown"), ("kind=provedly\n", "unknown"), ("# kind=proved\n", "unknown"),
+                    (5000 * "\n" + "kind=proved\n", "unknown"), ("", "unknown"),
+                ):
+                    note.write_text(text)
+                    self.assertEqual(self.kind(Path(name)), kind, text)
+                note.write_bytes(b"kind=portable\n\xff")
+                self.assertEqual(self.kind(Path(name)), "portable")
+                # Another file there is not what was laid there.
+                self.assertEqual(self.kind(Path(name), "other.so"), "unknown")
+
+    def test_a_name_without_a_folder(self) -> None:
+        with tempfile.TemporaryDirectory() as name:
+            (Path(name) / "kind").write_text("kind=proved\n")
+            program = "import os, sys; os.chdir(sys.argv[1]); from zaklimot import _file; print(_file.kind_of(sys.argv[2]))"
+            self.assertEqual(said(program, name, "./libzaklimot.so"), "proved")
+            self.assertEqual(said(program, name, "libzaklimot.so.1"), "unknown")
 
 
 class Importing(unittest.TestCase):

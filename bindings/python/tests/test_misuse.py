@@ -96,6 +96,34 @@ class Closed(unittest.TestCase):
             card.close()
 
 
+class Broken(unittest.TestCase):
+    """A library that was compiled wrongly closes the card in a call, and answers status 29 once."""
+
+    def broken(self) -> Card:
+        """A card whose next call is such a one."""
+        card = Card()
+        calls, close = card._calls, card._calls["close"]
+
+        def call(*_: Any) -> int:
+            if not card._struct.is_open:
+                return 20
+            close(card._card)
+            return 29
+
+        card._calls = {other: call for other in calls}
+        for quick in ("put", "put_word", "get", "get_word", "out", "out_word", "in", "in_word", "advance"):
+            setattr(card, f"_{quick}", call)
+        return card
+
+    def test_each_method_tells_it(self) -> None:
+        for name in sorted(set(CALLS) - {"close"}):
+            with self.subTest(name), self.broken() as card:
+                with self.assertRaises(zaklimot.Broken) as caught:
+                    getattr(card, name)(*CALLS[name])
+                self.assertEqual((caught.exception.number, card.is_open), (29, False))
+                self.assertRaises(zaklimot.Closed, card.put, 0xA0000, 1)
+
+
 class Numbers(unittest.TestCase):
     def setUp(self) -> None:
         self.card = Card()

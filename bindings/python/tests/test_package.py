@@ -6,12 +6,15 @@ import ast
 import inspect
 import os
 import re
+import shutil
 import subprocess
 import sys
 import tempfile
 import unittest
 import zipfile
+from functools import lru_cache
 from pathlib import Path
+from unittest import mock
 
 import header
 import zaklimot
@@ -30,11 +33,39 @@ def run(*words: str | Path, env: dict[str, str] | None = None) -> str:
     return done.stdout
 
 
-def build(folder: str, **names: str) -> Path:
-    """A wheel that the backend builds, in an environment with these names."""
-    program = f"import sys; sys.path.insert(0, {str(HERE)!r}); import building; print(building.build_wheel({folder!r}))"
-    kept = {name: value for name, value in os.environ.items() if not name.startswith("ZAKLIMOT_")}
+def build(folder: str, what: str = "wheel", project: Path = HERE, /, **names: str) -> Path:
+    """What the backend builds, in an environment with these names."""
+    place = repr(str(project))
+    program = f"import sys; sys.path.insert(0, {place}); import building; print(building.build_{what}({folder!r}))"
+    kept = {name: value for name, value in os.environ.items() if name not in OWN and not name.startswith("ZAKLIMOT_")}
     return Path(folder) / run(sys.executable, "-B", "-c", program, env={**kept, **names}).strip()
+
+
+# What a compiler is told by the environment.
+OWN = ("CC", "CFLAGS")
+# Compilers in the shell. Their last word is where the library goes.
+LAST = "for last; do :; done; "
+COPYING, WRITING, FAILING = 'cp "$LIBRARY" "$last"', 'echo text > "$last"', "echo no such option >&2; exit 1"
+USED = "import zaklimot; print(zaklimot.library_path(), zaklimot.library().kind, zaklimot.run('int ax=3\\nin 3CC')[1].value)"
+
+
+@lru_cache(maxsize=None)
+def environment() -> Path:
+    """A new environment of Python's, which goes when the tests end."""
+    folder = tempfile.TemporaryDirectory()
+    unittest.addModuleCleanup(folder.cleanup)
+    run(sys.executable, "-m", "venv", folder.name)
+    return Path(folder.name) / "bin"
+
+
+def used(package: Path) -> str:
+    """What a program of an environment that has this package alone tells of its library."""
+    run(environment() / "pip", "install", "--no-index", "--quiet", "--force-reinstall", package)
+    kept = {key: value for key, value in os.environ.items() if not key.startswith(("ZAKLIMOT_", "PYTHON", "LD_"))}
+    try:
+        return run(environment() / "python", "-c", f"import os; os.chdir('/'); {USED}", env=kept)
+    finally:
+        run(environment() / "pip", "uninstall", "--quiet", "--yes", "zaklimot")
 
 
 class Wheel(unittest.TestCase):
@@ -45,18 +76,13 @@ class Wheel(unittest.TestCase):
         with tempfile.TemporaryDirectory() as name:
             wheel = build(name, ZAKLIMOT_DIR=folder)
             self.assertRegex(wheel.name, r"^zaklimot-\d+\.\d+-py3-none-linux_\w+\.whl$")
-            venv = Path(name) / "venv"
-            run(sys.executable, "-m", "venv", venv)
-            run(venv / "bin" / "pip", "install", "--no-index", "--quiet", wheel)
-            kept = {key: value for key, value in os.environ.items() if not key.startswith(("ZAKLIMOT_", "PYTHON", "LD_"))}
-            program = "import zaklimot; print(zaklimot.library_path(), zaklimot.run('int ax=3\\nin 3CC')[1].value)"
-            told = run(venv / "bin" / "python", "-c", program, env=kept)
-            self.assertIn("/zaklimot/carried/libzaklimot.so 103", told)
-            self.assertTrue(told.startswith(str(venv)))
+            told = used(wheel)
+            self.assertIn(f"/zaklimot/carried/libzaklimot.so {zaklimot.library().kind} 103", told)
+            self.assertTrue(told.startswith(str(environment().parent)))
 
     def test_without_the_library_it_is_for_all_machines(self) -> None:
         with tempfile.TemporaryDirectory() as name:
-            wheel = build(name)
+            wheel = build(name, ZAKLIMOT_PORTABLE="0")
             self.assertTrue(wheel.name.endswith("-py3-none-any.whl"))
             sources = HERE / "src" / "zaklimot"
             own = {str(path.relative_to(sources)) for path in sources.rglob("*.py")} | {"py.typed"}
@@ -65,12 +91,138 @@ class Wheel(unittest.TestCase):
                 names = files.namelist()
                 self.assertIn("Requires-Python: >=3.9\n", files.read(next(n for n in names if n.endswith("METADATA"))).decode())
             packed = {path.partition("/")[2] for path in names if path.startswith("zaklimot/")}
-            self.assertLessEqual(own | {"carried/zaklimot.fnt"}, packed)
-            self.assertEqual(wheel.read_bytes(), build(name).read_bytes())
+            self.assertEqual(own | {"carried/zaklimot.fnt"}, packed)
+            self.assertEqual(wheel.read_bytes(), build(name, ZAKLIMOT_PORTABLE="0").read_bytes())
 
     def test_a_folder_without_the_library(self) -> None:
         with tempfile.TemporaryDirectory() as name, self.assertRaisesRegex(AssertionError, "type tools/vga-library make"):
             build(name, ZAKLIMOT_DIR=name)
+
+
+class Compiled(unittest.TestCase):
+    """What is built with nothing but a C compiler."""
+
+    def setUp(self) -> None:
+        folder = tempfile.TemporaryDirectory()
+        self.addCleanup(folder.cleanup)
+        self.folder = Path(folder.name)
+
+    def compiler(self, text: str) -> dict[str, str]:
+        """The environment of a compiler that does this."""
+        script = self.folder / f"compiler-{len(list(self.folder.glob('compiler-*')))}.sh"
+        script.write_text(LAST + text)
+        return {"CC": f"sh '{script}'", "LIBRARY": zaklimot.library_path()}
+
+    def carried(self, wheel: Path) -> dict[str, bytes]:
+        """The library, its kind and its font in a wheel."""
+        with zipfile.ZipFile(wheel) as files:
+            return {name[17:]: files.read(name) for name in files.namelist() if name.startswith("zaklimot/carried/")}
+
+    def test_in_an_empty_environment_by_way_of_the_sources(self) -> None:
+        """The archive of the sources has all that is needed, and its wheel is the repository's."""
+        archive = build(str(self.folder), "sdist")
+        quick = {**os.environ, "CFLAGS": "-O0", "ZAKLIMOT_DIR": "", "CC": ""}
+        words = ("-m", "pip", "wheel", "--no-index", "--no-deps", "--quiet", "--wheel-dir", self.folder / "made", archive)
+        run(sys.executable, *words, env=quick)
+        (wheel,) = (self.folder / "made").iterdir()
+        self.assertRegex(wheel.name, r"^zaklimot-\d+\.\d+-py3-none-linux_\w+\.whl$")
+        told = used(wheel)
+        self.assertTrue(told.endswith("/zaklimot/carried/libzaklimot.so portable 103\n"), told)
+        self.assertTrue(told.startswith(str(environment().parent)))
+        self.assertEqual(wheel.read_bytes(), build(str(self.folder), CFLAGS="-O0").read_bytes())
+        self.assertEqual(archive.read_bytes(), build(str(self.folder), "sdist").read_bytes())
+
+    def test_what_it_carries(self) -> None:
+        copying = self.compiler(COPYING)
+        library, fonts = Path(zaklimot.library_path()).read_bytes(), zaklimot.default_fonts()
+        made = {"libzaklimot.so": library, "zaklimot.fnt": fonts, "kind": b"kind=portable\n"}
+        self.assertEqual(self.carried(build(str(self.folder), **copying)), made)
+        # By the variable the C file goes before a folder.
+        named = {**copying, "ZAKLIMOT_DIR": "/no-such-folder", "ZAKLIMOT_PORTABLE": "1"}
+        self.assertEqual(self.carried(build(str(self.folder), **named)), made)
+
+    def test_a_folder_is_of_the_kind_that_it_tells(self) -> None:
+        for place, kind in (("lib/pkgconfig/zaklimot.pc", "proved"), ("lib/other.pc", "unknown")):
+            kit = self.folder / kind
+            (kit / "lib" / "pkgconfig").mkdir(parents=True)
+            (kit / "share" / "zaklimot").mkdir(parents=True)
+            shutil.copy(zaklimot.library_path(), kit / "lib" / "libzaklimot.so")
+            (kit / "share" / "zaklimot" / "zaklimot.fnt").write_bytes(b"font")
+            (kit / place).write_text("kind=proved\n")
+            carried = self.carried(build(str(self.folder), ZAKLIMOT_DIR=str(kit)))
+            self.assertEqual(carried["kind"].decode(), f"kind={kind}\n")
+
+    def test_what_can_not_be_compiled(self) -> None:
+        old = self.folder / "old.c"
+        old.write_text("unsigned zak_version(void) { return 65536 + 3; }\n")
+        older = f'cc -shared -fPIC {old} -o "$last"'
+        for names, told in (
+            ({"CC": "no-such-cc"}, "there is no C compiler no-such-cc. Install one, as Debian's packages gcc and libc6-dev"),
+            (self.compiler(FAILING), "sh ended with status 1, and said:\nno such option\n"),
+            (self.compiler("exit 0"), "sh ended with status 0, and said:"),
+            (self.compiler(WRITING), "the compiler made a library that Python can't load: OSError: "),
+            (self.compiler(older), "zaklimot.c is of version 1.3, and this package of 1.5\n"),
+            ({"ZAKLIMOT_PORTABLE": "yes"}, "ZAKLIMOT_PORTABLE is yes, and it is to be 0 or 1\n"),
+        ):
+            with self.subTest(told), self.assertRaises(AssertionError) as caught:
+                build(str(self.folder), **names)
+            self.assertIn(told, str(caught.exception))
+            self.assertNotIn("Traceback", str(caught.exception))
+
+    def repository(self) -> Path:
+        """The folder of the package in a copy of the repository that has no more than it needs."""
+        project = self.folder / "copy" / "bindings" / "python"
+        shutil.copytree(HERE, project, ignore=shutil.ignore_patterns("tests", "carried", "__pycache__"))
+        for folder in ("portable", "include", "fonts"):
+            shutil.copytree(header.TOP / folder, self.folder / "copy" / folder)
+        return project
+
+    def test_sources_in_place_get_the_library(self) -> None:
+        project = self.repository()
+        copying = self.compiler(COPYING)
+        carried = project / "src" / "zaklimot" / "carried"
+        self.assertTrue(build(str(self.folder), "editable", project, ZAKLIMOT_DIR="/kit").name.endswith("-any.whl"))
+        self.assertFalse(carried.exists())
+        wheel = build(str(self.folder), "editable", project, **copying)
+        self.assertEqual({path.name for path in carried.iterdir()}, {"kind", "libzaklimot.so", "zaklimot.fnt"})
+        self.assertEqual(used(wheel), f"{carried}/libzaklimot.so portable 103\n")
+
+    def test_a_copy_without_the_repository(self) -> None:
+        project = self.repository()
+        shutil.rmtree(self.folder / "copy" / "portable")
+        told = r"there is no portable/zaklimot\.c .*`pip install --upgrade pip`"
+        self.assertRaisesRegex(AssertionError, told, build, str(self.folder), "wheel", project)
+
+    def test_the_words_for_machines(self) -> None:
+        sys.path.insert(0, str(HERE))
+        self.addCleanup(sys.path.remove, str(HERE))
+        import building
+
+        for told, machine, bits, word in (
+            ("linux-x86_64", "x86_64", 64, "linux_x86_64"), ("linux-x86_64", "x86_64", 32, "linux_i686"),
+            ("linux-aarch64", "aarch64", 64, "linux_aarch64"), ("win-amd64", "AMD64", 64, "win_amd64"),
+            ("macosx-10.9-universal2", "x86_64", 64, "macosx_10_9_x86_64"), ("win32", "AMD64", 32, "win32"),
+            ("macosx-10.9-universal2", "arm64", 64, "macosx_11_0_arm64"),
+            ("macosx-14.2-arm64", "arm64", 64, "macosx_14_2_arm64"),
+        ):
+            self.assertEqual(building.machine_word(told, machine, bits), word)
+        with mock.patch.dict(os.environ, {"CC": "ccache 'my cc'", "CFLAGS": "-O3 -g"}):
+            words = building.compiler_words("macosx_11_0_arm64")
+        self.assertEqual((words[:2], words[-2:]), (["ccache", "my cc"], ["-O3", "-g"]))
+        self.assertIn("-arch arm64 -mmacosx-version-min=11.0", " ".join(words))
+
+    def test_what_pip_asks_first_needs_no_compiler(self) -> None:
+        folder = build(str(self.folder), "wheel", ZAKLIMOT_PORTABLE="0")
+        sys.path.insert(0, str(HERE))
+        self.addCleanup(sys.path.remove, str(HERE))
+        import building
+
+        with zipfile.ZipFile(folder) as files:
+            (place,) = (name for name in files.namelist() if name.endswith("METADATA"))
+            self.assertEqual(files.read(place).decode("utf-8"), building.metadata())
+        told = building.prepare_metadata_for_build_wheel(str(self.folder))
+        self.assertEqual(f"{told}/METADATA", place)
+        self.assertEqual((self.folder / place).read_text("utf-8"), building.metadata())
 
 
 class Examples(unittest.TestCase):

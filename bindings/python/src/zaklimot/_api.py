@@ -2,14 +2,17 @@
 
 from __future__ import annotations
 
+from typing import NamedTuple
+
 from ._card import Card, Fonts, font_bytes
 from ._errors import (
     BadArgument, BadBlock, BadCard, BadFunction, BadHeight, BadLine, BadMagic, BadMode, BadPage, BadRegister,
-    BadStep, BadVersion, Closed, CountPast, Error, FontSize, LibraryMissing, NoMode, NoRoom, NoScreen, NotDecoded,
+    BadStep, BadVersion, Broken, Closed, CountPast, Error, FontSize, LibraryMissing, NoMode, NoRoom, NoScreen, NotDecoded,
     NotInProfile, OpenAlready, OutOfMemory, Outside, Ragged, Refusal, ScriptError, StateChecksum, StateError,
     StateLength, StateMagic, StatePart, StateVersion, TooFar, TooLong, TooMany, Truncated, WrongKind,
 )
-from ._library import default_fonts, library
+from ._file import kind_of
+from ._library import default_fonts, loaded
 from ._names import CRTC, GFX, SEQ, Indexed
 from ._pictures import Colour, Lines, Picture, ScanLine, XrgbPicture
 from ._report import Report, Step
@@ -22,14 +25,38 @@ from ._version import VERSION
 __version__ = VERSION
 
 
+class Library(NamedTuple):
+    """A library in use."""
+
+    path: str
+    """its file, or its name alone where the system's loader found it"""
+    kind: str
+    """`proved`; `portable`, which is portable/zaklimot.c, tested and not proved; or `unknown`"""
+    version: tuple[int, int]
+    """its major and its minor number"""
+
+
+def library() -> Library:
+    """The library in use: its file, and whether it is the proved one or the portable one.
+
+        print(zaklimot.library().kind)       # proved
+
+    The kind is what the build wrote beside the library: in the package, or in `zaklimot.pc`. It is
+    `unknown` where nothing is written there, as beside most files that ZAKLIMOT_LIBRARY names.
+    Raises LibraryMissing.
+    """
+    found = loaded()
+    return Library(found.path, kind_of(found.path), found.version)
+
+
 def version() -> tuple[int, int]:
     """The version of the library that is loaded, as (major, minor). Raises LibraryMissing."""
-    return library().version
+    return loaded().version
 
 
 def library_path() -> str:
-    """The file of the library that is loaded. Raises LibraryMissing."""
-    return library().path
+    """The file of the library that is loaded, `library().path`. Raises LibraryMissing."""
+    return loaded().path
 
 
 def run(script: AnyScript, fonts: Fonts = None) -> Report:
@@ -47,13 +74,13 @@ def run(script: AnyScript, fonts: Fonts = None) -> Report:
 
 __all__ = [
     "Answer", "BadArgument", "BadBlock", "BadCard", "BadFunction", "BadHeight", "BadLine", "BadMagic",
-    "BadMode", "BadPage", "BadRegister", "BadStep", "BadVersion", "Beam", "BiosData", "CRTC", "Card", "Cell",
+    "BadMode", "BadPage", "BadRegister", "BadStep", "BadVersion", "Beam", "BiosData", "Broken", "CRTC", "Card", "Cell",
     "Closed", "Colour", "CountPast", "Error", "FONTS_SIZE", "FontSize", "GFX", "HIGHEST", "Indexed",
-    "LibraryMissing", "Lines", "MOST_DOTS", "NoMode", "NoRoom", "NoScreen", "NotDecoded", "NotInProfile",
+    "Library", "LibraryMissing", "Lines", "MOST_DOTS", "NoMode", "NoRoom", "NoScreen", "NotDecoded", "NotInProfile",
     "OpenAlready", "OutOfMemory", "Outside", "Picture", "Position", "Ragged", "ReadBytes", "Refusal",
     "Registers", "Report", "SEQ", "ScanLine", "Screen", "Script", "ScriptError", "Source",
     "StateChecksum", "StateError", "StateLength", "StateMagic",
     "StatePart", "StateVersion", "Step", "Timing", "TooFar", "TooLong", "TooMany", "Truncated", "WIDEST",
     "WrongKind", "XrgbPicture",
-    "assemble", "default_fonts", "disassemble", "library_path", "run", "version",
+    "assemble", "default_fonts", "disassemble", "library", "library_path", "run", "version",
 ]

@@ -13,7 +13,7 @@ from typing import Any, Callable, NoReturn, Optional, Union, overload
 from . import _structs as s
 from ._calls import Call
 from ._errors import BadArgument, Closed, error_of
-from ._library import default_fonts, library, read_fonts
+from ._library import default_fonts, loaded, read_fonts
 from ._memory import Room
 from ._numbers import BYTE, LONG, WORD, in_range
 from ._pictures import Colour, Lines, Picture, ScanLine, XrgbPicture
@@ -92,7 +92,7 @@ class Card:
     """
 
     def __init__(self, fonts: Fonts = None) -> None:
-        calls = library().calls
+        calls = loaded().calls
         self._calls = calls
         self._struct = s.zak_card()
         self._card = _byref(self._struct)
@@ -175,7 +175,7 @@ class Card:
         return f"<Card, {'open' if self._struct.is_open else 'closed'}>"
 
     # Cycles of ports and of display memory. What is in range goes the quick way: the call itself
-    # refuses what is no number.
+    # refuses what is no number. No call is made twice, so that its own status is raised.
 
     def out(self, port: int, value: int) -> None:
         """Writes a byte, 0 to FF, to a port, 0 to FFFF (hexadecimal).
@@ -183,7 +183,10 @@ class Card:
         Raises NotDecoded and NotInProfile.
         """
         try:
-            if 0 <= port <= WORD and 0 <= value <= BYTE and not self._out(self._card, port, value):
+            if 0 <= port <= WORD and 0 <= value <= BYTE:
+                status = self._out(self._card, port, value)
+                if status:
+                    raise error_of(status)
                 return
         except (ctypes.ArgumentError, TypeError):
             pass
@@ -192,7 +195,10 @@ class Card:
     def out_word(self, port: int, value: int) -> None:
         """Writes a word, 0 to FFFF (hexadecimal): its low byte to the port, its high byte to the next."""
         try:
-            if 0 <= port <= WORD and 0 <= value <= WORD and not self._out_word(self._card, port, value):
+            if 0 <= port <= WORD and 0 <= value <= WORD:
+                status = self._out_word(self._card, port, value)
+                if status:
+                    raise error_of(status)
                 return
         except (ctypes.ArgumentError, TypeError):
             pass
@@ -205,7 +211,10 @@ class Card:
         """
         value = _U8()
         try:
-            if 0 <= port <= WORD and not self._in(self._card, port, _byref(value)):
+            if 0 <= port <= WORD:
+                status = self._in(self._card, port, _byref(value))
+                if status:
+                    raise error_of(status)
                 return value.value
         except (ctypes.ArgumentError, TypeError):
             pass
@@ -215,7 +224,10 @@ class Card:
         """Reads a word: the low byte from the port, the high byte from the next."""
         value = _U16()
         try:
-            if 0 <= port <= WORD and not self._in_word(self._card, port, _byref(value)):
+            if 0 <= port <= WORD:
+                status = self._in_word(self._card, port, _byref(value))
+                if status:
+                    raise error_of(status)
                 return value.value
         except (ctypes.ArgumentError, TypeError):
             pass
@@ -228,7 +240,10 @@ class Card:
         NotInProfile.
         """
         try:
-            if 0 <= address <= LONG and 0 <= value <= BYTE and not self._put(self._card, address, value):
+            if 0 <= address <= LONG and 0 <= value <= BYTE:
+                status = self._put(self._card, address, value)
+                if status:
+                    raise error_of(status)
                 return
         except (ctypes.ArgumentError, TypeError):
             pass
@@ -237,7 +252,10 @@ class Card:
     def put_word(self, address: int, value: int) -> None:
         """Writes a word, 0 to FFFF (hexadecimal): its low byte to the address, its high byte to the next."""
         try:
-            if 0 <= address <= LONG and 0 <= value <= WORD and not self._put_word(self._card, address, value):
+            if 0 <= address <= LONG and 0 <= value <= WORD:
+                status = self._put_word(self._card, address, value)
+                if status:
+                    raise error_of(status)
                 return
         except (ctypes.ArgumentError, TypeError):
             pass
@@ -247,7 +265,10 @@ class Card:
         """Reads a byte of display memory, which loads the latches. Raises NotDecoded and NotInProfile."""
         value = _U8()
         try:
-            if 0 <= address <= LONG and not self._get(self._card, address, _byref(value)):
+            if 0 <= address <= LONG:
+                status = self._get(self._card, address, _byref(value))
+                if status:
+                    raise error_of(status)
                 return value.value
         except (ctypes.ArgumentError, TypeError):
             pass
@@ -257,7 +278,10 @@ class Card:
         """Reads a word: the low byte at the address, the high byte at the next."""
         value = _U16()
         try:
-            if 0 <= address <= LONG and not self._get_word(self._card, address, _byref(value)):
+            if 0 <= address <= LONG:
+                status = self._get_word(self._card, address, _byref(value))
+                if status:
+                    raise error_of(status)
                 return value.value
         except (ctypes.ArgumentError, TypeError):
             pass
@@ -337,7 +361,10 @@ class Card:
     def advance(self, dots: int) -> None:
         """Lets the clock run for so many dots, 0 to 16,777,216. Raises TooFar for more."""
         try:
-            if 0 <= dots <= LONG and not self._advance(self._card, dots):
+            if 0 <= dots <= LONG:
+                status = self._advance(self._card, dots)
+                if status:
+                    raise error_of(status)
                 return
         except (ctypes.ArgumentError, TypeError):
             pass

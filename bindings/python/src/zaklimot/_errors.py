@@ -160,6 +160,15 @@ class NoScreen(Error):
     number = 28
 
 
+class Broken(Error):
+    """The portable library was compiled wrongly: it did what the proofs exclude, and the card is closed.
+
+    Try another compiler, or a lower level of optimisation. The proved library never raises it.
+    """
+
+    number = 29
+
+
 class StateError(Error, ValueError):
     """The bytes can't be restored. The card is as it was."""
 

@@ -1,4 +1,4 @@
-"""Finds libzaklimot.so and the font file, and keeps the one library of this process."""
+"""Finds the library and the font file, and keeps the one library of this process."""
 
 from __future__ import annotations
 
@@ -10,24 +10,30 @@ from typing import Iterator, Mapping, NamedTuple, Optional
 
 from ._calls import Call, bind_all
 from ._errors import LibraryMissing
+from ._file import FILE, FONTS
 from ._structs import FONTS_SIZE
 from ._version import API_MAJOR, API_MINOR
 
-FILE, FONTS = "libzaklimot.so", "zaklimot.fnt"
-SONAME = f"{FILE}.{API_MAJOR}"
+# What the system's loader is asked for.
+SONAME = {"darwin": f"libzaklimot.{API_MAJOR}.dylib", "win32": FILE}.get(
+    sys.platform, f"{FILE}.{API_MAJOR}")
 # What a wheel carries.
 CARRIED = Path(__file__).resolve().parent / "carried"
 USUAL_PREFIXES = ("/usr/local", "/usr")
 # So many folders above this file the repository begins, for who uses the package from its sources.
 LEVELS = 4
 
-HOW = """Make it at the top of the repository, or unpack a release, and name the folder:
+HOW = """`pip install bindings/python` builds a package that has it. Or compile it, at the top of the
+repository, and name the file:
+    cc -O2 -fPIC -shared -Iinclude portable/zaklimot.c -o libzaklimot.so
+    export ZAKLIMOT_LIBRARY=$PWD/libzaklimot.so
+Or make the proved one there, or unpack a release, and name the folder:
     tools/vga-library make kit
     export ZAKLIMOT_DIR=$PWD/kit
-Or install it with `tools/vga-library install`, or name its file in ZAKLIMOT_LIBRARY."""
+Or install that by `tools/vga-library install`."""
 
 
-class Library(NamedTuple):
+class Loaded(NamedTuple):
     """The library that is loaded: its file, its calls by their names without `zak_`, and its version."""
 
     path: str
@@ -72,7 +78,7 @@ def _fits(version: int) -> bool:
 
 
 @lru_cache(maxsize=None)
-def library() -> Library:
+def loaded() -> Loaded:
     """The library, loaded at the first call.
 
     Raises LibraryMissing where there is none, or one of another version.
@@ -91,7 +97,7 @@ def library() -> Library:
     if not _fits(version):
         needed = f"{API_MAJOR}.{API_MINOR} or later of {API_MAJOR}"
         raise LibraryMissing(f"{path} has version {told[0]}.{told[1]}, and this package needs {needed}. {HOW}")
-    return Library(path, calls, told)
+    return Loaded(path, calls, told)
 
 
 def _in_sources(own: Path) -> list[Path]:
@@ -101,7 +107,7 @@ def _in_sources(own: Path) -> list[Path]:
 
 def _font_places() -> Iterator[Path]:
     """Where the project's font may lie."""
-    for above in list(Path(library().path).absolute().parents)[1:3]:
+    for above in list(Path(loaded().path).absolute().parents)[1:3]:
         yield above / "share" / "zaklimot" / FONTS
     yield CARRIED / FONTS
     for prefix in (sys.prefix, *USUAL_PREFIXES):

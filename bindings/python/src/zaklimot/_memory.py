@@ -8,12 +8,16 @@ import mmap
 from ._errors import OutOfMemory
 
 
+# Elsewhere than on Windows a process that forks gets memory of its own by these.
+PRIVATE = {"flags": mmap.MAP_PRIVATE | mmap.MAP_ANONYMOUS} if hasattr(mmap, "MAP_PRIVATE") else {}
+
+
 class Room:
     """So many bytes, which cost nothing until they are written. A process that forks has its own."""
 
     def __init__(self, size: int) -> None:
         try:
-            self._memory = mmap.mmap(-1, size, flags=mmap.MAP_PRIVATE | mmap.MAP_ANONYMOUS)
+            self._memory = mmap.mmap(-1, size, **PRIVATE)
         except (OSError, OverflowError, ValueError) as error:
             raise OutOfMemory(f"there is no memory for {size:,} bytes") from error
         self.size = size

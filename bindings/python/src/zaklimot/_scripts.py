@@ -7,7 +7,7 @@ from typing import Any, Union
 
 from . import _structs as s
 from ._errors import error_of
-from ._library import library
+from ._library import loaded
 from ._memory import Room
 
 NO_ROOM = 25
@@ -29,7 +29,7 @@ def script_bytes(script: AnyScript) -> bytes:
 
 def _other_form(name: str, given: bytes) -> bytes:
     """What a call makes of a text, or of a script. The first time it tells how long that is."""
-    call, length, place = library().calls[name], s.SIZE(), s.SIZE()
+    call, length, place = loaded().calls[name], s.SIZE(), s.SIZE()
     told = (ctypes.byref(length), ctypes.byref(place))
     made = (s.U8 * 1)()
     status = call(given, len(given), made, 0, *told)
@@ -70,7 +70,7 @@ def run_script(script: AnyScript, fonts: bytes) -> bytes:
     told = (ctypes.byref(length), ctypes.byref(place))
     while True:
         room = Room(size)
-        status = library().calls["run"](code, len(code), glyphs, len(glyphs), room.pointer, size, *told)
+        status = loaded().calls["run"](code, len(code), glyphs, len(glyphs), room.pointer, size, *told)
         if not status:
             return bytes(room.view[:length.value])
         if status != NO_ROOM:

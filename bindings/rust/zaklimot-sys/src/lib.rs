@@ -8,6 +8,13 @@
 
 use core::ffi::c_void;
 
+/// Of which kind the library is that this crate was built with: `proved`, `portable`, or `unknown`
+/// where nothing beside it told.
+pub const KIND: &str = match option_env!("ZAKLIMOT_KIND") {
+    Some(kind) => kind,
+    None => "unknown",
+};
+
 /// What a call answers.
 pub type zak_status = u32;
 
@@ -200,6 +207,7 @@ pub const ZAK_NO_ROOM: zak_status = 25;
 pub const ZAK_BAD_ARGUMENT: zak_status = 26;
 pub const ZAK_BAD_CARD: zak_status = 27;
 pub const ZAK_NO_SCREEN: zak_status = 28;
+pub const ZAK_BROKEN: zak_status = 29;
 pub const ZAK_STATE_MAGIC: zak_status = 30;
 pub const ZAK_STATE_VERSION: zak_status = 31;
 pub const ZAK_STATE_LENGTH: zak_status = 32;
@@ -213,8 +221,8 @@ pub const ZAK_TOO_LONG: zak_status = 106;
 pub const ZAK_BAD_LINE: zak_status = 107;
 pub const ZAK_TOO_MANY: zak_status = 111;
 pub const ZAK_API_MAJOR: u32 = 1;
-pub const ZAK_API_MINOR: u32 = 4;
-pub const ZAK_API_VERSION: u32 = 65540;
+pub const ZAK_API_MINOR: u32 = 5;
+pub const ZAK_API_VERSION: u32 = 65541;
 pub const ZAK_FONTS_SIZE: u32 = 9728;
 pub const ZAK_MOST_DOTS: u32 = 16777216;
 pub const ZAK_NEVER: u32 = 4294967295;
@@ -405,11 +413,8 @@ extern "C" {
     ) -> zak_status;
     pub fn zak_restore(card: *mut zak_card, bytes: *const u8, bytes_len: usize) -> zak_status;
     pub fn zak_save_fixed(card: *mut zak_card, bytes: *mut u8, bytes_len: usize) -> zak_status;
-    pub fn zak_restore_fixed(
-        card: *mut zak_card,
-        bytes: *const u8,
-        bytes_len: usize,
-    ) -> zak_status;
+    pub fn zak_restore_fixed(card: *mut zak_card, bytes: *const u8, bytes_len: usize)
+        -> zak_status;
     pub fn zak_run(
         script: *const u8,
         script_len: usize,

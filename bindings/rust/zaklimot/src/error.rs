@@ -34,7 +34,7 @@ pub enum Error {
     TooFar,
     /// Glyphs of another height than 8, 14 or 16 scan lines.
     BadHeight,
-    /// The card is not open. No call of [`Card`](crate::Card) answers it.
+    /// The card is not open: a call on it answered [`Error::Broken`].
     NoCard,
     /// The card is open already. No call of [`Card`](crate::Card) answers it.
     OpenAlready,
@@ -53,6 +53,9 @@ pub enum Error {
     BadCard,
     /// The adapter shows no plain screen (`docs/SCREENS.md`).
     NoScreen,
+    /// The portable library was compiled wrongly: it did what the proofs exclude, and the card is
+    /// closed. The proved library never answers it.
+    Broken,
     /// The bytes are no saved state.
     StateMagic,
     /// A saved state of another version of the format.
@@ -115,8 +118,8 @@ statuses! {
     ZAK_BAD_HEIGHT BadHeight, ZAK_NO_CARD NoCard, ZAK_OPEN_ALREADY OpenAlready,
     ZAK_FONT_SIZE FontSize, ZAK_OUT_OF_MEMORY OutOfMemory, ZAK_RAGGED Ragged,
     ZAK_NO_ROOM NoRoom, ZAK_BAD_ARGUMENT BadArgument, ZAK_BAD_CARD BadCard,
-    ZAK_NO_SCREEN NoScreen, ZAK_STATE_MAGIC StateMagic, ZAK_STATE_VERSION StateVersion,
-    ZAK_STATE_LENGTH StateLength, ZAK_STATE_PART StatePart,
+    ZAK_NO_SCREEN NoScreen, ZAK_BROKEN Broken, ZAK_STATE_MAGIC StateMagic,
+    ZAK_STATE_VERSION StateVersion, ZAK_STATE_LENGTH StateLength, ZAK_STATE_PART StatePart,
     ZAK_STATE_CHECKSUM StateChecksum, ZAK_BAD_MAGIC BadMagic,
     ZAK_BAD_VERSION BadVersion, ZAK_BAD_STEP BadStep(place), ZAK_TRUNCATED Truncated(place),
     ZAK_TOO_LONG TooLong, ZAK_BAD_LINE BadLine(place), ZAK_TOO_MANY TooMany(place),

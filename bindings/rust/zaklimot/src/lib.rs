@@ -62,6 +62,32 @@ const FONTS: &[u8] = include_bytes!(env!("ZAKLIMOT_FONTS"));
 #[cfg(docsrs)]
 const FONTS: &[u8] = &[];
 
+/// Which library a crate was built with.
+#[derive(Clone, Copy, Debug, PartialEq, Eq, Hash)]
+#[non_exhaustive]
+pub enum Library {
+    /// The proved one.
+    Proved,
+    /// The one that a C compiler made of `portable/zaklimot.c`: tested, and not proved.
+    Portable,
+    /// One beside which nothing tells its kind.
+    Unknown,
+}
+
+/// Which library the crate was built with, as the build found it. A program that is linked with a
+/// shared library may meet another one when it runs.
+///
+/// ```
+/// println!("{:?}", zaklimot::library()); // Portable
+/// ```
+pub fn library() -> Library {
+    match sys::KIND {
+        "proved" => Library::Proved,
+        "portable" => Library::Portable,
+        _ => Library::Unknown,
+    }
+}
+
 /// The version of the library that is linked: its major and its minor number.
 ///
 /// ```

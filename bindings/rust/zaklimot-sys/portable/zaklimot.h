@@ -1,0 +1,1 @@
+../../../../include/zaklimot.h
