@@ -23,8 +23,10 @@ high_halves r g b r_fits g_fits b_fits =
   where
     whole : (65536 * r + (256 * g + b)) / 16 ≡ (16 * r + g / 16) * 2 ^ 8 + (16 * (g % 16) + b / 16)
     whole = omega arith
+
     above : bit_and (16 * r + g / 16) 3855 ≡ 256 * (r / 16) + g / 16
     above = ap (λ n. bit_and n 3855) (omega arith)
         ∙ two_halves (r / 16) (r % 16) (g / 16) (omega (arith, r_fits)) (omega arith) (omega (arith, g_fits))
+
     below : bit_and (16 * (g % 16) + b / 16) 15 ≡ b / 16
     below = low_half (16 * (g % 16) + b / 16) ∙ omega (arith, b_fits)

@@ -1,1 +1,367 @@
-../../../../include/zaklimot.h
+/* zaklimot.h: a VGA display adapter with its video BIOS, as a library.
+ *
+ * SPDX-License-Identifier: MIT
+ *
+ * Each call does what the step of the same name does in a script (docs/SCRIPT.md), by the register
+ * table (docs/REGISTERS.md). A refused call changes nothing. docs/LIBRARY.md is the guide.
+ *
+ * You own the struct of a card. A zero-filled card is a closed card. Do not write or copy an open
+ * card, and close it once. Two cards share nothing. A card may move from one thread to another, but
+ * takes one call at a time, and none from a signal handler.
+ *
+ * Pointers must not be NULL, even when the length is 0, and no two pointers of a call overlap. On
+ * any status but ZAK_OK, output arguments are unchanged unless the call says otherwise. Lengths
+ * count elements: bytes, or words where the pointer is to uint32_t.
+ */
+#ifndef ZAKLIMOT_H
+#define ZAKLIMOT_H
+
+#include <stdbool.h>
+#include <stddef.h>
+#include <stdint.h>
+
+#ifdef __cplusplus
+extern "C" {
+#endif
+
+/* The interface that this header describes. The major number grows when a call, a struct or a
+ * status changes; the minor number grows when calls, structs or statuses are added. */
+#define ZAK_API_MAJOR 1
+#define ZAK_API_MINOR 5
+#define ZAK_API_VERSION (65536u * ZAK_API_MAJOR + ZAK_API_MINOR) /* as zak_version() answers it */
+
+/* What a call answers. 1 to 13 are the refusals E1 to E13 of docs/REPORT.md; 102 and up are the
+ * faults of scripts, 100 more than their numbers F2 to F11 there. */
+typedef uint32_t zak_status;
+enum {
+    ZAK_OK = 0,
+    ZAK_NOT_DECODED = 1,     /* no part of the adapter decodes the port or the address */
+    ZAK_NOT_IN_PROFILE = 2,  /* a register, value or port that docs/PROFILE.md leaves out */
+    ZAK_NO_MODE = 3,         /* no mode is set yet */
+    ZAK_BAD_FUNCTION = 4,
+    ZAK_BAD_MODE = 5,
+    ZAK_WRONG_KIND = 6,      /* a call for text in graphics, or for pixels in text */
+    ZAK_BAD_PAGE = 7,
+    ZAK_OUTSIDE = 8,
+    ZAK_COUNT_PAST = 9,
+    ZAK_BAD_REGISTER = 10,
+    ZAK_BAD_BLOCK = 11,
+    ZAK_TOO_FAR = 12,        /* more than ZAK_MOST_DOTS */
+    ZAK_BAD_HEIGHT = 13,
+    ZAK_NO_CARD = 20,        /* the card is not open */
+    ZAK_OPEN_ALREADY = 21,
+    ZAK_FONT_SIZE = 22,      /* the font file does not have ZAK_FONTS_SIZE bytes */
+    ZAK_OUT_OF_MEMORY = 23,  /* malloc failed; nothing has changed, but see zak_run_on */
+    ZAK_RAGGED = 24,         /* two rows of the frame differ in width: there is no picture */
+    ZAK_NO_ROOM = 25,        /* the caller's buffer is too short, and nothing was written there */
+    ZAK_BAD_ARGUMENT = 26,   /* an argument is not in the range that the call names */
+    ZAK_BAD_CARD = 27,       /* corrupt BIOS data: the card's memory was overwritten */
+    ZAK_NO_SCREEN = 28,      /* the adapter shows no plain screen (docs/SCREENS.md) */
+    ZAK_BROKEN = 29,         /* of portable/zaklimot.c alone: it was compiled wrongly; see there */
+    ZAK_STATE_MAGIC = 30,    /* of zak_restore: the bytes are no saved state */
+    ZAK_STATE_VERSION = 31,  /* the state has another version of the format */
+    ZAK_STATE_LENGTH = 32,   /* the state is cut off, or bytes follow it */
+    ZAK_STATE_PART = 33,     /* a part of the state is out of its bounds */
+    ZAK_STATE_CHECKSUM = 34, /* of zak_restore_fixed: the checksum is wrong */
+    ZAK_BAD_MAGIC = 102,
+    ZAK_BAD_VERSION = 103,
+    ZAK_BAD_STEP = 104,
+    ZAK_TRUNCATED = 105,
+    ZAK_TOO_LONG = 106,
+    ZAK_BAD_LINE = 107,      /* of zak_assemble: a line of the text is bad */
+    ZAK_TOO_MANY = 111
+};
+
+#define ZAK_FONTS_SIZE 9728u                           /* bytes of a font file */
+#define ZAK_MOST_DOTS 16777216u                        /* dots of one zak_advance */
+#define ZAK_NEVER 0xFFFFFFFFu                          /* zak_clock: no dots change the bit */
+#define ZAK_WIDEST 2304u                               /* dots in a row of a picture */
+#define ZAK_HIGHEST 1024u                              /* rows of a picture */
+#define ZAK_MOST_RGB (3u * ZAK_WIDEST * ZAK_HIGHEST)   /* bytes of a picture */
+#define ZAK_MOST_TABLE 768u                            /* bytes that an int10 answers */
+#define ZAK_MOST_TEXT 32768u                           /* bytes of a zak_show_.. */
+#define ZAK_OPAQUE 1u                                  /* zak_frame_words: words FFRRGGBB */
+#define ZAK_ONCE 2u                                    /* zak_frame_words: each pixel once */
+#define ZAK_FIRST_STATE 265086u                        /* bytes of a state at a frame's first dot */
+#define ZAK_MOST_STATE 7342974u                        /* bytes of a state at any dot */
+
+/* A card. `machine` points to everything that the card keeps, except the dots that it owes. */
+typedef struct zak_card {
+    bool is_open;  /* read only */
+    uint32_t owed; /* private */
+    void *machine; /* private */
+} zak_card;
+
+#define ZAK_CARD_INIT { false, 0, NULL }
+
+/* The interface of the linked library: 65,536 times its major number, plus its minor number. It
+ * fits the header if the major numbers are equal and its minor number is not lower. */
+uint32_t zak_version(void);
+
+/* Opens a machine in its power-on state, with the glyphs of a font file, such as
+ * fonts/zaklimot.fnt. It allocates 7.4 MB by malloc, which zak_close frees. Of the other calls only
+ * zak_show_.., zak_screen_.., zak_run, zak_run_on, zak_assemble, zak_print and zak_int10 with AX =
+ * 1017 (hexadecimal) allocate memory, which they free before they return. Answers ZAK_OPEN_ALREADY,
+ * ZAK_FONT_SIZE, ZAK_OUT_OF_MEMORY. */
+zak_status zak_open(zak_card *card, const uint8_t *fonts, size_t fonts_len);
+zak_status zak_close(zak_card *card);
+
+/* Cycles of a byte, and of a word: the low byte at the port or the address, the high byte at the
+ * next. Addresses are the processor's, 0xA0000 to 0xBFFFF; the registers say which of them the
+ * adapter decodes. Refused with ZAK_NOT_DECODED and ZAK_NOT_IN_PROFILE. */
+zak_status zak_out(zak_card *card, uint16_t port, uint8_t value);
+zak_status zak_out_word(zak_card *card, uint16_t port, uint16_t value);
+zak_status zak_in(zak_card *card, uint16_t port, uint8_t *value);
+zak_status zak_in_word(zak_card *card, uint16_t port, uint16_t *value);
+zak_status zak_put(zak_card *card, uint32_t address, uint8_t value);
+zak_status zak_put_word(zak_card *card, uint32_t address, uint16_t value);
+zak_status zak_get(zak_card *card, uint32_t address, uint8_t *value);
+zak_status zak_get_word(zak_card *card, uint32_t address, uint16_t *value);
+
+/* Cycles of a byte at len or count addresses that follow one another: the first address first, or,
+ * if down is true, the last one first, as an 8086 moves strings. Each does what the single call
+ * does: a cycle that the adapter does not decode changes nothing, and reads FF. bytes[i] is the
+ * byte of address + i, in either direction. zak_move_bytes reads from + i and then writes to + i,
+ * for each i in turn. *decoded is the number of addresses that the adapter decodes; for
+ * zak_move_bytes reads and writes count, 2 * count if it decodes all. Words and doublewords that go
+ * up are one call over all their bytes. If they go down, make a call for each, since the bytes of
+ * each go up. ZAK_BAD_ARGUMENT: address, from or to, plus the length, is above 0xFFFFFFFF. */
+zak_status zak_put_bytes(zak_card *card, uint32_t address, const uint8_t *bytes, size_t len,
+                         bool down, size_t *decoded);
+zak_status zak_fill_bytes(zak_card *card, uint32_t address, uint8_t value, size_t count, bool down,
+                          size_t *decoded);
+zak_status zak_get_bytes(zak_card *card, uint32_t address, uint8_t *bytes, size_t len, bool down,
+                         size_t *decoded);
+zak_status zak_move_bytes(zak_card *card, uint32_t from, uint32_t to, size_t count, bool down,
+                          size_t *decoded);
+
+/* Lets the clock run for 0 to ZAK_MOST_DOTS dots; more are refused with ZAK_TOO_FAR. n and then m
+ * dots are n + m dots. The library adds up the dots of successive calls, and the next other call
+ * draws them all: a call of a few dots costs little. */
+zak_status zak_advance(zak_card *card, uint32_t dots);
+
+/* Tells what the clock comes to next, if no register is written meanwhile. After to_frame dots the
+ * frame under way ends. After to_display dots, and no fewer, bit 0 of input status 1 changes (it is
+ * 1 where no dot is displayed). After to_retrace dots, and no fewer, bit 3 changes (it is 1 in the
+ * vertical retrace). ZAK_NEVER: no number of dots changes the bit. rate / rate_divisor is the
+ * number of dots a second: 25,175,000 or 28,322,000 by the clock select bits of the miscellaneous
+ * output register, divided by 2 if the sequencer halves the clock (clocking mode, bit 3). */
+typedef struct zak_timing {
+    uint32_t to_frame, to_display, to_retrace; /* dots; the last two may be ZAK_NEVER */
+    uint32_t line_dots, frame_dots, lines;     /* dots of a line and of a frame; lines of a frame */
+    uint32_t rate, rate_divisor;               /* dots a second */
+} zak_timing;
+
+zak_status zak_clock(zak_card *card, zak_timing *timing);
+
+typedef struct zak_size { uint32_t width, height; } zak_size; /* dots in a row, and rows */
+
+/* Lets the clock run to the end of the frame under way, by at least one dot, and gives the frame's
+ * picture, rows from the top, each from the left. zak_frame gives three bytes a dot, red, green and
+ * blue, 0 to 63 each. zak_frame_xrgb gives a word 00RRGGBB a dot, of eight bits a colour (a
+ * component c of six bits is 4 * c + c / 16). Row y begins at pixels[pitch * y], the pitch counts
+ * words, and words beside the picture stay as they are. ZAK_RAGGED: *size stays. ZAK_NO_ROOM:
+ * rgb_len is below 3 * width * height, or the pitch below width, or pixels_len below
+ * pitch * height; *size is the size of the picture. With either status the frame has passed all the
+ * same. */
+zak_status zak_frame(zak_card *card, zak_size *size, uint8_t *rgb, size_t rgb_len);
+zak_status zak_frame_xrgb(zak_card *card, zak_size *size, uint32_t *pixels, size_t pixels_len,
+                          size_t pitch);
+
+typedef struct zak_picture {
+    uint32_t width, height; /* words in a row, and rows */
+    uint32_t across, down;  /* dots of a line, and scan lines, that a word stands for */
+} zak_picture;
+
+/* Does what zak_frame_xrgb does, in the form that flags ask for: 0, or a sum of ZAK_OPAQUE and
+ * ZAK_ONCE. With ZAK_ONCE a pixel that the screen shows several times is given once. The screen of
+ * mode 13 (hexadecimal) then has 320 by 200 words, each for 2 dots on 2 lines. The screen of mode D
+ * has 320 by 200, each for 1 dot on 2 lines. The words are every across-th dot of every down-th
+ * line of the picture that zak_frame gives, from the first on. across is 2 in 256 colours with
+ * characters of eight dots, and else 1. In graphics down is the number of scan lines of a row of
+ * characters, and in text 1; it is doubled if the CRT controller shows each line twice. Both follow
+ * from the registers at the call. ZAK_NO_ROOM and ZAK_RAGGED: as zak_frame_xrgb. ZAK_BAD_ARGUMENT:
+ * flags are above 3, and no dot has passed. */
+zak_status zak_frame_words(zak_card *card, uint32_t flags, zak_picture *picture, uint32_t *pixels,
+                           size_t pixels_len, size_t pitch);
+
+/* Lets the clock run to the end of the line under way, by at least one dot, for a core that shows
+ * each line as it ends. pixels[x] is the word of the line's dot x: 00RRGGBB, or FFRRGGBB with
+ * ZAK_OPAQUE in flags. ZAK_NO_ROOM: pixels_len is below the width; the line has passed all the
+ * same, and *line is written. ZAK_BAD_ARGUMENT: flags are above 1, and no dot has passed. */
+typedef struct zak_scan_line {
+    uint32_t number; /* the line's number in the frame, from 0; lines without a dot count too */
+    uint32_t width;  /* dots, at most ZAK_WIDEST; 0 for a line with none */
+    bool ends_frame; /* whether the frame ends with this line */
+} zak_scan_line;
+
+zak_status zak_line(zak_card *card, uint32_t flags, zak_scan_line *line, uint32_t *pixels,
+                    size_t pixels_len);
+
+/* Lets the clock run to the end of the frame under way, and gives the frame's dots line by line,
+ * also if it is ragged. widths[y], for y from 0 to ZAK_HIGHEST - 1, is the number of dots of line
+ * y, at most ZAK_WIDEST, and 0 for a line with none. rgb gets three bytes a dot: line 0 from the
+ * left, then line 1, and so on. *rgb_used is the number of bytes. ZAK_NO_ROOM: widths and *rgb_used
+ * are written all the same, and rgb is not. */
+zak_status zak_frame_lines(zak_card *card, uint32_t widths[ZAK_HIGHEST], uint8_t *rgb,
+                           size_t rgb_len, size_t *rgb_used);
+
+typedef struct zak_regs { uint16_t ax, bx, cx, dx; } zak_regs;
+
+/* Calls interrupt 10 (hexadecimal). *regs are the processor's registers, and afterwards the answer.
+ * block is what the caller's memory contains at ES:BP or ES:DX, for functions that read it. table
+ * is room for what a function writes there, at most ZAK_MOST_TABLE bytes; *table_len is their
+ * number. Refused with ZAK_NO_MODE to ZAK_BAD_BLOCK, and ZAK_BAD_HEIGHT. ZAK_NO_ROOM: the service
+ * is done, *regs and *table_len are written, and the table is not. */
+zak_status zak_int10(zak_card *card, zak_regs *regs, const uint8_t *block, size_t block_len,
+                     uint8_t *table, size_t table_cap, size_t *table_len);
+
+/* Tells what a call of zak_int10 with these registers reads of the caller's memory: len bytes, 0
+ * for none, at ES:DX if is_at_dx is true, and else at ES:BP. With a block of exactly len bytes
+ * zak_int10 never answers ZAK_BAD_BLOCK. With another number it is refused, if len is not 0. */
+typedef struct zak_source {
+    size_t len; /* 0 to 16,711,425 */
+    bool is_at_dx;
+} zak_source;
+
+zak_status zak_block(zak_card *card, const zak_regs *regs, zak_source *source);
+
+/* Gives the state as the text of the script's step `show` (docs/REPORT.md), with a newline and no 0
+ * after it. ZAK_MOST_TEXT bytes are always enough. ZAK_NO_ROOM: *text_len is the number of bytes
+ * needed. zak_show_cells is refused with ZAK_NO_MODE and ZAK_WRONG_KIND. zak_show_plane shows count
+ * bytes, 1 to 256, of plane 0 to 3 from an offset on, to the plane's end at most; else it answers
+ * ZAK_BAD_ARGUMENT. */
+zak_status zak_show_regs(zak_card *card, uint8_t *text, size_t text_cap, size_t *text_len);
+zak_status zak_show_beam(zak_card *card, uint8_t *text, size_t text_cap, size_t *text_len);
+zak_status zak_show_latches(zak_card *card, uint8_t *text, size_t text_cap, size_t *text_len);
+zak_status zak_show_bda(zak_card *card, uint8_t *text, size_t text_cap, size_t *text_len);
+zak_status zak_show_cells(zak_card *card, uint8_t *text, size_t text_cap, size_t *text_len);
+zak_status zak_show_dac(zak_card *card, uint8_t index, uint8_t *text, size_t text_cap,
+                        size_t *text_len);
+zak_status zak_show_plane(zak_card *card, uint8_t plane, uint16_t offset, uint16_t count,
+                          uint8_t *text, size_t text_cap, size_t *text_len);
+
+/* Read the state. Nothing changes, not even an index, a latch or the flip-flop. */
+typedef struct zak_registers {
+    uint8_t misc;                         /* miscellaneous output register */
+    uint8_t seq_index, seq[5];            /* sequencer */
+    uint8_t crtc_index, crtc[25];         /* CRT controller */
+    uint8_t gfx_index, gfx[9];            /* graphics controller */
+    uint8_t attr_index, attr_is_data;     /* index with bit 5; 1 if 3C0 takes data next */
+    uint8_t attr[21];                     /* attribute controller */
+    uint8_t dac_index, dac_component;     /* next is 0 red, 1 green, 2 blue */
+    uint8_t dac_mask, dac_waiting_red, dac_waiting_green;
+} zak_registers;
+
+typedef struct zak_colour { uint8_t red, green, blue; } zak_colour; /* 0 to 63 each */
+
+typedef struct zak_beam {
+    uint16_t line, character, dot;        /* where the next dot is: 0 to 1024, 0 to 259, 0 to 8 */
+    uint16_t base;                        /* counter of the row's first character */
+    uint16_t scan;                        /* scan line of the row of characters, 0 to 31 */
+    uint16_t rows;                        /* rows of this frame with a dot so far */
+    uint8_t frame;                        /* number of the frame, 0 to 31 */
+    uint8_t half;                         /* 1 on the second line of two under double scan */
+    uint8_t split;                        /* 1 if line compare was reached in this frame */
+} zak_beam;
+
+typedef struct zak_latches { uint8_t plane[4]; } zak_latches;
+
+typedef struct zak_bda {                  /* the BIOS data; all 0 until a mode is set */
+    uint16_t columns, size, start;        /* of a row; bytes of a page; active page's first */
+    uint16_t cursor_places[8];            /* cursor positions: 256 * row + column */
+    uint16_t cursor_type;                 /* 256 * first scan line + last */
+    uint16_t crtc_address, height;        /* the CRT controller's port; lines of a character */
+    uint8_t mode, page, last_row;
+} zak_bda;
+
+zak_status zak_read_registers(zak_card *card, zak_registers *registers);
+zak_status zak_read_colour(zak_card *card, uint8_t index, zak_colour *colour);
+zak_status zak_read_beam(zak_card *card, zak_beam *beam);
+zak_status zak_read_latches(zak_card *card, zak_latches *latches);
+zak_status zak_read_bda(zak_card *card, zak_bda *bda);
+
+/* Reads bytes_len bytes of plane 0 to 3 from an offset on, to the plane's end at 65,536 at most.
+ * ZAK_BAD_ARGUMENT: there is no such plane, or the bytes go past its end. */
+zak_status zak_read_plane(zak_card *card, uint8_t plane, uint16_t offset, uint8_t *bytes,
+                          size_t bytes_len);
+
+/* Read the plain screen, if the adapter shows one: cells of text or pixels, page after page, as
+ * programs that use only the video BIOS see it. Else they answer ZAK_NO_SCREEN. A call reads the
+ * whole screen, into up to 0.8 MB that it allocates and frees. ZAK_BAD_ARGUMENT: there is no such
+ * page, row, column, x or y, or a cell is asked for in graphics, or a pixel in text. The BIOS keeps
+ * a cursor position for each of pages 0 to 7 in every mode: zak_screen_cursor takes these pages. */
+typedef struct zak_screen {
+    uint32_t width, height;               /* in pixels; 0 in text, which has none */
+    uint16_t columns, rows;               /* in characters */
+    uint8_t mode, is_text;                /* number of the mode; 1 in text, 0 in graphics */
+    uint8_t page, pages;                  /* the active page, and the number of pages */
+} zak_screen;
+
+typedef struct zak_cell { uint8_t character, attribute; } zak_cell;
+typedef struct zak_place { uint8_t row, column; } zak_place;
+
+zak_status zak_screen_read(zak_card *card, zak_screen *screen);
+zak_status zak_screen_cell(zak_card *card, uint8_t page, uint8_t row, uint8_t column,
+                           zak_cell *cell);
+zak_status zak_screen_pixel(zak_card *card, uint8_t page, uint16_t x, uint16_t y, uint8_t *pixel);
+zak_status zak_screen_cursor(zak_card *card, uint8_t page, zak_place *place);
+
+/* Save the state of a card as bytes, and restore it, on this card or on another, which then goes on
+ * as if it had never stopped. The state is the BIOS data and the adapter, with three bytes for each
+ * dot drawn of the frame under way, and without the fonts (docs/STATE.md). At the first dot of a
+ * frame it has ZAK_FIRST_STATE bytes. zak_save: *len is the number of bytes, as with zak_save_size,
+ * also with ZAK_NO_ROOM. zak_restore takes the bytes of a state, each part within its bounds. It
+ * refuses others with one of ZAK_STATE_.., and leaves the card. */
+zak_status zak_save_size(zak_card *card, size_t *len);
+zak_status zak_save(zak_card *card, uint8_t *bytes, size_t bytes_cap, size_t *len);
+zak_status zak_restore(zak_card *card, const uint8_t *bytes, size_t bytes_len);
+
+/* Save and restore the state in a number of bytes that you choose, for a core whose states have one
+ * size: the bytes of zak_save, then zeros, and in the last four bytes the Adler-32 checksum of all
+ * before them, the lowest byte first. ZAK_MOST_STATE + 4 bytes are always enough. ZAK_NO_ROOM:
+ * there are fewer bytes than the state and its checksum take. zak_restore_fixed takes all of these
+ * bytes. It answers ZAK_STATE_CHECKSUM if the checksum is wrong, else what zak_restore answers. */
+zak_status zak_save_fixed(zak_card *card, uint8_t *bytes, size_t bytes_len);
+zak_status zak_restore_fixed(zak_card *card, const uint8_t *bytes, size_t bytes_len);
+
+/* Makes a whole run with no card: the bytes of a script in (docs/SCRIPT.md), its report out
+ * (docs/REPORT.md). ZAK_NO_ROOM: *report_len is the number of bytes needed. ZAK_BAD_STEP,
+ * ZAK_TRUNCATED, ZAK_TOO_MANY: *place is the offset in the script, in bytes, of the step or repeat.
+ * ZAK_FONT_SIZE, ZAK_OUT_OF_MEMORY, ZAK_BAD_MAGIC, ZAK_BAD_VERSION, ZAK_TOO_LONG have no place. If
+ * a run fails, no report is written. */
+zak_status zak_run(const uint8_t *script, size_t script_len, const uint8_t *fonts, size_t fonts_len,
+                   uint8_t *report, size_t report_cap, size_t *report_len, size_t *place);
+
+/* Takes steps of a script on an open card: it passes over the first `first` steps, and takes at
+ * most `most` steps after them. The steps of a `repeat` count each time that they are taken. The
+ * report contains the lines of zak_run for the steps that were taken, numbered from first + 1 on.
+ * *taken is their number: fewer than `most` only if the script ends. A step that is refused says so
+ * in its line, and the call answers ZAK_OK. You can take a script in slices, with other calls
+ * between them. Each call decodes the whole script and walks over the first `first` steps.
+ * ZAK_NO_ROOM: the steps are taken all the same; *report_len and *taken are written, and the report
+ * is not. The report of a single step has at most ZAK_MOST_RGB + 100 bytes. The faults of zak_run,
+ * with *place: no step is taken, whichever were asked for. ZAK_OUT_OF_MEMORY: some of the first of
+ * the steps may have been taken, each as a whole, and nothing tells how many; restore a saved
+ * state. ZAK_BAD_CARD: no step is taken. */
+zak_status zak_run_on(zak_card *card, const uint8_t *script, size_t script_len, uint32_t first,
+                      uint32_t most, uint8_t *report, size_t report_cap, size_t *report_len,
+                      size_t *taken, size_t *place);
+
+/* Gives the bytes of the script that a text spells (docs/SCRIPT.md). ZAK_NO_ROOM: *script_len is
+ * the number of bytes needed; a first call with a script_cap of 0 tells how much room to get.
+ * ZAK_BAD_LINE: *line is the number of the first bad line, from 1. ZAK_TOO_LONG: the text or the
+ * script has more than 16,777,216 bytes. */
+zak_status zak_assemble(const uint8_t *text, size_t text_len, uint8_t *script, size_t script_cap,
+                        size_t *script_len, size_t *line);
+
+/* Gives the text that spells the script of some bytes: a line for each step, with every number at
+ * full width, and for each `version 2`, `repeat` and `end`. Comments are not in the bytes.
+ * ZAK_NO_ROOM: *text_len is the number of bytes needed. The faults of zak_run, with *place. */
+zak_status zak_print(const uint8_t *script, size_t script_len, uint8_t *text, size_t text_cap,
+                     size_t *text_len, size_t *place);
+
+#ifdef __cplusplus
+}
+#endif
+#endif
