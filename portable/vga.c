@@ -8,6 +8,7 @@
  * program, crates/vga, which share/man/man1/vga.1 explains. No proof covers this file: tests hold
  * it to the proved program.
  */
+#include <signal.h>
 #include <stdarg.h>
 #include <stdbool.h>
 #include <stddef.h>
@@ -1209,10 +1210,14 @@ static fault do_job(const struct job *job)
     return job->command == &COMMAND[DIS] ? print_file(job) : run_file(job);
 }
 
-/* Bytes go out as they are, in large pieces; and a message in one. */
+/* Bytes go out as they are, in large pieces; and a message in one. A pipe that nobody reads is a
+ * WriteFault, and does not end the program by a signal. */
 static void prepare_streams(void)
 {
     static char said[4096];
+#if defined(SIGPIPE)
+    signal(SIGPIPE, SIG_IGN);
+#endif
 #if defined(_WIN32)
     _setmode(_fileno(stdout), _O_BINARY);
     _setmode(_fileno(stderr), _O_BINARY);

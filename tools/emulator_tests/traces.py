@@ -25,7 +25,7 @@ sys.path.insert(0, str(Path(__file__).resolve().parents[1]))
 from vga_floppy.image import image_for
 from vga_report import cli
 from vga_report.processes import ended_well, run
-from vga_report.program import FONTS, PROGRAM
+from vga_report.program import FONTS, found_program
 from vga_report.progress import Progress
 from vga_report.faults import script_of
 from vga_report.trouble import Trouble
@@ -205,7 +205,7 @@ def _replay_all(words: argparse.Namespace, progress: Progress) -> int:
     unknown = set(words.names) - set(SOFTWARE)
     if unknown:
         raise Trouble(f"there is no software {', '.join(sorted(unknown))}")
-    status = 0
+    status, program = 0, found_program()
     print(HEADER, flush=True)
     for name in words.names or SOFTWARE:
         software, folder = SOFTWARE[name], words.folder / name
@@ -216,7 +216,7 @@ def _replay_all(words: argparse.Namespace, progress: Progress) -> int:
         if not (folder / TRACE).exists():
             machine = software.make(folder, words.unpacked)
             record(machine, folder, lambda text: print(f"{name}: {text}", file=sys.stderr, flush=True), progress)
-        replayed = replay(folder, str(PROGRAM), str(FONTS), progress)
+        replayed = replay(folder, program, str(FONTS), progress)
         for line in replayed.listing.warnings():
             print(f"{name}: {line}", file=sys.stderr)
         told, is_as_known = row(name, replayed, software.refused, software.dots)

@@ -12,13 +12,15 @@ import unittest
 from functools import partial
 from pathlib import Path
 from threading import Event
-from typing import Any, Mapping
+from typing import Any, Mapping, NamedTuple, Sequence
 
 from vga_report import cli
+from vga_report.portable import portable_program
 from vga_report.processes import Done, captured, in_parallel
+from vga_report.program import PROGRAM
 from vga_report.trouble import AGREED as PASSED, DIFFERED as FAILED, Trouble
 
-from .tools import BUILT
+from .tools import BUILT, TESTED
 
 HERE = Path(__file__).resolve().parent
 TOOL = HERE.parent / "tests-of-tools"
@@ -26,6 +28,24 @@ TOOL = HERE.parent / "tests-of-tools"
 MOST_WORKERS, MOST_SECONDS = 4, 900
 # What unittest says of tests that have passed; nothing else stands there where no test has printed or warned.
 GOOD = re.compile(r"\n-{70}\nRan (\d+) tests? in \S+\n\nOK(?: \(skipped=(\d+)\))?\n$")
+# The same of others, with the numbers of those that have failed.
+BAD = re.compile(r"\nRan (\d+) tests? in \S+\n\nFAILED \((.*)\)\n$")
+# How a module tells a test that it has skipped, and why.
+SKIPS = "skipped  "
+
+
+class Counts(NamedTuple):
+    """How many tests ran, those that were skipped among them; how many were; and how many modules and tests failed."""
+
+    ran: int = 0
+    skipped: int = 0
+    modules: int = 0
+    failed: int = 0
+
+    @property
+    def passed(self) -> int:
+        """How many ran to their end, and found nothing wrong."""
+        return max(0, self.ran - self.skipped - self.failed)
 
 
 class _Result(unittest.TextTestResult):
@@ -48,30 +68,73 @@ def _run_apart(name: str, variables: Mapping[str, str], is_ended: Event) -> Done
         return Done(FAILED, b"", f"{trouble}\n".encode())
 
 
-def _run(parsed: argparse.Namespace, _: object) -> int:
-    if parsed.here:
-        tests = unittest.defaultTestLoader.loadTestsFromNames(parsed.modules)
-        return PASSED if unittest.TextTestRunner(resultclass=_Result).run(tests).wasSuccessful() else FAILED
-    ran, skipped, failed, begun, is_ended = 0, 0, 0, time.monotonic(), Event()
+def _run_here(names: Sequence[str]) -> int:
+    tests = unittest.defaultTestLoader.loadTestsFromNames(names)
+    result = unittest.TextTestRunner(resultclass=_Result).run(tests)
+    for test, reason in result.skipped:
+        print(f"{SKIPS}{test.id()}: {reason}")
+    return PASSED if result.wasSuccessful() else FAILED
+
+
+def _count(done: Done, text: str) -> Counts:
+    found, bad = None if done.status else GOOD.search(text), BAD.search(text)
+    if found is not None:
+        return Counts(int(found[1]), int(found[2] or 0))
+    told = {what: int(number) for what, number in re.findall(r"(\w+)=(\d+)", bad[2])} if bad is not None else {}
+    skipped = told.pop("skipped", 0)
+    return Counts(int(bad[1]) if bad is not None else 0, skipped, 1, max(1, sum(told.values())))
+
+
+def _told(name: str, done: Done) -> Counts:
+    """The counts of a module's tests; what it says of them is printed."""
+    lines = done.output.decode("utf-8", "replace").splitlines(keepends=True)
+    text = "".join(line for line in lines if not line.startswith(SKIPS)) + done.errors.decode("utf-8", "replace")
+    counts, found = _count(done, text), GOOD.search(text)
+    print(f"{'failed' if counts.modules else 'passed'}  {name}", flush=True)
+    sys.stdout.writelines(line for line in lines if line.startswith(SKIPS))
+    if counts.modules or found is None or text[:found.start()].strip(".s"):
+        print(f"{text}\nits process ended with status {done.status}")
+    return counts
+
+
+def run_modules(modules: Sequence[str], program: str, is_built: bool = False) -> Counts:
+    """Runs the tests of these modules, or of all, over a program; each module in a process of its own, some at a time."""
+    counts, is_ended = Counts(), Event()
     paths = sorted(HERE.glob("test_*.py"), key=lambda path: path.stat().st_size, reverse=True)
-    names = parsed.modules or [f"{HERE.name}.{path.stem}" for path in paths]
+    names = modules or [f"{HERE.name}.{path.stem}" for path in paths]
     with tempfile.TemporaryDirectory(prefix="vga-tests-") as compiled:
         # The tools that tests start are compiled once, and not at each start.
-        variables = {"PYTHONDONTWRITEBYTECODE": "", "PYTHONPYCACHEPREFIX": compiled, BUILT: "1" if parsed.built else ""}
+        variables = {
+            "PYTHONDONTWRITEBYTECODE": "", "PYTHONPYCACHEPREFIX": compiled, TESTED: program, BUILT: "1" if is_built else "",
+        }
         work = partial(_run_apart, variables=variables, is_ended=is_ended)
         with in_parallel(work, names, min(MOST_WORKERS, os.cpu_count() or 1), is_ended) as made:
             for name, done in zip(names, made):
-                text = (done.output + done.errors).decode("utf-8", "replace")
-                found = None if done.status else GOOD.search(text)
-                print(f"{'passed' if found else 'failed'}  {name}", flush=True)
-                if found is None or text[:found.start()].strip(".s"):
-                    print(f"{text}\nits process ended with status {done.status}")
-                ran, skipped = ran + int(found[1] if found else 0), skipped + int(found and found[2] or 0)
-                failed += found is None
-    counts = ", ".join(f"{what}={count}" for what, count in (("failed", failed), ("skipped", skipped)) if count)
-    print(f"Ran {ran} tests in {time.monotonic() - begun:.0f} seconds\n")
-    print(("FAILED" if failed else "OK") + (f" ({counts})" if counts else ""))
-    return FAILED if failed else PASSED
+                counts = Counts(*map(sum, zip(counts, _told(name, done))))
+    return counts
+
+
+def _tested(parsed: argparse.Namespace) -> str:
+    """The program that is tested: the proved one, or else the portable one. Where there is none, tests are skipped."""
+    given = os.environ.get(TESTED)
+    if parsed.built or os.access(PROGRAM, os.X_OK):
+        return str(PROGRAM)
+    try:
+        return given or portable_program()
+    except Trouble as trouble:
+        print(f"tests that want the program are skipped: {trouble}")
+        return str(PROGRAM)
+
+
+def _run(parsed: argparse.Namespace, _: object) -> int:
+    if parsed.here:
+        return _run_here(parsed.modules)
+    begun = time.monotonic()
+    counts = run_modules(parsed.modules, _tested(parsed), parsed.built)
+    told = ", ".join(f"{what}={count}" for what, count in (("failed", counts.modules), ("skipped", counts.skipped)) if count)
+    print(f"Ran {counts.ran} tests in {time.monotonic() - begun:.0f} seconds\n")
+    print(("FAILED" if counts.modules else "OK") + (f" ({told})" if told else ""))
+    return FAILED if counts.modules else PASSED
 
 
 def _parser() -> argparse.ArgumentParser:
@@ -81,7 +144,7 @@ def _parser() -> argparse.ArgumentParser:
     )
     told = "these modules alone, such as tests.test_trace (default: all)"
     parser.add_argument("modules", nargs="*", metavar="MODULE", help=told)
-    cli.add(parser, "--built", "fails where the program isn't built; else tests that need it are skipped")
+    cli.add(parser, "--built", "fails where the proved program isn't built; else the portable one is tested there")
     parser.add_argument("--here", action="store_true", help=argparse.SUPPRESS)
     parser.set_defaults(job=_run)
     return parser

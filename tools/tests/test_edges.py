@@ -13,9 +13,9 @@ from itertools import product
 from pathlib import Path
 from typing import Callable, Optional
 
-from vga_report.program import FONTS, PROGRAM
+from vga_report.program import FONTS
 
-from .tools import MOST_SECONDS, Folder, Ran, ended, hold, hold_undone, run_program, want_program
+from .tools import BUILT_PROGRAM, MOST_SECONDS, PROGRAM, Folder, Ran, ended, hold, hold_undone, run_program, want_program
 
 # The text of a script, with a comment; its bytes; its printed text; and its report.
 TEXT = b"OUT 3c2 63 ; colour addresses\n\nput A0000 ff\r\nin 3CC"
@@ -28,6 +28,8 @@ WAYS = (("dis", "script", (), PRINTED), *((*job, ("--fonts", "fonts"), REPORT) f
 # Each command's help. It is the interface, so a change of a letter is to be seen.
 HELP = Path(__file__).resolve().parent / "help"
 
+# How the version ends, the last line of the portable program's help.
+TESTED_ALONE = b", portable: tested, not proved\n"
 REFUSED = (
     "--version", "", "asm", "asm x", "asm x y z", "asm x y --fonts f", "dis", "dis x y", "dis x --fonts f", "dis -x",
     "run", "run x", "run --fonts f", "run x --fonts", "run x y --fonts f", "run x --fonts f --fonts g",
@@ -109,8 +111,13 @@ class Words(Program):
         self.assertEqual(self.ran("run", "script", "--fonts", "fonts", "--help").status, 0)
         self.assertFalse((self.folder / "new").exists())
 
+    def helped(self, *words: str) -> Ran:
+        """The same, without what the portable program adds to the version."""
+        ran = self.ran(*words)
+        return ran if PROGRAM == BUILT_PROGRAM else ran._replace(report=ran.report.replace(TESTED_ALONE, b"\n"))
+
     def test_each_command_teaches_by_an_example(self) -> None:
-        hold(self, self.ran, ((*words, (0, (HELP / f"{name}.txt").read_bytes(), "")) for name, *words in (
+        hold(self, self.helped, ((*words, (0, (HELP / f"{name}.txt").read_bytes(), "")) for name, *words in (
             *(("vga", flag) for flag in ("--help", "-h")),
             *((name, name, flag) for name in ("asm", "dis", "run", "go") for flag in ("--help", "-h")),
             # It is a command too, and it is given beside other words.

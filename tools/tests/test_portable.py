@@ -1,144 +1,233 @@
-"""How the library as one C file is made of what wasm2c writes, and what of that is refused."""
+"""The portable program answers what the proved one answers; it is found last, compiled once, and nothing is left behind."""
 
+from __future__ import annotations
+
+import contextlib
+import io
+import json
+import os
+import re
+import signal
+import sys
 import unittest
+from pathlib import Path
+from unittest import mock
 
-from library_tests import portable as checks
-from vga_library import portable
-from vga_library.portable import C_FILE, HAND, Places, one_file
-from vga_report.trouble import Wrong
-from vga_report.version import HEADER, calls_of
+from vga_report import portable, program
+from vga_report.portable import portable_program
+from vga_report.program import found_program
+from vga_report.trouble import Trouble
+from zaklimot.format import FORMS
+from zaklimot.format.table import END_CODE, REPEAT_CODE
 
-from .tools import hold_refused
+from . import commands
+from .tools import BUILT, BUILT_PROGRAM, SIGNALS, TOP, Folder, begin, hold_refused, refused
 
-INSTANCE = portable.INSTANCE
-# What wasm2c writes of a module with one function that grows memory, one that traps, and two calls.
-FUNCTIONS = f"""\
-static u32 w2c_f0({INSTANCE}* instance, u32 w2c_p0) {{
-  FUNC_PROLOGUE;
-  u32 w2c_i0;
-  w2c_i0 = w2c_p0;
-  w2c_i0 = wasm_rt_grow_memory(&instance->w2c_memory, w2c_i0);
-  FUNC_EPILOGUE;
-  return w2c_i0;
-}}
-
-static void w2c_f1({INSTANCE}* instance, u32 w2c_p0) {{
-  FUNC_PROLOGUE;
-  u32 w2c_i0, w2c_i1;
-  w2c_i0 = w2c_p0;
-  w2c_i1 = w2c_p0;
-  w2c_i0 = DIV_U(w2c_i0, w2c_i1);
-  FUNC_EPILOGUE;
-}}
-
-static u32 w2c_zak_one({INSTANCE}* instance, u64 w2c_p0) {{
-  FUNC_PROLOGUE;
-  u32 w2c_i0, w2c_i1;
-  u64 w2c_j0, w2c_j1;
-  w2c_j0 = w2c_p0;
-  w2c_i0 = (u32)(w2c_j0);
-  w2c_i1 = 7u;
-  w2c_i1 = w2c_f0(instance, w2c_i1);
-  i32_store(&instance->w2c_memory, (u64)(w2c_i0) + 4, w2c_i1);
-  w2c_i1 = 2u;
-  w2c_f1(instance, w2c_i1);
-  w2c_i0 = w2c_i1;
-  FUNC_EPILOGUE;
-  return w2c_i0;
-}}
-
-static u32 w2c_zak_version({INSTANCE}* instance) {{
-  FUNC_PROLOGUE;
-  u32 w2c_i0;
-  w2c_i0 = 65541u;
-  FUNC_EPILOGUE;
-  return w2c_i0;
-}}
+SOURCE = (TOP / "portable" / "vga.c").read_text("ascii")
+# What stands in the place of a compiler: it notes its words, does this, and makes a program that does that.
+COMPILER = """#!/bin/sh
+echo "$*" >> {notes}
+while [ "$1" != -o ]; do shift; done
+{does}
+printf '#!/bin/sh\\n{made}\\n' > "$2"
+chmod +x "$2"
 """
-WRITTEN = f"""\
-static u32 w2c_f0({INSTANCE}*, u32);
-
-static void init_globals({INSTANCE}* instance) {{
-  instance->w2c_g0 = 1048576ull;
-  instance->w2c___heap_base = 1049840ull;
-}}
-
-static const u8 data_segment_data_w2c_d0[] = {{
-  0x01, 0x02, 
-}};
-
-static void init_memories({INSTANCE}* instance) {{
-  wasm_rt_allocate_memory(&instance->w2c_memory, 17, 65536);
-  LOAD_DATA(instance->w2c_memory, 1048598u, data_segment_data_w2c_d0, 2);
-}}
-
-{FUNCTIONS}
-/* export: 'memory' */
-"""
+SLEEPS = "echo $$ > {}; sleep 600 & echo $! >> {}; wait"
 
 
-class Made(unittest.TestCase):
-    def test_functions_are_the_ones_that_were_written(self) -> None:
-        made = one_file(WRITTEN)
-        for part in (
-            # Where memory may have moved, it is found anew, and so it is where it was made larger.
-            "  i1 = f0(self, i1); m = self->memory;\n", "  i0 = memory_grow(self, i0);\n",
-            # A place is the whole address.
-            "  i32_store(j0 + 4, i1);\n",
-            # A trap ends the function, and the one that has called it.
-            "  if (i1 == 0) { self->is_broken = true; return; } i0 = i0 / i1;\n",
-            "  f1(self, i1); if (NEVER(self->is_broken)) return ZAK_BROKEN;\n",
-            "static u32 module_zak_one(module *self, u64 p0) {\n  u8 *m = self->memory;\n",
-            "static u32 f0(module *, u32);\n", "#define FIRST_PAGES 17u\n", "#define HEAP_BASE 1049840u\n",
-            "    memcpy(self->memory + 1048598u, d0, 2);\n    self->g0 = 1048576ull;\n",
+def the_portable() -> str:
+    """The portable program. Where it can't be compiled, the test is skipped."""
+    with contextlib.redirect_stderr(io.StringIO()):
+        try:
+            return portable_program()
+        except Trouble as trouble:
+            raise unittest.SkipTest(str(trouble)) from trouble
+
+
+@unittest.skipIf(sys.platform == "win32", "names and pipes are those of POSIX")
+class Answers(Folder):
+    """Each command line of a large table is answered as it was written down from the proved program."""
+
+    RECORDED = json.loads(commands.RECORDED.read_text("utf-8"))
+
+    def hold_to_record(self, path: str) -> None:
+        commands.lay(self.folder)
+        for name, words in commands.all_lines():
+            with self.subTest([name, *words]):
+                self.assertEqual(commands.answer(path, words, self.folder, name), self.RECORDED[commands.key(words, name)])
+
+    def test_all_lines_are_recorded(self) -> None:
+        keys = [commands.key(words, name) for name, words in commands.all_lines()]
+        self.assertEqual((set(keys), len(set(keys)) > 500), (set(self.RECORDED), True))
+
+    def test_the_portable_program(self) -> None:
+        self.hold_to_record(the_portable())
+
+    def test_the_proved_program(self) -> None:
+        if not os.access(BUILT_PROGRAM, os.X_OK):
+            raise (AssertionError if os.environ.get(BUILT) else unittest.SkipTest)("the proved program isn't built")
+        self.hold_to_record(str(BUILT_PROGRAM))
+
+
+class Steps(unittest.TestCase):
+    """How long a step is, as the portable program has it, is what the format's table says."""
+
+    def test_bytes(self) -> None:
+        steps, shown = (
+            [int(number) for number in re.findall(rf"\b{name}\[\] = \{{(.*)\}};", SOURCE)[0].split(", ")]
+            for name in ("STEP_BYTES", "SHOW_BYTES")
+        )
+        wanted, kinds = {0: 0, REPEAT_CODE: 3, END_CODE: 1}, {}
+        for form in FORMS.values():
+            size = sum(field.size for field in form.fields)
+            if len(form.code) == 1:
+                # Behind the fields a block has its length.
+                wanted[form.code[0]] = 1 + size + 2 * form.has_block
+            else:
+                wanted[form.code[0]], kinds[form.code[1]] = 2, size
+        self.assertEqual(dict(enumerate(steps)), wanted)
+        self.assertEqual(dict(enumerate(shown)), kinds)
+
+
+class Cache(Folder):
+    """A folder in the place of the user's cache, and programs in the place of compilers."""
+
+    def setUp(self) -> None:
+        super().setUp()
+        self.cache, self.notes = self.folder / "cache" / "zaklimot", self.folder / "notes"
+        self.notes.write_text("")
+        self.environment = {"XDG_CACHE_HOME": str(self.folder / "cache"), "CC": self.compiler("cc")}
+        self.patch(mock.patch.dict(os.environ, self.environment))
+
+    def compiler(self, name: str, does: str = ":", made: str = "exit 0") -> str:
+        return self.program(name, COMPILER.format(notes=self.notes, does=does, made=made))
+
+    def found(self) -> tuple[Path, str]:
+        """The program, and what is said while it is looked for."""
+        said = io.StringIO()
+        with contextlib.redirect_stderr(said):
+            return Path(portable_program()), said.getvalue()
+
+    def noted(self) -> int:
+        """How many times a compiler was run."""
+        return self.notes.read_text().count("\n")
+
+    def left(self) -> list[str]:
+        """What the cache has, but for the lock."""
+        return sorted(str(path.relative_to(self.cache)) for path in self.cache.rglob("*") if path.name != portable.LOCK)
+
+
+@unittest.skipIf(sys.platform == "win32", "a script is a program on POSIX")
+class Compiled(Cache):
+    def test_once_and_it_is_told(self) -> None:
+        path, said = self.found()
+        self.assertEqual(said, portable.COMPILES.format(self.environment["CC"]))
+        self.assertRegex(said, r"^\S+ compiles .* in about 20 seconds, and once: .* is tested, not proved\n$")
+        self.assertEqual(self.found(), (path, ""))
+        self.assertEqual((self.noted(), self.left()), (1, [path.parent.name, f"{path.parent.name}/vga"]))
+        self.assertRegex(self.notes.read_text(), r"^-std=c99 -O2 -I \S+/include -o \S+/vga( \S+/portable/(vga|zaklimot)\.c){2}\n$")
+
+    def test_anew_for_other_sources_and_compilers_and_older_ones_are_removed(self) -> None:
+        paths = [self.found()[0]]
+        os.environ["CC"] = self.compiler("other") + " -m64"
+        paths.append(self.found()[0])
+        # This process has found the first: it may still run it.
+        self.assertEqual(len(self.left()), 4)
+        self.release()
+        with mock.patch.object(portable, "SOURCES", (Path(self.write("vga.c", "1")), *portable.SOURCES[1:])):
+            paths.append(self.found()[0])
+        self.assertEqual((len(set(paths)), self.noted()), (3, 3))
+        self.assertEqual(self.left(), [paths[2].parent.name, f"{paths[2].parent.name}/vga"])
+        self.assertIn("-m64 -std=c99", self.notes.read_text())
+
+    def release(self) -> None:
+        while portable._in_use:
+            os.close(portable._in_use.pop())
+
+    def test_two_runs_at_once(self) -> None:
+        begun = self.folder / "begun"
+        os.environ["CC"] = self.compiler("slow", f"echo 1 > {begun}; sleep 1", "echo ran")
+        own = {"env": dict(os.environ), "text": True}
+        runs = [begin("tests/finding.py", **own)]
+        self.wait_for(begun, runs[0])
+        runs.append(begin("tests/finding.py", **own))
+        said = [run.communicate(timeout=60) for run in runs]
+        self.assertEqual([run.returncode for run in runs], [0, 0], said)
+        self.assertEqual(said[0][0], said[1][0])
+        self.assertEqual([portable.WAITS in text for _, text in said], [False, True])
+        self.assertEqual(self.noted(), 1)
+
+    def test_one_that_is_ended_leaves_nothing_and_no_lock(self) -> None:
+        child, good = self.folder / "child", self.environment["CC"]
+        slow = self.compiler("slow", SLEEPS.format(child, child))
+        for number, status in (*SIGNALS, (signal.SIGKILL, -9)):
+            with self.subTest(number):
+                child.unlink(missing_ok=True)
+                run = begin("tests/finding.py", env={**os.environ, "CC": slow})
+                self.wait_until(lambda: child.exists() and child.read_text().count("\n") == 2, run)
+                run.send_signal(number)
+                run.communicate(timeout=60)
+                self.assertEqual(run.returncode, status)
+                if number != signal.SIGKILL:
+                    self.assertEqual(self.left(), [])
+                    self.assert_ended(*map(int, child.read_text().split()))
+                else:
+                    os.kill(int(child.read_text().split()[1]), signal.SIGKILL)
+        # A run that was killed could not undo its work: the next one does.
+        os.environ["CC"] = good
+        path, _ = self.found()
+        self.assertEqual(self.left(), [path.parent.name, f"{path.parent.name}/vga"])
+
+    def test_a_lock_that_somebody_keeps_is_waited_for_no_longer_than_that(self) -> None:
+        self.cache.mkdir(parents=True)
+        with open(self.cache / portable.LOCK, "wb") as file:
+            self.assertTrue(portable._is_locked(file, portable.fcntl.LOCK_EX))
+            with mock.patch.object(portable, "MOST_WAITING", 0.3):
+                _, said = self.found()
+        self.assertEqual((said.startswith(portable.WAITS), self.noted()), (True, 1))
+
+
+@unittest.skipIf(sys.platform == "win32", "a script is a program on POSIX")
+class Lacking(Cache):
+    def test_what_is_lacking_is_told(self) -> None:
+        file = self.write("file", "")
+        for variables, told in (
+            ({"CC": self.compiler("bad", "echo oh >&2; exit 1")}, r"^\S+/bad: it can't compile .*; CC may name another .*\noh$"),
+            ({"CC": self.compiler("cross", made="exit 3")}, r"^\S+/cross: what it makes doesn't run here$"),
+            ({"CC": "no-such-compiler"}, r"^no-such-compiler: CC names it .*; page/zaklimot\.html "),
+            ({"CC": "'"}, "^CC names no compiler: "),
+            ({"CC": "", "PATH": str(self.folder / "none")},
+             r"^there is no C compiler .* package gcc or clang, on macOS Xcode's .*; page/zaklimot\.html runs scripts "),
+            ({"XDG_CACHE_HOME": file}, rf"^{file}\S*: Not a directory; .* can be written by XDG_CACHE_HOME$"),
+            ({"XDG_CACHE_HOME": "", "HOME": file}, rf"^{file}\S*: Not a directory; .* can be written by XDG_CACHE_HOME$"),
         ):
-            self.assertIn(part, made)
+            with self.subTest(variables), mock.patch.dict(os.environ, variables):
+                with contextlib.redirect_stderr(io.StringIO()):
+                    hold_refused(self, portable_program, ((told,),))
+                if self.cache.exists():
+                    self.assertEqual(self.left(), [])
 
-    def test_what_is_not_known_is_refused(self) -> None:
-        hold_refused(self, lambda old, new: one_file(WRITTEN.replace(old, new, 1)), (
-            ("DIV_U(w2c_i0, w2c_i1)", "CALL_INDIRECT(w2c_i0)", "words that are not known: CALL_INDIRECT"),
-            ("FUNC_EPILOGUE;\n}", "FUNC_EPILOGUE;\n  x\n}", "words that are not known: x"),
-            ("static void w2c_f1", "static int f1;\nstatic void w2c_f1", "no function that is known: static int f1"),
-            ("w2c_i0 = (u32)(w2c_j0);", "w2c_i0 = 8u;", "w2c_i0 is not the low half of an address"),
-            ("w2c_i1 = 7u;", "w2c_j0 = 7ull;", "w2c_i0 is not the low half of an address"),
-            ("65536);", "65536); w2c_g9", "its memory, globals or data are not as they are known"),
-            ("data_segment_data_w2c_d0, 2", "data_segment_data_w2c_d1, 2", "not as they are known"),
-            (FUNCTIONS, "", "it has no functions"),
-        ))
-
-    def test_places_are_followed(self) -> None:
-        places = Places()
-        lines = [places.line(line) for line in (
-            "  w2c_i0 = (u32)(w2c_j0);", "  w2c_i1 = (u32)(w2c_j1);", "  w2c_i2 = (u32)(w2c_j2);",
-            "  memory_copy(w2c_i0, w2c_i1, w2c_i2);", "  w2c_i0 = i32_load8_u((u64)(w2c_i0) + 2u);",
-        )]
-        self.assertEqual(lines[3:], ["  memory_copy(w2c_j0, w2c_j1, w2c_j2);", "  w2c_i0 = i32_load8_u(w2c_j0 + 2u);"])
-        hold_refused(self, places.line, [("  memory_fill(w2c_i0, w2c_i1, w2c_i2);", "w2c_i0 is not the low half")])
-
-    def test_a_file_that_is_too_long(self) -> None:
-        more = "  w2c_i0 = 65541u;\n"
-        hold_refused(self, one_file, [(WRITTEN.replace(more, more * 200_000), "3,000,000 are the most")])
-
-    def test_another_file_is_told(self) -> None:
-        self.addCleanup(setattr, checks, "written_by_wasm2c", checks.written_by_wasm2c)
-        checks.written_by_wasm2c = lambda module: WRITTEN
-        self.assertRaisesRegex(Wrong, "is not the file that the crate makes", checks.check_file, b"")
+    def test_a_cache_that_is_no_whole_path_is_none(self) -> None:
+        with mock.patch.dict(os.environ, XDG_CACHE_HOME="cache", HOME=str(self.folder / "home")):
+            self.assertEqual(self.found()[0].parents[1], self.folder / "home" / ".cache" / "zaklimot")
 
 
-class Kept(unittest.TestCase):
-    """The file as the repository has it."""
-
-    text = C_FILE.read_text("ascii")
-
-    def test_it_has_the_parts_by_hand_and_each_call(self) -> None:
-        for path in (portable.MEMORY, *portable.CALLS):
-            self.assertTrue(path.read_text("ascii") in self.text, path.name)
-        self.assertEqual(sorted(path.name for path in HAND.iterdir()),
-                         sorted(path.name for path in (portable.HEAD, portable.MEMORY, *portable.CALLS)))
-        for name in calls_of(HEADER.read_text("ascii")):
-            self.assertTrue(f" {name}(" in self.text and f"module_{name}(" in self.text, name)
-
-    def test_its_head_tells_what_made_it(self) -> None:
-        head = self.text.partition("*/")[0]
-        for word in ("SPDX-License-Identifier: MIT", "wasm-opt", "wasm2c", "Apache License", "No proof covers"):
-            self.assertIn(word, head)
+@unittest.skipIf(sys.platform == "win32", "a script is a program on POSIX")
+class Found(Cache):
+    def test_the_order(self) -> None:
+        built, released, in_path = (self.program(f"{name}/vga", "#!/bin/sh\n") for name in ("built", "released", "path"))
+        named, none = self.program("named", "#!/bin/sh\n"), self.folder / "none"
+        places = {"PROGRAM": Path(built), "RELEASED": Path(released)}
+        # The command `tools/vga` in the path is no program: it looks for one.
+        path = os.pathsep.join([str(TOP / "tools"), str(Path(in_path).parent)])
+        with mock.patch.multiple(program, **places), mock.patch.dict(os.environ, PATH=path):
+            self.assertEqual((found_program(named), found_program()), (named, built))
+            with mock.patch.object(program, "PROGRAM", none):
+                self.assertEqual(found_program(), released)
+                with mock.patch.object(program, "RELEASED", none):
+                    self.assertEqual(found_program(), in_path)
+        with mock.patch.multiple(program, PROGRAM=none, RELEASED=none), mock.patch.dict(os.environ, PATH="/usr/bin:/bin"):
+            with contextlib.redirect_stderr(io.StringIO()):
+                self.assertEqual(Path(found_program()).parents[1], self.cache)
+            with mock.patch.object(portable, "SOURCES", (none,)):
+                self.assertIn("there is no program vga, and portable/ has no sources of it", refused(found_program))

@@ -29,7 +29,7 @@ from vga_report.words import parser
 from zaklimot.format import Answer, count_in, lines_in, places_in, steps_in, words_in
 
 from .test_command import run
-from .tools import BLACK, EXAMPLES, RED, TOP, Folder, begin, ended, hold, hold_refused, hold_undone, ppm, refused, want_program
+from .tools import BLACK, EXAMPLES, PROGRAM, RED, TOP, Folder, begin, ended, hold, hold_refused, hold_undone, ppm, refused, want_program
 
 # A program that understands texts of a few steps: `asm` copies, `dis` prints in upper case, `go` answers by the name.
 FAKE = """import sys
@@ -339,7 +339,7 @@ class Expectations(unittest.TestCase):
 class Examples(unittest.TestCase):
     def test_each_answers_what_its_comments_expect(self) -> None:
         want_program()
-        status, output, said = run("run", EXAMPLES, "--jobs", "4")
+        status, output, said = run("run", EXAMPLES, "--jobs", "4", "--vga", PROGRAM)
         self.assertEqual((status, said), (0, ""))
         *lines, last = output.decode().splitlines()
         self.assertGreater(int(last.split(" scripts, 0 differ")[0]), 22)

@@ -101,7 +101,11 @@ BAD = {
 
 
 class Words(unittest.TestCase):
-    NAMES = sorted(path.name for path in TOOLS.glob("*") if path.is_file() and b"python3" in path.read_bytes()[:30])
+    # All but the one that is the program itself.
+    NAMES = sorted(
+        path.name for path in TOOLS.glob("*")
+        if path.is_file() and b"python3" in path.read_bytes()[:30] and path.name != "vga"
+    )
 
     def test_each_tool_is_there(self) -> None:
         self.assertGreaterEqual(len(self.NAMES), 12)

@@ -21,7 +21,7 @@ from functools import partial
 from pathlib import Path
 from typing import Any, BinaryIO, Callable, Iterable, Mapping, NamedTuple, Optional, Sequence
 
-from vga_report.program import FONTS, PROGRAM
+from vga_report.program import FONTS, PROGRAM as BUILT_PROGRAM
 from vga_report.trouble import Trouble
 
 TOOLS = Path(__file__).resolve().parents[1]
@@ -39,8 +39,11 @@ MOST_SECONDS = 200
 SIGNALS = ((signal.SIGTERM, 143), (signal.SIGHUP, 129), (signal.SIGINT, 130))
 # A child that is to be there is waited for this many seconds.
 WAITING = 60
+# The program that is tested, as the runner of the tests names it to their processes.
+TESTED = "ZAKLIMOT_TESTED_PROGRAM"
+PROGRAM = Path(os.environ.get(TESTED) or BUILT_PROGRAM)
 # Why a test is skipped; with this variable, which the gate sets once the program is built, it fails.
-UNBUILT = "the program isn't built: (cd crates/vga && rt run -- --help) builds it"
+UNBUILT = "there is no program to test: tools/tests-of-tools compiles one, if there is a C compiler"
 BUILT = "ZAKLIMOT_PROGRAM_IS_BUILT"
 
 
@@ -104,7 +107,7 @@ def ended(*words: str | bytes | Path, **options: Any) -> tuple[int, Any, Any]:
 
 
 def want_program() -> None:
-    """Skips a test where the program isn't built yet, or has it fail where it is to be built."""
+    """Skips a test where there is no program to test, or has it fail where the proved one is to be built."""
     if not os.access(PROGRAM, os.X_OK):
         raise (AssertionError if os.environ.get(BUILT) else unittest.SkipTest)(UNBUILT)
 

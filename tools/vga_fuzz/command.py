@@ -11,7 +11,7 @@ from random import Random
 
 from vga_report import TOP, cli
 from vga_report.processes import MEBIBYTE
-from vga_report.program import FONTS, PROGRAM
+from vga_report.program import FONTS, found_program
 from vga_report.progress import Progress
 from vga_report.streams import to_read, write_file
 from vga_report.suite import empty_folder
@@ -39,8 +39,8 @@ def _parser() -> argparse.ArgumentParser:
         "vga-fuzz", "Feeds vga with scripts and texts made at random.", "tools/vga-fuzz --seed 1 --seconds 300 --keep found",
         "tools/README.md", cli.JUDGES,
     )
-    told = "the program (default: the one that is built)"
-    parser.add_argument("program", nargs="?", type=to_read, default=str(PROGRAM), help=told)
+    told = "the program (default: one built here, a release's, vga in the path, or one that is compiled)"
+    parser.add_argument("program", nargs="?", type=to_read, help=told)
     numbers = {
         "seed": (1, 0, "where the random numbers begin (default: 1)"),
         "inputs": (0, 0, "how many inputs are made at most (default: any number)"),
@@ -90,7 +90,7 @@ def _figures(made: Counter[str], answers: Counter[str], seed: int, seconds: floa
 def _fuzz(words: argparse.Namespace, folder: Path) -> int:
     """Makes inputs and feeds the program with them, until the time or the inputs are used up, or the user ends it."""
     limits = Limits(words.timeout, words.memory * MEBIBYTE, words.output * MEBIBYTE)
-    program = Program(words.program, str(FONTS), folder, limits)
+    program = Program(words.program or found_program(), str(FONTS), folder, limits)
     _check(program)
     texts, scripts = _at_hand()
     made, answers, number, begin = Counter[str](), Counter[str](), words.first, time.monotonic()

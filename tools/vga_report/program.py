@@ -19,11 +19,14 @@ from .crates import phases
 from .processes import ENDING, check_program, run, started
 from .progress import Progress
 from .faults import script_of
+from .portable import has_sources, portable_program
 from .streams import bytes_of, to_read
 from .trouble import Trouble
 
 CRATE = TOP / "crates" / "vga"
 PROGRAM = CRATE / "out" / "vga"
+# The program of an unpacked release, and the command that finds a program as this does.
+RELEASED, LAUNCHER = TOP / "bin" / "vga", TOP / "tools" / "vga"
 FONTS = TOP / "fonts" / "zaklimot.fnt"
 # No script is printed in more bytes: none of its steps has a line that is seven times as long as its bytes.
 MOST_PRINTED = 7 << 24
@@ -38,7 +41,8 @@ WITHOUT_RT = (
     "runs the script in a browser"
 )
 NO_PROGRAM = (
-    "there is no program vga: --build proves and builds it, --vga names another, and --try runs it without its proofs"
+    "there is no program vga, and portable/ has no sources of it: --build proves and builds it, --vga names another, "
+    "and --try runs it without its proofs"
 )
 
 
@@ -57,17 +61,30 @@ class Outcome:
         return found[0] if found else (self.said.strip().splitlines() or [""])[-1]
 
 
-def found_program(named: Optional[str], lacking: str = NO_PROGRAM) -> str:
-    """Where the program is: as it is named, or as this repository has built it, or in the path.
+def _in_path() -> Optional[str]:
+    """The program `vga` of the path, but for this repository's own command of that name."""
+    for folder in os.environ.get("PATH", os.defpath).split(os.pathsep):
+        found = shutil.which("vga", path=folder) if folder else None
+        if found is not None and not (LAUNCHER.exists() and os.path.samefile(found, LAUNCHER)):
+            return found
+    return None
 
-    Where there is none, a Trouble says how it is had.
+
+def found_program(named: Optional[str] = None) -> str:
+    """Where the program is: as it is named, else proved and built here, a release's, in the path, or the portable one.
+
+    The portable one is compiled where that was not done yet. Where there is none, a Trouble says how it is had.
     """
-    # A name without a folder is looked for in the path.
-    built = str(PROGRAM) if os.access(PROGRAM, os.X_OK) else shutil.which("vga")
-    found = built if named is None else shutil.which(named) or named
-    if found is None:
-        raise Trouble(lacking)
-    return to_read(found)
+    if named is not None:
+        # A name without a folder is looked for in the path.
+        return to_read(shutil.which(named) or named)
+    for built in (PROGRAM, RELEASED):
+        if os.access(built, os.X_OK):
+            return to_read(str(built))
+    found = _in_path()
+    if found is None and not has_sources():
+        raise Trouble(NO_PROGRAM)
+    return to_read(found) if found is not None else portable_program()
 
 
 @contextmanager

@@ -42,7 +42,7 @@ def seconds(word: str) -> float:
 
 def add_program(parser: argparse.ArgumentParser) -> None:
     """The options of a command that runs the program."""
-    add(parser, "--vga PROGRAM", "runs this program (default: the one built here, else vga in the path)")
+    add(parser, "--vga PROGRAM", "runs this program (default: one built here, a release's, vga in the path, or one that is compiled)")
     add(parser, "--fonts FILE", "uses this font file (default: the project's)", type=to_read, default=str(FONTS))
 
 
