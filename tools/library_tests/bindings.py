@@ -1,4 +1,7 @@
-"""The tests of the packages. For Python: its own tests. For Rust: the crates' tests, examples, lints and pages."""
+"""The tests of the packages. For Python: its own tests. For Rust: the crates' tests, examples, lints and pages.
+
+The tests of both are run over the proved library and over the portable one.
+"""
 
 from __future__ import annotations
 
@@ -18,9 +21,11 @@ from vga_report.crates import phases
 from vga_report.processes import captured, tested
 from vga_report.progress import Progress
 from vga_report.trouble import Trouble, Wrong
+from zaklimot._file import FILE, PORTABLE, PROVED, kind_of
 
 from .checks import PRINTED, REPORT, TEXT
 from .compilers import laid_library, make_check, not_there, run
+from .portable import check_cmake, check_crate, portable_library
 
 PACKAGE = TOP / "bindings" / "python"
 # How unittest ends, and what a test may be skipped for.
@@ -28,7 +33,7 @@ RAN, SKIPPED = re.compile(r"^Ran (\d+) tests", re.M), re.compile(r"skipped '(.*)
 MAY_BE_SKIPPED = "numpy is not here"
 CRATES = "bindings/rust"
 # The crates, and what they name outside.
-COPIED = (CRATES, "examples/rust", "include")
+COPIED = (CRATES, "examples/rust", "include", "portable", "fonts")
 DONE = re.compile(r"^test result: ok\. (\d+) passed; 0 failed; 0 ignored", re.M)
 # The programs of the page, and the project that they become.
 PROGRAM = re.compile(r"^```rust\n(.*?)^```$", re.M | re.S)
@@ -39,6 +44,12 @@ edition = "2021"
 
 [dependencies]
 zaklimot = { path = "../bindings/rust/zaklimot" }
+"""
+# A program that tells which library it has, for each language.
+TELLING = "import zaklimot; print(zaklimot.library().kind)"
+TELLING_IN_RUST = """fn main() {
+    println!("{:?}", zaklimot::library());
+}
 """
 # Runs of the examples: the text of {script}, the words, the status, and what is written, or said of what can't be done.
 # Slices of one step, some that leave a rest, and all.
@@ -55,9 +66,13 @@ PROGRAMS = ("python3", "cargo", "rustc", "rustdoc", "cargo-clippy", "ld", "objco
 
 
 def check_python(library: Path, _: Path) -> str:
-    """Each test passes, and none is skipped but for want of numpy."""
-    words = [sys.executable, "-B", "-m", "unittest", "discover", "--verbose", "--start-directory", PACKAGE / "tests"]
-    environment = {"ZAKLIMOT_DIR": str(library), "ZAKLIMOT_LIBRARY": "", "PYTHONPATH": str(PACKAGE / "src")}
+    """Each test passes, none is skipped but for want of numpy, and the library is told that is used."""
+    environment = {
+        "ZAKLIMOT_DIR": str(library), "ZAKLIMOT_LIBRARY": "", "PYTHONPATH": str(PACKAGE / "src"),
+    }
+    check_kind(library, run([sys.executable, "-B", "-c", TELLING], environment=environment))
+    words = [sys.executable, "-B", "-m", "unittest", "discover", "--verbose"]
+    words += ["--start-directory", str(PACKAGE / "tests")]
     said = tested(words, environment=environment).errors.decode("utf-8", "replace")
     ran, skipped = RAN.search(said), SKIPPED.findall(said)
     if ran is None or set(skipped) - {MAY_BE_SKIPPED}:
@@ -65,21 +80,53 @@ def check_python(library: Path, _: Path) -> str:
     return f"{ran[1]} tests, the suite among them" + ("; numpy is not here" if skipped else "")
 
 
-def _cargo(library: Path, folder: Path, *words: str, project: str = CRATES) -> str:
-    """What cargo writes in a folder of a copy of the crates, so that it leaves nothing among the sources."""
+def _kind(library: Path) -> str:
+    """Of which kind the library of a folder is."""
+    return kind_of(str(library / "lib" / FILE))
+
+
+def check_kind(library: Path, told: str) -> None:
+    """What a package tells of its library is what the library's folder tells."""
+    if told.strip().lower() != _kind(library):
+        raise Wrong(f"the library is {_kind(library)}, and the package tells that it is {told.strip()}")
+
+
+def _tree(folder: Path) -> Path:
+    """A copy of the crates, so that nothing is left among the sources. Its links are links."""
     tree = folder / "tree"
     if not tree.exists():
+        ignored = shutil.ignore_patterns("target", "Cargo.lock")
         for name in COPIED:
-            shutil.copytree(TOP / name, tree / name, ignore=shutil.ignore_patterns("target", "Cargo.lock"))
-    return run(["cargo", *words], folder=tree / project, environment={
-        "ZAKLIMOT_DIR": str(library), "CARGO_TARGET_DIR": str(folder / "target"), "RUSTFLAGS": "-D warnings",
+            shutil.copytree(TOP / name, tree / name, symlinks=True, ignore=ignored)
+    return tree
+
+
+def _cargo(library: Path, folder: Path, *words: str, project: str = CRATES) -> str:
+    """What cargo writes in a folder of a copy of the crates.
+
+    The portable library it compiles itself, and a proved one it takes from its folder.
+    """
+    is_portable = _kind(library) == PORTABLE
+    return run(["cargo", *words], folder=_tree(folder) / project, environment={
+        "ZAKLIMOT_DIR": "" if is_portable else str(library), "ZAKLIMOT_PORTABLE": str(int(is_portable)),
+        "CARGO_TARGET_DIR": str(folder / "target"), "RUSTFLAGS": "-D warnings",
         "RUSTDOCFLAGS": "-D warnings",
     })
+
+
+def _project(folder: Path, name: str) -> Path:
+    """A project that has the crate and programs of its own: the folder of these."""
+    programs = _tree(folder) / name / "src" / "bin"
+    programs.mkdir(parents=True, exist_ok=True)
+    (_tree(folder) / name / "Cargo.toml").write_text(PROJECT, "ascii")
+    return programs
 
 
 def check_rust(library: Path, folder: Path) -> str:
     """Each test passes: those of the header, of the card, and of the pages."""
     output = _cargo(library, folder, "test", "--offline")
+    (_project(folder, "telling") / "telling.rs").write_text(TELLING_IN_RUST, "ascii")
+    check_kind(library, _cargo(library, folder, "run", "--offline", "--quiet", project="telling"))
     counts = [int(count) for count in DONE.findall(output)]
     if len(counts) < 5 or sum(counts) < 20:
         raise Wrong(f"cargo test runs {sum(counts)} tests:\n{output[-2000:]}")
@@ -116,11 +163,9 @@ def programs_of_page() -> dict[str, str]:
 
 def _check_page(library: Path, folder: Path) -> None:
     """Each program of docs/RUST.md, in a project of its own, writes what its comments say."""
-    project = folder / "tree" / "first"
-    (project / "src" / "bin").mkdir(parents=True)
-    (project / "Cargo.toml").write_text(PROJECT, "ascii")
+    programs = _project(folder, "first")
     for name, program in programs_of_page().items():
-        (project / "src" / "bin" / f"{name}.rs").write_text(program, "utf-8")
+        (programs / f"{name}.rs").write_text(program, "utf-8")
         told = _cargo(library, folder, "run", "--offline", "--quiet", "--bin", name, project="first").splitlines()
         wanted = re.findall(r"println!\(.*\); // (.*)", program)
         if not wanted or told != wanted:
@@ -132,11 +177,17 @@ def _check_cargo(line: str, told: str, library: Path, folder: Path) -> str:
     return told
 
 
-# Each check gets the folder of the library, and one for what it makes.
+def _check_crate(_: Path, folder: Path) -> str:
+    return check_crate(_tree(folder) / CRATES, folder)
+
+
+# Each check gets the folder of the library, and one for what it makes. The first are made with each library.
+EACH: dict[str, Callable[[Path, Path], str]] = {"python": check_python, "rust": check_rust}
 CHECKS: dict[str, Callable[[Path, Path], str]] = {
-    "python": check_python, "rust": check_rust, "rust-examples": check_rust_examples,
+    **EACH, "rust-examples": check_rust_examples,
     "lints": partial(_check_cargo, "clippy --offline --all-targets -- -D warnings", "clippy finds nothing"),
     "pages": partial(_check_cargo, "doc --offline --no-deps", "the pages are made without a warning"),
+    "crate": _check_crate, "cmake": check_cmake,
 }
 
 
@@ -168,7 +219,18 @@ def _library(words: argparse.Namespace, folder: Path, progress: Progress) -> Pat
     heard = phases(progress)("proving and building the library")
     built = laid_library(words, BACKENDS[0], X86_64, folder, heard)
     progress.clear()
+    if _kind(built.folder) != PROVED:
+        raise Wrong(f"{built.folder} doesn't tell that its library is proved")
     return built.folder
+
+
+def _libraries(words: argparse.Namespace, folder: Path, progress: Progress) -> dict[str, Path]:
+    """The folder of each library, by its kind: the proved one, or what is given; and the portable one."""
+    first = _library(words, folder, progress)
+    libraries = {_kind(first): first}
+    if PORTABLE not in libraries:
+        libraries[PORTABLE] = portable_library(folder)
+    return libraries
 
 
 def _run(words: argparse.Namespace, progress: Progress) -> None:
@@ -176,10 +238,12 @@ def _run(words: argparse.Namespace, progress: Progress) -> None:
     if words.ready:
         return
     with tempfile.TemporaryDirectory(prefix="vga-bindings-tests-") as name:
-        library = _library(words, Path(name), progress)
+        libraries = _libraries(words, Path(name), progress)
         for check in words.only or CHECKS:
-            # What one of Rust's checks has built, the next takes.
-            make_check(check, partial(CHECKS[check], library, Path(name)))
+            for kind, library in list(libraries.items())[:None if check in EACH else 1]:
+                # What one of Rust's checks has built, the next takes.
+                told = f"{check}, {kind}" if check in EACH else check
+                make_check(told, partial(CHECKS[check], library, Path(name)))
 
 
 # Runs a command line, and answers its exit status.

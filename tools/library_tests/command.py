@@ -8,7 +8,7 @@ from pathlib import Path
 from typing import Any, Callable, Sequence
 
 from vga_library.making import TARGETS, X86_64, Target
-from vga_library.portable import TRANSLATORS
+from vga_library.one_file import TRANSLATORS
 from vga_page.making import made_for_c
 from vga_report import cli
 from vga_report.crates import phases
@@ -20,7 +20,7 @@ from .checks import (
     check_names, check_pc, check_scripts, check_threads,
 )
 from .compilers import PORTABLE_TARGETS, WINDOWS, Built, lacking, laid_library, make_check, not_there
-from .portable import HOST, Maker, check_file, checks_for, lacking_for, windows_in
+from .one_file import HOST, Maker, check_file, checks_for, lacking_for, windows_in
 
 Check = Callable[[Built, Path], str]
 # Those of the library of each compiler, and those of one alone.

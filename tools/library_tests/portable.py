@@ -1,188 +1,157 @@
-"""Checks of the library as one C file: that it is the one that is made, and what it answers as compilers build it."""
+"""The library as a C compiler makes it of portable/zaklimot.c, and checks of how others build it."""
 
 from __future__ import annotations
 
+import ctypes
+import json
 import os
-import shlex
+import re
 import shutil
-import sys
-from contextlib import contextmanager
-from functools import partial
+import tarfile
 from pathlib import Path
-from typing import Callable, Iterator, NamedTuple
 
-from vga_library.making import FONTS
-from vga_library.portable import C_FILE, PROGRAM, one_file, written_by_wasm2c
+from vga_library.making import HEADER, MOVING, Place, described, make_library
 from vga_report import TOP
-from vga_report.cases import read_cases
-from vga_report.processes import SOURCES as PACKAGES, captured
-from vga_report.streams import counted
 from vga_report.trouble import Wrong
-from vga_report.version import HEADER, calls_of
-from vga_report.words import SUITE
+from vga_report.version import version
+from zaklimot._file import PORTABLE
 
-from .checks import (
-    COUNTED, SOURCES, WRAPPED, check_cases, check_counted, check_examples, check_misuse, check_threads, expect, names_in,
-)
-from .compilers import (
-    COMPILERS, RUNNERS, SANITIZED, X86_64, Built, Compiler, Target, build, not_there, run,
-)
+from .checks import PICTURE, PROJECT, check_picture
+from .compilers import run
 
-# All that a compiler may find in the file, but for conversions in what was generated, is an error.
-STRICT = ("-std=c99", "-Wall", "-Wextra", "-Wpedantic", "-Werror")
-USUAL, LEVELS = "-O2", ("-O0", "-O1", "-O3")
-# What the file may take of the C library.
-OUTSIDE = frozenset(("calloc", "realloc", "free", "memcpy", "memmove", "memset", "memcmp"))
-# Names that compilers may ask for on some processors.
-HELPERS = ("__", "_GLOBAL_OFFSET_TABLE_")
-# With these words the file ends the program at an access beside its memory, and a card has no memory to spare.
-CHECKED, TIGHT = "-DZAKLIMOT_CHECKED", "-DZAKLIMOT_TIGHT"
-LEAST_REFUSED = 40
+SOURCE = TOP / "portable" / "zaklimot.c"
+OPTIONS = ("-std=c99", "-O2", "-fPIC")
+# So it is compiled in a third of the time, where how fast it runs counts for nothing.
+QUICK = "-O0"
+BELOW = Path(__file__).resolve().parent / "below"
+# How a project takes it, and whether it asks for shared libraries.
+WAYS = {"add_subdirectory": "OFF", "FetchContent": "ON"}
+SYS = "zaklimot-sys"
+# A project that has the packed crate alone, and calls it.
+USING = """[package]
+name = "using"
+version = "0.1.0"
+edition = "2021"
 
-
-class Maker(NamedTuple):
-    """Makes libraries and programs of the file in a folder, for a processor."""
-
-    folder: Path
-    target: Target
-
-    @property
-    def compilers(self) -> tuple[Compiler, ...]:
-        return COMPILERS[self.target]
-
-    def library(self, compiler: Compiler, *flags: str) -> Built:
-        """The library as a compiler makes it with these flags, made once."""
-        name = " ".join((compiler.c, *flags))
-        folder = self.folder / name.replace(" ", "_").replace("/", "_")
-        built = Built(name, folder, folder / "zaklimot.o", self.target, (compiler,))
-        if not built.static.exists():
-            (folder / "lib").mkdir(parents=True)
-            (folder / "include").mkdir()
-            for header in (HEADER, HEADER.with_suffix(".hpp")):
-                shutil.copyfile(header, folder / "include" / header.name)
-            words = [compiler.c, *STRICT, *flags, "-I", HEADER.parent]
-            run([*words, "-c", C_FILE, "-o", built.archive])
-            run([self.target.tool("ar"), "rcs", built.static, built.archive])
-        return built
-
-    def usual(self) -> Built:
-        """The library as the first compiler makes it for use."""
-        return self.library(self.compilers[0], USUAL)
-
-    def sanitized(self) -> Built:
-        """The same under the sanitizers of addresses and of undefined behaviour."""
-        return self.library(self.compilers[0], "-O1", *SANITIZED)
-
-    def program(self, *flags: str) -> list[str | Path]:
-        """Builds the program over the library with these flags, and answers the words that run it."""
-        built = self.library(self.compilers[0], *(flags or (USUAL,)))
-        return build(self.compilers[0].c, built, [PROGRAM], built.folder / "vga.exe", USUAL)
+[dependencies]
+zaklimot-sys = { path = "../FOLDER" }
+"""
+CALLING = """fn main() {
+    // SAFETY: it takes nothing.
+    println!("{} {}", zaklimot_sys::KIND, unsafe { zaklimot_sys::zak_version() });
+}
+"""
 
 
-def check_file(module: bytes) -> str:
-    """The file is the one that is made of the crate's module."""
-    made = one_file(written_by_wasm2c(module))
-    if made != C_FILE.read_text("ascii"):
-        again = f"`tools/vga-library one-file {C_FILE.relative_to(TOP)}` makes it anew"
-        raise Wrong(f"{C_FILE.name} is not the file that the crate makes: {again}")
-    return f"{len(made):,} bytes, as the crate makes them"
-
-
-def _misuse(built: Built, *flags: str) -> None:
-    words = build(built.own[0].c, built, [SOURCES / "misuse.c"], built.folder / "misuse.exe", *flags)
-    expect("misuse", run([*words, FONTS]).replace("\r\n", "\n"))
-
-
-def check_compilers(maker: Maker) -> str:
-    """The file is taken without a warning by each compiler at each level, and misuse is answered alike."""
-    ways = [(compiler, level) for compiler in maker.compilers for level in (*LEVELS, USUAL)]
-    for compiler, level in ways:
-        _misuse(maker.library(compiler, level))
-    return f"taken by {', '.join(compiler.c for compiler in maker.compilers)} in {len(ways)} ways"
-
-
-def check_one(maker: Maker) -> str:
-    """The file is taken without a warning, and misuse is answered as it should be."""
-    _misuse(maker.usual())
-    return f"taken by {maker.compilers[0].c}"
-
-
-def check_names(maker: Maker) -> str:
-    """The names that are seen of the file are the header's calls, and it wants few of the C library."""
-    calls, built = set(calls_of(HEADER.read_text("ascii"))), maker.usual()
-    defined, wanted = (names_in(built, built.static, "-g", which) for which in ("--defined-only", "--undefined-only"))
-    if defined != calls:
-        raise Wrong(f"seen and not in the header, or not seen: {sorted(defined ^ calls)}")
-    others = {name for name in wanted - OUTSIDE if not name.startswith(HELPERS)}
-    if others:
-        raise Wrong(f"it wants {sorted(others)}")
-    return f"{len(calls)} names are seen, the header's, and {len(wanted)} are wanted"
-
-
-def check_suite(maker: Maker, *flags: str) -> str:
-    """Each case of the suite agrees, by the program over the file; bytes and faults too."""
-    program = shlex.join(map(str, maker.program(*flags)))
-    cases = read_cases(str(SUITE))
-    texts, scripts = (f"{program} {job} {{script}} --fonts {{fonts}} {{until}}" for job in ("go", "run"))
-    words = [texts, "--bytes", scripts, "--jobs", str(os.cpu_count() or 1)]
-    done = captured([sys.executable, TOP / "tools" / "vga-report", "suite", *words])
-    wanted = f"{counted(len(cases), 'case')}: {len(cases)} agree"
-    table = done.output.decode("utf-8", "replace").splitlines()
-    if done.status or table[-1:] != [wanted]:
-        others = [line for line in table if not line.startswith("  agrees")][:20]
-        raise Wrong("\n".join([f"not `{wanted}`:", *others, done.errors.decode("utf-8", "replace")[-2000:]]))
-    return f"{wanted}, by the program"
-
-
-def check_memory(maker: Maker) -> str:
-    """Each allocation is refused in turn, where a card has no memory to spare."""
-    built = maker.library(maker.compilers[0], "-O1", TIGHT)
-    words = build(built.own[0].c, built, [SOURCES / "memory.c"], built.folder / "memory.exe", "-g", WRAPPED)
-    counts = {name: int(count) for name, count in map(str.split, run([*words, FONTS, "kept"]).splitlines())}
-    if sum(counts.values()) < LEAST_REFUSED:
-        raise Wrong(f"only {sum(counts.values())} allocations were refused")
-    return f"{sum(counts.values())} allocations refused, in {sum(map(bool, counts.values()))} calls"
-
-
-def _by(check: Callable[[Built, Path], str], is_sanitized: bool = False) -> Callable[[Maker], str]:
-    def made(maker: Maker) -> str:
-        built = maker.sanitized() if is_sanitized else maker.usual()
-        return check(built, built.folder)
-
+def portable_library(folder: Path) -> Path:
+    """Compiles the C file, and lays it into a folder as `vga-library make` lays the proved one."""
+    made, parts = folder / PORTABLE, [folder / "zaklimot.o", folder / "portable.a", folder / "none.a"]
+    run(["cc", *OPTIONS, "-I", HEADER.parent, "-c", SOURCE, "-o", parts[0]])
+    run(["ar", "rcsD", parts[1], parts[0]])
+    # It takes its memory of the C library itself.
+    run(["ar", "rcsD", parts[2]])
+    make_library(parts[1], parts[2], Place(str(made)), MOVING, kind=PORTABLE)
     return made
 
 
-@contextmanager
-def windows_in(folder: Path) -> Iterator[None]:
-    """Wine keeps its files in this folder, and its server ends with the checks."""
-    os.environ["WINEPREFIX"] = str(folder / "wine")
-    try:
-        yield
-    finally:
-        captured(["wineserver", "--kill"])
+def number() -> int:
+    """The version as zak_version() answers it."""
+    return 65536 * version().major + version().minor
 
 
-Check = Callable[[Maker], str]
-# Those of every processor, and those of the machine's own alone.
-EVERY: dict[str, Check] = {"one": check_one, "suite": check_suite, "threads": _by(check_threads)}
-HOST: dict[str, Check] = {
-    "compilers": check_compilers, "names": check_names, "suite": check_suite,
-    # Each access to memory is looked at.
-    "checked": lambda maker: check_suite(maker, USUAL, CHECKED),
-    **{way: _by(partial(check_cases, way)) for way in ("restored", "sliced", "joined")},
-    "misuse": _by(check_misuse, True),
-    **{name: _by(partial(check_counted, name), True) for name in COUNTED},
-    "memory": check_memory, "threads": _by(check_threads), "examples": _by(check_examples),
-}
+def check_crate(tree: Path, folder: Path) -> str:
+    """What `cargo package` packs of the low crate is compiled and called outside the repository."""
+    quick = {
+        "ZAKLIMOT_DIR": "", "ZAKLIMOT_PORTABLE": "1", "CFLAGS": QUICK,
+        "CARGO_TARGET_DIR": str(folder / "packing"),
+    }
+    words = ["--offline", "--allow-dirty", "--no-verify", "--package", SYS]
+    run(["cargo", "package", *words], folder=tree, environment=quick)
+    (packed,) = (folder / "packing" / "package").glob(f"{SYS}-*.crate")
+    with tarfile.open(packed) as archive:
+        members = {member.name.partition("/")[2]: member for member in archive.getmembers()}
+        for name in ("zaklimot.c", "zaklimot.h", "zaklimot.fnt"):
+            member = members.get(f"portable/{name}")
+            if member is None or not member.isfile():
+                raise Wrong(f"{packed.name} has no file portable/{name}")
+        for member in members.values():
+            archive.extract(member, folder / "outside")
+    using = folder / "outside" / "using"
+    (using / "src").mkdir(parents=True)
+    (using / "Cargo.toml").write_text(USING.replace("FOLDER", packed.stem), "ascii")
+    (using / "src" / "main.rs").write_text(CALLING, "ascii")
+    told = run(["cargo", "run", "--offline", "--quiet"], folder=using, environment=quick).strip()
+    if told != f"{PORTABLE} {number()}":
+        raise Wrong(f"a program with {packed.name} writes {told}")
+    return f"{packed.name} is compiled and called outside the repository"
 
 
-def checks_for(target: Target) -> dict[str, Check]:
-    """The checks of the file on a processor, by their names."""
-    return HOST if target == X86_64 else EVERY
+def check_cmake(_: Path, folder: Path) -> str:
+    """The C file is built by CMake alone and below another project; what is installed is found."""
+    if not shutil.which("cmake"):
+        return "CMake is left out: install the package cmake"
+    _check_options(folder)
+    _check_installed(folder)
+    for way, shared in WAYS.items():
+        made = folder / way
+        words = [f"-DZAKLIMOT={TOP}", f"-DWAY={way}", f"-DPICTURE={PICTURE}"]
+        words.append(f"-DBUILD_SHARED_LIBS={shared}")
+        _configure(BELOW, made, *words, f"-DCMAKE_C_FLAGS={QUICK}")
+        run(["cmake", "--build", made])
+        check_picture("picture", [made / "picture"], folder / "below.ppm", f"built by {way}")
+        if ctypes.CDLL(str(made / "libcore.so")).core_version() != number():
+            raise Wrong(f"by {way} the shared object has another library")
+        run(["cmake", "--install", made, "--prefix", made / "prefix"])
+        laid = [path.name for path in (made / "prefix").rglob("*") if path.is_file()]
+        if laid != ["picture"]:
+            raise Wrong(f"a project that has the library by {way} installs {laid}")
+    return f"alone and installed, by {' and by '.join(WAYS)}"
 
 
-def lacking_for(target: Target) -> list[str]:
-    """What this machine lacks for them, each with the package to install."""
-    programs = [compiler.c for compiler in COMPILERS[target]] + [target.tool("ar"), target.tool("nm")]
-    runners = [word for word in RUNNERS[target] if word in PACKAGES]
-    return not_there([*programs, *runners])
+def _configure(source: Path, made: Path, *words: str) -> None:
+    # What the environment tells of types and flags is not what is checked here.
+    kept = {"CFLAGS": "", "CMAKE_BUILD_TYPE": ""}
+    run(["cmake", "-S", source, "-B", made, *words], environment={**os.environ, **kept})
+
+
+def _check_options(folder: Path) -> None:
+    """Without a build type the C file is optimised, and with one it is what that says."""
+    for words, told in (
+        ((), ["-O2"]), (("-DCMAKE_BUILD_TYPE=Debug",), []), (("-DCMAKE_BUILD_TYPE=Release",), ["-O3"]),
+        (("-DCMAKE_C_FLAGS=-O1",), ["-O1"]),
+    ):
+        made = folder / "options"
+        shutil.rmtree(made, ignore_errors=True)
+        _configure(TOP, made, "-DCMAKE_EXPORT_COMPILE_COMMANDS=ON", *words)
+        commands = {
+            Path(entry["file"]).name: entry["command"].split()
+            for entry in json.loads((made / "compile_commands.json").read_text("utf-8"))
+        }
+        levels = [word for word in commands[SOURCE.name] if re.fullmatch(r"-O\w+", word)]
+        if levels != told or not {"-fPIC", "-std=c99"} <= set(commands[SOURCE.name]):
+            raise Wrong(f"with {words} CMake compiles {' '.join(commands[SOURCE.name])}")
+
+
+def _check_installed(folder: Path) -> None:
+    """Each library is found below a prefix that was moved, with what pkg-config reads."""
+    for shared in ("OFF", "ON"):
+        made, first, moved, finding = (
+            folder / f"{name}-{shared}" for name in ("alone", "first", "moved", "finding")
+        )
+        words = [f"-DBUILD_SHARED_LIBS={shared}", "-DCMAKE_INSTALL_LIBDIR=lib"]
+        _configure(TOP, made, f"-DCMAKE_C_FLAGS={QUICK}", *words)
+        run(["cmake", "--build", made])
+        run(["cmake", "--install", made, "--prefix", first])
+        first.rename(moved)
+        wanted = next(iter(described(MOVING, "lib", version(), PORTABLE).values()))
+        if (moved / "lib" / "pkgconfig" / "zaklimot.pc").read_text("ascii") != wanted:
+            raise Wrong("zaklimot.pc as CMake writes it is not as vga-library does")
+        _configure(PROJECT, finding, f"-DPICTURE={PICTURE}", f"-DCMAKE_PREFIX_PATH={moved}")
+        run(["cmake", "--build", finding])
+        needs = []
+        for name in ("picture", "picture_static"):
+            told = f"built by CMake as {name}"
+            check_picture("picture", [finding / name], folder / "found.ppm", told)
+            needs.append(f"libzaklimot.so.{version().major}\n" in run(["objdump", "-p", finding / name]))
+        if needs != [shared == "ON", False]:
+            raise Wrong(f"with BUILD_SHARED_LIBS={shared} the programs want shared libraries: {needs}")

@@ -205,13 +205,69 @@ class Parts(Folder):
     def packed(self, entries: dict[str, Entry]) -> tuple[Path, str]:
         """The archive of a release of these, and what is told of its sum."""
         given = self.write("given", "built")
-        made = {"clean_commit": lambda: COMMIT, "release_entries": lambda *_: entries, "check_program": lambda _: None}
+        made = {
+            "clean_commit": lambda: COMMIT, "release_entries": lambda *_: entries, "check_program": lambda _: None,
+            "portable_entries": lambda _: {"zaklimot.c": File(b"code")},
+        }
         with mock.patch.multiple(release, **made):
             words = ["--program", given, "--archive", given, "--archive-aarch64", given]
             status, output, said = call(release.main, self.folder, *words)
-        archive, sums = map(Path, output.splitlines())
+        archive, sums, portable, others = map(Path, output.splitlines())
         self.assertEqual((status, said), (0, ""))
+        for path, told in ((archive, sums), (portable, others)):
+            line = f"{hashlib.sha256(path.read_bytes()).hexdigest()}  {path.name}\n"
+            self.assertEqual(told.read_text("ascii"), line)
+        self.assertEqual(portable.name, f"zaklimot-{version()}-portable.tar.gz")
         return archive, sums.read_text("ascii")
+
+    def test_the_archive_of_the_c_file(self) -> None:
+        files = {place: File(b"code") for place in release.ALONE}
+        files.update({place: File((TOP / place).read_bytes()) for place in release.ALONE if (TOP / place).exists()})
+        # The program lies beside the C file.
+        self.assertLessEqual(set(files) - set(self.there(files)), {"portable/vga.c"})
+        with mock.patch.object(release, "files_of", lambda commit, paths: {path: files[path] for path in paths}):
+            entries = release.portable_entries(COMMIT)
+        self.assertEqual(sorted(entries), [
+            "CMakeLists.txt", "LICENSE", "README.md", "vga.c", "zaklimot.c", "zaklimot.fnt", "zaklimot.h", "zaklimot.hpp",
+        ])
+        page, source = entries["README.md"], entries["zaklimot.c"]
+        assert isinstance(page, File) and isinstance(source, File)
+        self.assertEqual(source.content, (TOP / "portable" / "zaklimot.c").read_bytes())
+        text = page.content.decode("utf-8")
+        self.assertIn("the guide, and the suite", text)
+        self.assertEqual(broken(Path(self.write("LICENSE", "")).with_name("README.md"), text), [])
+        self.assertEqual(set(re.findall(r"zaklimot-(\d+\.\d+)-", text)), {str(version())})
+        # It is one screen, and names each file of its folder.
+        self.assertLess(len(text.splitlines()), 50)
+        for name in sorted(set(entries) - {"README.md", "CMakeLists.txt"}):
+            self.assertIn(name, text)
+
+    def there(self, places: dict[str, File]) -> list[str]:
+        """Those of some places that are in the repository."""
+        return [place for place in places if (TOP / place).exists()]
+
+    def test_the_archive_of_the_c_file_alone(self) -> None:
+        ran = mock.Mock(side_effect=AssertionError)
+        made = {"clean_commit": lambda: COMMIT, "portable_entries": lambda _: ENTRIES, "release_entries": ran}
+        with mock.patch.multiple(release, **made):
+            status, output, said = call(release.main, self.folder, "--portable")
+            again = call(release.main, self.folder / "again", "--portable")[1]
+        self.assertEqual((status, said, len(output.splitlines())), (0, "", 2))
+        first, second = (Path(told.splitlines()[0]).read_bytes() for told in (output, again))
+        self.assertEqual(first, second)
+        told = "^vga-release: --portable takes nothing that is built\n"
+        hold_undone(self, call(release.main, self.folder, "--portable", "--program", self.write("given", "")), told)
+
+    def test_links_of_a_commit_stay_links(self) -> None:
+        with tempfile.TemporaryFile() as stream:
+            with tarfile.open(fileobj=stream, mode="w") as archive:
+                for name, kind in (("a/f", tarfile.REGTYPE), ("a/l", tarfile.SYMTYPE), ("a", tarfile.DIRTYPE)):
+                    member = tarfile.TarInfo(name)
+                    member.type, member.linkname = kind, "../x" if kind == tarfile.SYMTYPE else ""
+                    archive.addfile(member)
+            stream.seek(0)
+            with mock.patch.object(release, "_git", lambda *_: stream.read()):
+                self.assertEqual(release.files_of(COMMIT, ("a",)), {"a/f": File(b""), "a/l": "../x"})
 
     def test_what_the_archive_and_its_checksum_tell(self) -> None:
         front = f"zaklimot-{version()}-x86_64-linux"
@@ -266,7 +322,9 @@ def sources() -> dict[str, Entry]:
         below = [TOP / name] if (TOP / name).is_file() else sorted((TOP / name).rglob("*"))
         for path in below:
             place = path.relative_to(TOP)
-            if path.is_file() and not {"out", "target", "__pycache__"} & set(place.parts):
+            if path.is_symlink():
+                entries[str(place)] = str(path.readlink())
+            elif path.is_file() and not {"out", "target", "__pycache__"} & set(place.parts):
                 entries[str(place)] = File(path.read_bytes(), os.access(path, os.X_OK))
     return {**entries, **LINKS}
 
@@ -459,7 +517,7 @@ class OtherProcessors(Folder):
         self.assertEqual(ended(program)[0], 0)
 
 
-class Bindings(unittest.TestCase):
+class Bindings(Folder):
     """That the tests of the packages can fail."""
 
     def test_what_is_wrong(self) -> None:
@@ -471,12 +529,28 @@ class Bindings(unittest.TestCase):
             (bindings.check_python, "skipped 'numpy is not here'\nRan 9 tests in 1s\n", "skipped 'x'\nRan 9 tests in 1s"),
             (bindings.check_rust, 5 * line.format(4), 5 * line.format(0)),
         ):
-            said = mock.Mock(side_effect=[right, wrong])
+            said = mock.Mock(side_effect=[right, "", wrong, ""])
             tested = mock.Mock(side_effect=[Done(0, b"", text.encode()) for text in (right, wrong)])
-            with self.subTest(right), mock.patch.multiple(bindings, tested=tested, _cargo=said):
-                self.assertRegex(check(TOP, TOP), "^(9|20) tests")
-                self.assertRaises(Wrong, check, TOP, TOP)
+            faked = {"tested": tested, "run": lambda *_, **given: "", "_cargo": said, "check_kind": mock.Mock(), "_project": lambda *_: self.folder}
+            with self.subTest(right), mock.patch.multiple(bindings, **faked):
+                self.assertRegex(check(TOP, self.folder), "^(9|20) tests")
+                self.assertRaises(Wrong, check, TOP, self.folder)
         self.assertEqual(list(bindings.programs_of_page()), [f"program_{number}" for number in range(3)])
+
+    def test_libraries_and_their_kinds(self) -> None:
+        library = Path(self.write("kit/lib/libzaklimot.so", ""))
+        for kind, other in (("proved", "portable"), ("portable", "unknown")):
+            self.write("kit/lib/pkgconfig/zaklimot.pc", f"kind={kind}\n")
+            bindings.check_kind(self.folder / "kit", f"{kind.capitalize()}\n")
+            told = f"the library is {kind}, and the package tells that it is {other}$"
+            self.assertRaisesRegex(Wrong, told, bindings.check_kind, self.folder / "kit", other)
+        # The suites run over both libraries, and over one that is given if that is the portable one.
+        given, made = mock.Mock(library=library.parents[1]), mock.Mock(return_value=TOP)
+        with mock.patch.object(bindings, "portable_library", made):
+            self.assertEqual(bindings._libraries(given, TOP, mock.Mock()), {"portable": library.parents[1]})
+            self.write("kit/lib/pkgconfig/zaklimot.pc", "kind=proved\n")
+            both = {"proved": library.parents[1], "portable": TOP}
+            self.assertEqual(bindings._libraries(given, TOP, mock.Mock()), both)
 
     def test_words_that_cannot_be_meant_and_what_is_lacking(self) -> None:
         with mock.patch.object(bindings, "lacking", lambda: []):

@@ -2,9 +2,9 @@
 
 import unittest
 
-from library_tests import portable as checks
-from vga_library import portable
-from vga_library.portable import C_FILE, HAND, Places, one_file
+from library_tests import one_file as checks
+from vga_library import one_file as portable
+from vga_library.one_file import C_FILE, HAND, Places, one_file
 from vga_report.trouble import Wrong
 from vga_report.version import HEADER, calls_of
 

@@ -15,7 +15,7 @@ from vga_report.streams import check_file, check_folder, to_read, write_file
 from vga_report.trouble import Trouble
 from vga_page.making import made_for_c
 
-from .portable import TRANSLATORS, one_file, written_by_wasm2c
+from .one_file import TRANSLATORS, one_file, written_by_wasm2c
 from .making import (
     ARCHIVE, BACKENDS, MOVING, TARGETS, X86_64, Place, Target, built_archive, keep, kept, make_library, memory_part,
 )

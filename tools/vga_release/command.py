@@ -1,6 +1,7 @@
 """The words of the command line, and what a release holds: files of the commit, what is built, the wheel, and pages.
 
-Their links lead to what is in it. The archive hangs on nothing but its files and the commit's time.
+Their links lead to what is in it. The archive hangs on nothing but its files and the commit's time. The C file has an
+archive of its own, which needs no toolchain.
 """
 
 import argparse
@@ -29,7 +30,7 @@ from vga_report.trouble import Trouble
 from vga_report.version import version
 
 PROGRAM = TOP / "crates" / "vga"
-MACHINE = "x86_64-linux"
+MACHINE, PORTABLE = "x86_64-linux", "portable"
 # The file beside the archive, which `sha256sum --check` reads.
 SUM = "sha256"
 EXECUTABLE, PLAIN, RUN = 0o100, 0o644, 0o755
@@ -60,10 +61,17 @@ TOOLS = tuple(f"tools/vga{mark}{name}" for name in ("floppy", "fuzz", "picture",
 PAGE, FRONT = "tools/vga_release/README.md", "README.md"
 # What of the commit goes into a release, where it lies in the repository.
 PATHS = (
-    "CHANGELOG.md", "LICENSE", FRONT, PAGE, "SECURITY.md", "bindings", "crates/vga_suite/data", "docs", "examples", "fonts",
-    "include", "page/zaklimot.html", "share", "tools/README.md", *TOOLS,
+    "CHANGELOG.md", "CMakeLists.txt", "LICENSE", FRONT, PAGE, "SECURITY.md", "bindings", "crates/vga_suite/data", "docs",
+    "examples", "fonts", "include", "page/zaklimot.html", PORTABLE, "share", "tools/README.md", *TOOLS,
 )
 MOVED = {PAGE: FRONT, FRONT: f"docs/{FRONT}"}
+# What is in the archive of the C file, all in one folder.
+ALONE_PAGE = "tools/vga_release/PORTABLE.md"
+ALONE = {
+    ALONE_PAGE: FRONT, "LICENSE": "LICENSE", "fonts/zaklimot.fnt": "zaklimot.fnt",
+    **{f"include/{name}": name for name in ("zaklimot.h", "zaklimot.hpp")},
+    **{f"{PORTABLE}/{name}": name for name in ("CMakeLists.txt", "vga.c", "zaklimot.c")},
+}
 INSTALL = "install.sh"
 # Other names of what is built, so that the commands of all pages run in a release as they stand.
 LINKS: Mapping[str, Entry] = {
@@ -92,7 +100,7 @@ def laid_files(folder: Path) -> dict[str, Entry]:
     }
 
 
-def library_files(files: Mapping[str, File], target: Target, archive: Path) -> dict[str, Entry]:
+def library_files(files: Mapping[str, Entry], target: Target, archive: Path) -> dict[str, Entry]:
     """The library for a processor as it is laid into a folder, and the wheel with it.
 
     They lie in a folder of the processor's name, but for those of the program's own processor.
@@ -106,15 +114,16 @@ def library_files(files: Mapping[str, File], target: Target, archive: Path) -> d
     return made if target == X86_64 else {f"{target.name}/{place}": entry for place, entry in made.items()}
 
 
-def settled(entries: Mapping[str, Entry]) -> dict[str, Entry]:
+def settled(entries: Mapping[str, Entry], moved: Mapping[str, str] = MOVED) -> dict[str, Entry]:
     """All that is in a release, by its place there: pages lead to no more than that."""
-    moved = [MOVED.get(place, place) for place in entries]
-    places = {str(place) for name in moved for place in (name, *PurePosixPath(name).parents)}
+    names = [moved.get(place, place) for place in entries]
+    places = {str(place) for name in names for place in (name, *PurePosixPath(name).parents)}
     done: dict[str, Entry] = {}
     for place, entry in entries.items():
         if place.endswith(".md") and isinstance(entry, File):
-            entry = File(LINK.sub(partial(_link, place, places), entry.content.decode("utf-8")).encode("utf-8"))
-        done[MOVED.get(place, place)] = entry
+            links = partial(_link, place, places, moved)
+            entry = File(LINK.sub(links, entry.content.decode("utf-8")).encode("utf-8"))
+        done[moved.get(place, place)] = entry
     return done
 
 
@@ -141,31 +150,39 @@ def release_entries(commit: Commit, program: Path, archives: Mapping[Target, Pat
     return settled({**entries, MADE_OF: made_of(commit, kit_line(), built)})
 
 
-def wheel_of(files: Mapping[str, File], library: Path, folder: Path, target: Target) -> Path:
+def portable_entries(commit: Commit) -> dict[str, Entry]:
+    """All files of the archive of the C file."""
+    return settled(files_of(commit, tuple(ALONE)), ALONE)
+
+
+def wheel_of(files: Mapping[str, Entry], library: Path, folder: Path, target: Target) -> Path:
     """Makes the wheel for a processor in a folder, of these files of the repository and a folder of the library's."""
     for place, file in files.items():
-        if place.startswith(tuple(f"{source}/" for source in SOURCES)):
+        if isinstance(file, File) and place.startswith(tuple(f"{source}/" for source in SOURCES)):
             laid = folder / "sources" / place
             laid.parent.mkdir(parents=True, exist_ok=True)
             laid.write_bytes(file.content)
     made = folder / "made"
     made.mkdir()
     # As where Python itself is built for another processor.
-    environment = {"ZAKLIMOT_DIR": str(library), "_PYTHON_HOST_PLATFORM": f"linux-{target.name}"}
+    environment = {
+        "ZAKLIMOT_DIR": str(library), "ZAKLIMOT_PORTABLE": "",
+        "_PYTHON_HOST_PLATFORM": f"linux-{target.name}",
+    }
     # With -B Python leaves nothing beside the sources, which would go into the wheel.
     run([sys.executable, "-B", "-c", MAKING, made], folder / "sources" / PACKAGE, environment=environment)
     return next(made.iterdir())
 
 
-def _link(page: str, places: AbstractSet[str], found: Match[str]) -> str:
+def _link(page: str, places: AbstractSet[str], moved: Mapping[str, str], found: Match[str]) -> str:
     """A link of a page of the repository, as it is in a release that has these places: words, if it leads elsewhere."""
     if found["place"] is None:
         return found[0]
     target = posixpath.normpath(posixpath.join(posixpath.dirname(page), found["place"]))
-    place = MOVED.get(target, target)
+    place = moved.get(target, target)
     if place not in places:
         return found["text"]
-    folder = posixpath.dirname(MOVED.get(page, page)) or "."
+    folder = posixpath.dirname(moved.get(page, page)) or "."
     return f"{found['mark']}[{found['text']}]({posixpath.relpath(place, folder)}{found['anchor'] or ''})"
 
 
@@ -178,14 +195,16 @@ def clean_commit() -> Commit:
     return Commit(number, int(time))
 
 
-def files_of(commit: Commit, paths: Sequence[str]) -> dict[str, File]:
-    """The files of a commit below these paths."""
-    files: dict[str, File] = {}
+def files_of(commit: Commit, paths: Sequence[str]) -> dict[str, Entry]:
+    """The files and the links of a commit below these paths."""
+    files: dict[str, Entry] = {}
     with tarfile.open(fileobj=io.BytesIO(_git("archive", "--format=tar", commit.number, "--", *paths))) as archive:
         for member in archive.getmembers():
             stream = archive.extractfile(member) if member.isfile() else None
             if stream is not None:
                 files[member.name] = File(stream.read(), bool(member.mode & EXECUTABLE))
+            elif member.issym():
+                files[member.name] = member.linkname
     return files
 
 
@@ -225,6 +244,8 @@ def _parser() -> argparse.ArgumentParser:
     cli.add(parser, "--program FILE", "takes this program (default: `rt run` proves and builds one)", type=to_read)
     cli.add(parser, "--archive FILE", "takes this archive of the library (default: `rt lib` builds one)", type=to_read)
     cli.add(parser, f"--archive-{AARCH64.name} FILE", f"the same of the library for {AARCH64.name}", type=to_read)
+    told = f"packs the archive of {PORTABLE}/zaklimot.c alone, for which nothing is built"
+    cli.add(parser, f"--{PORTABLE}", told)
     parser.set_defaults(job=_release)
     return parser
 
@@ -243,21 +264,33 @@ def _built(words: argparse.Namespace, progress: Progress) -> tuple[Path, dict[Ta
     return program, archives
 
 
-def _release(words: argparse.Namespace, progress: Progress) -> None:
-    check_given(words.program, words.archive, words.archive_aarch64)
-    check_folder(words.folder)
+def write_archive(folder: Path, kind: str, entries: Mapping[str, Entry], time: int) -> None:
+    """Writes an archive and its checksum into a folder, and prints their names."""
     # What the archive is called, and the folder that it holds.
-    commit, name = clean_commit(), f"zaklimot-{version()}-{MACHINE}"
-    for program in (*X86_64.programs(), *AARCH64.programs()):
-        check_program(program)
-    entries = release_entries(commit, *_built(words, progress))
-    words.folder.mkdir(parents=True, exist_ok=True)
-    path = words.folder / f"{name}.tar.gz"
+    name = f"zaklimot-{version()}-{kind}"
+    path = folder / f"{name}.tar.gz"
     with writing(str(path)) as stream:
-        pack(stream, {f"{name}/{place}": entry for place, entry in entries.items()}, commit.time)
+        pack(stream, {f"{name}/{place}": entry for place, entry in entries.items()}, time)
     sums = path.with_name(f"{path.name}.{SUM}")
     write_file(str(sums), f"{hashlib.sha256(path.read_bytes()).hexdigest()}  {path.name}\n".encode("ascii"))
     print(path, sums, sep="\n")
+
+
+def _release(words: argparse.Namespace, progress: Progress) -> None:
+    given = (words.program, words.archive, words.archive_aarch64)
+    if words.portable and any(given):
+        raise Trouble(f"--{PORTABLE} takes nothing that is built")
+    check_given(*given)
+    check_folder(words.folder)
+    commit = clean_commit()
+    archives = {PORTABLE: portable_entries(commit)}
+    if not words.portable:
+        for program in (*X86_64.programs(), *AARCH64.programs()):
+            check_program(program)
+        archives[MACHINE] = release_entries(commit, *_built(words, progress))
+    words.folder.mkdir(parents=True, exist_ok=True)
+    for kind in sorted(archives, reverse=True):
+        write_archive(words.folder, kind, archives[kind], commit.time)
 
 
 # Runs a command line, and answers its exit status.

@@ -1,4 +1,4 @@
-"""A VGA display adapter with its video BIOS, proved: its library for C, from Python.
+"""A VGA display adapter with its video BIOS: its library for C, from Python.
 
 A card is opened, called and closed. Ports, addresses and registers are those of a VGA:
 
@@ -28,7 +28,8 @@ refuses raises a `Refusal`, as NotDecoded, and changes nothing. A number out of 
 ValueError. All exceptions of the package are below `zaklimot.Error`.
 
 The library is looked for as the file that ZAKLIMOT_LIBRARY names, below the folder ZAKLIMOT_DIR, in
-the package, and where `tools/vga-library install` lays it. The page docs/PYTHON.md is the guide.
+the package, and where `tools/vga-library install` lays it. `library()` tells which it is: the proved
+one, or the portable one, which a C compiler makes. The page docs/PYTHON.md is the guide.
 """
 
 from __future__ import annotations

@@ -1,4 +1,4 @@
-//! A VGA display adapter with its video BIOS, proved: its library for C, made safe.
+//! A VGA display adapter with its video BIOS: its library for C, made safe.
 //!
 //! A card is opened, called, and closed where it is dropped. Ports, addresses and registers are
 //! those of a VGA:
@@ -21,8 +21,9 @@
 //! ```
 //!
 //! Cycles take no time on the card: the clock runs by [`Card::advance`] and by frames alone. What
-//! the adapter refuses is an [`Error`], and changes nothing. `docs/RUST.md` of the repository is the
-//! guide, and `docs/LIBRARY.md` tells what is proved.
+//! the adapter refuses is an [`Error`], and changes nothing. [`library()`] tells whether the library
+//! is the proved one, or the portable one, which a C compiler makes. `docs/RUST.md` of the repository
+//! is the guide, and `docs/LIBRARY.md` tells what is proved.
 #![warn(missing_docs)]
 
 mod card;
