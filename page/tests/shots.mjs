@@ -1,6 +1,7 @@
 // Pictures of a page in the browser, as small PNGs: a palette, and fewer levels of a component.
 import assert from "node:assert/strict";
-import { crc32, deflateSync } from "node:zlib";
+import { deflateSync } from "node:zlib";
+import { crcOf } from "../png.js";
 
 // So many levels a component keeps, and so many colours a palette has at most.
 const LEVELS = 16, MOST_COLOURS = 256;
@@ -19,18 +20,13 @@ const READ = `async png => {
   }
   return { width, height, dots: btoa(parts.join("")) };
 }`;
-/** In the page: where an element stands. */
-const PLACE = `selector => {
-  const { x, y, width, height } = document.querySelector(selector).getBoundingClientRect();
-  return { x, y, width, height, scale: 1 };
-}`;
 
 function chunk(kind, given) {
   const named = Buffer.concat([Buffer.from(kind), Buffer.from(given)]);
   const whole = Buffer.alloc(named.length + 8);
   whole.writeUInt32BE(given.length, 0);
   whole.set(named, 4);
-  whole.writeUInt32BE(crc32(named), named.length + 4);
+  whole.writeUInt32BE(crcOf(named), named.length + 4);
   return whole;
 }
 
@@ -59,8 +55,7 @@ function withPalette({ width, height, dots }) {
 
 /** A small PNG of what is seen of the page, or of an element of it. */
 export async function smallShot(browser, selector) {
-  const clip = selector ? { clip: await browser.value(`(${PLACE})("${selector}")`) } : {};
-  const { data } = await browser.send("Page.captureScreenshot", { format: "png", ...clip });
-  const read = await browser.value(`(${READ})("${data}")`);
+  const data = await browser.screenshot(selector);
+  const read = await browser.value(`(${READ})("${data.toString("base64")}")`);
   return withPalette({ ...read, dots: Buffer.from(read.dots, "base64") });
 }

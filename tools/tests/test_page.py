@@ -235,9 +235,10 @@ class Tests(Folder):
         with mock.patch("shutil.which", return_value=None):
             told = "^vga-page-tests: node: it is not in the path: install the package nodejs\n"
             hold_undone(self, call(tests_command.main), told)
-        with mock.patch.multiple(tests_command, shutil=mock.Mock(), _answer=lambda _: "v18.19.0"):
+        with mock.patch.multiple(tests_command, shutil=mock.Mock(), _answer=lambda _: "v16.20.2"):
             told = refused(tests_command.node_words)
-        self.assertEqual(told, "node: it is v18.19.0, and the tests need 20 or newer: the package nodejs")
+        wanted = "node: it is v16.20.2, and the tests need 18 or newer: the package nodejs"
+        self.assertEqual(told, wanted)
 
 
 @unittest.skipIf(sys.platform == "win32", "a script is a program on POSIX")
