@@ -26,8 +26,8 @@ test("memory that is not there is told, and what was taken stays usable", async 
 
 test("a length is read from all of its 8 bytes", async () => {
   const adapter = await loadAdapter();
-  adapter.view.setBigUint64(adapter.told.at, 7n, true);
-  adapter.view.setBigUint64(adapter.told.at + 8, 0xffffffffn, true);
-  adapter.view.setBigUint64(adapter.told.at + 16, 0x3_80000001n, true);
-  assert.deepEqual([0, 1, 2].map(at => adapter.number(at)), [7, 0xffffffff, 0x3_80000001]);
+  const words = [7, 0, 0xffffffff, 0, 0x80000001, 3];
+  words.forEach((word, i) => adapter.view.setUint32(adapter.told.at + 4 * i, word, true));
+  const numbers = [0, 1, 2].map(at => adapter.number(at));
+  assert.deepEqual(numbers, [7, 0xffffffff, 3 * 2 ** 32 + 0x80000001]);
 });

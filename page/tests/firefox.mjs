@@ -15,12 +15,15 @@ export const firefoxName = () => NAMES.find(name => hasProgram(name));
 
 export class Firefox extends Driven {
   static async started() {
+    if (!firefoxName()) throw new Error(`none of ${NAMES.join(", ")} is in the path`);
     const browser = new Firefox(), port = await freePort();
     browser.folder = mkdtempSync(`${tmpdir()}/zaklimot-firefox-`);
     writeFileSync(`${browser.folder}/user.js`, `user_pref("marionette.port", ${port});\n` +
       'user_pref("datareporting.policy.dataSubmissionEnabled", false);\n');
+    // Its locks and reports of crashes lie in the folder too.
+    const env = { ...process.env, HOME: browser.folder, TMPDIR: browser.folder };
     browser.process = spawn(firefoxName(), ["--headless", "--no-remote", "--profile", browser.folder,
-      "--marionette"], { stdio: "ignore", env: { ...process.env, HOME: browser.folder } });
+      "--marionette"], { stdio: "ignore", env });
     Object.assign(browser, { number: 0, waiting: new Map(), rest: Buffer.alloc(0) });
     browser.ended = new Promise(resolve => browser.process.once("exit", resolve));
     browser.process.once("error", () => {});
@@ -79,9 +82,8 @@ export class Firefox extends Driven {
   }
 
   async command(word, parameters) {
-    const isElement = word === "TakeElementScreenshot";
-    const name = `WebDriver:${isElement ? "TakeScreenshot" : word}`;
-    const text = JSON.stringify([0, ++this.number, name, { ...parameters, full: false }]);
+    const name = `WebDriver:${word}`;
+    const text = JSON.stringify([0, ++this.number, name, parameters]);
     const answered = new Promise((resolve, reject) => {
       this.waiting.set(this.number, { resolve, reject });
     });

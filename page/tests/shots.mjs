@@ -7,13 +7,19 @@ import { crcOf } from "../png.js";
 const LEVELS = 16, MOST_COLOURS = 256;
 const SIGNATURE = Buffer.from("\x89PNG\r\n\x1a\n", "latin1");
 
-/** In the page: the dots of a PNG, four bytes each, row by row. */
-const READ = `async png => {
+/** In the page: where an element stands, in whole pixels. */
+const PLACE = `selector => {
+  const { x, y, width, height } = document.querySelector(selector).getBoundingClientRect();
+  return [x, y, width, height].map(Math.round);
+}`;
+/** In the page: the dots of a PNG, or of a place in it, four bytes each, row by row. */
+const READ = `async (png, place) => {
   const bytes = Uint8Array.from(atob(png), letter => letter.charCodeAt(0));
-  const image = await createImageBitmap(new Blob([bytes])), { width, height } = image;
+  const image = await createImageBitmap(new Blob([bytes]));
+  const [x, y, width, height] = place ?? [0, 0, image.width, image.height];
   const canvas = Object.assign(document.createElement("canvas"), { width, height });
   const brush = canvas.getContext("2d");
-  brush.drawImage(image, 0, 0);
+  brush.drawImage(image, -x, -y);
   const { data } = brush.getImageData(0, 0, width, height), parts = [];
   for (let at = 0; at < data.length; at += 8192) {
     parts.push(String.fromCharCode(...data.subarray(at, at + 8192)));
@@ -55,7 +61,11 @@ function withPalette({ width, height, dots }) {
 
 /** A small PNG of what is seen of the page, or of an element of it. */
 export async function smallShot(browser, selector) {
-  const data = await browser.screenshot(selector);
-  const read = await browser.value(`(${READ})("${data.toString("base64")}")`);
+  // WebKit's driver draws an element alone without what lies over it, so it is cut out of the whole.
+  const isCut = selector && browser.hasWholePixels;
+  const place = isCut ? await browser.value(`(${PLACE})("${selector}")`) : null;
+  const data = await browser.screenshot(isCut ? undefined : selector);
+  const words = `"${data.toString("base64")}", ${JSON.stringify(place)}`;
+  const read = await browser.value(`(${READ})(${words})`);
   return withPalette({ ...read, dots: Buffer.from(read.dots, "base64") });
 }

@@ -80,17 +80,9 @@ export class Driven {
     }
   }
 
-  /** A PNG of what is seen of the page, or of an element of it. */
-  async screenshot(selector) {
-    const png = selector
-      ? await this.command("TakeElementScreenshot", { id: await this.found(selector) })
-      : await this.command("TakeScreenshot", {});
-    return Buffer.from(png, "base64");
-  }
-
-  async found(selector) {
-    const found = await this.command("FindElement", { using: "css selector", value: selector });
-    return found[ELEMENT];
+  /** A PNG of what is seen of the page. */
+  async screenshot() {
+    return Buffer.from(await this.command("TakeScreenshot", { full: false }), "base64");
   }
 
   act(...actions) {
@@ -140,7 +132,8 @@ export class Driven {
 
   /** Chooses a file in an element of the page that takes one. */
   async choose(selector, file) {
-    await this.command("ElementSendKeys", { id: await this.found(selector), text: file });
+    const found = await this.command("FindElement", { using: "css selector", value: selector });
+    await this.command("ElementSendKeys", { id: found[ELEMENT], text: file });
   }
 
   /** What the page has said since it was asked last; not what it said while it loaded. */

@@ -17,7 +17,6 @@ const WAYS = {
   FindElement: () => ["POST", "element"],
   ElementSendKeys: ({ id }) => ["POST", `element/${id}/value`],
   TakeScreenshot: () => ["GET", "screenshot"],
-  TakeElementScreenshot: ({ id }) => ["GET", `element/${id}/screenshot`],
 };
 
 /** The programs that are not in the path, of those that are needed. */
@@ -35,6 +34,8 @@ async function end(program) {
 
 export class WebKit extends Driven {
   static async started() {
+    const [lacking] = lackingForWebKit();
+    if (lacking) throw new Error(`${lacking} is not in the path`);
     const browser = new WebKit();
     browser.folder = mkdtempSync(`${tmpdir()}/zaklimot-webkit-`);
     browser.hasSockets = existsSync(SOCKETS);

@@ -276,7 +276,7 @@ class Opened(Fake):
 
     def test_how_it_is_opened_at_a_step(self) -> None:
         made = str(self.made)
-        told = f"{made}: open it in Chromium or Firefox, for instance as {self.made.as_uri()}"
+        told = f"{made}: open it in a browser, for instance as {self.made.as_uri()}"
         self.assertEqual(self.debugged(self.script, made=made), (0, f"{told}\n", ""))
         self.assertEqual(self.debugged(self.script, "--until", "2", made=made), (0, f"{told}#step=2\n", ""))
         pages = unquote(page_data(self.made.read_text("utf-8"))["pages"])
