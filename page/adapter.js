@@ -1,9 +1,12 @@
-// The calls of the module (include/zaklimot.h) as the page has them. Pointers and lengths are BigInts.
+// The calls of the module (include/zaklimot.h) as the page has them. Its memory has addresses of
+// 32 bits: pointers and lengths are Numbers. A length that a call writes into memory has 8 bytes.
 import { MOST_BYTES } from "./grammar.js";
 import { Trouble } from "./trouble.js";
 import { grouped } from "./bytes.js";
 
 export const HIGHEST = 1024, WIDEST = 2304, FONTS_SIZE = 9728, FIRST_STATE = 265086, MOST_STATE = 7342974;
+/** Bytes of a `zak_card`. */
+export const CARD_SIZE = 16;
 /** Bytes of the largest picture, with its head and a newline. */
 export const MOST_PICTURE = 3 * WIDEST * HIGHEST + 32;
 /** So many bytes before a state make its planes begin at multiples of four. */
@@ -37,20 +40,26 @@ export class Adapter {
   /** Memory of the module under a name, of at least so many bytes. */
   room(name, size) {
     const old = this.rooms.get(name);
-    if (old && old.size >= size) return old;
+    if (old && old.length >= size) return old;
     if (old) this.calls.page_give(old.at);
     this.rooms.delete(name);
-    const at = BigInt(this.calls.page_take(BigInt(size)));
-    if (!at) throw new Trouble(NO_MEMORY);
-    const room = { at, place: Number(at), size, length: BigInt(size) };
+    const room = { at: this.taken(size), length: size };
     this.rooms.set(name, room);
     return room;
+  }
+
+  /** Where so many bytes of the module's memory begin, which nothing else has. */
+  taken(size) {
+    // A call answers an integer with a sign, and addresses have none.
+    const at = this.calls.page_take(size) >>> 0;
+    if (!at) throw new Trouble(NO_MEMORY);
+    return at;
   }
 
   /** Gives back the rooms that long scripts or pictures have taken. */
   giveBack() {
     for (const [name, room] of this.rooms) {
-      if (name === "told" || room.size < 1 << 16) continue;
+      if (name === "told" || room.length < 1 << 16) continue;
       this.calls.page_give(room.at);
       this.rooms.delete(name);
     }
@@ -59,30 +68,31 @@ export class Adapter {
   /** Bytes in the module's memory. */
   given(name, bytes) {
     const room = this.room(name, Math.max(1, bytes.length));
-    this.bytes.set(bytes, room.place);
-    return { at: room.at, length: BigInt(bytes.length) };
+    this.bytes.set(bytes, room.at);
+    return { at: room.at, length: bytes.length };
   }
 
   /** A copy of what a call has written. */
   copied(room, length) {
-    return this.bytes.slice(room.place, room.place + length);
+    return this.bytes.slice(room.at, room.at + length);
   }
 
   /** Bytes in the module's memory, given in parts. */
   givenParts(name, parts) {
     const length = parts.reduce((sum, part) => sum + part.length, 0), room = this.room(name, length);
     const { bytes } = this;
-    let { place } = room;
+    let { at } = room;
     for (const part of parts) {
-      bytes.set(part, place);
-      place += part.length;
+      bytes.set(part, at);
+      at += part.length;
     }
-    return { at: room.at, length: BigInt(length) };
+    return { at: room.at, length };
   }
 
   /** One of the lengths and places that calls tell. */
   number(at) {
-    return Number(this.view.getBigUint64(this.told.place + 8 * at, true));
+    const { view } = this, place = this.told.at + 8 * at;
+    return view.getUint32(place, true) + 2 ** 32 * view.getUint32(place + 4, true);
   }
 
   /** What a call answers that writes into a room and tells the length first: { status, bytes }. */
@@ -100,7 +110,7 @@ export class Adapter {
   assembled(text) {
     const given = this.given("text", text), told = this.told.at;
     const { status, bytes } = this.written("script", Math.max(1024, text.length), room =>
-      this.calls.zak_assemble(given.at, given.length, room.at, room.length, told, told + 8n));
+      this.calls.zak_assemble(given.at, given.length, room.at, room.length, told, told + 8));
     if (status === STATUS_TOO_LONG) throw new Trouble(tooLong(text.length));
     if (status && status !== STATUS_BAD_LINE) throw new Trouble(`The module answers ${status} to this text.`);
     return { bytes, line: status ? this.number(1) : 0 };
@@ -110,7 +120,7 @@ export class Adapter {
   printed(script) {
     const given = this.given("script", script), told = this.told.at;
     const { status, bytes } = this.written("text", Math.max(1024, 8 * script.length), room =>
-      this.calls.zak_print(given.at, given.length, room.at, room.length, told, told + 8n));
+      this.calls.zak_print(given.at, given.length, room.at, room.length, told, told + 8));
     return { status, place: status ? this.number(1) : 0, text: bytes };
   }
 
@@ -128,11 +138,12 @@ export class Adapter {
   runWithin(script, fonts, size) {
     const given = this.given("script", script), font = this.given("fonts", fonts), told = this.told.at;
     const room = this.room("report", Math.max(1, size));
-    const status = this.calls.zak_run(given.at, given.length, font.at, font.length, room.at, BigInt(size),
-      told, told + 8n);
+    const status = this.calls.zak_run(given.at, given.length, font.at, font.length, room.at, size,
+      told, told + 8);
     if (status === STATUS_MEMORY) throw new Trouble(NO_MEMORY);
     const isTold = !status || status === STATUS_NO_ROOM, length = isTold ? this.number(0) : 0;
-    return { status, length, report: this.bytes.subarray(room.place, room.place + (status ? 0 : length)) };
+    const report = this.bytes.subarray(room.at, room.at + (status ? 0 : length));
+    return { status, length, report };
   }
 }
 
@@ -146,9 +157,8 @@ function tooLong(length) {
 export class Card {
   constructor(adapter, fonts) {
     this.adapter = adapter;
-    this.at = BigInt(adapter.calls.page_take(16n));
-    if (!this.at) throw new Trouble(NO_MEMORY);
-    adapter.bytes.fill(0, Number(this.at), Number(this.at) + 16);
+    this.at = adapter.taken(CARD_SIZE);
+    adapter.bytes.fill(0, this.at, this.at + CARD_SIZE);
     const font = adapter.given("fonts", fonts);
     const status = adapter.calls.zak_open(this.at, font.at, font.length);
     if (status) {
@@ -173,11 +183,11 @@ export class Card {
     const report = adapter.room("answers", Math.max(room, 4096));
     const status = adapter.calls.zak_run_on(this.at, given.at, given.length, first, most, report.at,
       report.length,
-      told, told + 8n, told + 16n);
+      told, told + 8, told + 16);
     if (status === STATUS_MEMORY) throw new Trouble(NO_MEMORY);
     if (status) throw new Trouble(`The module answers ${status} to steps that it has read before.`);
-    const length = adapter.number(0);
-    return { taken: adapter.number(1), report: adapter.bytes.subarray(report.place, report.place + length) };
+    const bytes = adapter.bytes.subarray(report.at, report.at + adapter.number(0));
+    return { taken: adapter.number(1), report: bytes };
   }
 
   /** The state as bytes (docs/STATE.md), in the module's memory: they hold until the next call. */
@@ -185,7 +195,7 @@ export class Card {
     const adapter = this.adapter, room = adapter.room("state", MOST_STATE);
     const status = adapter.calls.zak_save(this.at, room.at, room.length, adapter.told.at);
     if (status) throw new Trouble(`The card is not saved: the module answers ${status}.`);
-    return adapter.bytes.subarray(room.place, room.place + adapter.number(0));
+    return adapter.bytes.subarray(room.at, room.at + adapter.number(0));
   }
 
   /** A copy of the state's bytes, in which planes begin at multiples of four. */
@@ -212,7 +222,7 @@ export class Card {
     const status = adapter.calls.zak_frame_lines(this.at, widths.at, rgb.at, rgb.length, adapter.told.at);
     if (status) throw new Trouble(`The frame is not drawn: the module answers ${status}.`);
     const length = adapter.number(0), dots = spare?.length === length ? spare : new Uint8Array(length);
-    dots.set(adapter.bytes.subarray(rgb.place, rgb.place + length));
+    dots.set(adapter.bytes.subarray(rgb.at, rgb.at + length));
     return { widths: new Uint32Array(adapter.copied(widths, 4 * HIGHEST).buffer), rgb: dots };
   }
 }

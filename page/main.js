@@ -1,6 +1,7 @@
 // The page begins: it opens the module that stands in it, and shows a script. `#check` runs all examples
 // instead. In a worker, which has no document, the same script holds answers to those of zak_run.
 import { Adapter } from "./adapter.js";
+import { Trouble } from "./trouble.js";
 import { View } from "./view.js";
 import { byId, element } from "./dom.js";
 import { bytesOfBase64 } from "./bytes.js";
@@ -8,8 +9,11 @@ import { checkedExamples } from "./checking.js";
 import { examplesOf, unzipped } from "./packed.js";
 import { serveComparison } from "./comparing.js";
 
-const NO_MEMORY64 = "This browser has no WebAssembly with 64-bit memory, and the adapter needs it. " +
-  "Chromium 156 and Firefox 153 have it; Safari does not, as far as we know.";
+/** What some browsers lack, or have switched off, and what the page does with it. */
+const NEEDED = { WebAssembly: "runs the adapter", DecompressionStream: "unpacks the adapter" };
+const HAVE_IT = "Chromium 103, Firefox 113, Safari 16.4 and newer ones have it, " +
+  "unless it is switched off.";
+const OLD_WEBASSEMBLY = "This browser's WebAssembly is too old for the adapter.";
 
 /** Shows what the check of all examples tells. */
 async function showCheck(adapter, { examples, fonts }) {
@@ -18,7 +22,14 @@ async function showCheck(adapter, { examples, fonts }) {
   document.body.replaceChildren(element("pre", { id: "checked" }, told));
 }
 
+/** What this browser lacks, in a sentence; nothing where it has all that the page needs. */
+function lacking() {
+  const name = Object.keys(NEEDED).find(one => typeof globalThis[one] === "undefined");
+  return name ? `This browser has no ${name}, by which the page ${NEEDED[name]}. ${HAVE_IT}` : "";
+}
+
 async function begin() {
+  if (lacking()) throw new Trouble(lacking());
   const data = JSON.parse(byId("zaklimot-data").textContent);
   const module = await unzipped(data.module);
   data.examples = await examplesOf(data);
@@ -28,10 +39,11 @@ async function begin() {
 }
 
 function tellOf(error) {
-  const notice = byId("notice"), isOld = error instanceof WebAssembly.CompileError;
+  const notice = byId("notice"), isOld = error.name === "CompileError";
   notice.hidden = false;
-  notice.firstElementChild.textContent = isOld ? `${NO_MEMORY64} (${error.message})` : error.message;
-  if (!isOld) throw error;
+  const reason = isOld ? `${OLD_WEBASSEMBLY} (${error.message})` : error.message;
+  notice.firstElementChild.textContent = reason;
+  if (!isOld && !(error instanceof Trouble)) throw error;
 }
 
 if (typeof document === "undefined") serveComparison();

@@ -40,7 +40,7 @@ class PlaneBitmap {
 
   /** Paints bytes; `shown` has a 1 for each byte that is so, and `found` the numbers of those changed. */
   paint(bytes, shown, found, pitch) {
-    const [old, marks] = this.marks = this.marks.toReversed();
+    const [old, marks] = this.marks = [...this.marks].reverse();
     marks.set(found);
     const isBlack = pitch !== this.pitch;
     if (isBlack) this.shape(pitch);

@@ -14,7 +14,8 @@ export function widened(six) {
   return six << 2 | six >> 4;
 }
 
-function crcOf(bytes) {
+/** The cyclic redundancy check of a PNG's chunk, a number of 32 bits. */
+export function crcOf(bytes) {
   let crc = -1;
   for (const byte of bytes) crc = CRC_TABLE[(crc ^ byte) & 255] ^ crc >>> 8;
   return ~crc >>> 0;

@@ -39,11 +39,13 @@ export class PointPanel {
   }
 
   fill() {
-    const rows = this.points.map((point, i) => {
-      const box = element("input", { type: "checkbox", checked: point.isOn, onchange: event =>
-        this.change(this.points.with(i, { ...point, isOn: event.target.checked })) });
+    const rows = this.points.map(point => {
+      const switched = ({ target }) => this.change(this.points.map(one =>
+        one === point ? { ...point, isOn: target.checked } : one));
+      const box = element("input",
+        { type: "checkbox", checked: point.isOn, onchange: switched });
       const remove = element("button", { type: "button", "aria-label": `remove ${pointText(point)}`,
-        onclick: () => this.change(this.points.toSpliced(i, 1)) }, "remove");
+        onclick: () => this.change(this.points.filter(one => one !== point)) }, "remove");
       return element("li", {}, element("label", {}, box, ` ${pointText(point)}`), remove);
     });
     const hint = "A run stops after the step that meets a breakpoint, so you see what the step did. " +

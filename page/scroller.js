@@ -1,7 +1,7 @@
 /** A box that scrolls. Its place and its height are known without asking the browser to lay out the page. */
 export class Scroller {
   constructor(box, heard) {
-    Object.assign(this, { box, top: 0, left: 0, height: 0, isAsked: false });
+    Object.assign(this, { box, top: 0, left: 0, seen: 0, isAsked: false });
     box.addEventListener("scroll", () => {
       const { top, left } = this;
       // The event of a frame before must not undo what was asked for since then.
@@ -10,9 +10,14 @@ export class Scroller {
       if (Math.abs(top - this.top) >= 1 || left !== this.left) heard();
     });
     new ResizeObserver(() => {
-      this.height = box.clientHeight;
+      this.seen = box.clientHeight;
       heard();
     }).observe(box);
+  }
+
+  /** How high it is, for which the browser is asked only until it has told so itself. */
+  get height() {
+    return this.seen || this.box.clientHeight;
   }
 
   /** Scrolls to a place of what is so high in all; the browser does it when it lays out the page next. */

@@ -385,9 +385,7 @@ await check("what is saved", async () => {
 /** Has the page open a file that is chosen. */
 async function choose(name, bytes) {
   writeFileSync(`${folder}/${name}`, bytes);
-  const { root } = await browser.send("DOM.getDocument"), { nodeId } = await browser.send("DOM.querySelector",
-    { nodeId: root.nodeId, selector: "#file" });
-  await browser.send("DOM.setFileInputFiles", { nodeId, files: [`${folder}/${name}`] });
+  await browser.choose("#file", `${folder}/${name}`);
 }
 
 await check("files: bytes, fonts, a trace; and one that is dropped", async () => {
@@ -505,6 +503,20 @@ async function openAfter(source, script) {
   await browser.open(ADDRESS + await fragment(script));
   await browser.send("Page.removeScriptToEvaluateOnNewDocument", { identifier });
 }
+
+await check("a browser that lacks something says what it is", async () => {
+  for (const [source, told] of [
+    ["delete window.WebAssembly",
+      "This browser has no WebAssembly, by which the page runs the adapter. Chromium 103,"],
+    ["delete window.DecompressionStream",
+      "This browser has no DecompressionStream, by which the page unpacks the adapter."],
+    ["WebAssembly.instantiate = async () => { throw new WebAssembly.CompileError('no opcode'); }",
+      "This browser's WebAssembly is too old for the adapter. (no opcode)"],
+  ]) {
+    await openAfter(source, "frame\n");
+    await says("#notice", told);
+  }
+});
 
 await check("answers that are not those of zak_run are told", async () => {
   const source = `{

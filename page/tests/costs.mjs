@@ -8,6 +8,7 @@ import { tmpdir } from "node:os";
 import { pathToFileURL } from "node:url";
 import { Browser, hasProgram } from "./driving.mjs";
 import { Firefox, firefoxName } from "./firefox.mjs";
+import { WebKit, lackingForWebKit } from "./webkit.mjs";
 import { LONG, figuresText, fragmentOf, isIdle, jumpsIn } from "./jumps.mjs";
 import { FONTS, PAGE, TOP, examples, moduleBytes } from "./loading.mjs";
 import { measured } from "./measuring.mjs";
@@ -65,6 +66,9 @@ document.title = "measured";
 /** The first number of a version. */
 const majorOf = version => version.match(/\d+/)[0];
 
+/** What the column of a browser is called: WebKitGTK counts its versions by the second number too. */
+const titleOf = name => name.match(/^WebKitGTK \d+\.\d+|^\w+ \d+/)[0];
+
 async function browserCosts(browser, address) {
   await browser.open(address);
   await browser.until(DONE);
@@ -110,20 +114,13 @@ async function jumpLines(browser) {
 async function inBrowsers(folder, columns) {
   const file = `${folder}/measuring.html`, address = pathToFileURL(file).href, lines = [];
   writeFileSync(file, measuringPage());
-  if (process.env.CHROMIUM || CHROMIUM.some(name => hasProgram(name))) {
-    const browser = await Browser.started();
+  const isThere = process.env.CHROMIUM || CHROMIUM.some(name => hasProgram(name));
+  const engines = [isThere && Browser, firefoxName() && Firefox, !lackingForWebKit().length && WebKit];
+  for (const engine of engines.filter(Boolean)) {
+    const browser = await engine.started();
     try {
-      const { product } = await browser.send("Browser.getVersion");
-      columns[`Chromium ${majorOf(product)}`] = await browserCosts(browser, address);
-      lines.push(...await jumpLines(browser));
-    } finally {
-      await browser.stop();
-    }
-  }
-  if (firefoxName()) {
-    const browser = await Firefox.started();
-    try {
-      columns[`Firefox ${majorOf(browser.version)}`] = await browserCosts(browser, address);
+      columns[titleOf(browser.name)] = await browserCosts(browser, address);
+      if (engine === Browser) lines.push(...await jumpLines(browser));
     } finally {
       await browser.stop();
     }

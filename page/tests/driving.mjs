@@ -1,15 +1,25 @@
 // Chromium without a window, driven by its DevTools protocol over two pipes.
 import { spawn } from "node:child_process";
 import { mkdtempSync, rmSync, statSync } from "node:fs";
+import { createServer } from "node:net";
 import { tmpdir } from "node:os";
 
 const NAMES = ["chromium", "chromium-browser", "google-chrome"];
-const PATIENCE = 60000;
-// Signals that end a test, with their numbers.
-const ENDING = [["SIGHUP", 1], ["SIGINT", 2], ["SIGTERM", 15]];
+/** So many milliseconds something may take, on a machine on which much else runs. */
+export const PATIENCE = 180000;
+/** Signals that end a test, with their numbers. */
+export const ENDING = [["SIGHUP", 1], ["SIGINT", 2], ["SIGTERM", 15]];
+
+/** In the page: where an element stands. */
+const PLACE = `selector => {
+  const { x, y, width, height } = document.querySelector(selector).getBoundingClientRect();
+  return { x, y, width, height, scale: 1 };
+}`;
 
 /** A browser with one page. */
 export class Browser {
+  hasWholePixels = false;
+
   /** A browser that is started, by the first of some names that is there. */
   static async started() {
     const browser = new Browser();
@@ -33,6 +43,8 @@ export class Browser {
     const { targetId } = targetInfos.find(target => target.type === "page");
     ({ sessionId: this.session } = await this.send("Target.attachToTarget", { targetId, flatten: true }));
     for (const domain of ["Page", "Runtime", "Log"]) await this.send(`${domain}.enable`);
+    const { product } = await this.send("Browser.getVersion");
+    this.name = product.replace(/^\w*Chrome\//, "Chromium ");
     await this.send("Browser.setDownloadBehavior", { behavior: "allow", downloadPath: this.folder,
       eventsEnabled: true });
   }
@@ -128,8 +140,11 @@ export class Browser {
       { features: [{ name: "prefers-color-scheme", value: dark ? "dark" : "light" }] });
   }
 
-  async screenshot() {
-    const { data } = await this.send("Page.captureScreenshot", { format: "png" });
+  /** A PNG of what is seen of the page, or of an element of it. */
+  async screenshot(selector) {
+    const place = selector && await this.value(`(${PLACE})(${JSON.stringify(selector)})`);
+    const clip = place ? { clip: place } : {};
+    const { data } = await this.send("Page.captureScreenshot", { format: "png", ...clip });
     return Buffer.from(data, "base64");
   }
 
@@ -141,6 +156,10 @@ export class Browser {
       return [box.left + box.width / 2, box.top + box.height / 2];
     })()`);
     await this.clickAt(x, y);
+  }
+
+  moveTo(x, y) {
+    return this.send("Input.dispatchMouseEvent", { type: "mouseMoved", x, y });
   }
 
   async clickAt(x, y) {
@@ -166,6 +185,38 @@ export class Browser {
   async type(text) {
     await this.send("Input.insertText", { text });
   }
+
+  /** Puts a text in place of what is selected, as one that is pasted. */
+  paste(text) {
+    return this.type(text);
+  }
+
+  selectAll() {
+    return this.send("Input.dispatchKeyEvent", { type: "rawKeyDown", key: "a", code: "KeyA",
+      modifiers: 2, windowsVirtualKeyCode: 65, commands: ["selectAll"] });
+  }
+
+  /** Chooses a file in an element of the page that takes one. */
+  async choose(selector, file) {
+    const { root } = await this.send("DOM.getDocument");
+    const { nodeId } = await this.send("DOM.querySelector", { nodeId: root.nodeId, selector });
+    await this.send("DOM.setFileInputFiles", { nodeId, files: [file] });
+  }
+
+  /** What the page has said until now. */
+  async heard() {
+    return this.said.splice(0);
+  }
+}
+
+/** A port that nothing listens at. */
+export function freePort() {
+  return new Promise(resolve => {
+    const server = createServer().listen(0, "127.0.0.1", () => {
+      const { port } = server.address();
+      server.close(() => resolve(port));
+    });
+  });
 }
 
 /** Whether a program is in the path. */

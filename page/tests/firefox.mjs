@@ -1,40 +1,38 @@
-// Firefox without a window, driven by its Marionette protocol: a page is opened, and expressions are read.
+// Firefox without a window, driven by its Marionette protocol, which has the commands of WebDriver.
 import { spawn } from "node:child_process";
 import { mkdtempSync, rmSync, writeFileSync } from "node:fs";
-import { createServer, connect } from "node:net";
+import { connect } from "node:net";
 import { tmpdir } from "node:os";
-import { hasProgram } from "./driving.mjs";
+import { PATIENCE, freePort, hasProgram } from "./driving.mjs";
+import { Driven, pause } from "./webdriver.mjs";
 
-const NAMES = ["firefox", "firefox-esr"], PATIENCE = 60000, PAUSE = 100;
+const NAMES = ["firefox", "firefox-esr"];
+// Commands whose answer is not the value alone.
+const WHOLE = ["WebDriver:SetWindowRect", "WebDriver:NewSession"];
 
 /** The program's name, or undefined where there is none. */
 export const firefoxName = () => NAMES.find(name => hasProgram(name));
 
-/** A port that nothing listens at. */
-function freePort() {
-  return new Promise(resolve => {
-    const server = createServer().listen(0, "127.0.0.1", () => {
-      const { port } = server.address();
-      server.close(() => resolve(port));
-    });
-  });
-}
-
-const pause = () => new Promise(done => setTimeout(done, PAUSE));
-
-export class Firefox {
+export class Firefox extends Driven {
   static async started() {
+    if (!firefoxName()) throw new Error(`none of ${NAMES.join(", ")} is in the path`);
     const browser = new Firefox(), port = await freePort();
     browser.folder = mkdtempSync(`${tmpdir()}/zaklimot-firefox-`);
     writeFileSync(`${browser.folder}/user.js`, `user_pref("marionette.port", ${port});\n` +
       'user_pref("datareporting.policy.dataSubmissionEnabled", false);\n');
+    // Its locks and reports of crashes lie in the folder too.
+    const env = { ...process.env, HOME: browser.folder, TMPDIR: browser.folder };
     browser.process = spawn(firefoxName(), ["--headless", "--no-remote", "--profile", browser.folder,
-      "--marionette"], { stdio: "ignore" });
+      "--marionette"], { stdio: "ignore", env });
     Object.assign(browser, { number: 0, waiting: new Map(), rest: Buffer.alloc(0) });
+    browser.ended = new Promise(resolve => browser.process.once("exit", resolve));
+    browser.process.once("error", () => {});
+    browser.endWithTest();
     try {
       await browser.connect(port);
-      const { capabilities } = await browser.send("WebDriver:NewSession", { capabilities: {} });
+      const { capabilities } = await browser.command("NewSession", { capabilities: {} });
       browser.version = capabilities.browserVersion;
+      browser.name = `Firefox ${browser.version}`;
     } catch (error) {
       await browser.stop();
       throw error;
@@ -54,7 +52,14 @@ export class Firefox {
         await pause();
       }
     }
-    this.socket.on("error", () => {}).on("data", part => this.hear(part));
+    this.socket.on("error", () => {}).on("close", () => this.drop());
+    this.socket.on("data", part => this.hear(part));
+  }
+
+  /** What still waits for an answer gets none. */
+  drop() {
+    for (const { reject } of this.waiting.values()) reject(new Error("Firefox has ended"));
+    this.waiting.clear();
   }
 
   hear(part) {
@@ -76,33 +81,23 @@ export class Firefox {
     else resolve(result);
   }
 
-  send(name, parameters) {
+  async command(word, parameters) {
+    const name = `WebDriver:${word}`;
     const text = JSON.stringify([0, ++this.number, name, parameters]);
+    const answered = new Promise((resolve, reject) => {
+      this.waiting.set(this.number, { resolve, reject });
+    });
     this.socket.write(`${Buffer.byteLength(text)}:${text}`);
-    return new Promise((resolve, reject) => this.waiting.set(this.number, { resolve, reject }));
-  }
-
-  async open(url) {
-    await this.send("WebDriver:Navigate", { url });
-  }
-
-  /** The value of an expression in the page. */
-  async value(expression) {
-    const script = `return (${expression});`;
-    return (await this.send("WebDriver:ExecuteScript", { script, args: [] })).value;
-  }
-
-  async until(expression) {
-    for (const begun = Date.now(); !await this.value(expression); await pause()) {
-      if (Date.now() - begun > PATIENCE) throw new Error(`this did not come: ${expression}`);
-    }
+    const answer = await answered;
+    return WHOLE.includes(name) ? answer : answer.value;
   }
 
   async stop() {
-    const ended = new Promise(resolve => this.process.once("exit", resolve));
     this.socket?.destroy();
+    const late = setTimeout(() => this.process.kill("SIGKILL"), PATIENCE);
     this.process.kill();
-    await ended;
+    await this.ended;
+    clearTimeout(late);
     rmSync(this.folder, { recursive: true, force: true, maxRetries: 5 });
   }
 }

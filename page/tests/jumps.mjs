@@ -64,7 +64,7 @@ function idleTime(tasks, from, to) {
 
 /** The jumps of a trace: { whole, own, processor } of each, in milliseconds. */
 export function jumpsOf(events) {
-  const inOrder = events.toSorted((one, other) => one.ts - other.ts);
+  const inOrder = [...events].sort((one, other) => one.ts - other.ts);
   const marks = inOrder.filter(({ name }) => MARKS.includes(name)), [{ pid, tid }] = marks, jumps = [];
   const tasks = inOrder.filter(one => one.name === "RunTask" && one.ph === "X" && one.pid === pid &&
     one.tid === tid);

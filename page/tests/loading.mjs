@@ -1,9 +1,24 @@
 // What the tests stand on: the module, the fonts and the examples. The module is that of ZAKLIMOT_MODULE, a
 // file of wasm, or else that of the page as built.
-import { gunzipSync } from "node:zlib";
+import { createDeflateRaw, createInflateRaw, gunzipSync } from "node:zlib";
 import { readFileSync, readdirSync } from "node:fs";
+import { Duplex } from "node:stream";
 import { fileURLToPath } from "node:url";
 import { Adapter } from "../adapter.js";
+
+/** Streams as browsers have them: those of node 18 know no raw deflate, which its zlib knows. */
+function withRaw(Stream, create) {
+  try {
+    return new Stream("deflate-raw") && Stream;
+  } catch {
+    return function (format) {
+      return format === "deflate-raw" ? Duplex.toWeb(create()) : new Stream(format);
+    };
+  }
+}
+
+globalThis.CompressionStream = withRaw(CompressionStream, createDeflateRaw);
+globalThis.DecompressionStream = withRaw(DecompressionStream, createInflateRaw);
 
 export const TOP = fileURLToPath(new URL("../../", import.meta.url));
 export const PAGE = process.env.ZAKLIMOT_PAGE ?? TOP + "page/zaklimot.html";

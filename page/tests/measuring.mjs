@@ -13,13 +13,13 @@ function right(status) {
 /** A new instance of the module with an open card. */
 async function opened(module, fonts) {
   const { instance } = await WebAssembly.instantiate(module, {}), { exports } = instance;
-  const room = size => BigInt(exports.page_take(BigInt(size)));
+  const room = size => exports.page_take(size) >>> 0;
   const given = bytes => {
     const at = room(bytes.length);
-    new Uint8Array(exports.memory.buffer).set(bytes, Number(at));
+    new Uint8Array(exports.memory.buffer).set(bytes, at);
     return at;
   };
-  const card = given(new Uint8Array(16)), font = given(fonts), fontLength = BigInt(fonts.length);
+  const card = given(new Uint8Array(16)), font = given(fonts), fontLength = fonts.length;
   right(exports.zak_open(card, font, fontLength));
   return { exports, room, given, card, font, fontLength };
 }
@@ -37,23 +37,23 @@ function least(times, does) {
 
 function setMode({ exports, room, given, card }, mode) {
   const registers = given(new Uint8Array([mode, 0, 0, 0, 0, 0, 0, 0]));
-  right(exports.zak_int10(card, registers, given(new Uint8Array(1)), 0n, room(64), 64n, room(8)));
+  right(exports.zak_int10(card, registers, given(new Uint8Array(1)), 0, room(64), 64, room(8)));
 }
 
 /** Frames of a mode, and where there is a canvas, the way of their dots into an ImageData too. */
 function measureFrames(opening, mode, hasCanvas, costs) {
   const { exports, room, card } = opening, size = room(8), pixels = room(4 * WIDEST * HIGHEST);
   setMode(opening, mode);
-  const name = mode.toString(16), count = BigInt(WIDEST * HIGHEST), pitch = BigInt(WIDEST);
-  const frame = () => right(exports.zak_frame_xrgb(card, size, pixels, count, pitch));
+  const name = mode.toString(16);
+  const frame = () => right(exports.zak_frame_xrgb(card, size, pixels, WIDEST * HIGHEST, WIDEST));
   frame();
   costs[`frame ${name}`] = least(FRAMES, frame);
   if (!hasCanvas) return;
-  const [width, height] = new Uint32Array(exports.memory.buffer, Number(size), 2);
+  const [width, height] = new Uint32Array(exports.memory.buffer, size, 2);
   const image = new ImageData(width, height), words = new Uint32Array(image.data.buffer);
   costs[`image ${name}`] = least(FRAMES, () => {
     frame();
-    const from = new Uint32Array(exports.memory.buffer, Number(pixels), WIDEST * height);
+    const from = new Uint32Array(exports.memory.buffer, pixels, WIDEST * height);
     for (let y = 0; y < height; y++) {
       for (let x = 0; x < width; x++) {
         const word = from[WIDEST * y + x];
@@ -72,15 +72,14 @@ function measurePuts(opening, costs) {
   const { exports, room, given, card, font, fontLength } = opening;
   setMode(opening, 0x13);
   costs.put = 1e6 * least(CALLS, i => exports.zak_put(card, 0xa0000 + (i & 0x7fff), i & 255));
-  const report = room(16 * PUTS), roomSize = BigInt(16 * PUTS), told = room(24);
+  const roomSize = 16 * PUTS, report = room(roomSize), told = room(24);
   // From power-on a put is refused, so a mode is set first.
   const script = scriptOf(PUTS, MODE_13), slice = scriptOf(SLICE, []);
   const whole = given(script), part = given(slice);
-  const [length, partLength] = [script, slice].map(bytes => BigInt(bytes.length));
-  costs.run = 1e6 / PUTS * least(RUNS, () => right(exports.zak_run(whole, length, font, fontLength,
-    report, roomSize, told, told + 8n)));
-  costs.slice = 1e6 / SLICE * least(RUNS, () => right(exports.zak_run_on(card, part, partLength, 0, SLICE,
-    report, roomSize, told, told + 8n, told + 16n)));
+  costs.run = 1e6 / PUTS * least(RUNS, () => right(exports.zak_run(whole, script.length, font,
+    fontLength, report, roomSize, told, told + 8)));
+  costs.slice = 1e6 / SLICE * least(RUNS, () => right(exports.zak_run_on(card, part, slice.length,
+    0, SLICE, report, roomSize, told, told + 8, told + 16)));
 }
 
 /** Each cost by its name, in milliseconds or, of puts, in nanoseconds: the least of some rounds. */

@@ -83,7 +83,7 @@ for (const [point, wanted] of POINTS) {
     const session = sessionOf(SCRIPT);
     assert.equal(session.length, 22);
     assert.deepEqual(stops(session, [point], false), wanted);
-    assert.deepEqual(stops(session, [point], true), wanted.toReversed());
+    assert.deepEqual(stops(session, [point], true), [...wanted].reverse());
     session.close();
   });
 }

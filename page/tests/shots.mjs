@@ -1,28 +1,30 @@
 // Pictures of a page in the browser, as small PNGs: a palette, and fewer levels of a component.
 import assert from "node:assert/strict";
-import { crc32, deflateSync } from "node:zlib";
+import { deflateSync } from "node:zlib";
+import { crcOf } from "../png.js";
 
 // So many levels a component keeps, and so many colours a palette has at most.
 const LEVELS = 16, MOST_COLOURS = 256;
 const SIGNATURE = Buffer.from("\x89PNG\r\n\x1a\n", "latin1");
 
-/** In the page: the dots of a PNG, four bytes each, row by row. */
-const READ = `async png => {
+/** In the page: where an element stands, in whole pixels. */
+const PLACE = `selector => {
+  const { x, y, width, height } = document.querySelector(selector).getBoundingClientRect();
+  return [x, y, width, height].map(Math.round);
+}`;
+/** In the page: the dots of a PNG, or of a place in it, four bytes each, row by row. */
+const READ = `async (png, place) => {
   const bytes = Uint8Array.from(atob(png), letter => letter.charCodeAt(0));
-  const image = await createImageBitmap(new Blob([bytes])), { width, height } = image;
+  const image = await createImageBitmap(new Blob([bytes]));
+  const [x, y, width, height] = place ?? [0, 0, image.width, image.height];
   const canvas = Object.assign(document.createElement("canvas"), { width, height });
   const brush = canvas.getContext("2d");
-  brush.drawImage(image, 0, 0);
+  brush.drawImage(image, -x, -y);
   const { data } = brush.getImageData(0, 0, width, height), parts = [];
   for (let at = 0; at < data.length; at += 8192) {
     parts.push(String.fromCharCode(...data.subarray(at, at + 8192)));
   }
   return { width, height, dots: btoa(parts.join("")) };
-}`;
-/** In the page: where an element stands. */
-const PLACE = `selector => {
-  const { x, y, width, height } = document.querySelector(selector).getBoundingClientRect();
-  return { x, y, width, height, scale: 1 };
 }`;
 
 function chunk(kind, given) {
@@ -30,7 +32,7 @@ function chunk(kind, given) {
   const whole = Buffer.alloc(named.length + 8);
   whole.writeUInt32BE(given.length, 0);
   whole.set(named, 4);
-  whole.writeUInt32BE(crc32(named), named.length + 4);
+  whole.writeUInt32BE(crcOf(named), named.length + 4);
   return whole;
 }
 
@@ -59,8 +61,11 @@ function withPalette({ width, height, dots }) {
 
 /** A small PNG of what is seen of the page, or of an element of it. */
 export async function smallShot(browser, selector) {
-  const clip = selector ? { clip: await browser.value(`(${PLACE})("${selector}")`) } : {};
-  const { data } = await browser.send("Page.captureScreenshot", { format: "png", ...clip });
-  const read = await browser.value(`(${READ})("${data}")`);
+  // WebKit's driver draws an element alone without what lies over it, so it is cut out of the whole.
+  const isCut = selector && browser.hasWholePixels;
+  const place = isCut ? await browser.value(`(${PLACE})("${selector}")`) : null;
+  const data = await browser.screenshot(isCut ? undefined : selector);
+  const words = `"${data.toString("base64")}", ${JSON.stringify(place)}`;
+  const read = await browser.value(`(${READ})(${words})`);
   return withPalette({ ...read, dots: Buffer.from(read.dots, "base64") });
 }

@@ -45,7 +45,7 @@ function assertState(card) {
     mode: bda.getUint8(28), page: bda.getUint8(29), lastRow: bda.getUint8(30) });
   for (let plane = 0; plane < 4; plane++) {
     const room = adapter.room("plane", 65536);
-    assert.equal(adapter.calls.zak_read_plane(card.at, plane, 0, room.at, 65536n), 0);
+    assert.equal(adapter.calls.zak_read_plane(card.at, plane, 0, room.at, 65536), 0);
     assert.deepEqual(state.plane(plane), adapter.copied(room, 65536));
   }
 }

@@ -35,7 +35,7 @@ test("several jumps of a trace that is in no order, and their figures", () => {
     const at = 100000 * i;
     return marksAt([at, at + 500, at + 500, at + 1000 * (i + 1)], [0, 1000]);
   });
-  const found = jumpsOf(jumps.toReversed().flat());
+  const found = jumpsOf([...jumps].reverse().flat());
   assert.deepEqual(found.map(jump => jump.own), Array.from({ length: 21 }, (_, i) => i + 1));
   assert.deepEqual(figuresOf(found, "own"), { average: 11, most95: 20, most: 21 });
 });

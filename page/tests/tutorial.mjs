@@ -1,21 +1,23 @@
-// The tutorial as its reader does it, in Chromium: each script of docs/TUTORIAL.md is pasted into
+// The tutorial as its reader does it in a browser: each script of docs/TUTORIAL.md is pasted into
 // the page as built, keys are pressed as it says, and the page shows what it says.
-// node page/tests/tutorial.mjs [FOLDER]: writes its pictures of the page into the folder.
+// node page/tests/tutorial.mjs [ENGINE [FOLDER]]: ENGINE is chromium, firefox or webkit.
+// Pictures of the page are written into the folder.
 import assert from "node:assert/strict";
 import { mkdirSync, readFileSync, writeFileSync } from "node:fs";
 import { resolve } from "node:path";
 import { pathToFileURL } from "node:url";
-import { Browser } from "./driving.mjs";
+import { begun } from "./engines.mjs";
 import { IDLE } from "./jumps.mjs";
 import { PAGE, TOP } from "./loading.mjs";
 import { smallShot } from "./shots.mjs";
 
-const SHOTS = process.argv[2], WINDOW = { width: 1060, height: 700 };
+// The window of the pictures; and one in which each dot has more than a pixel, to be pointed at.
+const WINDOW = { width: 1060, height: 700 }, LARGE = { width: 1900, height: 1500 };
 const tutorial = readFileSync(`${TOP}docs/TUTORIAL.md`, "utf-8");
 // Its scripts; the program in it is told to be of Python.
 const blocks = [...tutorial.matchAll(/^```(\w*)\n([^]*?)^```$/gm)]
   .filter(([, language]) => !language).map(([, , script]) => script);
-const browser = await Browser.started(), seen = [];
+const { browser, folder } = await begun(), seen = [];
 
 const text = id => browser.value(`document.getElementById("${id}").innerText`);
 const wrong = () => browser.value("document.querySelector('.answer.wrong').textContent");
@@ -38,9 +40,8 @@ async function stepIs(step, count) {
 /** Pastes a script of the tutorial over the one in the page, and shows its last step. */
 async function paste(number, count, told) {
   await browser.click("#text");
-  await browser.send("Input.dispatchKeyEvent", { type: "rawKeyDown", key: "a", code: "KeyA",
-    modifiers: 2, windowsVirtualKeyCode: 65, commands: ["selectAll"] });
-  await browser.type(blocks[number]);
+  await browser.selectAll();
+  await browser.paste(blocks[number]);
   assert.equal(await browser.value("document.getElementById('text').value"), blocks[number]);
   await atTheEnd(count, told);
 }
@@ -71,14 +72,15 @@ async function placeOf(x, y) {
   return browser.value(`(() => {
     const seen = document.getElementById("picture"), box = seen.getBoundingClientRect();
     const [across, down] = [box.width / seen.width, box.height / seen.height];
-    return [box.left + (${x} + 0.5) * across, box.top + (${y} + 0.5) * down];
+    const within = (begin, size) => size > 1.1 ? Math.ceil(begin + 0.05) : begin + size / 2;
+    return [within(box.left + ${x} * across, across), within(box.top + ${y} * down, down)];
   })()`);
 }
 
 /** What the page tells of the dot under the pointer: its colour. */
 async function colourAt(x, y) {
   const [left, top] = await placeOf(x, y);
-  await browser.send("Input.dispatchMouseEvent", { type: "mouseMoved", x: left, y: top });
+  await browser.moveTo(left, top);
   await browser.until(
     `document.getElementById("dot").innerText.includes("dot ${x} of line ${y}:")`);
   return (await text("dot")).match(/: (\w\w \w\w \w\w)/)[1];
@@ -86,9 +88,9 @@ async function colourAt(x, y) {
 
 /** Writes what is seen of an element, or of the page. */
 async function shot(name, selector) {
-  if (!SHOTS) return;
-  mkdirSync(SHOTS, { recursive: true });
-  writeFileSync(`${SHOTS}/tutorial-${name}.png`, await smallShot(browser, selector));
+  if (!folder) return;
+  mkdirSync(folder, { recursive: true });
+  writeFileSync(`${folder}/tutorial-${name}.png`, await smallShot(browser, selector));
 }
 
 const PARTS = {
@@ -124,9 +126,7 @@ const PARTS = {
 
   async circle() {
     const file = `${TOP}examples/tutorial/circle.vga`;
-    const { root: { nodeId: top } } = await browser.send("DOM.getDocument");
-    const found = await browser.send("DOM.querySelector", { nodeId: top, selector: "#file" });
-    await browser.send("DOM.setFileInputFiles", { ...found, files: [file] });
+    await browser.choose("#file", file);
     await browser.until("document.getElementById('about').textContent === 'circle.vga'");
     await atTheEnd(1213, "1,213 steps, 1 picture, 1 of 1 answers as expected");
     const ends = async () => [await colourAt(320, 40), await colourAt(320, 440)];
@@ -160,7 +160,7 @@ const PARTS = {
     await press("Home");
     await press("ArrowRight", 13);
     await stepIs(13, 18);
-    await browser.send("Input.dispatchMouseEvent", { type: "mouseMoved", x: 1, y: 1 });
+    await browser.moveTo(1, 1);
     await shot("page");
     await press("End");
     await browser.clickAt(...await placeOf(100, 150));
@@ -173,15 +173,15 @@ const PARTS = {
 };
 
 try {
-  await browser.look(WINDOW);
+  await browser.look(browser.hasWholePixels ? LARGE : WINDOW);
   await browser.open(pathToFileURL(resolve(PAGE)).href);
   await ready();
   for (const [name, does] of Object.entries(PARTS)) {
     await does();
-    assert.deepEqual(browser.said.splice(0), [], "the console");
+    assert.deepEqual(await browser.heard(), [], "the console");
     seen.push(name);
   }
-  console.log(`as the tutorial says: ${seen.join(", ")}`);
+  console.log(`as the tutorial says in ${browser.name}: ${seen.join(", ")}`);
 } finally {
   await browser.stop();
 }

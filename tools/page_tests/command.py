@@ -38,16 +38,24 @@ NAME = f"page/{PAGE.name}"
 PACKED = ("examples", "module")
 ANEW = f"`tools/vga-page make {NAME}` makes it anew"
 NODE, PACKAGE = "node", "nodejs"
-# The first version that has memories of 64-bit addresses, by a flag where they are an experiment.
-LEAST = 20
-FLAG = "--experimental-wasm-memory64"
-# A module that has such a memory, and nothing else.
-TRIED = "WebAssembly.validate(new Uint8Array([0,97,115,109,1,0,0,0,5,3,1,4,1]))"
-# Seconds that a test may take, where much else runs beside it, and those of the check in a browser.
-MOST_SECONDS, BROWSER_SECONDS = 300, 400
+# The first version that tells of its tests in the form below.
+LEAST = 18
+# Seconds that a test may take, where much else runs beside it, and those of one in a browser.
+MOST_SECONDS, BROWSER_SECONDS = 300, 900
 TESTS = PAGE.parent / "tests"
-# What is done with the page in a browser: by each control of it, and as the tutorial says.
-BROWSER, TUTORIAL = (TESTS / f"{name}.mjs" for name in ("browser", "tutorial"))
+# What is done with the page in a browser: its check of all examples, what the tutorial says, and
+# each of its controls.
+OPENING, TUTORIAL, BROWSER = (
+    TESTS / f"{name}.mjs" for name in ("opening", "tutorial", "browser")
+)
+CHROMIUM, FIREFOX, WEBKIT = "chromium", "firefox", "webkit"
+# The browsers: the packages of Debian that each needs, and a package's programs, of which one is
+# in the path.
+ENGINES: dict[str, dict[str, Sequence[str]]] = {
+    CHROMIUM: {"chromium": ("chromium", "chromium-browser", "google-chrome")},
+    FIREFOX: {"firefox-esr": ("firefox", "firefox-esr")},
+    WEBKIT: {"webkit2gtk-driver": ("WebKitWebDriver",), "xvfb": ("Xvfb",)},
+}
 HEAP, OWN, DRIVER = (Path(__file__).resolve().parent / f"{name}.mjs" for name in ("heap", "own", "suite"))
 # How a file tells that it has tests.
 IS_TEST = 'from "node:test"'
@@ -55,7 +63,6 @@ SCRIPT = re.compile(r'<script type="module">\n(.*?)</script>', re.S)
 # What node tells of its tests, in the form whose end names those that fail.
 REPORTER = "spec"
 COUNT = re.compile(r"^(?:\x1b\[[0-9]+m)*ℹ (pass|fail|skipped|todo|cancelled) ([0-9]+)", re.M)
-CHROMIUM = ("chromium", "chromium-browser", "google-chrome")
 # Where the tests find the module, the page as built, and a module whose memory doesn't grow.
 MODULE, BUILT, SMALL = "ZAKLIMOT_MODULE", "ZAKLIMOT_PAGE", "ZAKLIMOT_SMALL_MODULE"
 # So much memory the small module has: enough for two cards, and not for three.
@@ -134,7 +141,7 @@ def _answer(words: Sequence[str]) -> str:
 
 
 def node_words() -> list[str]:
-    """The words that start node, with 64-bit memories; a Trouble names the package where it is lacking."""
+    """The words that start node; a Trouble names the package where it is lacking."""
     path = shutil.which(NODE)
     if path is None:
         raise Trouble(f"it is not in the path: install the package {PACKAGE}", NODE)
@@ -143,10 +150,7 @@ def node_words() -> list[str]:
     if found is None or int(found[1]) < LEAST:
         needed = f"and the tests need {LEAST} or newer: the package {PACKAGE}"
         raise Trouble(f"it is {version or 'of no version'}, {needed}", NODE)
-    for words in ([path], [path, FLAG]):
-        if _answer([*words, "-p", TRIED]) == "true":
-            return words
-    raise Trouble(f"it is {version}, and takes no memory of 64-bit addresses", NODE)
+    return [path]
 
 
 def run_node(
@@ -201,15 +205,31 @@ def check_heap(module: Path, small: Optional[Path]) -> str:
     return f"{told['rounds']:,} times a block is taken or given back, in {grown} MiB; {spent}"
 
 
-def check_browser() -> str:
-    """The page as built in Chromium, and the tutorial in it; what was seen is told."""
-    for file in (BROWSER, TUTORIAL):
-        if not file.exists():
-            raise Trouble("it is not there", str(file))
-    if not any(map(shutil.which, CHROMIUM)):
-        raise Trouble(f"it is not in the path: install the package {CHROMIUM[0]}", CHROMIUM[0])
-    told = [run_node([file], {BUILT: str(PAGE)}, BROWSER_SECONDS) for file in (BROWSER, TUTORIAL)]
+def lacking_packages(engine: str) -> list[str]:
+    """The packages that a browser still needs."""
+    needed = ENGINES[engine].items()
+    return [package for package, names in needed if not any(map(shutil.which, names))]
+
+
+def check_browser(engine: str) -> str:
+    """The page as built in a browser, and the tutorial in it. Chromium uses each control too."""
+    tests = [[OPENING, engine], [TUTORIAL, engine], *([[BROWSER]] if engine == CHROMIUM else [])]
+    told = [run_node(words, {BUILT: str(PAGE)}, BROWSER_SECONDS) for words in tests]
     return "".join(told).strip().replace("\n", "; ")
+
+
+def _browser_checks() -> Iterator[tuple[str, Callable[[], str]]]:
+    """The checks in all browsers that are there; of the others it is told what they need."""
+    lacking = {engine: packages for engine in ENGINES if (packages := lacking_packages(engine))}
+    needed = {engine: f"install {' and '.join(packages)}" for engine, packages in lacking.items()}
+    if len(lacking) == len(ENGINES):
+        told = "; ".join(f"for {engine} {words}" for engine, words in needed.items())
+        raise Trouble(f"no browser is in the path: {told}", "--browser")
+    for engine, words in needed.items():
+        print(f"{engine}: not tried: {words}", flush=True)
+    for engine in ENGINES:
+        if engine not in lacking:
+            yield engine, partial(check_browser, engine)
 
 
 def _native(top: Path, is_ended: Event, numbered: tuple[int, Case]) -> dict[str, Any]:
@@ -281,7 +301,7 @@ def _parser() -> argparse.ArgumentParser:
     cli.add(parser, "--module FILE", "takes this module (default: makes one)")
     cli.add_checks(parser, CHECKS)
     cli.add(parser, "--ready", "tests nothing, and tells what this machine lacks")
-    cli.add(parser, "--browser", "tests only the page as built, in Chromium")
+    cli.add(parser, "--browser", "tests only the page as built, in Chromium, Firefox and WebKit")
     return parser
 
 
@@ -317,7 +337,8 @@ def _run(words: argparse.Namespace, progress: Progress) -> None:
     if words.ready:
         return
     with tempfile.TemporaryDirectory(prefix="vga-page-tests-") as name:
-        for check, work in [("browser", check_browser)] if words.browser else _checks(words, progress, Path(name)):
+        checks = _browser_checks() if words.browser else _checks(words, progress, Path(name))
+        for check, work in checks:
             make_check(check, work)
 
 

@@ -37,7 +37,7 @@ function tryBlocks(calls) {
   const random = randomNumbers(1), blocks = [];
   for (let round = 0; round < ROUNDS; round++) {
     if (random(100) < 52) {
-      const size = random(20) ? random(300) : random(100_000), at = Number(calls.page_take(BigInt(size)));
+      const size = random(20) ? random(300) : random(100_000), at = calls.page_take(size) >>> 0;
       assert(at && at % 16 === 0, `round ${round}: a block of ${size} bytes is at ${at}`);
       const block = { at, size, number: round & 255 };
       bytesOf(calls, block).fill(block.number);
@@ -45,30 +45,32 @@ function tryBlocks(calls) {
     } else if (blocks.length) {
       const [block] = blocks.splice(random(blocks.length), 1);
       assert(bytesOf(calls, block).every(byte => byte === block.number), `round ${round}: blocks overlap`);
-      calls.page_give(BigInt(block.at));
+      calls.page_give(block.at);
     }
   }
-  for (const size of [1n << 50n, -8n]) assert(!calls.page_take(size), `there is a block of ${size} bytes`);
-  for (const block of blocks) calls.page_give(BigInt(block.at));
+  for (const size of [2 ** 32 - 1, 2 ** 32 - 65536]) {
+    assert(!calls.page_take(size), `there is a block of ${size} bytes`);
+  }
+  for (const block of blocks) calls.page_give(block.at);
   return calls.memory.buffer.byteLength;
 }
 
 /** What zak_run answers to a script of one frame. */
 function ran(calls, fonts, room) {
-  new Uint8Array(calls.memory.buffer, Number(room), FRAME.length).set(FRAME);
-  const report = room + 64n, told = room + 32n;
-  return calls.zak_run(room, BigInt(FRAME.length), fonts, BigInt(FONTS_SIZE), report, 4032n, told, told + 8n);
+  new Uint8Array(calls.memory.buffer, room, FRAME.length).set(FRAME);
+  const report = room + 64, told = room + 32;
+  return calls.zak_run(room, FRAME.length, fonts, FONTS_SIZE, report, 4032, told, told + 8);
 }
 
 /** Opens cards until memory is spent, closes them, and does so again: as many open each time. */
 function tryCards(calls) {
-  const counts = [], fonts = calls.page_take(BigInt(FONTS_SIZE)), room = calls.page_take(4096n);
-  const block = calls.page_take(BigInt(8 * CARD_SIZE));
+  const counts = [], fonts = calls.page_take(FONTS_SIZE), room = calls.page_take(4096);
+  const block = calls.page_take(8 * CARD_SIZE);
   for (let round = 0; round < 3; round++) {
-    new Uint8Array(calls.memory.buffer, Number(block), 8 * CARD_SIZE).fill(0);
+    new Uint8Array(calls.memory.buffer, block, 8 * CARD_SIZE).fill(0);
     assert(ran(calls, fonts, room) === OK, "a run is refused memory that is there");
-    const places = Array.from({ length: 8 }, (_, number) => block + BigInt(CARD_SIZE * number));
-    const answers = places.map(card => calls.zak_open(card, fonts, BigInt(FONTS_SIZE)));
+    const places = Array.from({ length: 8 }, (_, number) => block + CARD_SIZE * number);
+    const answers = places.map(card => calls.zak_open(card, fonts, FONTS_SIZE));
     const opened = answers.filter(status => status === OK).length;
     const expected = places.map((_, number) => number < opened ? OK : OUT_OF_MEMORY);
     assert(String(answers) === String(expected), `cards open with ${answers}`);

@@ -3,7 +3,7 @@
 // What differs is told, and how many cases each way has run.
 import { createHash } from "node:crypto";
 import { readFileSync } from "node:fs";
-import { Adapter } from "../../page/adapter.js";
+import { Adapter, CARD_SIZE } from "../../page/adapter.js";
 import { FAULT_NAMES } from "../../page/faults.js";
 
 const OK = 0, FONT_SIZE = 22, BAD_LINE = 107;
@@ -49,7 +49,7 @@ function faultLine(status, place) {
 function assembled(adapter, text) {
   const given = adapter.given("text", text), told = adapter.told.at;
   const { status, bytes } = adapter.written("script", 1024, room =>
-    adapter.calls.zak_assemble(given.at, given.length, room.at, room.length, told, told + 8n));
+    adapter.calls.zak_assemble(given.at, given.length, room.at, room.length, told, told + 8));
   const line = status === BAD_LINE ? adapter.number(1) : 0;
   return { bytes, fault: status === OK ? null : faultLine(status, line) };
 }
@@ -65,8 +65,8 @@ class SlicedCard {
   constructor(adapter, script, fonts) {
     const { calls } = adapter, font = adapter.given("fonts", fonts);
     this.adapter = adapter;
-    this.at = BigInt(calls.page_take(16n));
-    adapter.bytes.fill(0, Number(this.at), Number(this.at) + 16);
+    this.at = adapter.taken(CARD_SIZE);
+    adapter.bytes.fill(0, this.at, this.at + CARD_SIZE);
     this.opened = calls.zak_open(this.at, font.at, font.length);
     this.given = adapter.given("steps", script);
   }
@@ -80,9 +80,9 @@ class SlicedCard {
   take(first, most, size) {
     const { adapter, given } = this, report = adapter.room("answers", size), told = adapter.told.at;
     const status = adapter.calls.zak_run_on(this.at, given.at, given.length, first, most,
-      report.at, report.length, told, told + 8n, told + 16n);
+      report.at, report.length, told, told + 8, told + 16);
     const length = status === OK ? adapter.number(0) : 0;
-    const bytes = adapter.bytes.subarray(report.place, report.place + length);
+    const bytes = adapter.bytes.subarray(report.at, report.at + length);
     return { status, place: adapter.number(2), taken: adapter.number(1), report: bytes };
   }
 }

@@ -249,9 +249,10 @@ class Tests(Folder):
         with mock.patch("shutil.which", return_value=None):
             told = "^vga-page-tests: node: it is not in the path: install the package nodejs\n"
             hold_undone(self, call(tests_command.main), told)
-        with mock.patch.multiple(tests_command, shutil=mock.Mock(), _answer=lambda _: "v18.19.0"):
+        with mock.patch.multiple(tests_command, shutil=mock.Mock(), _answer=lambda _: "v16.20.2"):
             told = refused(tests_command.node_words)
-        self.assertEqual(told, "node: it is v18.19.0, and the tests need 20 or newer: the package nodejs")
+        wanted = "node: it is v16.20.2, and the tests need 18 or newer: the package nodejs"
+        self.assertEqual(told, wanted)
 
 
 @unittest.skipIf(sys.platform == "win32", "a script is a program on POSIX")
@@ -289,7 +290,7 @@ class Opened(Fake):
 
     def test_how_it_is_opened_at_a_step(self) -> None:
         made = str(self.made)
-        told = f"{made}: open it in Chromium or Firefox, for instance as {self.made.as_uri()}"
+        told = f"{made}: open it in a browser, for instance as {self.made.as_uri()}"
         self.assertEqual(self.debugged(self.script, made=made), (0, f"{told}\n", ""))
         self.assertEqual(self.debugged(self.script, "--until", "2", made=made), (0, f"{told}#step=2\n", ""))
         pages = unquote(page_data(self.made.read_text("utf-8"))["pages"])

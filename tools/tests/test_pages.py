@@ -16,10 +16,14 @@ from page_tests import command
 from vga_page.page import examples
 from vga_report.cases import read_cases
 from vga_report.program import FONTS
+from vga_report.trouble import Wrong
 from vga_report.words import SUITE
 from zaklimot import Script, format
 
-from .tools import EXAMPLES, TOOLS, TOP, Folder, ended, png_chunks, run_program, run_tool, want_program
+from .tools import (
+    EXAMPLES, TOOLS, TOP, Folder, call, ended, hold_undone, png_chunks, run_program, run_tool,
+    want_program,
+)
 
 # A link or a picture: what stands between its round brackets, without a title.
 LINK = re.compile(r"\]\(([^()\s]+)\)")
@@ -258,9 +262,32 @@ class Tutorial(unittest.TestCase):
         self.assertEqual({path.stem for path in SCRIPTS.iterdir()} & listed, set())
 
     def test_the_check_in_a_browser_does_what_it_says(self) -> None:
-        fakes = {"run_node": lambda words, *_: f"{words[0].name}\n", "CHROMIUM": [sys.executable]}
-        with mock.patch.multiple(command, **fakes):
-            self.assertEqual(command.check_browser(), "browser.mjs; tutorial.mjs")
+        told = {"chromium": "opening.mjs chromium; tutorial.mjs chromium; browser.mjs",
+                "firefox": "opening.mjs firefox; tutorial.mjs firefox",
+                "webkit": "opening.mjs webkit; tutorial.mjs webkit"}
+        fake = mock.Mock(side_effect=lambda words, *_: " ".join([words[0].name, *words[1:]]) + "\n")
+        with mock.patch.object(command, "run_node", fake):
+            found = {engine: command.check_browser(engine) for engine in command.ENGINES}
+        self.assertEqual(found, told)
+        for words, *_ in (given.args for given in fake.call_args_list):
+            self.assertTrue(words[0].exists(), words[0])
+
+    def test_a_browser_that_is_not_there_is_told(self) -> None:
+        there = {"chromium-browser", "WebKitWebDriver", "node"}
+        fakes = {"check_browser": lambda engine: f"as it says in {engine}", "node_words": list}
+        which = mock.Mock()
+        with mock.patch.multiple(command, **fakes), mock.patch("shutil.which", which):
+            which.side_effect = there.__contains__
+            status, output, said = call(command.main, "--browser")
+            self.assertEqual((status, said), (0, ""))
+            told = "firefox: not tried: install firefox-esr\nwebkit: not tried: install xvfb\n"
+            self.assertIn(told + "chromium: as it says in", output)
+            there.clear()
+            told = "no browser .*: for chromium install chromium; .* webkit2gtk-driver and xvfb\n$"
+            hold_undone(self, call(command.main, "--browser"), told)
+            with mock.patch.object(command, "check_browser", side_effect=Wrong("the console")):
+                there.add("firefox")
+                self.assertEqual(call(command.main, "--browser")[0], 1)
 
     def test_the_program_writes_the_script(self) -> None:
         environment = {**os.environ, "PYTHONPATH": str(TOP / "bindings" / "python" / "src")}

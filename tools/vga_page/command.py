@@ -29,7 +29,7 @@ def _parser() -> argparse.ArgumentParser:
     cli.add(made, "--module FILE", "takes this module (default: makes one)", type=to_read)
     cli.add_proof(made, usually=usually)
     made.set_defaults(memory=None)
-    told = "Proves the library's crate, and makes a WebAssembly module of 64-bit memory of it."
+    told = "Proves the library's crate, and makes a WebAssembly module of it."
     made = cli.command(commands, "module", _module, "makes the module alone", description=told)
     cli.add(made, "FILE", "the module")
     told = "fixes the size of its memory, so that tests see it spent (default: it grows)"

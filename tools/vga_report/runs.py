@@ -115,7 +115,7 @@ def _write_debug_page(words: argparse.Namespace, data: bytes) -> None:
     write_file(words.debug, debug_page(name_of(words.script), data, words.fonts, words.debug))
     if words.debug != STANDARD:
         address = Path(words.debug).absolute().as_uri() + _fragment(words)
-        write(f"{words.debug}: open it in Chromium or Firefox, for instance as {address}\n")
+        write(f"{words.debug}: open it in a browser, for instance as {address}\n")
 
 
 def run(words: argparse.Namespace, progress: Progress) -> int:
