@@ -92,12 +92,12 @@ def check_kind(library: Path, told: str) -> None:
 
 
 def _tree(folder: Path) -> Path:
-    """A copy of the crates, so that nothing is left among the sources. Its links are links."""
+    """A copy of the crates, so that nothing is left among the sources."""
     tree = folder / "tree"
     if not tree.exists():
         ignored = shutil.ignore_patterns("target", "Cargo.lock")
         for name in COPIED:
-            shutil.copytree(TOP / name, tree / name, symlinks=True, ignore=ignored)
+            shutil.copytree(TOP / name, tree / name, ignore=ignored)
     return tree
 
 

@@ -5,6 +5,7 @@ import unittest
 from library_tests import one_file as checks
 from vga_library import one_file as portable
 from vga_library.one_file import C_FILE, HAND, Places, one_file
+from vga_report import TOP
 from vga_report.trouble import Wrong
 from vga_report.version import HEADER, calls_of
 
@@ -123,6 +124,18 @@ class Made(unittest.TestCase):
         self.addCleanup(setattr, checks, "written_by_wasm2c", checks.written_by_wasm2c)
         checks.written_by_wasm2c = lambda module: WRITTEN
         self.assertRaisesRegex(Wrong, "is not the file that the crate makes", checks.check_file, b"")
+
+
+class Copies(unittest.TestCase):
+    """Cargo packs what lies in a crate's folder: so the crate has copies of the library's files."""
+
+    def test_they_are_the_files(self) -> None:
+        copies = TOP / "bindings" / "rust" / "zaklimot-sys" / "portable"
+        files = (C_FILE, HEADER, TOP / "fonts" / "zaklimot.fnt")
+        self.assertEqual(sorted(path.name for path in copies.iterdir()), sorted(path.name for path in files))
+        for path in files:
+            is_same = (copies / path.name).read_bytes() == path.read_bytes()
+            self.assertTrue(is_same, f"cp {path.relative_to(TOP)} {copies.relative_to(TOP)}/")
 
 
 class Kept(unittest.TestCase):

@@ -20,8 +20,6 @@ ZAKLIMOT_DIR begins with a slash.";
 /// The variables that the build asks for, beside those of the compiler.
 const ASKED: [&str; 4] =
     ["ZAKLIMOT_DIR", "ZAKLIMOT_SHARED", "ZAKLIMOT_PORTABLE", "PKG_CONFIG_PATH"];
-/// A file of the library is longer, and what git writes in the place of a link is shorter.
-const LONGEST_LINK: u64 = 512;
 /// Of which kind a library is, where nothing tells.
 const UNKNOWN: &str = "unknown";
 
@@ -118,14 +116,7 @@ fn of_cargo(name: &str) -> String {
 
 /// A file that the library is made of, in this crate.
 fn part(name: &str) -> PathBuf {
-    let folder = Path::new(&of_cargo("CARGO_MANIFEST_DIR")).join("portable");
-    let path = folder.join(name);
-    let is_text = path.metadata().map_or(false, |told| told.len() < LONGEST_LINK);
-    // Where the system has no links, git writes the place of the file instead.
-    let path = match std::fs::read_to_string(&path) {
-        Ok(place) if is_text => folder.join(place.trim()),
-        _ => path,
-    };
+    let path = Path::new(&of_cargo("CARGO_MANIFEST_DIR")).join("portable").join(name);
     if !path.is_file() {
         fail(&format!("there is no library libzaklimot, and no {} to compile", path.display()));
     }
