@@ -61,7 +61,7 @@ PAGE, FRONT = "tools/vga_release/README.md", "README.md"
 # What of the commit goes into a release, where it lies in the repository.
 PATHS = (
     "CHANGELOG.md", "LICENSE", FRONT, PAGE, "SECURITY.md", "bindings", "crates/vga_suite/data", "docs", "examples", "fonts",
-    "include", "page/zaklimot.html", "share", "tools/README.md", *TOOLS,
+    "include", "page/zaklimot.html", "share", "tools/README.md", "tools/vga", *TOOLS,
 )
 MOVED = {PAGE: FRONT, FRONT: f"docs/{FRONT}"}
 INSTALL = "install.sh"
