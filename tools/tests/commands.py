@@ -37,11 +37,12 @@ FILES = {
     "opcode": b"VGAS\x01" + OUT + b"\xff", "cut": b"VGAS\x01\x01\xc2", "lone-end": b"VGAS\x02\x0e",
     "no-times": b"VGAS\x02\x0d\0\0\x0e", "many-steps": b"VGAS\x02\x0d\xff\xff" + FRAME * 257 + b"\x0e",
     "empty-repeats": b"VGAS\x02" + b"\x0d\xff\xff\x0e" * 4000 + FRAME,
-    "most-bytes": b"VGAS\x01" + b"\x03\xcc\x03" * 5592403 + FRAME * 2, "too-long": bytes(16_777_217),
-    "many-outs": b"VGAS\x01" + OUT * 700_000, "many-frames": b"VGAS\x01" + MODE_12 + FRAME * 20,
+    "most-bytes": b"VGAS\x01" + (b"\x09\0\x0f" + bytes(6) + b"\xff\xff" + bytes(65535)) * 255 + FRAME * 62_981,
+    "too-long": bytes(16_777_217),
+    "many-outs": b"VGAS\x01" + OUT * 400_000, "many-frames": b"VGAS\x01" + MODE_12 + FRAME * 20,
     # Small pictures, and then large ones, whose size nobody foresees.
     "growing": b"VGAS\x01" + FRAME * 3000 + MODE_13 + FRAME * 12 + OUT * 5 + MODE_12 + FRAME * 12,
-    "growing-2": b"VGAS\x02\x0d\xff\xff" + OUT + FRAME + b"\x0e" + MODE_12 + b"\x0d\x0c\0" + OUT + FRAME + b"\x0e",
+    "growing-2": b"VGAS\x02\x0d\xff\x0f" + OUT + FRAME + b"\x0e" + MODE_12 + b"\x0d\x0c\0" + OUT + FRAME + b"\x0e",
     "tables": b"VGAS\x01" + MODE_12 + (b"\x09\x17\x10\0\0\0\x01\0\0\0\0" + b"\x0c\x00\x0c\x05") * 6000,
     "cells": b"VGAS\x02\x09\x03\0" + bytes(8) + b"\x0d\xe8\x03\x0c\x06\x0e",
 }

@@ -62,7 +62,8 @@ PAGE, FRONT = "tools/vga_release/README.md", "README.md"
 # What of the commit goes into a release, where it lies in the repository.
 PATHS = (
     "CHANGELOG.md", "CMakeLists.txt", "LICENSE", FRONT, PAGE, "SECURITY.md", "bindings", "crates/vga_suite/data", "docs",
-    "examples", "fonts", "include", "page/zaklimot.html", PORTABLE, "share", "tools/README.md", *TOOLS,
+    "examples", "fonts", "include", "page/zaklimot.html", PORTABLE, "share", "tools/README.md", "tools/vga",
+    *TOOLS,
 )
 MOVED = {PAGE: FRONT, FRONT: f"docs/{FRONT}"}
 # What is in the archive of the C file, all in one folder.
