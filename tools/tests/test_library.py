@@ -353,6 +353,16 @@ class Whole(Folder):
         self.assertTrue(len(self.pages) > 30 and (self.folder / "share/man/man1/vga.1").exists())
         hold(self, lambda page: broken(self.folder / page, self.pages[page]), ((page, []) for page in self.pages))
 
+    def test_what_is_compiled_on_other_machines_is_there(self) -> None:
+        """The C file, what CMake reads of it, and what the packages make of it."""
+        self.assertIn("add_subdirectory(portable)", (self.folder / "CMakeLists.txt").read_text("ascii"))
+        crate, source = "bindings/rust/zaklimot-sys/portable", self.folder / "portable" / "zaklimot.c"
+        self.assertTrue((self.folder / crate / "zaklimot.c").samefile(source))
+        self.assertTrue((self.folder / crate / "zaklimot.h").samefile(self.folder / "include/zaklimot.h"))
+        backend = self.folder / "bindings" / "python" / "building.py"
+        asking = f"import runpy; print(runpy.run_path({str(backend)!r})['part']('zaklimot.c'))"
+        self.assertEqual(ended(sys.executable, "-c", asking), (0, f"{source}\n", ""))
+
     def test_each_command_is_there_or_told_to_be_elsewhere(self) -> None:
         elsewhere = re.findall(r"`([^`]+)`", self.pages[FRONT].partition("These prove, build or test")[2].partition("\n\n")[0])
         self.assertIn("tools/vga-library", elsewhere)
@@ -508,6 +518,7 @@ class OtherProcessors(Folder):
         assert isinstance(wheel, release.File)
         with zipfile.ZipFile(io.BytesIO(wheel.content)) as opened:
             self.assertEqual(opened.read("zaklimot/carried/libzaklimot.so"), b"made\n")
+            self.assertEqual(opened.read("zaklimot/carried/kind"), b"kind=proved\n")
             self.assertIn("zaklimot/format/table.py", opened.namelist())
         self.assertEqual(release.library_files(files, AARCH64, archive), entries)
         text = release.made_of(release.Commit("0123", 0), "kit", entries).content.decode("ascii")
