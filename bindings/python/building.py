@@ -1,7 +1,7 @@
-"""The backend by which pip builds the package (PEP 517 and 660). It needs the standard library alone.
+"""The backend by which pip builds the package (PEP 517, 660). It needs the standard library alone.
 
-A wheel carries a library: the one of the folder that ZAKLIMOT_DIR names, as `tools/vga-library make`
-lays it, or else the one that the C compiler makes of zaklimot.c. With ZAKLIMOT_PORTABLE=1 it is the
+A wheel carries a library: the one of the folder that ZAKLIMOT_DIR names, as `vga-library make` lays
+it, or else the one that the C compiler makes of zaklimot.c. With ZAKLIMOT_PORTABLE=1 it is the
 latter in any case. With ZAKLIMOT_PORTABLE=0 nothing is compiled: without ZAKLIMOT_DIR the wheel has
 no library then, and the package looks for one when it is used.
 """
@@ -48,7 +48,7 @@ ASKING = "import ctypes, sys; print(ctypes.CDLL(sys.argv[1]).zak_version())"
 # Where Python is told what it builds for, it can't run that here.
 OTHER_MACHINE = "_PYTHON_HOST_PLATFORM"
 NO_COMPILER = """there is no C compiler {}. Install one, as Debian's packages gcc and libc6-dev, or
-name yours in CC. If you have the library, name its folder in ZAKLIMOT_DIR instead: docs/PYTHON.md"""
+name yours in CC. If you have the library, name its folder in ZAKLIMOT_DIR: docs/PYTHON.md"""
 
 
 class Lacking(SystemExit):
@@ -251,7 +251,8 @@ def build_editable(
             # The old file may be in use, and goes only when the new one is whole.
             (folder / f"{name}.new").write_bytes(data)
             os.replace(folder / f"{name}.new", folder / name)
-    return _write_wheel(wheel_directory, {f"{PACKAGE}.pth": f"{SOURCES}\n".encode()}, "py3-none-any")
+    files = {f"{PACKAGE}.pth": f"{SOURCES}\n".encode()}
+    return _write_wheel(wheel_directory, files, "py3-none-any")
 
 
 def prepare_metadata_for_build_wheel(metadata_directory: str, config_settings: Any = None) -> str:

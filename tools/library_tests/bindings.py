@@ -1,6 +1,6 @@
-"""The tests of the packages. For Python: its own tests. For Rust: the crates' tests, examples, lints and pages.
+"""The tests of the packages, over the proved library and over the portable one.
 
-The tests of both are run over the proved library and over the portable one.
+For Python: its own tests. For Rust: the crates' tests, examples, lints and pages.
 """
 
 from __future__ import annotations
@@ -66,7 +66,7 @@ PROGRAMS = ("python3", "cargo", "rustc", "rustdoc", "cargo-clippy", "ld", "objco
 
 
 def check_python(library: Path, _: Path) -> str:
-    """Each test passes, none is skipped but for want of numpy, and the library is told that is used."""
+    """Each test passes, none is skipped but for want of numpy, and the library is told."""
     environment = {
         "ZAKLIMOT_DIR": str(library), "ZAKLIMOT_LIBRARY": "", "PYTHONPATH": str(PACKAGE / "src"),
     }
@@ -88,7 +88,8 @@ def _kind(library: Path) -> str:
 def check_kind(library: Path, told: str) -> None:
     """What a package tells of its library is what the library's folder tells."""
     if told.strip().lower() != _kind(library):
-        raise Wrong(f"the library is {_kind(library)}, and the package tells that it is {told.strip()}")
+        kind = _kind(library)
+        raise Wrong(f"the library is {kind}, and the package tells that it is {told.strip()}")
 
 
 def _tree(folder: Path) -> Path:
@@ -108,7 +109,8 @@ def _cargo(library: Path, folder: Path, *words: str, project: str = CRATES) -> s
     """
     is_portable = _kind(library) == PORTABLE
     return run(["cargo", *words], folder=_tree(folder) / project, environment={
-        "ZAKLIMOT_DIR": "" if is_portable else str(library), "ZAKLIMOT_PORTABLE": str(int(is_portable)),
+        "ZAKLIMOT_DIR": "" if is_portable else str(library),
+        "ZAKLIMOT_PORTABLE": str(int(is_portable)),
         "CARGO_TARGET_DIR": str(folder / "target"), "RUSTFLAGS": "-D warnings",
         "RUSTDOCFLAGS": "-D warnings",
     })
@@ -181,7 +183,8 @@ def _check_crate(_: Path, folder: Path) -> str:
     return check_crate(_tree(folder) / CRATES, folder)
 
 
-# Each check gets the folder of the library, and one for what it makes. The first are made with each library.
+# Each check gets the folder of the library, and one for what it makes. The first are made with
+# each library.
 EACH: dict[str, Callable[[Path, Path], str]] = {"python": check_python, "rust": check_rust}
 CHECKS: dict[str, Callable[[Path, Path], str]] = {
     **EACH, "rust-examples": check_rust_examples,
@@ -225,7 +228,7 @@ def _library(words: argparse.Namespace, folder: Path, progress: Progress) -> Pat
 
 
 def _libraries(words: argparse.Namespace, folder: Path, progress: Progress) -> dict[str, Path]:
-    """The folder of each library, by its kind: the proved one, or what is given; and the portable one."""
+    """The folder of each library, by its kind: the proved one, or a given one; the portable one."""
     first = _library(words, folder, progress)
     libraries = {_kind(first): first}
     if PORTABLE not in libraries:

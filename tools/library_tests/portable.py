@@ -1,4 +1,4 @@
-"""The library as a C compiler makes it of portable/zaklimot.c, and checks of how others build it."""
+"""The library as a C compiler makes it of portable/zaklimot.c, and how others build it."""
 
 from __future__ import annotations
 
@@ -45,12 +45,13 @@ CALLING = """fn main() {
 
 def portable_library(folder: Path) -> Path:
     """Compiles the C file, and lays it into a folder as `vga-library make` lays the proved one."""
-    made, parts = folder / PORTABLE, [folder / "zaklimot.o", folder / "portable.a", folder / "none.a"]
-    run(["cc", *OPTIONS, "-I", HEADER.parent, "-c", SOURCE, "-o", parts[0]])
-    run(["ar", "rcsD", parts[1], parts[0]])
+    made, code = folder / PORTABLE, folder / "zaklimot.o"
+    whole, nothing = folder / "portable.a", folder / "nothing.a"
+    run(["cc", *OPTIONS, "-I", HEADER.parent, "-c", SOURCE, "-o", code])
+    run(["ar", "rcsD", whole, code])
     # It takes its memory of the C library itself.
-    run(["ar", "rcsD", parts[2]])
-    make_library(parts[1], parts[2], Place(str(made)), MOVING, kind=PORTABLE)
+    run(["ar", "rcsD", nothing])
+    make_library(whole, nothing, Place(str(made)), MOVING, kind=PORTABLE)
     return made
 
 
@@ -117,7 +118,8 @@ def _configure(source: Path, made: Path, *words: str) -> None:
 def _check_options(folder: Path) -> None:
     """Without a build type the C file is optimised, and with one it is what that says."""
     for words, told in (
-        ((), ["-O2"]), (("-DCMAKE_BUILD_TYPE=Debug",), []), (("-DCMAKE_BUILD_TYPE=Release",), ["-O3"]),
+        ((), ["-O2"]), (("-DCMAKE_BUILD_TYPE=Debug",), []),
+        (("-DCMAKE_BUILD_TYPE=Release",), ["-O3"]),
         (("-DCMAKE_C_FLAGS=-O1",), ["-O1"]),
     ):
         made = folder / "options"
@@ -152,6 +154,7 @@ def _check_installed(folder: Path) -> None:
         for name in ("picture", "picture_static"):
             told = f"built by CMake as {name}"
             check_picture("picture", [finding / name], folder / "found.ppm", told)
-            needs.append(f"libzaklimot.so.{version().major}\n" in run(["objdump", "-p", finding / name]))
+            needed = run(["objdump", "-p", finding / name])
+            needs.append(f"libzaklimot.so.{version().major}\n" in needed)
         if needs != [shared == "ON", False]:
-            raise Wrong(f"with BUILD_SHARED_LIBS={shared} the programs want shared libraries: {needs}")
+            raise Wrong(f"with BUILD_SHARED_LIBS={shared} programs want shared libraries: {needs}")

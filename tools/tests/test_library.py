@@ -206,8 +206,8 @@ class Parts(Folder):
         """The archive of a release of these, and what is told of its sum."""
         given = self.write("given", "built")
         made = {
-            "clean_commit": lambda: COMMIT, "release_entries": lambda *_: entries, "check_program": lambda _: None,
-            "portable_entries": lambda _: {"zaklimot.c": File(b"code")},
+            "clean_commit": lambda: COMMIT, "release_entries": lambda *_: entries,
+            "check_program": lambda _: None, "portable_entries": lambda _: {"zaklimot.c": File(b"code")},
         }
         with mock.patch.multiple(release, **made):
             words = ["--program", given, "--archive", given, "--archive-aarch64", given]
@@ -221,14 +221,16 @@ class Parts(Folder):
         return archive, sums.read_text("ascii")
 
     def test_the_archive_of_the_c_file(self) -> None:
+        there = [place for place in release.ALONE if (TOP / place).exists()]
         files = {place: File(b"code") for place in release.ALONE}
-        files.update({place: File((TOP / place).read_bytes()) for place in release.ALONE if (TOP / place).exists()})
+        files.update({place: File((TOP / place).read_bytes()) for place in there})
         # The program lies beside the C file.
-        self.assertLessEqual(set(files) - set(self.there(files)), {"portable/vga.c"})
-        with mock.patch.object(release, "files_of", lambda commit, paths: {path: files[path] for path in paths}):
+        self.assertLessEqual(set(files) - set(there), {"portable/vga.c"})
+        with mock.patch.object(release, "files_of", lambda _, paths: {path: files[path] for path in paths}):
             entries = release.portable_entries(COMMIT)
         self.assertEqual(sorted(entries), [
-            "CMakeLists.txt", "LICENSE", "README.md", "vga.c", "zaklimot.c", "zaklimot.fnt", "zaklimot.h", "zaklimot.hpp",
+            "CMakeLists.txt", "LICENSE", "README.md", "vga.c", "zaklimot.c", "zaklimot.fnt",
+            "zaklimot.h", "zaklimot.hpp",
         ])
         page, source = entries["README.md"], entries["zaklimot.c"]
         assert isinstance(page, File) and isinstance(source, File)
@@ -242,13 +244,12 @@ class Parts(Folder):
         for name in sorted(set(entries) - {"README.md", "CMakeLists.txt"}):
             self.assertIn(name, text)
 
-    def there(self, places: dict[str, File]) -> list[str]:
-        """Those of some places that are in the repository."""
-        return [place for place in places if (TOP / place).exists()]
-
     def test_the_archive_of_the_c_file_alone(self) -> None:
         ran = mock.Mock(side_effect=AssertionError)
-        made = {"clean_commit": lambda: COMMIT, "portable_entries": lambda _: ENTRIES, "release_entries": ran}
+        made = {
+            "clean_commit": lambda: COMMIT, "portable_entries": lambda _: ENTRIES,
+            "release_entries": ran,
+        }
         with mock.patch.multiple(release, **made):
             status, output, said = call(release.main, self.folder, "--portable")
             again = call(release.main, self.folder / "again", "--portable")[1]
@@ -256,18 +257,21 @@ class Parts(Folder):
         first, second = (Path(told.splitlines()[0]).read_bytes() for told in (output, again))
         self.assertEqual(first, second)
         told = "^vga-release: --portable takes nothing that is built\n"
-        hold_undone(self, call(release.main, self.folder, "--portable", "--program", self.write("given", "")), told)
+        words = ["--portable", "--program", self.write("given", "")]
+        hold_undone(self, call(release.main, self.folder, *words), told)
 
     def test_links_of_a_commit_stay_links(self) -> None:
         with tempfile.TemporaryFile() as stream:
             with tarfile.open(fileobj=stream, mode="w") as archive:
-                for name, kind in (("a/f", tarfile.REGTYPE), ("a/l", tarfile.SYMTYPE), ("a", tarfile.DIRTYPE)):
+                kinds = {"a/f": tarfile.REGTYPE, "a/l": tarfile.SYMTYPE, "a": tarfile.DIRTYPE}
+                for name, kind in kinds.items():
                     member = tarfile.TarInfo(name)
                     member.type, member.linkname = kind, "../x" if kind == tarfile.SYMTYPE else ""
                     archive.addfile(member)
             stream.seek(0)
             with mock.patch.object(release, "_git", lambda *_: stream.read()):
-                self.assertEqual(release.files_of(COMMIT, ("a",)), {"a/f": File(b""), "a/l": "../x"})
+                found = release.files_of(COMMIT, ("a",))
+        self.assertEqual(found, {"a/f": File(b""), "a/l": "../x"})
 
     def test_what_the_archive_and_its_checksum_tell(self) -> None:
         front = f"zaklimot-{version()}-x86_64-linux"
@@ -348,6 +352,16 @@ class Whole(Folder):
         self.assertIn("(docs/LIBRARY.md#a-release)", self.pages[FRONT])
         self.assertTrue(len(self.pages) > 30 and (self.folder / "share/man/man1/vga.1").exists())
         hold(self, lambda page: broken(self.folder / page, self.pages[page]), ((page, []) for page in self.pages))
+
+    def test_what_is_compiled_on_other_machines_is_there(self) -> None:
+        """The C file, what CMake reads of it, and what the packages make of it."""
+        self.assertIn("add_subdirectory(portable)", (self.folder / "CMakeLists.txt").read_text("ascii"))
+        crate, source = "bindings/rust/zaklimot-sys/portable", self.folder / "portable" / "zaklimot.c"
+        self.assertTrue((self.folder / crate / "zaklimot.c").samefile(source))
+        self.assertTrue((self.folder / crate / "zaklimot.h").samefile(self.folder / "include/zaklimot.h"))
+        backend = self.folder / "bindings" / "python" / "building.py"
+        asking = f"import runpy; print(runpy.run_path({str(backend)!r})['part']('zaklimot.c'))"
+        self.assertEqual(ended(sys.executable, "-c", asking), (0, f"{source}\n", ""))
 
     def test_each_command_is_there_or_told_to_be_elsewhere(self) -> None:
         elsewhere = re.findall(r"`([^`]+)`", self.pages[FRONT].partition("These prove, build or test")[2].partition("\n\n")[0])
@@ -504,6 +518,7 @@ class OtherProcessors(Folder):
         assert isinstance(wheel, release.File)
         with zipfile.ZipFile(io.BytesIO(wheel.content)) as opened:
             self.assertEqual(opened.read("zaklimot/carried/libzaklimot.so"), b"made\n")
+            self.assertEqual(opened.read("zaklimot/carried/kind"), b"kind=proved\n")
             self.assertIn("zaklimot/format/table.py", opened.namelist())
         self.assertEqual(release.library_files(files, AARCH64, archive), entries)
         text = release.made_of(release.Commit("0123", 0), "kit", entries).content.decode("ascii")
@@ -531,7 +546,10 @@ class Bindings(Folder):
         ):
             said = mock.Mock(side_effect=[right, "", wrong, ""])
             tested = mock.Mock(side_effect=[Done(0, b"", text.encode()) for text in (right, wrong)])
-            faked = {"tested": tested, "run": lambda *_, **given: "", "_cargo": said, "check_kind": mock.Mock(), "_project": lambda *_: self.folder}
+            faked = {
+                "tested": tested, "run": lambda *_, **given: "", "_cargo": said,
+                "check_kind": mock.Mock(), "_project": lambda *_: self.folder,
+            }
             with self.subTest(right), mock.patch.multiple(bindings, **faked):
                 self.assertRegex(check(TOP, self.folder), "^(9|20) tests")
                 self.assertRaises(Wrong, check, TOP, self.folder)
@@ -544,12 +562,13 @@ class Bindings(Folder):
             bindings.check_kind(self.folder / "kit", f"{kind.capitalize()}\n")
             told = f"the library is {kind}, and the package tells that it is {other}$"
             self.assertRaisesRegex(Wrong, told, bindings.check_kind, self.folder / "kit", other)
-        # The suites run over both libraries, and over one that is given if that is the portable one.
-        given, made = mock.Mock(library=library.parents[1]), mock.Mock(return_value=TOP)
+        # The suites run over both libraries, and over a given one alone if that is portable.
+        kit, made = library.parents[1], mock.Mock(return_value=TOP)
+        given = mock.Mock(library=kit)
         with mock.patch.object(bindings, "portable_library", made):
-            self.assertEqual(bindings._libraries(given, TOP, mock.Mock()), {"portable": library.parents[1]})
+            self.assertEqual(bindings._libraries(given, TOP, mock.Mock()), {"portable": kit})
             self.write("kit/lib/pkgconfig/zaklimot.pc", "kind=proved\n")
-            both = {"proved": library.parents[1], "portable": TOP}
+            both = {"proved": kit, "portable": TOP}
             self.assertEqual(bindings._libraries(given, TOP, mock.Mock()), both)
 
     def test_words_that_cannot_be_meant_and_what_is_lacking(self) -> None:
@@ -602,7 +621,8 @@ class Finding(unittest.TestCase):
 
     def test_what_a_folder_tells_of_its_kind(self) -> None:
         for name, text, kind in (
-            ("some", "kind=portable\n", "portable"), ("other", "kind=provedly\n", "unknown"), ("none", "", "unknown"),
+            ("some", "kind=portable\n", "portable"), ("other", "kind=provedly\n", "unknown"),
+            ("none", "", "unknown"),
         ):
             library = self.folder / name / "lib"
             (library / "pkgconfig").mkdir(parents=True)
@@ -615,7 +635,7 @@ class Finding(unittest.TestCase):
             self.assertIn("cargo:rustc-link-lib=dylib=zaklimot\n", told)
 
     def crate(self) -> Path:
-        """The crate's folder, with its files; one that git has written in the place of a link among them."""
+        """The crate's folder, with its files; one of them as git writes it in the place of a link."""
         folder = self.folder / "crate" / "portable"
         shutil.rmtree(folder.parent, ignore_errors=True)
         folder.mkdir(parents=True)
@@ -626,7 +646,7 @@ class Finding(unittest.TestCase):
         return folder
 
     def compiled(self, **names: str) -> tuple[dict[str, str], list[str]]:
-        """What the build tells cargo where compiler and archiver write down their words, and these."""
+        """What the build tells cargo, and the words of the compiler and of the archiver."""
         notes = self.folder / "notes"
         notes.unlink(missing_ok=True)
         fake = self.folder / "fake"
@@ -646,7 +666,8 @@ class Finding(unittest.TestCase):
         self.crate()
         told, lines = self.compiled(ZAKLIMOT_DIR=str(self.folder / "full"), ZAKLIMOT_SHARED="1")
         self.assertEqual(lines, [
-            "bin/cc -std=c99 -O2 -I crate/portable -fPIC -c crate/portable/../../zaklimot.c -o out/zaklimot.o",
+            "bin/cc -std=c99 -O2 -I crate/portable -fPIC"
+            " -c crate/portable/../../zaklimot.c -o out/zaklimot.o",
             "bin/ar crs out/libzaklimot.a out/zaklimot.o",
         ])
         wanted = {
@@ -660,16 +681,19 @@ class Finding(unittest.TestCase):
     def test_for_other_targets_and_by_other_programs(self) -> None:
         self.crate()
         target = {"TARGET": "aarch64-unknown-linux-gnu"}
-        for names, compiler, archiver in (
-            (target, "bin/aarch64-linux-gnu-gcc -std", "bin/aarch64-linux-gnu-ar crs"),
-            ({**target, "CC": "cc -march=native", "AR": "ar"}, "bin/cc -march=native -std", "bin/ar crs"),
-            ({**target, "CC": "no-cc", "CC_aarch64-unknown-linux-gnu": "cc"}, "bin/cc -std", "bin/aarch64"),
-            ({**target, "CC": "no-cc", "CC_aarch64_unknown_linux_gnu": "cc", "AR": " "}, "bin/cc -std", "bin/aarch64"),
-            ({"CC": str(self.folder / "bin" / "cc"), "CC_other": "no-cc"}, "bin/cc -std", "bin/ar crs"),
+        other = {**target, "CC": "no-cc"}
+        own, cross, path = "bin/cc -std", "bin/aarch64-linux-gnu-", str(self.folder / "bin" / "cc")
+        for names, *wanted in (
+            (target, f"{cross}gcc -std", f"{cross}ar crs"),
+            ({**target, "CC": "cc -march=x", "AR": "ar"}, "bin/cc -march=x -std", "bin/ar crs"),
+            ({**other, "CC_aarch64-unknown-linux-gnu": "cc"}, own, cross),
+            ({**other, "CC_aarch64_unknown_linux_gnu": "cc", "AR": " "}, own, cross),
+            ({"CC": path, "CC_other": "no-cc"}, own, "bin/ar crs"),
         ):
             with self.subTest(names):
                 _, lines = self.compiled(**names)
-                self.assertEqual([line[:len(begins)] for line, begins in zip(lines, (compiler, archiver))], [compiler, archiver])
+                begun = [line[:len(begins)] for line, begins in zip(lines, wanted)]
+                self.assertEqual(begun, wanted)
         _, lines = self.compiled(CFLAGS="-O3 -g")
         self.assertIn(" -fPIC -O3 -g -c ", lines[0])
         _, lines = self.compiled(TARGET="x86_64-pc-windows-gnu", CC="cc", AR="ar")
@@ -680,8 +704,8 @@ class Finding(unittest.TestCase):
         folder, packages = self.crate(), {"PKG_CONFIG_PATH": f"{empty}/lib/pkgconfig"}
         for names, begins in (
             ({**packages, "ZAKLIMOT_PORTABLE": "0"}, "there is no library libzaklimot.\n"),
-            ({**packages, "CC": "no-such-cc"}, "there is no library libzaklimot, and no-such-cc can't be run: "),
-            ({**packages, "CC": "false"}, "false ended with exit status: 1, and compiles no library.\n"),
+            ({**packages, "CC": "no-cc"}, "there is no library libzaklimot, and no-cc can't be run: "),
+            ({**packages, "CC": "false"}, "false ended with exit status: 1, and compiles no library."),
             ({"ZAKLIMOT_PORTABLE": "yes"}, "ZAKLIMOT_PORTABLE is yes, and it is to be 0 or 1.\n"),
             ({"ZAKLIMOT_DIR": empty}, f"ZAKLIMOT_DIR is {empty}, and there is no lib/libzaklimot.a or .so.\n"),
             ({"ZAKLIMOT_DIR": "kit"}, "ZAKLIMOT_DIR is kit, and a path is to begin with a slash.\n"),
@@ -690,7 +714,8 @@ class Finding(unittest.TestCase):
                 status, told, said = self.built(**names)
                 self.assertEqual((status, said[:len(begins)]), (1, begins))
                 self.assertNotIn("rustc-link", told)
-                for way in (*ways, "tools/vga-library make kit", "set ZAKLIMOT_DIR", "Debian's packages gcc and libc6-dev"):
+                kit, compiler = "tools/vga-library make kit", "Debian's packages gcc and libc6-dev"
+                for way in (*ways, kit, "set ZAKLIMOT_DIR", compiler):
                     self.assertIn(way, said)
         # A link that leads nowhere.
         (self.folder / "zaklimot.c").unlink()

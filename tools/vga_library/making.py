@@ -176,7 +176,9 @@ def described(
     prefix = prefix or "${pcfiledir}/" + moving
     return {
         f"pkgconfig/{NAME}.pc":
-            filled(PACKAGE, PREFIX=prefix, LIBRARY_FOLDER=library_folder, VERSION=str(told), KIND=kind),
+            filled(
+                PACKAGE, PREFIX=prefix, LIBRARY_FOLDER=library_folder, VERSION=str(told), KIND=kind
+            ),
         f"{cmake}/{CMAKE_NAME}Config.cmake":
             filled(CMAKE / "config.cmake.in", UPWARDS=upwards, LIBRARY_FOLDER=library_folder, **version_words),
         f"{cmake}/{CMAKE_NAME}ConfigVersion.cmake": filled(CMAKE / "version.cmake.in", **version_words),
@@ -204,7 +206,8 @@ def make_shared(whole: Path, folder: Path, told: Version, target: Target) -> Non
 
 
 def make_library(
-    archive: Path, memory: Path, place: Place, prefix: str, target: Target = X86_64, kind: str = PROVED
+    archive: Path, memory: Path, place: Place, prefix: str, target: Target = X86_64,
+    kind: str = PROVED,
 ) -> list[Path]:
     """Lays headers, libraries, fonts, and what `pkg-config` and CMake read. Answers what was laid.
 
@@ -214,7 +217,8 @@ def make_library(
     told = version()
     include, libraries = place.folder("include"), place.folder(place.library_folder)
     share = place.folder(f"share/{NAME}")
-    texts = {libraries / file: text for file, text in described(prefix, place.library_folder, told, kind).items()}
+    read = described(prefix, place.library_folder, told, kind)
+    texts = {libraries / file: text for file, text in read.items()}
     with tempfile.TemporaryDirectory(prefix="vga-library-") as name:
         made = Path(name) / "lib"
         made.mkdir()

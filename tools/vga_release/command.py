@@ -1,7 +1,7 @@
 """The words of the command line, and what a release holds: files of the commit, what is built, the wheel, and pages.
 
-Their links lead to what is in it. The archive hangs on nothing but its files and the commit's time. The C file has an
-archive of its own, which needs no toolchain.
+Their links lead to what is in it. The archive hangs on nothing but its files and the commit's time.
+The C file has an archive of its own, which needs no toolchain.
 """
 
 import argparse
@@ -61,9 +61,9 @@ TOOLS = tuple(f"tools/vga{mark}{name}" for name in ("floppy", "fuzz", "picture",
 PAGE, FRONT = "tools/vga_release/README.md", "README.md"
 # What of the commit goes into a release, where it lies in the repository.
 PATHS = (
-    "CHANGELOG.md", "CMakeLists.txt", "LICENSE", FRONT, PAGE, "SECURITY.md", "bindings", "crates/vga_suite/data", "docs",
-    "examples", "fonts", "include", "page/zaklimot.html", PORTABLE, "share", "tools/README.md", "tools/vga",
-    *TOOLS,
+    "CHANGELOG.md", "CMakeLists.txt", "LICENSE", FRONT, PAGE, "SECURITY.md", "bindings",
+    "crates/vga_suite/data", "docs", "examples", "fonts", "include", "page/zaklimot.html", PORTABLE,
+    "share", "tools/README.md", "tools/vga", *TOOLS,
 )
 MOVED = {PAGE: FRONT, FRONT: f"docs/{FRONT}"}
 # What is in the archive of the C file, all in one folder.

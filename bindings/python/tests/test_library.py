@@ -47,15 +47,17 @@ class Finding(unittest.TestCase):
         with tempfile.TemporaryDirectory() as name:
             (Path(name) / "libzaklimot.so.1").symlink_to(path)
             # Which file it took, the loader doesn't say.
-            self.assertRegex(said(f"{OPEN}; {KIND}", LD_LIBRARY_PATH=name), "libzaklimot.so.*\nunknown")
+            told = said(f"{OPEN}; {KIND}", LD_LIBRARY_PATH=name)
+            self.assertRegex(told, "libzaklimot.so.*\nunknown")
 
     def test_a_file_that_is_not_there(self) -> None:
         for names in ({"ZAKLIMOT_LIBRARY": "/no-such-file"}, {"ZAKLIMOT_DIR": "/no-such-folder"}):
             told = said(TRIED, **names)
             self.assertIn(*names.values(), told)
             for word in (
-                "missing: ", "pip install bindings/python", "cc -O2 -fPIC -shared -Iinclude portable/zaklimot.c",
-                "export ZAKLIMOT_LIBRARY=", "tools/vga-library make kit", "export ZAKLIMOT_DIR=$PWD/kit",
+                "missing: ", "pip install bindings/python", "export ZAKLIMOT_LIBRARY=",
+                "cc -O2 -fPIC -shared -Iinclude portable/zaklimot.c", "tools/vga-library make kit",
+                "export ZAKLIMOT_DIR=$PWD/kit",
             ):
                 self.assertIn(word, told)
 
@@ -104,8 +106,9 @@ class Kinds(unittest.TestCase):
                 note.parent.mkdir(exist_ok=True)
                 self.assertEqual(self.kind(Path(name)), "unknown")
                 for text, kind in (
-                    ("prefix=/usr\nkind=proved\nName: x\n", "proved"), ("kind=portable\n", "portable"),
-                    ("kind=unknown\n", "unknown"), ("kind=provedly\n", "unknown"), ("# kind=proved\n", "unknown"),
+                    ("prefix=/usr\nkind=proved\nName: x\n", "proved"),
+                    ("kind=portable\n", "portable"), ("kind=unknown\n", "unknown"),
+                    ("kind=provedly\n", "unknown"), ("# kind=proved\n", "unknown"),
                     (5000 * "\n" + "kind=proved\n", "unknown"), ("", "unknown"),
                 ):
                     note.write_text(text)
@@ -118,7 +121,8 @@ class Kinds(unittest.TestCase):
     def test_a_name_without_a_folder(self) -> None:
         with tempfile.TemporaryDirectory() as name:
             (Path(name) / "kind").write_text("kind=proved\n")
-            program = "import os, sys; os.chdir(sys.argv[1]); from zaklimot import _file; print(_file.kind_of(sys.argv[2]))"
+            program = "import os, sys; os.chdir(sys.argv[1]); from zaklimot import _file; "
+            program += "print(_file.kind_of(sys.argv[2]))"
             self.assertEqual(said(program, name, "./libzaklimot.so"), "proved")
             self.assertEqual(said(program, name, "libzaklimot.so.1"), "unknown")
 

@@ -35,18 +35,23 @@ def run(*words: str | Path, env: dict[str, str] | None = None) -> str:
 
 def build(folder: str, what: str = "wheel", project: Path = HERE, /, **names: str) -> Path:
     """What the backend builds, in an environment with these names."""
-    place = repr(str(project))
-    program = f"import sys; sys.path.insert(0, {place}); import building; print(building.build_{what}({folder!r}))"
-    kept = {name: value for name, value in os.environ.items() if name not in OWN and not name.startswith("ZAKLIMOT_")}
+    program = f"import sys; sys.path.insert(0, {str(project)!r}); import building; "
+    program += f"print(building.build_{what}({folder!r}))"
+    kept = {name: value for name, value in os.environ.items() if not name.startswith(OWN)}
     return Path(folder) / run(sys.executable, "-B", "-c", program, env={**kept, **names}).strip()
 
 
-# What a compiler is told by the environment.
-OWN = ("CC", "CFLAGS")
+# How the names begin by which the environment tells of libraries and compilers.
+OWN = ("ZAKLIMOT_", "CC", "CFLAGS")
 # Compilers in the shell. Their last word is where the library goes.
 LAST = "for last; do :; done; "
-COPYING, WRITING, FAILING = 'cp "$LIBRARY" "$last"', 'echo text > "$last"', "echo no such option >&2; exit 1"
-USED = "import zaklimot; print(zaklimot.library_path(), zaklimot.library().kind, zaklimot.run('int ax=3\\nin 3CC')[1].value)"
+COPYING, WRITING = 'cp "$LIBRARY" "$last"', 'echo text > "$last"'
+FAILING = "echo no such option >&2; exit 1"
+USED = """import os, zaklimot
+os.chdir("/")
+value = zaklimot.run("int ax=3\\nin 3CC")[1].value
+print(zaklimot.library_path(), zaklimot.library().kind, value)
+"""
 
 
 @lru_cache(maxsize=None)
@@ -61,9 +66,10 @@ def environment() -> Path:
 def used(package: Path) -> str:
     """What a program of an environment that has this package alone tells of its library."""
     run(environment() / "pip", "install", "--no-index", "--quiet", "--force-reinstall", package)
-    kept = {key: value for key, value in os.environ.items() if not key.startswith(("ZAKLIMOT_", "PYTHON", "LD_"))}
+    others = ("ZAKLIMOT_", "PYTHON", "LD_")
+    kept = {key: value for key, value in os.environ.items() if not key.startswith(others)}
     try:
-        return run(environment() / "python", "-c", f"import os; os.chdir('/'); {USED}", env=kept)
+        return run(environment() / "python", "-c", USED, env=kept)
     finally:
         run(environment() / "pip", "uninstall", "--quiet", "--yes", "zaklimot")
 
@@ -115,15 +121,17 @@ class Compiled(unittest.TestCase):
 
     def carried(self, wheel: Path) -> dict[str, bytes]:
         """The library, its kind and its font in a wheel."""
+        place = "zaklimot/carried/"
         with zipfile.ZipFile(wheel) as files:
-            return {name[17:]: files.read(name) for name in files.namelist() if name.startswith("zaklimot/carried/")}
+            names = [name for name in files.namelist() if name.startswith(place)]
+            return {name[len(place):]: files.read(name) for name in names}
 
     def test_in_an_empty_environment_by_way_of_the_sources(self) -> None:
         """The archive of the sources has all that is needed, and its wheel is the repository's."""
         archive = build(str(self.folder), "sdist")
         quick = {**os.environ, "CFLAGS": "-O0", "ZAKLIMOT_DIR": "", "CC": ""}
-        words = ("-m", "pip", "wheel", "--no-index", "--no-deps", "--quiet", "--wheel-dir", self.folder / "made", archive)
-        run(sys.executable, *words, env=quick)
+        words = ("--no-index", "--no-deps", "--quiet", "--wheel-dir", self.folder / "made", archive)
+        run(sys.executable, "-m", "pip", "wheel", *words, env=quick)
         (wheel,) = (self.folder / "made").iterdir()
         self.assertRegex(wheel.name, r"^zaklimot-\d+\.\d+-py3-none-linux_\w+\.whl$")
         told = used(wheel)
@@ -157,10 +165,10 @@ class Compiled(unittest.TestCase):
         old.write_text("unsigned zak_version(void) { return 65536 + 3; }\n")
         older = f'cc -shared -fPIC {old} -o "$last"'
         for names, told in (
-            ({"CC": "no-such-cc"}, "there is no C compiler no-such-cc. Install one, as Debian's packages gcc and libc6-dev"),
+            ({"CC": "no-such-cc"}, "there is no C compiler no-such-cc. Install one, as Debian's packages"),
             (self.compiler(FAILING), "sh ended with status 1, and said:\nno such option\n"),
             (self.compiler("exit 0"), "sh ended with status 0, and said:"),
-            (self.compiler(WRITING), "the compiler made a library that Python can't load: OSError: "),
+            (self.compiler(WRITING), "made a library that Python can't load: OSError: "),
             (self.compiler(older), "zaklimot.c is of version 1.3, and this package of 1.5\n"),
             ({"ZAKLIMOT_PORTABLE": "yes"}, "ZAKLIMOT_PORTABLE is yes, and it is to be 0 or 1\n"),
         ):
@@ -172,7 +180,8 @@ class Compiled(unittest.TestCase):
     def repository(self) -> Path:
         """The folder of the package in a copy of the repository that has no more than it needs."""
         project = self.folder / "copy" / "bindings" / "python"
-        shutil.copytree(HERE, project, ignore=shutil.ignore_patterns("tests", "carried", "__pycache__"))
+        ignored = shutil.ignore_patterns("tests", "carried", "__pycache__")
+        shutil.copytree(HERE, project, ignore=ignored)
         for folder in ("portable", "include", "fonts"):
             shutil.copytree(header.TOP / folder, self.folder / "copy" / folder)
         return project
@@ -181,10 +190,11 @@ class Compiled(unittest.TestCase):
         project = self.repository()
         copying = self.compiler(COPYING)
         carried = project / "src" / "zaklimot" / "carried"
-        self.assertTrue(build(str(self.folder), "editable", project, ZAKLIMOT_DIR="/kit").name.endswith("-any.whl"))
-        self.assertFalse(carried.exists())
+        wheel = build(str(self.folder), "editable", project, ZAKLIMOT_DIR="/kit")
+        self.assertTrue(wheel.name.endswith("-any.whl") and not carried.exists())
         wheel = build(str(self.folder), "editable", project, **copying)
-        self.assertEqual({path.name for path in carried.iterdir()}, {"kind", "libzaklimot.so", "zaklimot.fnt"})
+        laid = {path.name for path in carried.iterdir()}
+        self.assertEqual(laid, {"kind", "libzaklimot.so", "zaklimot.fnt"})
         self.assertEqual(used(wheel), f"{carried}/libzaklimot.so portable 103\n")
 
     def test_a_copy_without_the_repository(self) -> None:
@@ -199,9 +209,11 @@ class Compiled(unittest.TestCase):
         import building
 
         for told, machine, bits, word in (
-            ("linux-x86_64", "x86_64", 64, "linux_x86_64"), ("linux-x86_64", "x86_64", 32, "linux_i686"),
-            ("linux-aarch64", "aarch64", 64, "linux_aarch64"), ("win-amd64", "AMD64", 64, "win_amd64"),
-            ("macosx-10.9-universal2", "x86_64", 64, "macosx_10_9_x86_64"), ("win32", "AMD64", 32, "win32"),
+            ("linux-x86_64", "x86_64", 64, "linux_x86_64"),
+            ("linux-x86_64", "x86_64", 32, "linux_i686"),
+            ("linux-aarch64", "aarch64", 64, "linux_aarch64"),
+            ("win-amd64", "AMD64", 64, "win_amd64"), ("win32", "AMD64", 32, "win32"),
+            ("macosx-10.9-universal2", "x86_64", 64, "macosx_10_9_x86_64"),
             ("macosx-10.9-universal2", "arm64", 64, "macosx_11_0_arm64"),
             ("macosx-14.2-arm64", "arm64", 64, "macosx_14_2_arm64"),
         ):

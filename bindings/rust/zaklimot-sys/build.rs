@@ -142,7 +142,7 @@ fn words(value: &str) -> Vec<String> {
     value.split_whitespace().map(String::from).collect()
 }
 
-/// How the names of the programs begin that make files for a target, as Debian and others name them.
+/// How the names of the programs begin that make files for a target, as Debian names them.
 fn prefix(target: &str) -> String {
     let parts: Vec<&str> = target.split('-').collect();
     let machine = match parts[0] {

@@ -28,8 +28,8 @@ refuses raises a `Refusal`, as NotDecoded, and changes nothing. A number out of 
 ValueError. All exceptions of the package are below `zaklimot.Error`.
 
 The library is looked for as the file that ZAKLIMOT_LIBRARY names, below the folder ZAKLIMOT_DIR, in
-the package, and where `tools/vga-library install` lays it. `library()` tells which it is: the proved
-one, or the portable one, which a C compiler makes. The page docs/PYTHON.md is the guide.
+the package, and where `tools/vga-library install` lays it. `library()` tells which it is: the
+proved one, or the portable one, which a C compiler makes. The page docs/PYTHON.md is the guide.
 """
 
 from __future__ import annotations

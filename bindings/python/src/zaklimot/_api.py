@@ -7,7 +7,8 @@ from typing import NamedTuple
 from ._card import Card, Fonts, font_bytes
 from ._errors import (
     BadArgument, BadBlock, BadCard, BadFunction, BadHeight, BadLine, BadMagic, BadMode, BadPage, BadRegister,
-    BadStep, BadVersion, Broken, Closed, CountPast, Error, FontSize, LibraryMissing, NoMode, NoRoom, NoScreen, NotDecoded,
+    BadStep, BadVersion, Broken, Closed, CountPast, Error, FontSize, LibraryMissing, NoMode, NoRoom,
+    NoScreen, NotDecoded,
     NotInProfile, OpenAlready, OutOfMemory, Outside, Ragged, Refusal, ScriptError, StateChecksum, StateError,
     StateLength, StateMagic, StatePart, StateVersion, TooFar, TooLong, TooMany, Truncated, WrongKind,
 )
@@ -74,10 +75,12 @@ def run(script: AnyScript, fonts: Fonts = None) -> Report:
 
 __all__ = [
     "Answer", "BadArgument", "BadBlock", "BadCard", "BadFunction", "BadHeight", "BadLine", "BadMagic",
-    "BadMode", "BadPage", "BadRegister", "BadStep", "BadVersion", "Beam", "BiosData", "Broken", "CRTC", "Card", "Cell",
-    "Closed", "Colour", "CountPast", "Error", "FONTS_SIZE", "FontSize", "GFX", "HIGHEST", "Indexed",
-    "Library", "LibraryMissing", "Lines", "MOST_DOTS", "NoMode", "NoRoom", "NoScreen", "NotDecoded", "NotInProfile",
-    "OpenAlready", "OutOfMemory", "Outside", "Picture", "Position", "Ragged", "ReadBytes", "Refusal",
+    "BadMode", "BadPage", "BadRegister", "BadStep", "BadVersion", "Beam", "BiosData", "Broken",
+    "CRTC", "Card", "Cell", "Closed", "Colour", "CountPast", "Error", "FONTS_SIZE", "FontSize", "GFX",
+    "HIGHEST", "Indexed",
+    "Library", "LibraryMissing", "Lines", "MOST_DOTS", "NoMode", "NoRoom", "NoScreen", "NotDecoded",
+    "NotInProfile", "OpenAlready", "OutOfMemory", "Outside", "Picture", "Position", "Ragged",
+    "ReadBytes", "Refusal",
     "Registers", "Report", "SEQ", "ScanLine", "Screen", "Script", "ScriptError", "Source",
     "StateChecksum", "StateError", "StateLength", "StateMagic",
     "StatePart", "StateVersion", "Step", "Timing", "TooFar", "TooLong", "TooMany", "Truncated", "WIDEST",

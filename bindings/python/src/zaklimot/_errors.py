@@ -161,9 +161,10 @@ class NoScreen(Error):
 
 
 class Broken(Error):
-    """The portable library was compiled wrongly: it did what the proofs exclude, and the card is closed.
+    """The portable library was compiled wrongly, and the card is closed.
 
-    Try another compiler, or a lower level of optimisation. The proved library never raises it.
+    It did what the proofs exclude. Try another compiler, or a lower level of optimisation. The
+    proved library never raises it.
     """
 
     number = 29

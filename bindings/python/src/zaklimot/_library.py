@@ -23,8 +23,8 @@ USUAL_PREFIXES = ("/usr/local", "/usr")
 # So many folders above this file the repository begins, for who uses the package from its sources.
 LEVELS = 4
 
-HOW = """`pip install bindings/python` builds a package that has it. Or compile it, at the top of the
-repository, and name the file:
+HOW = """`pip install bindings/python` builds a package that has it. Or compile it, at the top of
+the repository, and name the file:
     cc -O2 -fPIC -shared -Iinclude portable/zaklimot.c -o libzaklimot.so
     export ZAKLIMOT_LIBRARY=$PWD/libzaklimot.so
 Or make the proved one there, or unpack a release, and name the folder:

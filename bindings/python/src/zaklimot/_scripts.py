@@ -70,7 +70,8 @@ def run_script(script: AnyScript, fonts: bytes) -> bytes:
     told = (ctypes.byref(length), ctypes.byref(place))
     while True:
         room = Room(size)
-        status = loaded().calls["run"](code, len(code), glyphs, len(glyphs), room.pointer, size, *told)
+        run = loaded().calls["run"]
+        status = run(code, len(code), glyphs, len(glyphs), room.pointer, size, *told)
         if not status:
             return bytes(room.view[:length.value])
         if status != NO_ROOM:

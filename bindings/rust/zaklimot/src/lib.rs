@@ -21,9 +21,9 @@
 //! ```
 //!
 //! Cycles take no time on the card: the clock runs by [`Card::advance`] and by frames alone. What
-//! the adapter refuses is an [`Error`], and changes nothing. [`library()`] tells whether the library
-//! is the proved one, or the portable one, which a C compiler makes. `docs/RUST.md` of the repository
-//! is the guide, and `docs/LIBRARY.md` tells what is proved.
+//! the adapter refuses is an [`Error`], and changes nothing. [`library()`] tells whether the
+//! library is the proved one, or the portable one, which a C compiler makes. `docs/RUST.md` of the
+//! repository is the guide, and `docs/LIBRARY.md` tells what is proved.
 #![warn(missing_docs)]
 
 mod card;
