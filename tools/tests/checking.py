@@ -35,10 +35,10 @@ class Checked(NamedTuple):
         return f"{self.passed} passed, {self.failed} failed" + (f", {self.skipped} skipped" if self.skipped else "")
 
 
-def check_suite(program: str) -> Checked:
-    """Holds a program to the suite. Cases that don't agree are printed with the reason."""
+def check_suite(program: str, *chosen: str) -> Checked:
+    """Holds a program to the suite, or to the cases that `--only` chooses. Those that don't agree are printed."""
     ways = [shlex.join([program, way]) + " {script} --fonts {fonts} {until}" for way in ("go", "run")]
-    words = [ways[0], "--bytes", ways[1], "--jobs", str(os.cpu_count() or 1), "--json"]
+    words = [ways[0], "--bytes", ways[1], "--jobs", str(os.cpu_count() or 1), "--json", *chosen]
     done = captured([sys.executable, TOOLS / "vga-report", "suite", *words], seconds=MOST_SECONDS)
     if done.status == TROUBLE:
         raise Trouble(f"the suite can't be run\n{done.said()}")

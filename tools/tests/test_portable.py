@@ -163,7 +163,8 @@ class Compiled(Cache):
         for number, status in (*SIGNALS, (signal.SIGKILL, -9)):
             with self.subTest(number):
                 child.unlink(missing_ok=True)
-                run = begin("tests/finding.py", env={**os.environ, "CC": slow})
+                # What a killed run leaves of its temporary files goes with this test's.
+                run = begin("tests/finding.py", env={**os.environ, "CC": slow, "TMPDIR": str(self.folder)})
                 self.wait_until(lambda: child.exists() and child.read_text().count("\n") == 2, run)
                 run.send_signal(number)
                 run.communicate(timeout=60)

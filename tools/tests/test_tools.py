@@ -3,6 +3,7 @@
 from __future__ import annotations
 
 import ast
+import contextlib
 import io
 import os
 import re
@@ -25,8 +26,9 @@ from vga_report.streams import write_file, writing
 from vga_report.trouble import TROUBLE, Trouble
 from vga_report.version import version
 
+from . import checking, discovering
 from .tools import (
-    PYTHON, SIGNALS, TOOLS, TOP, Folder, begin, call, ended, hold, hold_undone, main_of, refused, run_tool,
+    PYTHON, SIGNALS, TESTED, TOOLS, TOP, Folder, begin, call, ended, hold, hold_undone, main_of, refused, run_tool,
 )
 
 NOTING = Path(__file__).with_name("noting.sh").read_text("ascii")
@@ -368,7 +370,9 @@ class Running(Folder):
         """Exit status and output of tests, of which each module has one that does what a line says."""
         for name, line in lines.items():
             self.write(f"{name}.py", TEST.format(line))
-        prepare = partial(os.environ.update, PYTHONPATH=str(self.folder))
+        # No program is compiled for them.
+        tested = os.environ.get(TESTED) or str(self.folder / "none")
+        prepare = partial(os.environ.update, {"PYTHONPATH": str(self.folder), TESTED: tested})
         status, output, said = run_tool("tests-of-tools", *words, *lines, prepare=prepare)
         self.assertEqual(said, "")
         return status, output.decode()
@@ -380,12 +384,69 @@ class Running(Folder):
         for name, (_, told) in BAD.items():
             self.assertRegex(said, rf"failed  {name}\n(?s:.*){told}")
 
+    def test_one_that_is_skipped_is_told_with_the_reason(self) -> None:
+        status, said = self.run_tests(skips="self.skipTest('it is Sunday')", good="pass")
+        self.assertEqual((status, said.splitlines()[-1]), (0, "OK (skipped=1)"))
+        self.assertIn("passed  skips\nskipped  skips.One.test_one: it is Sunday\npassed  good\n", said)
+
+    def test_the_program_that_is_tested(self) -> None:
+        line = f"Path('{self.folder}/seen').write_text(str(tools.PROGRAM))"
+        for variables, built, wanted in (({}, True, "built"), ({TESTED: "given"}, True, "built"), ({TESTED: "given"}, False, "given")):
+            path = Path(self.program("built", "")) if built else self.folder / "none"
+            with mock.patch.object(discovering, "PROGRAM", path), mock.patch.dict(os.environ, variables):
+                self.assertEqual(self.run_tests(sees=line)[0], 0)
+            self.assertEqual(Path((self.folder / "seen").read_text()).name, wanted)
+
     def test_a_test_that_wants_the_program_is_skipped_or_fails(self) -> None:
         line = "tools.PROGRAM = Path('none'); tools.want_program()"
         status, said = self.run_tests(wants=line)
         self.assertEqual((status, said.splitlines()[-1]), (0, "OK (skipped=1)"))
         status, said = self.run_tests("--built", wants=line)
         self.assertEqual((status, said.splitlines()[-1]), (1, "FAILED (failed=1)"))
+
+
+@unittest.skipIf(sys.platform == "win32", "a script is a program on POSIX")
+class Checking(Folder):
+    """The test command for a machine without Rattle."""
+
+    def checked(self, suite: checking.Checked, **lines: str) -> tuple[int, list[str]]:
+        """Exit status and the lines that it prints where the suite comes to these counts, and modules have these tests."""
+        for name, line in lines.items():
+            self.write(f"{name}.py", TEST.format(line))
+        found = {"portable_program": lambda: "portable", "check_suite": mock.Mock(return_value=suite)}
+        with mock.patch.multiple(checking, **found), mock.patch.dict(os.environ, PYTHONPATH=str(self.folder)):
+            status, output, said = call(checking.main, *lines)
+            found["check_suite"].assert_called_once_with("portable")
+        self.assertEqual(said, "")
+        return status, output.splitlines()
+
+    def test_the_last_line_counts_cases_and_tests(self) -> None:
+        good = "assert str(tools.PROGRAM) == 'portable'"
+        for suite, lines, told in (
+            ((963, 0, 0), {"good": good, "other": good}, (0, "965 passed, 0 failed")),
+            ((963, 0, 0), {"good": good, "skips": "self.skipTest('why')"}, (0, "964 passed, 0 failed, 1 skipped")),
+            ((963, 0, 0), {"good": good, "fails": "self.fail('oh')"}, (1, "964 passed, 1 failed")),
+            ((963, 0, 0), {"ends": "os._exit(0)"}, (1, "963 passed, 1 failed")),
+            ((960, 2, 1), {"good": good}, (1, "961 passed, 2 failed, 1 skipped")),
+        ):
+            with self.subTest(told):
+                status, output = self.checked(checking.Checked(*suite), **lines)
+                self.assertEqual((status, output[-1]), told)
+                self.assertEqual("skipped  skips.One.test_one: why" in output, "skips" in lines)
+
+    def test_the_suite_over_a_program(self) -> None:
+        # A program that knows two of the cases.
+        faults = "case $2 in *.bin|*bytes*) echo 'vga: F2 BadMagic' >&2;; esac; exit 1"
+        bad, output = self.program("bad", f"#!/bin/sh\n{faults}\n"), io.StringIO()
+        with contextlib.redirect_stdout(output):
+            checked = checking.check_suite(bad, "--only", "examples/cut-script-0")
+        self.assertEqual((checked.passed + checked.failed, checked.skipped), (10, 0))
+        self.assertTrue(0 < checked.passed < checked.failed)
+        self.assertEqual(len(re.findall("^(?:differs|failed)  examples/cut-script-0\\d: .", output.getvalue(), re.M)), checked.failed)
+
+    def test_what_ends_it_at_once(self) -> None:
+        with mock.patch.dict(os.environ, CC="no-such-compiler"):
+            hold_undone(self, call(checking.main), "^vga-check: no-such-compiler: CC names it ")
 
 
 @unittest.skipIf(sys.platform == "win32", "a script is a program on POSIX")
