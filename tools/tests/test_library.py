@@ -5,6 +5,7 @@ A release has the same bytes whatever the order and the time, from a commit alon
 
 import hashlib
 import io
+import json
 import os
 import re
 import shutil
@@ -15,10 +16,10 @@ import tempfile
 import unittest
 import zipfile
 from pathlib import Path
-from typing import Iterator
+from typing import Any, Iterator
 from unittest import mock
 
-from library_tests import bindings, checks, compilers
+from library_tests import bindings, checks, compilers, portable
 from library_tests.compilers import run
 from vga_library import command, making
 from vga_library.making import AARCH64, HEAP, HEAP_OPTIONS, MOVING, TARGETS, X86_64, Place, described
@@ -579,6 +580,48 @@ class Bindings(Folder):
         with mock.patch("shutil.which", lambda name: None if "cargo" in name else name):
             told = "  cargo: install the package cargo\n  cargo-clippy: install the package rust-clippy\n"
             hold_undone(self, call(bindings.main, "--ready"), f"^vga-bindings-tests: this machine lacks\n{told}")
+
+
+class OneFile(Folder):
+    """That the checks of how others build the C file can fail."""
+
+    def test_options_that_differ(self) -> None:
+        def configured(line: str) -> Any:
+            def run(words: list[str], **_: object) -> str:
+                levels = {"Release": "-O3", "Debug": "", "-O1": "-O1"}
+                level = levels.get(words[-1].rpartition("=")[2], "-O2")
+                made = [{"file": "portable/zaklimot.c", "command": f"cc {level} {line}"}]
+                self.write("options/compile_commands.json", json.dumps(made))
+                return ""
+
+            return mock.patch.object(portable, "run", run)
+
+        with configured("-fPIC -std=c99 -c zaklimot.c"):
+            portable._check_options(self.folder)
+        for line in ("-fPIC -std=c99 -Og", "-std=c99", "-fPIC"):
+            with self.subTest(line), configured(line):
+                told = f"compiles cc .*{line}$"
+                self.assertRaisesRegex(Wrong, told, portable._check_options, self.folder)
+
+    def test_a_crate_without_a_file_and_another_library(self) -> None:
+        names = ["portable/zaklimot.c", "portable/zaklimot.h", "portable/zaklimot.fnt", "src/lib.rs"]
+        told = f"portable {portable.number()}\n"
+        for packed, said, wrong in (
+            (names, told, None), (names[1:], told, "has no file portable/zaklimot.c$"),
+            (names, "proved 65541\n", "writes proved 65541$"),
+            (names, "portable 65540\n", "writes portable 65540$"),
+        ):
+            folder = self.folder / f"crate-{len(list(self.folder.iterdir()))}"
+            package = folder / "packing" / "package"
+            package.mkdir(parents=True)
+            with tarfile.open(package / "zaklimot-sys-1.5.0.crate", "w:gz") as archive:
+                for name in packed:
+                    archive.addfile(tarfile.TarInfo(f"zaklimot-sys-1.5.0/{name}"))
+            with mock.patch.object(portable, "run", mock.Mock(return_value=said)):
+                if wrong is None:
+                    self.assertIn("outside the repository", portable.check_crate(TOP, folder))
+                else:
+                    self.assertRaisesRegex(Wrong, wrong, portable.check_crate, TOP, folder)
 
 
 @unittest.skipUnless(shutil.which("rustc"), "rustc isn't installed")
