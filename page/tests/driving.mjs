@@ -7,8 +7,18 @@ import { tmpdir } from "node:os";
 const NAMES = ["chromium", "chromium-browser", "google-chrome"];
 /** So many milliseconds something may take, on a machine on which much else runs. */
 export const PATIENCE = 180000;
-/** Signals that end a test, with their numbers. */
-export const ENDING = [["SIGHUP", 1], ["SIGINT", 2], ["SIGTERM", 15]];
+// Signals that end a test, with their numbers.
+const ENDING = [["SIGHUP", 1], ["SIGINT", 2], ["SIGTERM", 15]];
+
+/** A signal that ends the test ends a browser too; one that comes once more waits for that. */
+export function endWithTest(browser) {
+  let ended = null;
+  for (const [signal, number] of ENDING) {
+    process.on(signal, () => {
+      ended ??= browser.stop().finally(() => process.exit(128 + number));
+    });
+  }
+}
 
 /** In the page: where an element stands. */
 const PLACE = `selector => {
@@ -33,10 +43,7 @@ export class Browser {
       "--no-first-run",
       `--user-data-dir=${this.folder}`, "--remote-debugging-pipe", "about:blank"],
         { stdio: ["ignore", "ignore", "ignore", "pipe", "pipe"] });
-    // A signal that ends the test ends the browser too.
-    for (const [signal, number] of ENDING) {
-      process.once(signal, () => this.stop().finally(() => process.exit(128 + number)));
-    }
+    endWithTest(this);
     Object.assign(this, { number: 0, waiting: new Map(), said: [], rest: "", downloads: [] });
     this.process.stdio[4].setEncoding("utf-8").on("data", part => this.hear(part));
     const { targetInfos } = await this.send("Target.getTargets");

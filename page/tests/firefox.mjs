@@ -3,7 +3,7 @@ import { spawn } from "node:child_process";
 import { mkdtempSync, rmSync, writeFileSync } from "node:fs";
 import { connect } from "node:net";
 import { tmpdir } from "node:os";
-import { PATIENCE, freePort, hasProgram } from "./driving.mjs";
+import { PATIENCE, endWithTest, freePort, hasProgram } from "./driving.mjs";
 import { Driven, pause } from "./webdriver.mjs";
 
 const NAMES = ["firefox", "firefox-esr"];
@@ -27,7 +27,7 @@ export class Firefox extends Driven {
     Object.assign(browser, { number: 0, waiting: new Map(), rest: Buffer.alloc(0) });
     browser.ended = new Promise(resolve => browser.process.once("exit", resolve));
     browser.process.once("error", () => {});
-    browser.endWithTest();
+    endWithTest(browser);
     try {
       await browser.connect(port);
       const { capabilities } = await browser.command("NewSession", { capabilities: {} });

@@ -1,7 +1,7 @@
 // A browser with one page that takes the commands of WebDriver (https://www.w3.org/TR/webdriver2/).
 // firefox.mjs and webkit.mjs tell how a command reaches it. driving.mjs does the same in Chromium,
 // by another protocol.
-import { ENDING, PATIENCE } from "./driving.mjs";
+import { PATIENCE } from "./driving.mjs";
 
 const PAUSE = 20;
 // WebDriver's numbers of keys.
@@ -35,13 +35,6 @@ function keys(list) {
 export class Driven {
   /** The pointer stands at whole pixels alone. */
   hasWholePixels = true;
-
-  /** A signal that ends the test ends the browser too. */
-  endWithTest() {
-    for (const [signal, number] of ENDING) {
-      process.once(signal, () => this.stop().finally(() => process.exit(128 + number)));
-    }
-  }
 
   /** The value of an expression in the page. */
   async value(expression) {

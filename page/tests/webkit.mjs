@@ -2,7 +2,7 @@
 import { spawn } from "node:child_process";
 import { existsSync, mkdtempSync, rmSync, rmdirSync } from "node:fs";
 import { tmpdir } from "node:os";
-import { PATIENCE, freePort, hasProgram } from "./driving.mjs";
+import { PATIENCE, endWithTest, freePort, hasProgram } from "./driving.mjs";
 import { Driven, pause } from "./webdriver.mjs";
 
 const DRIVER = "WebKitWebDriver", SCREEN = "Xvfb", SIZE = "2400x1800x24";
@@ -39,7 +39,7 @@ export class WebKit extends Driven {
     const browser = new WebKit();
     browser.folder = mkdtempSync(`${tmpdir()}/zaklimot-webkit-`);
     browser.hasSockets = existsSync(SOCKETS);
-    browser.endWithTest();
+    endWithTest(browser);
     try {
       await browser.start();
     } catch (error) {
