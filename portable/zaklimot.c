@@ -20,7 +20,7 @@
 
 #define FIRST_PAGES 17u
 #define HEAP_BASE 1049840u
-#define MODULE_GLOBALS u64 g0; u32 g1;
+#define MODULE_GLOBALS u64 g0;
 
 #include <stdlib.h>
 #include <string.h>
@@ -130,10 +130,10 @@ NUMBER(64)
 #define i64_store32(at, value) put32(AT(at, 4), (u32)(value))
 #define i64_store(at, value) put64(AT(at, 8), value)
 #define memory_copy(to, from, len)                                                                 \
-    ((void)(IS_KNOWN(len) ? memmove(AT(to, len), AT(from, len), (size_t)(len))                     \
-                          : memmove((to) >= OUTSIDE ? self->outside + (size_t)((to) - OUTSIDE)     \
-                                                    : AT(to, len),                                 \
-                                    AT(from, len), (size_t)(len))))
+    ((void)(IS_KNOWN(len)                                                                          \
+                ? memmove(AT(to, len), AT(from, len), (size_t)(len))                               \
+                : memmove((to) >= OUTSIDE ? self->outside + (size_t)((to)-OUTSIDE) : AT(to, len),  \
+                          AT(from, len), (size_t)(len))))
 #define memory_fill(at, value, len) ((void)memset(AT(at, len), (int)(value), (size_t)(len)))
 #if defined(__GNUC__)
 #define I32_CTZ(x) ((x) == 0 ? 32u : (u32)__builtin_ctz(x))
@@ -173,132 +173,78 @@ static u32 memory_grow(module *self, u32 more)
 #pragma GCC diagnostic ignored "-Wsign-conversion"
 #endif
 
-static u32 f0(module *);
-static void f1(module *);
-static void f2(module *);
-static void f3(module *, u64, u64, u64, u64, u64);
-static void f4(module *, u64);
-static void f5(module *, u64, u32);
-static u32 f6(module *, u64, u64);
-static void f7(module *, u64, u64, u64, u64);
-static void f8(module *, u64, u64, u64, u64);
-static void f9(module *, u64, u64, u64);
-static void f10(module *, u64, u64);
-static u32 f11(module *, u64, u64, u64, u64);
+static void f0(module *, u64, u64, u64, u64, u64);
+static void f1(module *, u64);
+static void f2(module *, u64, u32);
+static u32 f3(module *, u64, u64);
+static void f4(module *, u64, u64, u64, u64);
+static void f5(module *, u64, u64, u64, u64);
+static void f6(module *, u64, u64, u64);
+static void f7(module *, u64, u64);
+static u32 f8(module *, u64, u64, u64, u64);
+static void f9(module *, u64, u64, u64, u64);
+static u32 f10(module *, u64, u64);
+static void f11(module *, u64, u64, u32);
 static void f12(module *, u64, u64, u64, u64);
-static u32 f13(module *, u64, u64);
-static void f14(module *, u64, u64, u32);
-static void f15(module *, u64, u64, u64, u64);
-static void f16(module *, u64, u64, u64, u64, u32, u64, u32);
-static void f17(module *, u64, u64, u64, u64);
-static void f18(module *, u64, u64, u64);
-static void f19(module *, u64, u64, u64);
+static void f13(module *, u64, u64, u64, u64, u32, u64, u32);
+static void f14(module *, u64, u64, u64, u64);
+static void f15(module *, u64, u64, u64);
+static void f16(module *, u64, u64, u64);
+static void f17(module *, u64, u64);
+static u32 f18(module *, u64, u32, u32);
+static void f19(module *, u64, u32, u32, u32, u32);
 static void f20(module *, u64, u64);
-static u32 f21(module *, u64, u32, u32);
-static void f22(module *, u64, u32, u32, u32, u32);
-static void f23(module *, u64, u64);
+static void f21(module *, u64, u64, u32);
+static void f22(module *, u64, u64, u32, u64, u64);
+static void f23(module *, u64, u64, u32);
 static void f24(module *, u64, u64, u32);
-static void f25(module *, u64, u64, u32, u64, u64);
-static void f26(module *, u64, u64, u32);
-static void f27(module *, u64, u64, u32);
-static void f28(module *, u64, u64, u32);
-static u32 f29(module *, u64);
-static void f30(module *, u64, u32, u32);
-static void f31(module *, u64, u64, u64, u64, u64, u64, u64);
-static void f32(module *, u64, u64);
-static void f33(module *, u64, u64, u64, u64, u32);
-static void f34(module *, u64, u32, u32, u32);
-static u32 f35(module *, u64, u64, u32, u32, u32, u32);
-static void f36(module *, u64, u64, u64, u32, u64);
-static void f37(module *, u64, u64, u32, u32, u32, u32);
-static void f38(module *, u64, u32, u32, u32);
-static void f39(module *, u64, u64, u64);
-static void f40(module *, u64, u32, u32, u64);
-static void f41(module *, u64, u64, u32, u32);
-static void f42(module *, u64, u32, u32, u32);
-static u32 f43(module *, u64, u64, u32, u32, u32, u32);
-static u32 f44(module *, u64, u64, u32, u32);
-static void f45(module *, u64, u64, u64);
-static void f46(module *, u64, u64);
-static void f47(module *, u64, u64, u32, u32);
-static void f48(module *, u64, u64, u32, u32, u32);
+static void f25(module *, u64, u64, u32);
+static u32 f26(module *, u64);
+static void f27(module *, u64, u32, u32);
+static void f28(module *, u64, u64, u64, u64, u64, u64, u64);
+static void f29(module *, u64, u64);
+static void f30(module *, u64, u64, u64, u64, u32);
+static void f31(module *, u64, u32, u32, u32);
+static u32 f32(module *, u64, u64, u32, u32, u32, u32);
+static void f33(module *, u64, u64, u64, u32, u64);
+static void f34(module *, u64, u64, u32, u32, u32, u32);
+static void f35(module *, u64, u32, u32, u32);
+static void f36(module *, u64, u64, u64);
+static void f37(module *, u64, u32, u32, u64);
+static void f38(module *, u64, u64, u32, u32);
+static void f39(module *, u64, u32, u32, u32);
+static u32 f40(module *, u64, u64, u32, u32, u32, u32);
+static u32 f41(module *, u64, u64, u32, u32);
+static void f42(module *, u64, u64, u64);
+static void f43(module *, u64, u64);
+static void f44(module *, u64, u64, u32, u32);
+static void f45(module *, u64, u64, u32, u32, u32);
+static void f46(module *, u64, u64, u64);
+static void f47(module *, u64, u64, u64);
+static void f48(module *, u64, u64, u64, u64, u32);
 static void f49(module *, u64, u64, u64);
-static void f50(module *, u64, u64, u64);
-static void f51(module *, u64, u64, u64, u64, u32);
-static void f52(module *, u64, u64, u64);
-static void f53(module *, u64, u32, u64);
-static void f54(module *, u64, u64, u32);
-static u32 f55(module *, u64, u64, u32, u64, u64, u32);
-static void f56(module *, u64, u64, u32, u32);
-static u32 f57(module *, u64, u64, u64);
+static void f50(module *, u64, u32, u64);
+static void f51(module *, u64, u64, u32);
+static u32 f52(module *, u64, u64, u32, u64, u64, u32);
+static void f53(module *, u64, u64, u32, u32);
+static u32 f54(module *, u64, u64, u64);
+static void f55(module *, u64, u64);
+static u32 f56(module *, u64, u64, u64);
+static void f57(module *, u64, u64, u64, u64, u64, u64, u64);
 static void f58(module *, u64, u64);
-static u32 f59(module *, u64, u64, u64);
-static void f60(module *, u64, u64, u64, u64, u64, u64, u64);
-static void f61(module *, u64, u64);
-static u32 f62(module *, u64, u64);
-static void f63(module *, u64, u64, u64, u64);
-static void f64(module *, u64, u64, u64, u64, u64);
-static void f65(module *, u64, u64, u64, u64);
-static void f66(module *, u64, u64, u64, u32, u64, u64);
-static void f67(module *, u64, u64, u64, u32);
-static void f68(module *, u64, u64, u64, u64, u64, u64);
-static void f69(module *, u64, u64);
-static void f70(module *, u64, u64);
-static void f71(module *, u64, u64, u64);
-static u32 f72(module *, u64);
-static u32 f73(module *, u64);
-static u32 f74(module *, u64, u64, u64, u64, u64);
-static u32 f75(module *, u64, u32);
-static u32 f76(module *, u64, u64, u64, u64, u64, u64);
-static u32 f77(module *, u64, u64, u64);
-static u32 f78(module *, u64, u64);
-static u32 f79(module *, u64);
-static u32 f80(module *, u64, u32, u32, u64, u32, u64);
-static u32 f81(module *, u64, u64, u64, u64);
-static u32 f82(module *, u64, u64, u64, u64, u64);
-static u32 f83(module *, u64, u32, u64, u64, u64, u64);
-static u32 f84(module *, u64, u64, u64, u64, u64);
-static u32 f85(module *, u64, u32, u64);
-static u32 f86(module *, u64, u32, u64, u64, u32, u64);
-static u32 f87(module *, u64, u32, u64);
-static u32 f88(module *, u64, u32, u64);
-static u32 f89(module *, u64, u32, u64);
-static u32 f90(module *, u64, u64, u64, u64, u64, u64, u64);
-static u32 f91(module *, u64, u32, u64, u64, u64);
-static u32 f92(module *, u64, u32, u32, u64, u32, u64);
-static u32 f93(module *, u64, u64, u64);
-static u32 f94(module *, u64, u32, u32);
-static u32 f95(module *, u64, u32, u32);
-static u32 f96(module *, u64, u64, u64, u64, u64, u64);
-static u32 f97(module *, u64, u32, u32);
-static u32 f98(module *, u64, u32, u64, u64, u32, u64);
-static u32 f99(module *, u64, u32, u32);
-static u32 f100(module *, u64, u64);
-static u32 f101(module *, u64, u64);
-static u32 f102(module *, u64, u32, u64);
-static u32 f103(module *, u64, u64);
-static u32 f104(module *, u64, u32, u32, u64, u64);
-static u32 f105(module *, u64, u64);
-static u32 f106(module *, u64, u64, u64);
-static u32 f107(module *, u64, u64, u64);
-static u32 f108(module *, u64, u64, u64, u64, u64, u64, u64, u64);
-static u32 f109(module *, u64, u64, u64, u32, u32, u64, u64, u64, u64, u64);
-static u32 f110(module *, u64, u64, u64, u64);
-static u32 f111(module *, u64, u64, u64);
-static u32 f112(module *, u64, u64);
-static u32 f113(module *, u64, u32, u32, u32, u64);
-static u32 f114(module *, u64, u32, u64);
-static u32 f115(module *, u64, u32, u32, u32, u64);
-static u32 f116(module *, u64, u64);
-static u32 f117(module *, u64, u64, u64, u64);
-static u32 f118(module *, u64, u64, u64, u64);
-static u32 f119(module *, u64, u64, u64, u64);
-static u32 f120(module *, u64, u32, u64, u64, u64);
-static u32 f121(module *, u64, u64, u64, u64);
-static u32 f122(module *, u64, u32, u32, u32, u64, u64, u64);
-static u32 f123(module *, u64, u64, u64, u64);
-static u64 module_page_take(module *, u64);
-static void module_page_give(module *, u64);
+static u32 f59(module *, u64, u64);
+static void f60(module *, u64, u64, u64, u64);
+static void f61(module *, u64, u64, u64, u64, u64);
+static void f62(module *, u64, u64, u64, u64);
+static void f63(module *, u64, u64, u64, u32, u64, u64);
+static void f64(module *, u64, u64, u64, u32);
+static void f65(module *, u64, u64, u64, u64, u64, u64);
+static void f66(module *, u64, u64);
+static void f67(module *, u64, u64);
+static void f68(module *, u64, u64, u64);
+static u32 f69(module *, u64);
+static u32 f70(module *, u64);
+static u32 f71(module *, u64, u64, u64, u64, u64);
 static u32 module_zak_advance(module *, u64, u32);
 static u32 module_zak_assemble(module *, u64, u64, u64, u64, u64, u64);
 static u32 module_zak_block(module *, u64, u64, u64);
@@ -349,35 +295,14 @@ static u32 module_zak_show_latches(module *, u64, u64, u64, u64);
 static u32 module_zak_show_plane(module *, u64, u32, u32, u32, u64, u64, u64);
 static u32 module_zak_show_regs(module *, u64, u64, u64, u64);
 static u32 module_zak_version(module *);
-static void f176(module *, u64, u64, u64);
-static u64 f177(module *, u64);
-static void f178(module *, u64, u64, u64, u64, u64);
-static void f179(module *, u64);
+static u64 module_page_take(module *, u64);
+static u32 module_page_give(module *, u64);
+static void f124(module *, u64, u64, u64);
+static u64 f125(module *, u64);
+static void f126(module *, u64, u64, u64, u64, u64);
+static void f127(module *, u64);
 
-static u32 f0(module *self) {
-  u32 l0 = 0;
-  u32 i0, i1;
-  i0 = self->g1;
-  l0 = i0;
-  i0 = 1u;
-  self->g1 = i0;
-  i0 = l0;
-  i1 = 0u;
-  i0 = i0 != i1;
-  return i0;
-}
-
-static void f1(module *self) {
-  u32 i0;
-  i0 = 0u;
-  self->g1 = i0;
-}
-
-static void f2(module *self) {
-  { self->is_broken = true; return; }
-}
-
-static void f3(module *self, u64 p0, u64 p1, u64 p2, u64 p3, u64 p4) {
+static void f0(module *self, u64 p0, u64 p1, u64 p2, u64 p3, u64 p4) {
   u64 l5 = 0, l6 = 0;
   u8 *m = self->memory;
   u32 i0;
@@ -445,7 +370,7 @@ static void f3(module *self, u64 p0, u64 p1, u64 p2, u64 p3, u64 p4) {
   i64_store(j0, j1);
 }
 
-static void f4(module *self, u64 p0) {
+static void f1(module *self, u64 p0) {
   u32 l2 = 0;
   u64 l1 = 0;
   u8 *m = self->memory;
@@ -475,7 +400,7 @@ static void f4(module *self, u64 p0) {
   if (i0) {goto B0;}
   j0 = l1;
   i1 = l2;
-  f5(self, j0, i1); m = self->memory; if (NEVER(self->is_broken)) return;
+  f2(self, j0, i1); m = self->memory; if (NEVER(self->is_broken)) return;
   B0:;
   j0 = p0;
   i0 = (u32)(j0);
@@ -495,7 +420,7 @@ static void f4(module *self, u64 p0) {
   i64_store(j0 + 8, j1);
 }
 
-static void f5(module *self, u64 p0, u32 p1) {
+static void f2(module *self, u64 p0, u32 p1) {
   u32 l20 = 0, l21 = 0, l22 = 0, l23 = 0, l24 = 0, l25 = 0, l26 = 0, l27 = 0, 
       l28 = 0, l29 = 0, l30 = 0, l31 = 0, l32 = 0, l33 = 0;
   u64 l2 = 0, l3 = 0, l4 = 0, l5 = 0, l6 = 0, l7 = 0, l8 = 0, l9 = 0, 
@@ -889,7 +814,7 @@ static void f5(module *self, u64 p0, u32 p1) {
     j1 = 2008ull;
     j0 += j1;
     j1 = l15;
-    i0 = f6(self, j0, j1); m = self->memory; if (NEVER(self->is_broken)) return;
+    i0 = f3(self, j0, j1); m = self->memory; if (NEVER(self->is_broken)) return;
     i0 = !(i0);
     if (i0) {goto B11;}
     j0 = p0;
@@ -1420,7 +1345,7 @@ static void f5(module *self, u64 p0, u32 p1) {
     j1 = 2008ull;
     j0 += j1;
     j1 = l12;
-    i0 = f6(self, j0, j1); m = self->memory; if (NEVER(self->is_broken)) return;
+    i0 = f3(self, j0, j1); m = self->memory; if (NEVER(self->is_broken)) return;
     i0 = !(i0);
     if (i0) {goto B38;}
     j0 = p0;
@@ -1824,7 +1749,7 @@ static void f5(module *self, u64 p0, u32 p1) {
     j3 = l2;
     j4 = 5ull;
     j3 += j4;
-    f7(self, j0, j1, j2, j3); if (NEVER(self->is_broken)) return;
+    f4(self, j0, j1, j2, j3); if (NEVER(self->is_broken)) return;
     j0 = l13;
     i0 = !(j0);
     if (i0) {goto B41;}
@@ -1963,7 +1888,7 @@ static void f5(module *self, u64 p0, u32 p1) {
     j3 = l2;
     j4 = 5ull;
     j3 += j4;
-    f7(self, j0, j1, j2, j3); if (NEVER(self->is_broken)) return;
+    f4(self, j0, j1, j2, j3); if (NEVER(self->is_broken)) return;
     j0 = l13;
     i0 = !(j0);
     if (i0) {goto B41;}
@@ -2042,7 +1967,7 @@ static void f5(module *self, u64 p0, u32 p1) {
     j1 = 2008ull;
     j0 += j1;
     j1 = l12;
-    i0 = f6(self, j0, j1); m = self->memory; if (NEVER(self->is_broken)) return;
+    i0 = f3(self, j0, j1); m = self->memory; if (NEVER(self->is_broken)) return;
     i0 = !(i0);
     if (i0) {goto B56;}
     j0 = p0;
@@ -2456,7 +2381,7 @@ static void f5(module *self, u64 p0, u32 p1) {
     j3 = l2;
     j4 = 5ull;
     j3 += j4;
-    f8(self, j0, j1, j2, j3); if (NEVER(self->is_broken)) return;
+    f5(self, j0, j1, j2, j3); if (NEVER(self->is_broken)) return;
     j0 = l13;
     i0 = !(j0);
     if (i0) {goto B59;}
@@ -2605,7 +2530,7 @@ static void f5(module *self, u64 p0, u32 p1) {
     j3 = l2;
     j4 = 5ull;
     j3 += j4;
-    f8(self, j0, j1, j2, j3); if (NEVER(self->is_broken)) return;
+    f5(self, j0, j1, j2, j3); if (NEVER(self->is_broken)) return;
     j0 = l13;
     i0 = !(j0);
     if (i0) {goto B59;}
@@ -4500,7 +4425,7 @@ static void f5(module *self, u64 p0, u32 p1) {
     j1 = 2008ull;
     j0 += j1;
     j1 = l13;
-    i0 = f6(self, j0, j1); m = self->memory; if (NEVER(self->is_broken)) return;
+    i0 = f3(self, j0, j1); m = self->memory; if (NEVER(self->is_broken)) return;
     i0 = !(i0);
     if (i0) {goto B120;}
     j0 = p0;
@@ -4934,7 +4859,7 @@ static void f5(module *self, u64 p0, u32 p1) {
     j1 = 2008ull;
     j0 += j1;
     j1 = l13;
-    i0 = f6(self, j0, j1); m = self->memory; if (NEVER(self->is_broken)) return;
+    i0 = f3(self, j0, j1); m = self->memory; if (NEVER(self->is_broken)) return;
     i0 = !(i0);
     if (i0) {goto B129;}
     j0 = p0;
@@ -5367,7 +5292,7 @@ static void f5(module *self, u64 p0, u32 p1) {
     j1 = 0ull;
     j2 = l11;
     j3 = l13;
-    f8(self, j0, j1, j2, j3); if (NEVER(self->is_broken)) return;
+    f5(self, j0, j1, j2, j3); if (NEVER(self->is_broken)) return;
     goto B132;
     B136:;
     j0 = l2;
@@ -5388,7 +5313,7 @@ static void f5(module *self, u64 p0, u32 p1) {
     j3 = l2;
     j4 = 5ull;
     j3 += j4;
-    f8(self, j0, j1, j2, j3); if (NEVER(self->is_broken)) return;
+    f5(self, j0, j1, j2, j3); if (NEVER(self->is_broken)) return;
     j0 = l11;
     j1 = 27ull;
     j0 *= j1;
@@ -5457,7 +5382,7 @@ static void f5(module *self, u64 p0, u32 p1) {
     j1 = 0ull;
     j2 = l11;
     j3 = l13;
-    f7(self, j0, j1, j2, j3); if (NEVER(self->is_broken)) return;
+    f4(self, j0, j1, j2, j3); if (NEVER(self->is_broken)) return;
     goto B115;
     B116:;
     j0 = l2;
@@ -5478,7 +5403,7 @@ static void f5(module *self, u64 p0, u32 p1) {
     j3 = l2;
     j4 = 5ull;
     j3 += j4;
-    f7(self, j0, j1, j2, j3); if (NEVER(self->is_broken)) return;
+    f4(self, j0, j1, j2, j3); if (NEVER(self->is_broken)) return;
     j0 = l11;
     j1 = 24ull;
     j0 *= j1;
@@ -5828,7 +5753,7 @@ static void f5(module *self, u64 p0, u32 p1) {
   self->g0 = j0;
 }
 
-static u32 f6(module *self, u64 p0, u64 p1) {
+static u32 f3(module *self, u64 p0, u64 p1) {
   u32 l6 = 0;
   u64 l2 = 0, l3 = 0, l4 = 0, l5 = 0;
   u8 *m = self->memory;
@@ -5897,7 +5822,7 @@ static u32 f6(module *self, u64 p0, u64 p1) {
   j2 = l3;
   j3 = p1;
   j4 = 1ull;
-  f178(self, j0, j1, j2, j3, j4); m = self->memory; if (NEVER(self->is_broken)) return ZAK_BROKEN;
+  f126(self, j0, j1, j2, j3, j4); m = self->memory; if (NEVER(self->is_broken)) return ZAK_BROKEN;
   j0 = l2;
   i0 = (u32)(j0);
   j0 = i64_load(j0 + 16u);
@@ -5915,7 +5840,7 @@ static u32 f6(module *self, u64 p0, u64 p1) {
   j0 = l2;
   j1 = l5;
   j2 = 1ull;
-  f176(self, j0, j1, j2); m = self->memory; if (NEVER(self->is_broken)) return ZAK_BROKEN;
+  f124(self, j0, j1, j2); m = self->memory; if (NEVER(self->is_broken)) return ZAK_BROKEN;
   j0 = l2;
   i0 = (u32)(j0);
   j0 = i64_load(j0);
@@ -5950,7 +5875,7 @@ static u32 f6(module *self, u64 p0, u64 p1) {
   return i0;
 }
 
-static void f7(module *self, u64 p0, u64 p1, u64 p2, u64 p3) {
+static void f4(module *self, u64 p0, u64 p1, u64 p2, u64 p3) {
   u32 l18 = 0, l19 = 0, l20 = 0, l21 = 0, l22 = 0, l23 = 0, l24 = 0, l25 = 0, 
       l26 = 0, l27 = 0, l28 = 0, l29 = 0, l30 = 0, l31 = 0, l32 = 0, l33 = 0, 
       l34 = 0, l35 = 0, l36 = 0, l37 = 0, l38 = 0, l39 = 0, l40 = 0, l41 = 0;
@@ -6266,7 +6191,7 @@ static void f7(module *self, u64 p0, u64 p1, u64 p2, u64 p3) {
   j2 += j3;
   i2 = (u32)(j2);
   j2 = i64_load(j2);
-  f9(self, j0, j1, j2);
+  f6(self, j0, j1, j2);
   j0 = l4;
   i0 = (u32)(j0);
   j1 = l4;
@@ -6635,7 +6560,7 @@ static void f7(module *self, u64 p0, u64 p1, u64 p2, u64 p3) {
   j1 = 144ull;
   j0 += j1;
   j1 = p0;
-  f10(self, j0, j1);
+  f7(self, j0, j1);
   j0 = l4;
   i0 = (u32)(j0);
   i0 = i32_load8_u(j0 + 155u);
@@ -7531,7 +7456,7 @@ static void f7(module *self, u64 p0, u64 p1, u64 p2, u64 p3) {
   self->g0 = j0;
 }
 
-static void f8(module *self, u64 p0, u64 p1, u64 p2, u64 p3) {
+static void f5(module *self, u64 p0, u64 p1, u64 p2, u64 p3) {
   u32 l18 = 0, l19 = 0, l20 = 0, l21 = 0, l22 = 0, l23 = 0, l24 = 0, l25 = 0, 
       l26 = 0, l27 = 0, l28 = 0, l29 = 0, l30 = 0, l31 = 0, l32 = 0, l33 = 0, 
       l34 = 0, l35 = 0, l36 = 0, l37 = 0, l38 = 0, l39 = 0, l40 = 0, l41 = 0, 
@@ -7903,7 +7828,7 @@ static void f8(module *self, u64 p0, u64 p1, u64 p2, u64 p3) {
   j2 += j3;
   i2 = (u32)(j2);
   j2 = i64_load(j2);
-  f9(self, j0, j1, j2);
+  f6(self, j0, j1, j2);
   j0 = l4;
   i0 = (u32)(j0);
   j1 = l4;
@@ -8289,7 +8214,7 @@ static void f8(module *self, u64 p0, u64 p1, u64 p2, u64 p3) {
   j1 = 144ull;
   j0 += j1;
   j1 = p0;
-  f10(self, j0, j1);
+  f7(self, j0, j1);
   j0 = l4;
   i0 = (u32)(j0);
   i0 = i32_load8_u(j0 + 155u);
@@ -9265,7 +9190,7 @@ static void f8(module *self, u64 p0, u64 p1, u64 p2, u64 p3) {
   self->g0 = j0;
 }
 
-static void f9(module *self, u64 p0, u64 p1, u64 p2) {
+static void f6(module *self, u64 p0, u64 p1, u64 p2) {
   u32 l4 = 0, l5 = 0, l6 = 0, l7 = 0, l8 = 0, l9 = 0, l10 = 0, l11 = 0, 
       l12 = 0, l13 = 0, l14 = 0, l15 = 0, l16 = 0, l17 = 0, l18 = 0, l19 = 0;
   u64 l3 = 0;
@@ -9616,7 +9541,7 @@ static void f9(module *self, u64 p0, u64 p1, u64 p2) {
   i32_store(j0, i1);
 }
 
-static void f10(module *self, u64 p0, u64 p1) {
+static void f7(module *self, u64 p0, u64 p1) {
   u32 l4 = 0, l5 = 0, l6 = 0, l7 = 0, l8 = 0, l9 = 0, l10 = 0;
   u64 l2 = 0, l3 = 0;
   u8 *m = self->memory;
@@ -9809,7 +9734,7 @@ static void f10(module *self, u64 p0, u64 p1) {
   i32_store16(j0 + 6, i1);
 }
 
-static u32 f11(module *self, u64 p0, u64 p1, u64 p2, u64 p3) {
+static u32 f8(module *self, u64 p0, u64 p1, u64 p2, u64 p3) {
   u32 l4 = 0, l5 = 0, l6 = 0;
   u8 *m = self->memory;
   u32 i0, i1, i2, i3, i4;
@@ -9890,7 +9815,7 @@ static u32 f11(module *self, u64 p0, u64 p1, u64 p2, u64 p3) {
   return i0;
 }
 
-static void f12(module *self, u64 p0, u64 p1, u64 p2, u64 p3) {
+static void f9(module *self, u64 p0, u64 p1, u64 p2, u64 p3) {
   u32 l13 = 0;
   u64 l4 = 0, l5 = 0, l6 = 0, l7 = 0, l8 = 0, l9 = 0, l10 = 0, l11 = 0, 
       l12 = 0;
@@ -9916,7 +9841,7 @@ static void f12(module *self, u64 p0, u64 p1, u64 p2, u64 p3) {
   if (i0) {goto B1;}
   j0 = p1;
   j1 = p3;
-  i0 = f13(self, j0, j1); m = self->memory; if (NEVER(self->is_broken)) return;
+  i0 = f10(self, j0, j1); m = self->memory; if (NEVER(self->is_broken)) return;
   if (i0) {goto B2;}
   j0 = 9ull;
   p3 = j0;
@@ -10116,7 +10041,7 @@ static void f12(module *self, u64 p0, u64 p1, u64 p2, u64 p3) {
   i64_store(j0, j1);
 }
 
-static u32 f13(module *self, u64 p0, u64 p1) {
+static u32 f10(module *self, u64 p0, u64 p1) {
   u32 l6 = 0;
   u64 l2 = 0, l3 = 0, l4 = 0, l5 = 0;
   u8 *m = self->memory;
@@ -10185,7 +10110,7 @@ static u32 f13(module *self, u64 p0, u64 p1) {
   j2 = l3;
   j3 = p1;
   j4 = 1ull;
-  f178(self, j0, j1, j2, j3, j4); m = self->memory; if (NEVER(self->is_broken)) return ZAK_BROKEN;
+  f126(self, j0, j1, j2, j3, j4); m = self->memory; if (NEVER(self->is_broken)) return ZAK_BROKEN;
   j0 = l2;
   i0 = (u32)(j0);
   j0 = i64_load(j0 + 16u);
@@ -10203,7 +10128,7 @@ static u32 f13(module *self, u64 p0, u64 p1) {
   j0 = l2;
   j1 = l5;
   j2 = 1ull;
-  f176(self, j0, j1, j2); m = self->memory; if (NEVER(self->is_broken)) return ZAK_BROKEN;
+  f124(self, j0, j1, j2); m = self->memory; if (NEVER(self->is_broken)) return ZAK_BROKEN;
   j0 = l2;
   i0 = (u32)(j0);
   j0 = i64_load(j0);
@@ -10238,7 +10163,7 @@ static u32 f13(module *self, u64 p0, u64 p1) {
   return i0;
 }
 
-static void f14(module *self, u64 p0, u64 p1, u32 p2) {
+static void f11(module *self, u64 p0, u64 p1, u32 p2) {
   u64 l3 = 0, l4 = 0, l5 = 0, l6 = 0, l7 = 0, l8 = 0, l9 = 0;
   u8 *m = self->memory;
   u32 i0, i1, i2, i3;
@@ -10272,7 +10197,7 @@ static void f14(module *self, u64 p0, u64 p1, u32 p2) {
   if (i0) {goto B1;}
   j0 = p1;
   j1 = 2ull;
-  i0 = f13(self, j0, j1); m = self->memory; if (NEVER(self->is_broken)) return;
+  i0 = f10(self, j0, j1); m = self->memory; if (NEVER(self->is_broken)) return;
   if (i0) {goto B2;}
   j0 = 9ull;
   p1 = j0;
@@ -10355,7 +10280,7 @@ static void f14(module *self, u64 p0, u64 p1, u32 p2) {
   self->g0 = j0;
 }
 
-static void f15(module *self, u64 p0, u64 p1, u64 p2, u64 p3) {
+static void f12(module *self, u64 p0, u64 p1, u64 p2, u64 p3) {
   u32 l16 = 0, l17 = 0, l18 = 0, l19 = 0, l20 = 0, l21 = 0, l22 = 0, l23 = 0;
   u64 l4 = 0, l5 = 0, l6 = 0, l7 = 0, l8 = 0, l9 = 0, l10 = 0, l11 = 0, 
       l12 = 0, l13 = 0, l14 = 0, l15 = 0;
@@ -10585,7 +10510,7 @@ static void f15(module *self, u64 p0, u64 p1, u64 p2, u64 p3) {
     i4 = 65535u;
     j5 = 2ull;
     i6 = 255u;
-    f16(self, j0, j1, j2, j3, i4, j5, i6);
+    f13(self, j0, j1, j2, j3, i4, j5, i6);
     j0 = l4;
     i0 = (u32)(j0);
     i0 = i32_load8_u(j0 + 32u);
@@ -10729,7 +10654,7 @@ static void f15(module *self, u64 p0, u64 p1, u64 p2, u64 p3) {
     i4 = 65535u;
     j5 = 4ull;
     i6 = 65535u;
-    f16(self, j0, j1, j2, j3, i4, j5, i6);
+    f13(self, j0, j1, j2, j3, i4, j5, i6);
     j0 = l4;
     i0 = (u32)(j0);
     i0 = i32_load8_u(j0 + 32u);
@@ -11676,7 +11601,7 @@ static void f15(module *self, u64 p0, u64 p1, u64 p2, u64 p3) {
   if (i0) {goto B36;}
   j0 = p1;
   j1 = 1ull;
-  i0 = f13(self, j0, j1); m = self->memory; if (NEVER(self->is_broken)) return;
+  i0 = f10(self, j0, j1); m = self->memory; if (NEVER(self->is_broken)) return;
   if (i0) {goto B37;}
   j0 = l4;
   j1 = 127ull;
@@ -11790,7 +11715,7 @@ static void f15(module *self, u64 p0, u64 p1, u64 p2, u64 p3) {
   if (i0) {goto B34;}
   j0 = p1;
   j1 = 1ull;
-  i0 = f13(self, j0, j1); m = self->memory; if (NEVER(self->is_broken)) return;
+  i0 = f10(self, j0, j1); m = self->memory; if (NEVER(self->is_broken)) return;
   if (i0) {goto B35;}
   j0 = l4;
   j1 = 127ull;
@@ -11849,7 +11774,7 @@ static void f15(module *self, u64 p0, u64 p1, u64 p2, u64 p3) {
   if (i0) {goto B104;}
   j0 = p1;
   j1 = 4ull;
-  i0 = f13(self, j0, j1); m = self->memory; if (NEVER(self->is_broken)) return;
+  i0 = f10(self, j0, j1); m = self->memory; if (NEVER(self->is_broken)) return;
   if (i0) {goto B105;}
   j0 = l4;
   j1 = 127ull;
@@ -13552,7 +13477,7 @@ static void f15(module *self, u64 p0, u64 p1, u64 p2, u64 p3) {
   i4 = 4294967295u;
   j5 = 4ull;
   i6 = 65535u;
-  f16(self, j0, j1, j2, j3, i4, j5, i6);
+  f13(self, j0, j1, j2, j3, i4, j5, i6);
   j0 = l4;
   i0 = (u32)(j0);
   i0 = i32_load8_u(j0 + 32u);
@@ -13671,7 +13596,7 @@ static void f15(module *self, u64 p0, u64 p1, u64 p2, u64 p3) {
   i4 = 4294967295u;
   j5 = 2ull;
   i6 = 255u;
-  f16(self, j0, j1, j2, j3, i4, j5, i6);
+  f13(self, j0, j1, j2, j3, i4, j5, i6);
   j0 = l4;
   i0 = (u32)(j0);
   i0 = i32_load8_u(j0 + 32u);
@@ -14305,7 +14230,7 @@ static void f15(module *self, u64 p0, u64 p1, u64 p2, u64 p3) {
   j1 = l12;
   j2 = l11;
   j3 = 1048800ull;
-  f17(self, j0, j1, j2, j3); if (NEVER(self->is_broken)) return;
+  f14(self, j0, j1, j2, j3); if (NEVER(self->is_broken)) return;
   j0 = l4;
   i0 = (u32)(j0);
   i0 = i32_load8_u(j0 + 32u);
@@ -14324,7 +14249,7 @@ static void f15(module *self, u64 p0, u64 p1, u64 p2, u64 p3) {
   i2 = (u32)(j2);
   j2 = i64_load(j2 + 56u);
   j3 = 1048803ull;
-  f17(self, j0, j1, j2, j3); if (NEVER(self->is_broken)) return;
+  f14(self, j0, j1, j2, j3); if (NEVER(self->is_broken)) return;
   j0 = l4;
   i0 = (u32)(j0);
   i0 = i32_load8_u(j0 + 32u);
@@ -14343,7 +14268,7 @@ static void f15(module *self, u64 p0, u64 p1, u64 p2, u64 p3) {
   i2 = (u32)(j2);
   j2 = i64_load(j2 + 56u);
   j3 = 1048806ull;
-  f17(self, j0, j1, j2, j3); if (NEVER(self->is_broken)) return;
+  f14(self, j0, j1, j2, j3); if (NEVER(self->is_broken)) return;
   j0 = l4;
   i0 = (u32)(j0);
   i0 = i32_load8_u(j0 + 32u);
@@ -14362,7 +14287,7 @@ static void f15(module *self, u64 p0, u64 p1, u64 p2, u64 p3) {
   i2 = (u32)(j2);
   j2 = i64_load(j2 + 56u);
   j3 = 1048809ull;
-  f17(self, j0, j1, j2, j3); if (NEVER(self->is_broken)) return;
+  f14(self, j0, j1, j2, j3); if (NEVER(self->is_broken)) return;
   j0 = l4;
   i0 = (u32)(j0);
   i0 = i32_load8_u(j0 + 32u);
@@ -14378,7 +14303,7 @@ static void f15(module *self, u64 p0, u64 p1, u64 p2, u64 p3) {
   j2 = l4;
   i2 = (u32)(j2);
   j2 = i64_load(j2 + 56u);
-  f18(self, j0, j1, j2); m = self->memory; if (NEVER(self->is_broken)) return;
+  f15(self, j0, j1, j2); m = self->memory; if (NEVER(self->is_broken)) return;
   j0 = l4;
   i0 = (u32)(j0);
   i0 = i32_load8_u(j0);
@@ -14408,7 +14333,7 @@ static void f15(module *self, u64 p0, u64 p1, u64 p2, u64 p3) {
   j1 = l8;
   j2 = 1048796ull;
   j3 = 4ull;
-  i0 = f11(self, j0, j1, j2, j3);
+  i0 = f8(self, j0, j1, j2, j3);
   i0 = !(i0);
   if (i0) {goto B9;}
   j0 = l4;
@@ -14999,7 +14924,7 @@ static void f15(module *self, u64 p0, u64 p1, u64 p2, u64 p3) {
   j0 += j1;
   j1 = l5;
   j2 = l10;
-  f19(self, j0, j1, j2); if (NEVER(self->is_broken)) return;
+  f16(self, j0, j1, j2); if (NEVER(self->is_broken)) return;
   j0 = l4;
   i0 = (u32)(j0);
   i0 = i32_load8_u(j0 + 32u);
@@ -15317,7 +15242,7 @@ static void f15(module *self, u64 p0, u64 p1, u64 p2, u64 p3) {
   j1 = l8;
   j2 = 1048823ull;
   j3 = 3ull;
-  i0 = f11(self, j0, j1, j2, j3);
+  i0 = f8(self, j0, j1, j2, j3);
   i0 = !(i0);
   if (i0) {goto B241;}
   i0 = 0u;
@@ -15359,7 +15284,7 @@ static void f15(module *self, u64 p0, u64 p1, u64 p2, u64 p3) {
   j1 = l8;
   j2 = 1048826ull;
   j3 = 5ull;
-  i0 = f11(self, j0, j1, j2, j3);
+  i0 = f8(self, j0, j1, j2, j3);
   i0 = !(i0);
   if (i0) {goto B9;}
   i0 = 0u;
@@ -15601,7 +15526,7 @@ static void f15(module *self, u64 p0, u64 p1, u64 p2, u64 p3) {
   if (i0) {goto B258;}
   j0 = p1;
   j1 = 2ull;
-  i0 = f13(self, j0, j1); m = self->memory; if (NEVER(self->is_broken)) return;
+  i0 = f10(self, j0, j1); m = self->memory; if (NEVER(self->is_broken)) return;
   if (i0) {goto B259;}
   j0 = l4;
   j1 = 127ull;
@@ -15681,7 +15606,7 @@ static void f15(module *self, u64 p0, u64 p1, u64 p2, u64 p3) {
   if (i0) {goto B262;}
   j0 = p1;
   j1 = 3ull;
-  i0 = f13(self, j0, j1); m = self->memory; if (NEVER(self->is_broken)) return;
+  i0 = f10(self, j0, j1); m = self->memory; if (NEVER(self->is_broken)) return;
   if (i0) {goto B263;}
   j0 = l4;
   j1 = 127ull;
@@ -15750,7 +15675,7 @@ static void f15(module *self, u64 p0, u64 p1, u64 p2, u64 p3) {
   if (i0) {goto B264;}
   j0 = p1;
   j1 = 2ull;
-  i0 = f13(self, j0, j1); m = self->memory; if (NEVER(self->is_broken)) return;
+  i0 = f10(self, j0, j1); m = self->memory; if (NEVER(self->is_broken)) return;
   if (i0) {goto B265;}
   j0 = l4;
   j1 = 127ull;
@@ -15830,7 +15755,7 @@ static void f15(module *self, u64 p0, u64 p1, u64 p2, u64 p3) {
   if (i0) {goto B268;}
   j0 = p1;
   j1 = 2ull;
-  i0 = f13(self, j0, j1); m = self->memory; if (NEVER(self->is_broken)) return;
+  i0 = f10(self, j0, j1); m = self->memory; if (NEVER(self->is_broken)) return;
   if (i0) {goto B269;}
   j0 = l4;
   j1 = 127ull;
@@ -15910,7 +15835,7 @@ static void f15(module *self, u64 p0, u64 p1, u64 p2, u64 p3) {
   if (i0) {goto B272;}
   j0 = p1;
   j1 = 3ull;
-  i0 = f13(self, j0, j1); m = self->memory; if (NEVER(self->is_broken)) return;
+  i0 = f10(self, j0, j1); m = self->memory; if (NEVER(self->is_broken)) return;
   if (i0) {goto B273;}
   j0 = l4;
   j1 = 127ull;
@@ -15976,7 +15901,7 @@ static void f15(module *self, u64 p0, u64 p1, u64 p2, u64 p3) {
   if (i0) {goto B274;}
   j0 = p1;
   j1 = 2ull;
-  i0 = f13(self, j0, j1); m = self->memory; if (NEVER(self->is_broken)) return;
+  i0 = f10(self, j0, j1); m = self->memory; if (NEVER(self->is_broken)) return;
   if (i0) {goto B275;}
   j0 = l4;
   j1 = 127ull;
@@ -16032,7 +15957,7 @@ static void f15(module *self, u64 p0, u64 p1, u64 p2, u64 p3) {
   if (i0) {goto B276;}
   j0 = p1;
   j1 = 2ull;
-  i0 = f13(self, j0, j1); m = self->memory; if (NEVER(self->is_broken)) return;
+  i0 = f10(self, j0, j1); m = self->memory; if (NEVER(self->is_broken)) return;
   if (i0) {goto B277;}
   j0 = l4;
   j1 = 127ull;
@@ -16097,7 +16022,7 @@ static void f15(module *self, u64 p0, u64 p1, u64 p2, u64 p3) {
   if (i0) {goto B278;}
   j0 = p1;
   j1 = 2ull;
-  i0 = f13(self, j0, j1); m = self->memory; if (NEVER(self->is_broken)) return;
+  i0 = f10(self, j0, j1); m = self->memory; if (NEVER(self->is_broken)) return;
   if (i0) {goto B279;}
   j0 = l4;
   j1 = 127ull;
@@ -16177,7 +16102,7 @@ static void f15(module *self, u64 p0, u64 p1, u64 p2, u64 p3) {
   if (i0) {goto B282;}
   j0 = p1;
   j1 = 2ull;
-  i0 = f13(self, j0, j1); m = self->memory; if (NEVER(self->is_broken)) return;
+  i0 = f10(self, j0, j1); m = self->memory; if (NEVER(self->is_broken)) return;
   if (i0) {goto B283;}
   j0 = l4;
   j1 = 127ull;
@@ -16315,7 +16240,7 @@ static void f15(module *self, u64 p0, u64 p1, u64 p2, u64 p3) {
   i0 = !(j0);
   if (i0) {goto B9;}
   j0 = p3;
-  f179(self, j0);
+  f127(self, j0);
   goto B9;
   B10:;
   i0 = 0u;
@@ -16447,7 +16372,7 @@ static void f15(module *self, u64 p0, u64 p1, u64 p2, u64 p3) {
   if (i0) {goto B291;}
   j0 = p1;
   j1 = 1ull;
-  i0 = f13(self, j0, j1); m = self->memory; if (NEVER(self->is_broken)) return;
+  i0 = f10(self, j0, j1); m = self->memory; if (NEVER(self->is_broken)) return;
   i0 = !(i0);
   if (i0) {goto B2;}
   j0 = p1;
@@ -16495,7 +16420,7 @@ static void f15(module *self, u64 p0, u64 p1, u64 p2, u64 p3) {
   if (i0) {goto B292;}
   j0 = p1;
   j1 = 2ull;
-  i0 = f13(self, j0, j1); m = self->memory; if (NEVER(self->is_broken)) return;
+  i0 = f10(self, j0, j1); m = self->memory; if (NEVER(self->is_broken)) return;
   i0 = !(i0);
   if (i0) {goto B2;}
   j0 = p1;
@@ -16561,7 +16486,7 @@ static void f15(module *self, u64 p0, u64 p1, u64 p2, u64 p3) {
   j3 = 126ull;
   j2 += j3;
   j3 = 1ull;
-  f12(self, j0, j1, j2, j3); m = self->memory; if (NEVER(self->is_broken)) return;
+  f9(self, j0, j1, j2, j3); m = self->memory; if (NEVER(self->is_broken)) return;
   j0 = l4;
   i0 = (u32)(j0);
   i0 = i32_load8_u(j0 + 32u);
@@ -16586,7 +16511,7 @@ static void f15(module *self, u64 p0, u64 p1, u64 p2, u64 p3) {
   if (i0) {goto B293;}
   j0 = p1;
   j1 = 1ull;
-  i0 = f13(self, j0, j1); m = self->memory; if (NEVER(self->is_broken)) return;
+  i0 = f10(self, j0, j1); m = self->memory; if (NEVER(self->is_broken)) return;
   i0 = !(i0);
   if (i0) {goto B2;}
   j0 = p1;
@@ -16634,7 +16559,7 @@ static void f15(module *self, u64 p0, u64 p1, u64 p2, u64 p3) {
   if (i0) {goto B294;}
   j0 = p1;
   j1 = 2ull;
-  i0 = f13(self, j0, j1); m = self->memory; if (NEVER(self->is_broken)) return;
+  i0 = f10(self, j0, j1); m = self->memory; if (NEVER(self->is_broken)) return;
   i0 = !(i0);
   if (i0) {goto B2;}
   j0 = p1;
@@ -16693,7 +16618,7 @@ static void f15(module *self, u64 p0, u64 p1, u64 p2, u64 p3) {
   i4 = 255u;
   i3 &= i4;
   i2 |= i3;
-  f14(self, j0, j1, i2); m = self->memory; if (NEVER(self->is_broken)) return;
+  f11(self, j0, j1, i2); m = self->memory; if (NEVER(self->is_broken)) return;
   j0 = l4;
   i0 = (u32)(j0);
   i0 = i32_load8_u(j0);
@@ -16718,7 +16643,7 @@ static void f15(module *self, u64 p0, u64 p1, u64 p2, u64 p3) {
   if (i0) {goto B295;}
   j0 = p1;
   j1 = 1ull;
-  i0 = f13(self, j0, j1); m = self->memory; if (NEVER(self->is_broken)) return;
+  i0 = f10(self, j0, j1); m = self->memory; if (NEVER(self->is_broken)) return;
   i0 = !(i0);
   if (i0) {goto B2;}
   j0 = p1;
@@ -16766,7 +16691,7 @@ static void f15(module *self, u64 p0, u64 p1, u64 p2, u64 p3) {
   if (i0) {goto B296;}
   j0 = p1;
   j1 = 4ull;
-  i0 = f13(self, j0, j1); m = self->memory; if (NEVER(self->is_broken)) return;
+  i0 = f10(self, j0, j1); m = self->memory; if (NEVER(self->is_broken)) return;
   i0 = !(i0);
   if (i0) {goto B2;}
   j0 = p1;
@@ -16839,7 +16764,7 @@ static void f15(module *self, u64 p0, u64 p1, u64 p2, u64 p3) {
   j3 = 95ull;
   j2 += j3;
   j3 = 1ull;
-  f12(self, j0, j1, j2, j3); m = self->memory; if (NEVER(self->is_broken)) return;
+  f9(self, j0, j1, j2, j3); m = self->memory; if (NEVER(self->is_broken)) return;
   j0 = l4;
   i0 = (u32)(j0);
   i0 = i32_load8_u(j0 + 96u);
@@ -16864,7 +16789,7 @@ static void f15(module *self, u64 p0, u64 p1, u64 p2, u64 p3) {
   if (i0) {goto B297;}
   j0 = p1;
   j1 = 1ull;
-  i0 = f13(self, j0, j1); m = self->memory; if (NEVER(self->is_broken)) return;
+  i0 = f10(self, j0, j1); m = self->memory; if (NEVER(self->is_broken)) return;
   i0 = !(i0);
   if (i0) {goto B2;}
   j0 = p1;
@@ -16912,7 +16837,7 @@ static void f15(module *self, u64 p0, u64 p1, u64 p2, u64 p3) {
   if (i0) {goto B298;}
   j0 = p1;
   j1 = 4ull;
-  i0 = f13(self, j0, j1); m = self->memory; if (NEVER(self->is_broken)) return;
+  i0 = f10(self, j0, j1); m = self->memory; if (NEVER(self->is_broken)) return;
   i0 = !(i0);
   if (i0) {goto B2;}
   j0 = p1;
@@ -16980,7 +16905,7 @@ static void f15(module *self, u64 p0, u64 p1, u64 p2, u64 p3) {
   i4 = 255u;
   i3 &= i4;
   i2 |= i3;
-  f14(self, j0, j1, i2); m = self->memory; if (NEVER(self->is_broken)) return;
+  f11(self, j0, j1, i2); m = self->memory; if (NEVER(self->is_broken)) return;
   j0 = l4;
   i0 = (u32)(j0);
   i0 = i32_load8_u(j0 + 64u);
@@ -17006,7 +16931,7 @@ static void f15(module *self, u64 p0, u64 p1, u64 p2, u64 p3) {
   if (i0) {goto B299;}
   j0 = p1;
   j1 = 1ull;
-  i0 = f13(self, j0, j1); m = self->memory; if (NEVER(self->is_broken)) return;
+  i0 = f10(self, j0, j1); m = self->memory; if (NEVER(self->is_broken)) return;
   i0 = !(i0);
   if (i0) {goto B2;}
   j0 = p1;
@@ -17054,7 +16979,7 @@ static void f15(module *self, u64 p0, u64 p1, u64 p2, u64 p3) {
   if (i0) {goto B300;}
   j0 = p1;
   j1 = 2ull;
-  i0 = f13(self, j0, j1); m = self->memory; if (NEVER(self->is_broken)) return;
+  i0 = f10(self, j0, j1); m = self->memory; if (NEVER(self->is_broken)) return;
   i0 = !(i0);
   if (i0) {goto B2;}
   j0 = p1;
@@ -17115,7 +17040,7 @@ static void f15(module *self, u64 p0, u64 p1, u64 p2, u64 p3) {
   if (i0) {goto B301;}
   j0 = p1;
   j1 = 2ull;
-  i0 = f13(self, j0, j1); m = self->memory; if (NEVER(self->is_broken)) return;
+  i0 = f10(self, j0, j1); m = self->memory; if (NEVER(self->is_broken)) return;
   i0 = !(i0);
   if (i0) {goto B2;}
   j0 = p1;
@@ -17170,7 +17095,7 @@ static void f15(module *self, u64 p0, u64 p1, u64 p2, u64 p3) {
   if (i0) {goto B302;}
   j0 = p1;
   j1 = 2ull;
-  i0 = f13(self, j0, j1); m = self->memory; if (NEVER(self->is_broken)) return;
+  i0 = f10(self, j0, j1); m = self->memory; if (NEVER(self->is_broken)) return;
   i0 = !(i0);
   if (i0) {goto B2;}
   j0 = p1;
@@ -17227,7 +17152,7 @@ static void f15(module *self, u64 p0, u64 p1, u64 p2, u64 p3) {
   if (i0) {goto B303;}
   j0 = p1;
   j1 = 2ull;
-  i0 = f13(self, j0, j1); m = self->memory; if (NEVER(self->is_broken)) return;
+  i0 = f10(self, j0, j1); m = self->memory; if (NEVER(self->is_broken)) return;
   i0 = !(i0);
   if (i0) {goto B2;}
   j0 = p1;
@@ -17282,7 +17207,7 @@ static void f15(module *self, u64 p0, u64 p1, u64 p2, u64 p3) {
   if (i0) {goto B304;}
   j0 = p1;
   j1 = 2ull;
-  i0 = f13(self, j0, j1); m = self->memory; if (NEVER(self->is_broken)) return;
+  i0 = f10(self, j0, j1); m = self->memory; if (NEVER(self->is_broken)) return;
   i0 = !(i0);
   if (i0) {goto B2;}
   j0 = p1;
@@ -17336,7 +17261,7 @@ static void f15(module *self, u64 p0, u64 p1, u64 p2, u64 p3) {
   if (i0) {goto B305;}
   j0 = p1;
   j1 = p2;
-  i0 = f13(self, j0, j1); m = self->memory; if (NEVER(self->is_broken)) return;
+  i0 = f10(self, j0, j1); m = self->memory; if (NEVER(self->is_broken)) return;
   i0 = !(i0);
   if (i0) {goto B2;}
   j0 = p1;
@@ -17529,7 +17454,7 @@ static void f15(module *self, u64 p0, u64 p1, u64 p2, u64 p3) {
   if (i0) {goto B311;}
   j0 = p1;
   j1 = 1ull;
-  i0 = f13(self, j0, j1); m = self->memory; if (NEVER(self->is_broken)) return;
+  i0 = f10(self, j0, j1); m = self->memory; if (NEVER(self->is_broken)) return;
   i0 = !(i0);
   if (i0) {goto B2;}
   j0 = p1;
@@ -17577,7 +17502,7 @@ static void f15(module *self, u64 p0, u64 p1, u64 p2, u64 p3) {
   if (i0) {goto B312;}
   j0 = p1;
   j1 = 4ull;
-  i0 = f13(self, j0, j1); m = self->memory; if (NEVER(self->is_broken)) return;
+  i0 = f10(self, j0, j1); m = self->memory; if (NEVER(self->is_broken)) return;
   i0 = !(i0);
   if (i0) {goto B2;}
   j0 = p1;
@@ -17641,7 +17566,7 @@ static void f15(module *self, u64 p0, u64 p1, u64 p2, u64 p3) {
   if (i0) {goto B313;}
   j0 = p1;
   j1 = 1ull;
-  i0 = f13(self, j0, j1); m = self->memory; if (NEVER(self->is_broken)) return;
+  i0 = f10(self, j0, j1); m = self->memory; if (NEVER(self->is_broken)) return;
   i0 = !(i0);
   if (i0) {goto B2;}
   j0 = p1;
@@ -17689,7 +17614,7 @@ static void f15(module *self, u64 p0, u64 p1, u64 p2, u64 p3) {
   if (i0) {goto B314;}
   j0 = p1;
   j1 = 4ull;
-  i0 = f13(self, j0, j1); m = self->memory; if (NEVER(self->is_broken)) return;
+  i0 = f10(self, j0, j1); m = self->memory; if (NEVER(self->is_broken)) return;
   i0 = !(i0);
   if (i0) {goto B2;}
   j0 = p1;
@@ -17753,7 +17678,7 @@ static void f15(module *self, u64 p0, u64 p1, u64 p2, u64 p3) {
   if (i0) {goto B315;}
   j0 = p1;
   j1 = 1ull;
-  i0 = f13(self, j0, j1); m = self->memory; if (NEVER(self->is_broken)) return;
+  i0 = f10(self, j0, j1); m = self->memory; if (NEVER(self->is_broken)) return;
   i0 = !(i0);
   if (i0) {goto B2;}
   j0 = p1;
@@ -17801,7 +17726,7 @@ static void f15(module *self, u64 p0, u64 p1, u64 p2, u64 p3) {
   if (i0) {goto B316;}
   j0 = p1;
   j1 = 2ull;
-  i0 = f13(self, j0, j1); m = self->memory; if (NEVER(self->is_broken)) return;
+  i0 = f10(self, j0, j1); m = self->memory; if (NEVER(self->is_broken)) return;
   i0 = !(i0);
   if (i0) {goto B2;}
   j0 = p1;
@@ -17871,7 +17796,7 @@ static void f15(module *self, u64 p0, u64 p1, u64 p2, u64 p3) {
   if (i0) {goto B317;}
   j0 = p1;
   j1 = 1ull;
-  i0 = f13(self, j0, j1); m = self->memory; if (NEVER(self->is_broken)) return;
+  i0 = f10(self, j0, j1); m = self->memory; if (NEVER(self->is_broken)) return;
   i0 = !(i0);
   if (i0) {goto B2;}
   j0 = p1;
@@ -17919,7 +17844,7 @@ static void f15(module *self, u64 p0, u64 p1, u64 p2, u64 p3) {
   if (i0) {goto B318;}
   j0 = p1;
   j1 = 2ull;
-  i0 = f13(self, j0, j1); m = self->memory; if (NEVER(self->is_broken)) return;
+  i0 = f10(self, j0, j1); m = self->memory; if (NEVER(self->is_broken)) return;
   i0 = !(i0);
   if (i0) {goto B2;}
   j0 = p1;
@@ -17975,7 +17900,7 @@ static void f15(module *self, u64 p0, u64 p1, u64 p2, u64 p3) {
   i0 = !(j0);
   if (i0) {goto B319;}
   j0 = p3;
-  f179(self, j0);
+  f127(self, j0);
   B319:;
   j0 = p0;
   i0 = (u32)(j0);
@@ -17993,7 +17918,7 @@ static void f15(module *self, u64 p0, u64 p1, u64 p2, u64 p3) {
   i0 = !(j0);
   if (i0) {goto B320;}
   j0 = p3;
-  f179(self, j0);
+  f127(self, j0);
   B320:;
   j0 = p0;
   i0 = (u32)(j0);
@@ -18012,7 +17937,7 @@ static void f15(module *self, u64 p0, u64 p1, u64 p2, u64 p3) {
   self->g0 = j0;
 }
 
-static void f16(module *self, u64 p0, u64 p1, u64 p2, u64 p3, u32 p4, u64 p5, u32 p6) {
+static void f13(module *self, u64 p0, u64 p1, u64 p2, u64 p3, u32 p4, u64 p5, u32 p6) {
   u64 l7 = 0, l8 = 0, l9 = 0, l10 = 0, l11 = 0, l12 = 0;
   u8 *m = self->memory;
   u32 i0, i1, i2, i3;
@@ -18421,7 +18346,7 @@ static void f16(module *self, u64 p0, u64 p1, u64 p2, u64 p3, u32 p4, u64 p5, u3
   Bfunc:;
 }
 
-static void f17(module *self, u64 p0, u64 p1, u64 p2, u64 p3) {
+static void f14(module *self, u64 p0, u64 p1, u64 p2, u64 p3) {
   u32 l9 = 0;
   u64 l4 = 0, l5 = 0, l6 = 0, l7 = 0, l8 = 0;
   u8 *m = self->memory;
@@ -18824,7 +18749,7 @@ static void f17(module *self, u64 p0, u64 p1, u64 p2, u64 p3) {
   Bfunc:;
 }
 
-static void f18(module *self, u64 p0, u64 p1, u64 p2) {
+static void f15(module *self, u64 p0, u64 p1, u64 p2) {
   u32 l12 = 0, l13 = 0, l14 = 0, l15 = 0, l16 = 0;
   u64 l3 = 0, l4 = 0, l5 = 0, l6 = 0, l7 = 0, l8 = 0, l9 = 0, l10 = 0, 
       l11 = 0;
@@ -19094,7 +19019,7 @@ static void f18(module *self, u64 p0, u64 p1, u64 p2) {
       j1 >>= (j2 & 63);
       l8 = j1;
       j2 = 1ull;
-      f176(self, j0, j1, j2); m = self->memory; if (NEVER(self->is_broken)) return;
+      f124(self, j0, j1, j2); m = self->memory; if (NEVER(self->is_broken)) return;
       i0 = 1u;
       l12 = i0;
       j0 = l3;
@@ -19318,7 +19243,7 @@ static void f18(module *self, u64 p0, u64 p1, u64 p2) {
       if (i0) {goto B11;}
       B19:;
       j0 = l4;
-      f179(self, j0);
+      f127(self, j0);
       goto B11;
       B13:;
       j0 = p2;
@@ -19438,7 +19363,7 @@ static void f18(module *self, u64 p0, u64 p1, u64 p2) {
   self->g0 = j0;
 }
 
-static void f19(module *self, u64 p0, u64 p1, u64 p2) {
+static void f16(module *self, u64 p0, u64 p1, u64 p2) {
   u32 l9 = 0, l10 = 0;
   u64 l3 = 0, l4 = 0, l5 = 0, l6 = 0, l7 = 0, l8 = 0;
   u8 *m = self->memory;
@@ -20167,7 +20092,7 @@ static void f19(module *self, u64 p0, u64 p1, u64 p2) {
   Bfunc:;
 }
 
-static void f20(module *self, u64 p0, u64 p1) {
+static void f17(module *self, u64 p0, u64 p1) {
   u32 l8 = 0, l9 = 0, l10 = 0, l11 = 0, l12 = 0, l13 = 0, l14 = 0, l15 = 0, 
       l16 = 0, l17 = 0, l18 = 0, l19 = 0, l20 = 0, l21 = 0, l22 = 0, l23 = 0;
   u64 l2 = 0, l3 = 0, l4 = 0, l5 = 0, l6 = 0, l7 = 0;
@@ -21005,7 +20930,7 @@ static void f20(module *self, u64 p0, u64 p1) {
   Bfunc:;
 }
 
-static u32 f21(module *self, u64 p0, u32 p1, u32 p2) {
+static u32 f18(module *self, u64 p0, u32 p1, u32 p2) {
   u32 l3 = 0, l4 = 0, l5 = 0, l6 = 0;
   u8 *m = self->memory;
   u32 i0, i1, i2, i3, i4;
@@ -21214,7 +21139,7 @@ static u32 f21(module *self, u64 p0, u32 p1, u32 p2) {
   return i0;
 }
 
-static void f22(module *self, u64 p0, u32 p1, u32 p2, u32 p3, u32 p4) {
+static void f19(module *self, u64 p0, u32 p1, u32 p2, u32 p3, u32 p4) {
   u32 l5 = 0, l6 = 0, l7 = 0, l8 = 0, l9 = 0, l10 = 0, l11 = 0, l12 = 0, 
       l13 = 0, l14 = 0, l15 = 0, l16 = 0, l17 = 0;
   u64 l18 = 0;
@@ -21267,12 +21192,12 @@ static void f22(module *self, u64 p0, u32 p1, u32 p2, u32 p3, u32 p4) {
   i1 = i32_load8_u(j1);
   l12 = i1;
   i2 = p3;
-  i0 = f21(self, j0, i1, i2);
+  i0 = f18(self, j0, i1, i2);
   l13 = i0;
   j0 = p0;
   i1 = l12;
   i2 = p4;
-  i0 = f21(self, j0, i1, i2);
+  i0 = f18(self, j0, i1, i2);
   l14 = i0;
   j0 = p0;
   j1 = 2003ull;
@@ -21639,7 +21564,7 @@ static void f22(module *self, u64 p0, u32 p1, u32 p2, u32 p3, u32 p4) {
   B5:;
 }
 
-static void f23(module *self, u64 p0, u64 p1) {
+static void f20(module *self, u64 p0, u64 p1) {
   u32 l2 = 0, l3 = 0, l4 = 0, l5 = 0;
   u64 l6 = 0, l7 = 0, l8 = 0;
   u8 *m = self->memory;
@@ -21747,7 +21672,7 @@ static void f23(module *self, u64 p0, u64 p1) {
   i1 += i2;
   i2 = 1u;
   i1 += i2;
-  f5(self, j0, i1); m = self->memory; if (NEVER(self->is_broken)) return;
+  f2(self, j0, i1); m = self->memory; if (NEVER(self->is_broken)) return;
   j0 = p1;
   j1 = 2048ull;
   j0 += j1;
@@ -21875,7 +21800,7 @@ static void f23(module *self, u64 p0, u64 p1) {
   i32_store(j0, i1);
 }
 
-static void f24(module *self, u64 p0, u64 p1, u32 p2) {
+static void f21(module *self, u64 p0, u64 p1, u32 p2) {
   u32 l3 = 0, l4 = 0, l5 = 0;
   u8 *m = self->memory;
   u32 i0, i1, i2, i3, i4, i5;
@@ -22061,7 +21986,7 @@ static void f24(module *self, u64 p0, u64 p1, u32 p2) {
   i32_store8(j0, i1);
 }
 
-static void f25(module *self, u64 p0, u64 p1, u32 p2, u64 p3, u64 p4) {
+static void f22(module *self, u64 p0, u64 p1, u32 p2, u64 p3, u64 p4) {
   u32 l5 = 0, l6 = 0, l7 = 0, l8 = 0;
   u64 l9 = 0, l10 = 0;
   u8 *m = self->memory;
@@ -22710,7 +22635,7 @@ static void f25(module *self, u64 p0, u64 p1, u32 p2, u64 p3, u64 p4) {
   Bfunc:;
 }
 
-static void f26(module *self, u64 p0, u64 p1, u32 p2) {
+static void f23(module *self, u64 p0, u64 p1, u32 p2) {
   u32 l3 = 0, l4 = 0, l5 = 0, l6 = 0;
   u64 l7 = 0, l8 = 0;
   u8 *m = self->memory;
@@ -23164,7 +23089,7 @@ static void f26(module *self, u64 p0, u64 p1, u32 p2) {
   i32_store8(j0, i1);
 }
 
-static void f27(module *self, u64 p0, u64 p1, u32 p2) {
+static void f24(module *self, u64 p0, u64 p1, u32 p2) {
   u32 l4 = 0, l5 = 0, l6 = 0, l7 = 0;
   u64 l3 = 0;
   u8 *m = self->memory;
@@ -23273,7 +23198,7 @@ static void f27(module *self, u64 p0, u64 p1, u32 p2) {
   j0 += j1;
   j1 = p1;
   i2 = p2;
-  f26(self, j0, j1, i2); if (NEVER(self->is_broken)) return;
+  f23(self, j0, j1, i2); if (NEVER(self->is_broken)) return;
   j0 = l3;
   i0 = (u32)(j0);
   i0 = i32_load8_u(j0 + 25u);
@@ -23289,7 +23214,7 @@ static void f27(module *self, u64 p0, u64 p1, u32 p2) {
   i2 = p2;
   i3 = 1u;
   i2 += i3;
-  f26(self, j0, j1, i2); if (NEVER(self->is_broken)) return;
+  f23(self, j0, j1, i2); if (NEVER(self->is_broken)) return;
   j0 = l3;
   i0 = (u32)(j0);
   i0 = i32_load8_u(j0 + 17u);
@@ -23321,7 +23246,7 @@ static void f27(module *self, u64 p0, u64 p1, u32 p2) {
   j0 += j1;
   j1 = p1;
   i2 = 964u;
-  f26(self, j0, j1, i2); if (NEVER(self->is_broken)) return;
+  f23(self, j0, j1, i2); if (NEVER(self->is_broken)) return;
   j0 = l3;
   i0 = (u32)(j0);
   i0 = i32_load8_u(j0 + 41u);
@@ -23335,7 +23260,7 @@ static void f27(module *self, u64 p0, u64 p1, u32 p2) {
   j0 += j1;
   j1 = p1;
   i2 = 965u;
-  f26(self, j0, j1, i2); if (NEVER(self->is_broken)) return;
+  f23(self, j0, j1, i2); if (NEVER(self->is_broken)) return;
   j0 = l3;
   i0 = (u32)(j0);
   i0 = i32_load8_u(j0 + 33u);
@@ -23367,7 +23292,7 @@ static void f27(module *self, u64 p0, u64 p1, u32 p2) {
   j0 += j1;
   j1 = p1;
   i2 = 968u;
-  f26(self, j0, j1, i2); if (NEVER(self->is_broken)) return;
+  f23(self, j0, j1, i2); if (NEVER(self->is_broken)) return;
   j0 = l3;
   i0 = (u32)(j0);
   i0 = i32_load8_u(j0 + 57u);
@@ -23381,7 +23306,7 @@ static void f27(module *self, u64 p0, u64 p1, u32 p2) {
   j0 += j1;
   j1 = p1;
   i2 = 969u;
-  f26(self, j0, j1, i2); if (NEVER(self->is_broken)) return;
+  f23(self, j0, j1, i2); if (NEVER(self->is_broken)) return;
   j0 = l3;
   i0 = (u32)(j0);
   i0 = i32_load8_u(j0 + 49u);
@@ -23413,7 +23338,7 @@ static void f27(module *self, u64 p0, u64 p1, u32 p2) {
   j0 += j1;
   j1 = p1;
   i2 = 974u;
-  f26(self, j0, j1, i2); if (NEVER(self->is_broken)) return;
+  f23(self, j0, j1, i2); if (NEVER(self->is_broken)) return;
   j0 = l3;
   i0 = (u32)(j0);
   i0 = i32_load8_u(j0 + 73u);
@@ -23433,7 +23358,7 @@ static void f27(module *self, u64 p0, u64 p1, u32 p2) {
   j0 += j1;
   j1 = p1;
   i2 = 975u;
-  f26(self, j0, j1, i2); if (NEVER(self->is_broken)) return;
+  f23(self, j0, j1, i2); if (NEVER(self->is_broken)) return;
   j0 = l3;
   i0 = (u32)(j0);
   i0 = i32_load8_u(j0 + 65u);
@@ -23465,7 +23390,7 @@ static void f27(module *self, u64 p0, u64 p1, u32 p2) {
   j0 += j1;
   j1 = p1;
   i2 = p2;
-  f26(self, j0, j1, i2); if (NEVER(self->is_broken)) return;
+  f23(self, j0, j1, i2); if (NEVER(self->is_broken)) return;
   j0 = l3;
   i0 = (u32)(j0);
   i0 = i32_load8_u(j0 + 9u);
@@ -23484,7 +23409,7 @@ static void f27(module *self, u64 p0, u64 p1, u32 p2) {
   i2 = p2;
   i3 = 1u;
   i2 += i3;
-  f26(self, j0, j1, i2); if (NEVER(self->is_broken)) return;
+  f23(self, j0, j1, i2); if (NEVER(self->is_broken)) return;
   j0 = l3;
   i0 = (u32)(j0);
   i0 = i32_load8_u(j0 + 1u);
@@ -23530,7 +23455,7 @@ static void f27(module *self, u64 p0, u64 p1, u32 p2) {
   j0 += j1;
   j1 = p1;
   i2 = 965u;
-  f28(self, j0, j1, i2); if (NEVER(self->is_broken)) return;
+  f25(self, j0, j1, i2); if (NEVER(self->is_broken)) return;
   j0 = l3;
   i0 = (u32)(j0);
   i0 = i32_load16_u(j0 + 78u);
@@ -23582,7 +23507,7 @@ static void f27(module *self, u64 p0, u64 p1, u32 p2) {
   self->g0 = j0;
 }
 
-static void f28(module *self, u64 p0, u64 p1, u32 p2) {
+static void f25(module *self, u64 p0, u64 p1, u32 p2) {
   u32 l4 = 0, l5 = 0, l6 = 0;
   u64 l3 = 0;
   u8 *m = self->memory;
@@ -23598,7 +23523,7 @@ static void f28(module *self, u64 p0, u64 p1, u32 p2) {
   j0 += j1;
   j1 = p1;
   i2 = p2;
-  f26(self, j0, j1, i2); if (NEVER(self->is_broken)) return;
+  f23(self, j0, j1, i2); if (NEVER(self->is_broken)) return;
   i0 = 0u;
   l4 = i0;
   i0 = 1u;
@@ -23616,7 +23541,7 @@ static void f28(module *self, u64 p0, u64 p1, u32 p2) {
   i2 = p2;
   i3 = 1u;
   i2 += i3;
-  f26(self, j0, j1, i2); if (NEVER(self->is_broken)) return;
+  f23(self, j0, j1, i2); if (NEVER(self->is_broken)) return;
   j0 = l3;
   i0 = (u32)(j0);
   i0 = i32_load8_u(j0 + 1u);
@@ -23666,7 +23591,7 @@ static void f28(module *self, u64 p0, u64 p1, u32 p2) {
   self->g0 = j0;
 }
 
-static u32 f29(module *self, u64 p0) {
+static u32 f26(module *self, u64 p0) {
   u32 l2 = 0, l3 = 0, l4 = 0;
   u64 l1 = 0;
   u8 *m = self->memory;
@@ -23690,7 +23615,7 @@ static u32 f29(module *self, u64 p0) {
   i2 = (u32)(j2);
   i2 = i32_load16_u(j2);
   l3 = i2;
-  f30(self, j0, i1, i2);
+  f27(self, j0, i1, i2);
   j0 = l1;
   i0 = (u32)(j0);
   i0 = i32_load8_u(j0 + 8u);
@@ -23887,7 +23812,7 @@ static u32 f29(module *self, u64 p0) {
   return i0;
 }
 
-static void f30(module *self, u64 p0, u32 p1, u32 p2) {
+static void f27(module *self, u64 p0, u32 p1, u32 p2) {
   u32 l12 = 0, l13 = 0, l14 = 0, l15 = 0, l16 = 0, l17 = 0, l18 = 0, l19 = 0, 
       l20 = 0, l21 = 0, l22 = 0, l23 = 0, l24 = 0, l25 = 0, l26 = 0, l27 = 0, 
       l28 = 0, l29 = 0, l30 = 0, l31 = 0, l32 = 0, l33 = 0, l34 = 0, l35 = 0, 
@@ -25015,7 +24940,7 @@ static void f30(module *self, u64 p0, u32 p1, u32 p2) {
   Bfunc:;
 }
 
-static void f31(module *self, u64 p0, u64 p1, u64 p2, u64 p3, u64 p4, u64 p5, u64 p6) {
+static void f28(module *self, u64 p0, u64 p1, u64 p2, u64 p3, u64 p4, u64 p5, u64 p6) {
   u32 l21 = 0, l22 = 0, l23 = 0, l24 = 0, l25 = 0, l26 = 0, l27 = 0, l28 = 0, 
       l29 = 0, l30 = 0, l31 = 0, l32 = 0, l33 = 0, l34 = 0, l35 = 0, l36 = 0, 
       l37 = 0, l38 = 0, l39 = 0, l40 = 0, l41 = 0, l42 = 0, l43 = 0, l44 = 0, 
@@ -25053,7 +24978,7 @@ static void f31(module *self, u64 p0, u64 p1, u64 p2, u64 p3, u64 p4, u64 p5, u6
   j1 = 264ull;
   j0 += j1;
   j1 = p4;
-  f20(self, j0, j1);
+  f17(self, j0, j1);
   j0 = l7;
   i0 = (u32)(j0);
   i0 = i32_load8_u(j0 + 264u);
@@ -25750,7 +25675,7 @@ static void f31(module *self, u64 p0, u64 p1, u64 p2, u64 p3, u64 p4, u64 p5, u6
   i3 = 6u;
   i2 += i3;
   l50 = i2;
-  f26(self, j0, j1, i2); if (NEVER(self->is_broken)) return;
+  f23(self, j0, j1, i2); if (NEVER(self->is_broken)) return;
   j0 = p1;
   j1 = 188ull;
   j0 += j1;
@@ -25819,7 +25744,7 @@ static void f31(module *self, u64 p0, u64 p1, u64 p2, u64 p3, u64 p4, u64 p5, u6
     j1 = 296ull;
     j0 += j1;
     j1 = p2;
-    f32(self, j0, j1);
+    f29(self, j0, j1);
     j0 = l8;
     i0 = (u32)(j0);
     j1 = l7;
@@ -25869,7 +25794,7 @@ static void f31(module *self, u64 p0, u64 p1, u64 p2, u64 p3, u64 p4, u64 p5, u6
     j0 += j1;
     j1 = p1;
     i2 = l50;
-    f26(self, j0, j1, i2); if (NEVER(self->is_broken)) return;
+    f23(self, j0, j1, i2); if (NEVER(self->is_broken)) return;
     j0 = l7;
     j1 = 312ull;
     j0 += j1;
@@ -25943,7 +25868,7 @@ static void f31(module *self, u64 p0, u64 p1, u64 p2, u64 p3, u64 p4, u64 p5, u6
   j1 = 296ull;
   j0 += j1;
   j1 = p2;
-  f32(self, j0, j1);
+  f29(self, j0, j1);
   j0 = l8;
   i0 = (u32)(j0);
   j1 = l7;
@@ -25982,7 +25907,7 @@ static void f31(module *self, u64 p0, u64 p1, u64 p2, u64 p3, u64 p4, u64 p5, u6
   j0 += j1;
   j1 = p1;
   i2 = l50;
-  f26(self, j0, j1, i2); if (NEVER(self->is_broken)) return;
+  f23(self, j0, j1, i2); if (NEVER(self->is_broken)) return;
   j0 = l7;
   i0 = (u32)(j0);
   i1 = l40;
@@ -26023,7 +25948,7 @@ static void f31(module *self, u64 p0, u64 p1, u64 p2, u64 p3, u64 p4, u64 p5, u6
   j1 *= j2;
   l8 = j1;
   j2 = 1ull;
-  f176(self, j0, j1, j2); m = self->memory; if (NEVER(self->is_broken)) return;
+  f124(self, j0, j1, j2); m = self->memory; if (NEVER(self->is_broken)) return;
   i0 = 1u;
   l21 = i0;
   i0 = 0u;
@@ -26066,7 +25991,7 @@ static void f31(module *self, u64 p0, u64 p1, u64 p2, u64 p3, u64 p4, u64 p5, u6
   j0 += j1;
   j1 = 24ull;
   j2 = 8ull;
-  f176(self, j0, j1, j2); m = self->memory; if (NEVER(self->is_broken)) return;
+  f124(self, j0, j1, j2); m = self->memory; if (NEVER(self->is_broken)) return;
   i0 = 1u;
   l21 = i0;
   j0 = l7;
@@ -26077,7 +26002,7 @@ static void f31(module *self, u64 p0, u64 p1, u64 p2, u64 p3, u64 p4, u64 p5, u6
   i0 &= i1;
   if (i0) {goto B42;}
   j0 = p2;
-  f179(self, j0);
+  f127(self, j0);
   i0 = 0u;
   l49 = i0;
   goto B8;
@@ -26341,7 +26266,7 @@ static void f31(module *self, u64 p0, u64 p1, u64 p2, u64 p3, u64 p4, u64 p5, u6
   i2 = l40;
   i3 = 255u;
   i2 &= i3;
-  f30(self, j0, i1, i2);
+  f27(self, j0, i1, i2);
   i0 = 1u;
   l40 = i0;
   j0 = l7;
@@ -26389,56 +26314,56 @@ static void f31(module *self, u64 p0, u64 p1, u64 p2, u64 p3, u64 p4, u64 p5, u6
   j4 = l7;
   i4 = (u32)(j4);
   i4 = i32_load8_u(j4 + 328u);
-  f33(self, j0, j1, j2, j3, i4);
+  f30(self, j0, j1, j2, j3, i4);
   j0 = p1;
   i1 = l49;
   i2 = 9u;
   i3 = l53;
-  f34(self, j0, i1, i2, i3);
+  f31(self, j0, i1, i2, i3);
   j0 = p1;
   i1 = l49;
   i2 = 10u;
   i3 = l50;
   i4 = 8u;
   i3 >>= (i4 & 31);
-  f34(self, j0, i1, i2, i3);
+  f31(self, j0, i1, i2, i3);
   j0 = p1;
   i1 = l49;
   i2 = 11u;
   i3 = l50;
-  f34(self, j0, i1, i2, i3);
+  f31(self, j0, i1, i2, i3);
   j0 = p1;
   i1 = l49;
   i2 = 18u;
   i3 = l52;
-  f34(self, j0, i1, i2, i3);
+  f31(self, j0, i1, i2, i3);
   j0 = p1;
   i1 = l49;
   i2 = 20u;
   i3 = l40;
-  f34(self, j0, i1, i2, i3);
+  f31(self, j0, i1, i2, i3);
   i0 = 0u;
   l40 = i0;
   j0 = p1;
   i1 = l49;
   i2 = 12u;
   i3 = 0u;
-  f34(self, j0, i1, i2, i3);
+  f31(self, j0, i1, i2, i3);
   j0 = p1;
   i1 = l49;
   i2 = 13u;
   i3 = 0u;
-  f34(self, j0, i1, i2, i3);
+  f31(self, j0, i1, i2, i3);
   j0 = p1;
   i1 = l49;
   i2 = 14u;
   i3 = 0u;
-  f34(self, j0, i1, i2, i3);
+  f31(self, j0, i1, i2, i3);
   j0 = p1;
   i1 = l49;
   i2 = 15u;
   i3 = 0u;
-  f34(self, j0, i1, i2, i3);
+  f31(self, j0, i1, i2, i3);
   j0 = p2;
   i0 = (u32)(j0);
   j1 = 0ull;
@@ -26602,7 +26527,7 @@ static void f31(module *self, u64 p0, u64 p1, u64 p2, u64 p3, u64 p4, u64 p5, u6
   j2 += j3;
   i2 = (u32)(j2);
   i2 = i32_load16_u(j2);
-  f30(self, j0, i1, i2);
+  f27(self, j0, i1, i2);
   i0 = 0u;
   l40 = i0;
   i0 = 0u;
@@ -26640,7 +26565,7 @@ static void f31(module *self, u64 p0, u64 p1, u64 p2, u64 p3, u64 p4, u64 p5, u6
   j2 += j3;
   i2 = (u32)(j2);
   i2 = i32_load16_u(j2);
-  f30(self, j0, i1, i2);
+  f27(self, j0, i1, i2);
   i0 = 0u;
   l49 = i0;
   i0 = 0u;
@@ -26672,7 +26597,7 @@ static void f31(module *self, u64 p0, u64 p1, u64 p2, u64 p3, u64 p4, u64 p5, u6
   j2 += j3;
   i2 = (u32)(j2);
   i2 = i32_load16_u(j2);
-  f30(self, j0, i1, i2);
+  f27(self, j0, i1, i2);
   i0 = 0u;
   l49 = i0;
   i0 = 0u;
@@ -26704,7 +26629,7 @@ static void f31(module *self, u64 p0, u64 p1, u64 p2, u64 p3, u64 p4, u64 p5, u6
   j2 += j3;
   i2 = (u32)(j2);
   i2 = i32_load16_u(j2);
-  f30(self, j0, i1, i2);
+  f27(self, j0, i1, i2);
   i0 = 0u;
   l25 = i0;
   i0 = l21;
@@ -26748,7 +26673,7 @@ static void f31(module *self, u64 p0, u64 p1, u64 p2, u64 p3, u64 p4, u64 p5, u6
   j2 += j3;
   i2 = (u32)(j2);
   i2 = i32_load16_u(j2);
-  f30(self, j0, i1, i2);
+  f27(self, j0, i1, i2);
   i0 = 0u;
   l53 = i0;
   i0 = 0u;
@@ -26786,7 +26711,7 @@ static void f31(module *self, u64 p0, u64 p1, u64 p2, u64 p3, u64 p4, u64 p5, u6
   j2 += j3;
   i2 = (u32)(j2);
   i2 = i32_load16_u(j2);
-  f30(self, j0, i1, i2);
+  f27(self, j0, i1, i2);
   i0 = 0u;
   l21 = i0;
   i0 = 0u;
@@ -26824,7 +26749,7 @@ static void f31(module *self, u64 p0, u64 p1, u64 p2, u64 p3, u64 p4, u64 p5, u6
   j2 += j3;
   i2 = (u32)(j2);
   i2 = i32_load16_u(j2);
-  f30(self, j0, i1, i2);
+  f27(self, j0, i1, i2);
   i0 = 0u;
   l25 = i0;
   i0 = 0u;
@@ -26948,7 +26873,7 @@ static void f31(module *self, u64 p0, u64 p1, u64 p2, u64 p3, u64 p4, u64 p5, u6
   j2 += j3;
   i2 = (u32)(j2);
   i2 = i32_load16_u(j2);
-  f30(self, j0, i1, i2);
+  f27(self, j0, i1, i2);
   i0 = 6u;
   l21 = i0;
   j0 = l7;
@@ -27019,7 +26944,7 @@ static void f31(module *self, u64 p0, u64 p1, u64 p2, u64 p3, u64 p4, u64 p5, u6
   j2 += j3;
   i2 = (u32)(j2);
   i2 = i32_load16_u(j2);
-  f30(self, j0, i1, i2);
+  f27(self, j0, i1, i2);
   i0 = 6u;
   l21 = i0;
   j0 = l7;
@@ -27104,7 +27029,7 @@ static void f31(module *self, u64 p0, u64 p1, u64 p2, u64 p3, u64 p4, u64 p5, u6
   j2 += j3;
   i2 = (u32)(j2);
   i2 = i32_load16_u(j2);
-  f30(self, j0, i1, i2);
+  f27(self, j0, i1, i2);
   i0 = 6u;
   l21 = i0;
   j0 = l7;
@@ -27267,7 +27192,7 @@ static void f31(module *self, u64 p0, u64 p1, u64 p2, u64 p3, u64 p4, u64 p5, u6
   i2 = (u32)(j2);
   i2 = i32_load16_u(j2);
   l73 = i2;
-  f30(self, j0, i1, i2);
+  f27(self, j0, i1, i2);
   i0 = 6u;
   l21 = i0;
   j0 = l7;
@@ -27319,7 +27244,7 @@ static void f31(module *self, u64 p0, u64 p1, u64 p2, u64 p3, u64 p4, u64 p5, u6
   j2 += j3;
   i2 = (u32)(j2);
   i2 = i32_load16_u(j2);
-  f30(self, j0, i1, i2);
+  f27(self, j0, i1, i2);
   i0 = 6u;
   l21 = i0;
   j0 = l7;
@@ -27475,7 +27400,7 @@ static void f31(module *self, u64 p0, u64 p1, u64 p2, u64 p3, u64 p4, u64 p5, u6
   i4 = l25;
   i5 = l49;
   i6 = 0u;
-  i1 = f35(self, j1, j2, i3, i4, i5, i6); if (NEVER(self->is_broken)) return;
+  i1 = f32(self, j1, j2, i3, i4, i5, i6); if (NEVER(self->is_broken)) return;
   l21 = i1;
   i32_store16(j0, i1);
   j0 = p2;
@@ -27528,12 +27453,12 @@ static void f31(module *self, u64 p0, u64 p1, u64 p2, u64 p3, u64 p4, u64 p5, u6
   l40 = i3;
   i4 = 8u;
   i3 >>= (i4 & 31);
-  f34(self, j0, i1, i2, i3);
+  f31(self, j0, i1, i2, i3);
   j0 = p1;
   i1 = l49;
   i2 = 15u;
   i3 = l40;
-  f34(self, j0, i1, i2, i3);
+  f31(self, j0, i1, i2, i3);
   goto B71;
   B93:;
   i0 = l53;
@@ -27577,12 +27502,12 @@ static void f31(module *self, u64 p0, u64 p1, u64 p2, u64 p3, u64 p4, u64 p5, u6
   l40 = i1;
   i2 = 10u;
   i3 = l76;
-  f34(self, j0, i1, i2, i3);
+  f31(self, j0, i1, i2, i3);
   j0 = p1;
   i1 = l40;
   i2 = 11u;
   i3 = l49;
-  f34(self, j0, i1, i2, i3);
+  f31(self, j0, i1, i2, i3);
   j0 = p2;
   j1 = 24ull;
   j0 += j1;
@@ -27655,12 +27580,12 @@ static void f31(module *self, u64 p0, u64 p1, u64 p2, u64 p3, u64 p4, u64 p5, u6
   l40 = i3;
   i4 = 8u;
   i3 >>= (i4 & 31);
-  f34(self, j0, i1, i2, i3);
+  f31(self, j0, i1, i2, i3);
   j0 = p1;
   i1 = l21;
   i2 = 15u;
   i3 = l40;
-  f34(self, j0, i1, i2, i3);
+  f31(self, j0, i1, i2, i3);
   goto B71;
   B89:;
   j0 = l7;
@@ -27719,12 +27644,12 @@ static void f31(module *self, u64 p0, u64 p1, u64 p2, u64 p3, u64 p4, u64 p5, u6
   l49 = i3;
   i4 = 8u;
   i3 >>= (i4 & 31);
-  f34(self, j0, i1, i2, i3);
+  f31(self, j0, i1, i2, i3);
   j0 = p1;
   i1 = l40;
   i2 = 13u;
   i3 = l49;
-  f34(self, j0, i1, i2, i3);
+  f31(self, j0, i1, i2, i3);
   j0 = p2;
   j1 = 6ull;
   j0 += j1;
@@ -27787,12 +27712,12 @@ static void f31(module *self, u64 p0, u64 p1, u64 p2, u64 p3, u64 p4, u64 p5, u6
   l21 = i3;
   i4 = 8u;
   i3 >>= (i4 & 31);
-  f34(self, j0, i1, i2, i3);
+  f31(self, j0, i1, i2, i3);
   j0 = p1;
   i1 = l40;
   i2 = 15u;
   i3 = l21;
-  f34(self, j0, i1, i2, i3);
+  f31(self, j0, i1, i2, i3);
   goto B71;
   B87:;
   j0 = l7;
@@ -27904,7 +27829,7 @@ static void f31(module *self, u64 p0, u64 p1, u64 p2, u64 p3, u64 p4, u64 p5, u6
   j4 = l7;
   j5 = 296ull;
   j4 += j5;
-  f36(self, j0, j1, j2, i3, j4); if (NEVER(self->is_broken)) return;
+  f33(self, j0, j1, j2, i3, j4); if (NEVER(self->is_broken)) return;
   goto B71;
   B86:;
   j0 = l7;
@@ -28020,7 +27945,7 @@ static void f31(module *self, u64 p0, u64 p1, u64 p2, u64 p3, u64 p4, u64 p5, u6
   j4 = l7;
   j5 = 296ull;
   j4 += j5;
-  f36(self, j0, j1, j2, i3, j4); if (NEVER(self->is_broken)) return;
+  f33(self, j0, j1, j2, i3, j4); if (NEVER(self->is_broken)) return;
   goto B71;
   B85:;
   j0 = p2;
@@ -28095,7 +28020,7 @@ static void f31(module *self, u64 p0, u64 p1, u64 p2, u64 p3, u64 p4, u64 p5, u6
     i3 = l76;
     i4 = l40;
     i5 = l50;
-    f37(self, j0, j1, i2, i3, i4, i5); if (NEVER(self->is_broken)) return;
+    f34(self, j0, j1, i2, i3, i4, i5); if (NEVER(self->is_broken)) return;
     i0 = l21;
     i1 = 1u;
     i0 += i1;
@@ -28206,7 +28131,7 @@ static void f31(module *self, u64 p0, u64 p1, u64 p2, u64 p3, u64 p4, u64 p5, u6
   i1 = (u32)(j1);
   i1 = i32_load8_u(j1);
   i2 = l53;
-  i0 = f21(self, j0, i1, i2);
+  i0 = f18(self, j0, i1, i2);
   l21 = i0;
   j0 = p1;
   j1 = 71ull;
@@ -28462,7 +28387,7 @@ static void f31(module *self, u64 p0, u64 p1, u64 p2, u64 p3, u64 p4, u64 p5, u6
   j0 += j1;
   j1 = p1;
   i2 = l21;
-  f24(self, j0, j1, i2);
+  f21(self, j0, j1, i2);
   j0 = p2;
   i0 = (u32)(j0);
   i1 = 5u;
@@ -28596,7 +28521,7 @@ static void f31(module *self, u64 p0, u64 p1, u64 p2, u64 p3, u64 p4, u64 p5, u6
   j0 = p1;
   i1 = l70;
   i2 = l53;
-  i0 = f21(self, j0, i1, i2);
+  i0 = f18(self, j0, i1, i2);
   l40 = i0;
   j0 = p1;
   j1 = 71ull;
@@ -28907,7 +28832,7 @@ static void f31(module *self, u64 p0, u64 p1, u64 p2, u64 p3, u64 p4, u64 p5, u6
   j0 += j1;
   j1 = p1;
   i2 = l40;
-  f24(self, j0, j1, i2);
+  f21(self, j0, j1, i2);
   i0 = 4294967295u;
   j1 = l7;
   i1 = (u32)(j1);
@@ -29067,7 +28992,7 @@ static void f31(module *self, u64 p0, u64 p1, u64 p2, u64 p3, u64 p4, u64 p5, u6
   j0 += j1;
   j1 = p1;
   i2 = l40;
-  f24(self, j0, j1, i2);
+  f21(self, j0, j1, i2);
   j0 = l7;
   i0 = (u32)(j0);
   i0 = i32_load8_u(j0 + 201u);
@@ -29186,7 +29111,7 @@ static void f31(module *self, u64 p0, u64 p1, u64 p2, u64 p3, u64 p4, u64 p5, u6
   j0 += j1;
   j1 = p1;
   i2 = l40;
-  f24(self, j0, j1, i2);
+  f21(self, j0, j1, i2);
   j0 = l7;
   i0 = (u32)(j0);
   i0 = i32_load8_u(j0 + 193u);
@@ -29302,7 +29227,7 @@ static void f31(module *self, u64 p0, u64 p1, u64 p2, u64 p3, u64 p4, u64 p5, u6
   j0 += j1;
   j1 = p1;
   i2 = l40;
-  f24(self, j0, j1, i2);
+  f21(self, j0, j1, i2);
   j0 = l7;
   i0 = (u32)(j0);
   i0 = i32_load8_u(j0 + 185u);
@@ -29418,7 +29343,7 @@ static void f31(module *self, u64 p0, u64 p1, u64 p2, u64 p3, u64 p4, u64 p5, u6
   j0 += j1;
   j1 = p1;
   i2 = l40;
-  f24(self, j0, j1, i2);
+  f21(self, j0, j1, i2);
   j0 = l7;
   i0 = (u32)(j0);
   i0 = i32_load8_u(j0 + 177u);
@@ -29667,14 +29592,14 @@ static void f31(module *self, u64 p0, u64 p1, u64 p2, u64 p3, u64 p4, u64 p5, u6
   i1 = l50;
   i2 = l76;
   i3 = l40;
-  f38(self, j0, i1, i2, i3); if (NEVER(self->is_broken)) return;
+  f35(self, j0, i1, i2, i3); if (NEVER(self->is_broken)) return;
   goto B71;
   B133:;
   j0 = p1;
   i1 = l50;
   i2 = 17u;
   i3 = l76;
-  f38(self, j0, i1, i2, i3); if (NEVER(self->is_broken)) return;
+  f35(self, j0, i1, i2, i3); if (NEVER(self->is_broken)) return;
   goto B71;
   B132:;
   j0 = l7;
@@ -29685,11 +29610,11 @@ static void f31(module *self, u64 p0, u64 p1, u64 p2, u64 p3, u64 p4, u64 p5, u6
   i3 = 6u;
   i2 += i3;
   l21 = i2;
-  f26(self, j0, j1, i2); if (NEVER(self->is_broken)) return;
+  f23(self, j0, j1, i2); if (NEVER(self->is_broken)) return;
   j0 = p1;
   j1 = p5;
   j2 = 16ull;
-  f39(self, j0, j1, j2);
+  f36(self, j0, j1, j2);
   j0 = p1;
   j1 = 146ull;
   j0 += j1;
@@ -29748,7 +29673,7 @@ static void f31(module *self, u64 p0, u64 p1, u64 p2, u64 p3, u64 p4, u64 p5, u6
   j1 = 312ull;
   j0 += j1;
   j1 = p6;
-  f32(self, j0, j1);
+  f29(self, j0, j1);
   j0 = p1;
   j1 = 196ull;
   j0 += j1;
@@ -29810,7 +29735,7 @@ static void f31(module *self, u64 p0, u64 p1, u64 p2, u64 p3, u64 p4, u64 p5, u6
   j1 = 312ull;
   j0 += j1;
   j1 = p6;
-  f32(self, j0, j1);
+  f29(self, j0, j1);
   j0 = p1;
   j1 = 196ull;
   j0 += j1;
@@ -29852,7 +29777,7 @@ static void f31(module *self, u64 p0, u64 p1, u64 p2, u64 p3, u64 p4, u64 p5, u6
   j1 = 312ull;
   j0 += j1;
   j1 = p6;
-  f32(self, j0, j1);
+  f29(self, j0, j1);
   j0 = p1;
   j1 = 196ull;
   j0 += j1;
@@ -29888,7 +29813,7 @@ static void f31(module *self, u64 p0, u64 p1, u64 p2, u64 p3, u64 p4, u64 p5, u6
   j0 += j1;
   j1 = p1;
   i2 = l21;
-  f26(self, j0, j1, i2); if (NEVER(self->is_broken)) return;
+  f23(self, j0, j1, i2); if (NEVER(self->is_broken)) return;
   goto B71;
   B131:;
   j0 = l7;
@@ -29899,7 +29824,7 @@ static void f31(module *self, u64 p0, u64 p1, u64 p2, u64 p3, u64 p4, u64 p5, u6
   i3 = 6u;
   i2 += i3;
   l40 = i2;
-  f26(self, j0, j1, i2); if (NEVER(self->is_broken)) return;
+  f23(self, j0, j1, i2); if (NEVER(self->is_broken)) return;
   j0 = p1;
   j1 = 146ull;
   j0 += j1;
@@ -29955,7 +29880,7 @@ static void f31(module *self, u64 p0, u64 p1, u64 p2, u64 p3, u64 p4, u64 p5, u6
   j1 = 312ull;
   j0 += j1;
   j1 = p5;
-  f32(self, j0, j1);
+  f29(self, j0, j1);
   j0 = p1;
   j1 = 196ull;
   j0 += j1;
@@ -30035,7 +29960,7 @@ static void f31(module *self, u64 p0, u64 p1, u64 p2, u64 p3, u64 p4, u64 p5, u6
   j1 = 312ull;
   j0 += j1;
   j1 = p5;
-  f32(self, j0, j1);
+  f29(self, j0, j1);
   j0 = p1;
   j1 = 196ull;
   j0 += j1;
@@ -30086,7 +30011,7 @@ static void f31(module *self, u64 p0, u64 p1, u64 p2, u64 p3, u64 p4, u64 p5, u6
   j1 = 312ull;
   j0 += j1;
   j1 = p5;
-  f32(self, j0, j1);
+  f29(self, j0, j1);
   j0 = p1;
   j1 = 196ull;
   j0 += j1;
@@ -30122,7 +30047,7 @@ static void f31(module *self, u64 p0, u64 p1, u64 p2, u64 p3, u64 p4, u64 p5, u6
   j0 += j1;
   j1 = p1;
   i2 = l40;
-  f26(self, j0, j1, i2); if (NEVER(self->is_broken)) return;
+  f23(self, j0, j1, i2); if (NEVER(self->is_broken)) return;
   goto B71;
   B130:;
   j0 = p1;
@@ -30131,7 +30056,7 @@ static void f31(module *self, u64 p0, u64 p1, u64 p2, u64 p3, u64 p4, u64 p5, u6
   j3 = l7;
   j4 = 400ull;
   j3 += j4;
-  f40(self, j0, i1, i2, j3); if (NEVER(self->is_broken)) return;
+  f37(self, j0, i1, i2, j3); if (NEVER(self->is_broken)) return;
   goto B71;
   B129:;
   j0 = l7;
@@ -30142,7 +30067,7 @@ static void f31(module *self, u64 p0, u64 p1, u64 p2, u64 p3, u64 p4, u64 p5, u6
   i3 = 6u;
   i2 += i3;
   l40 = i2;
-  f26(self, j0, j1, i2); if (NEVER(self->is_broken)) return;
+  f23(self, j0, j1, i2); if (NEVER(self->is_broken)) return;
   i0 = 1u;
   l21 = i0;
   j0 = p1;
@@ -30198,7 +30123,7 @@ static void f31(module *self, u64 p0, u64 p1, u64 p2, u64 p3, u64 p4, u64 p5, u6
   j1 = 312ull;
   j0 += j1;
   j1 = p6;
-  f32(self, j0, j1);
+  f29(self, j0, j1);
   j0 = p1;
   j1 = 196ull;
   j0 += j1;
@@ -30253,7 +30178,7 @@ static void f31(module *self, u64 p0, u64 p1, u64 p2, u64 p3, u64 p4, u64 p5, u6
   j0 += j1;
   j1 = p1;
   i2 = l40;
-  f26(self, j0, j1, i2); if (NEVER(self->is_broken)) return;
+  f23(self, j0, j1, i2); if (NEVER(self->is_broken)) return;
   j0 = l7;
   i0 = (u32)(j0);
   i1 = l21;
@@ -30685,7 +30610,7 @@ static void f31(module *self, u64 p0, u64 p1, u64 p2, u64 p3, u64 p4, u64 p5, u6
     i4 = (u32)(j4);
     i4 = i32_load8_u(j4);
     i5 = 1u;
-    i0 = f35(self, j0, j1, i2, i3, i4, i5); if (NEVER(self->is_broken)) return;
+    i0 = f32(self, j0, j1, i2, i3, i4, i5); if (NEVER(self->is_broken)) return;
     l40 = i0;
     j0 = l8;
     j1 = 2ull;
@@ -30714,7 +30639,7 @@ static void f31(module *self, u64 p0, u64 p1, u64 p2, u64 p3, u64 p4, u64 p5, u6
     i3 = i32_load8_u(j3);
     i4 = l53;
     i5 = 1u;
-    i0 = f35(self, j0, j1, i2, i3, i4, i5); if (NEVER(self->is_broken)) return;
+    i0 = f32(self, j0, j1, i2, i3, i4, i5); if (NEVER(self->is_broken)) return;
     l40 = i0;
     j0 = p5;
     j1 = 1ull;
@@ -30799,12 +30724,12 @@ static void f31(module *self, u64 p0, u64 p1, u64 p2, u64 p3, u64 p4, u64 p5, u6
   l40 = i3;
   i4 = 8u;
   i3 >>= (i4 & 31);
-  f34(self, j0, i1, i2, i3);
+  f31(self, j0, i1, i2, i3);
   j0 = p1;
   i1 = l49;
   i2 = 15u;
   i3 = l40;
-  f34(self, j0, i1, i2, i3);
+  f31(self, j0, i1, i2, i3);
   goto B71;
   B75:;
   j0 = l7;
@@ -30879,7 +30804,7 @@ static void f31(module *self, u64 p0, u64 p1, u64 p2, u64 p3, u64 p4, u64 p5, u6
   i3 *= i4;
   i2 += i3;
   l40 = i2;
-  f24(self, j0, j1, i2);
+  f21(self, j0, j1, i2);
   j0 = l7;
   i0 = (u32)(j0);
   i0 = i32_load8_u(j0 + 81u);
@@ -30895,7 +30820,7 @@ static void f31(module *self, u64 p0, u64 p1, u64 p2, u64 p3, u64 p4, u64 p5, u6
   i2 = l40;
   i3 = 1u;
   i2 += i3;
-  f24(self, j0, j1, i2);
+  f21(self, j0, j1, i2);
   j0 = l7;
   i0 = (u32)(j0);
   i1 = 4294967295u;
@@ -31218,7 +31143,7 @@ static void f31(module *self, u64 p0, u64 p1, u64 p2, u64 p3, u64 p4, u64 p5, u6
     i4 = l21;
     i3 *= i4;
     i2 += i3;
-    f24(self, j0, j1, i2);
+    f21(self, j0, j1, i2);
     j0 = p6;
     i0 = (u32)(j0);
     i1 = 0u;
@@ -31381,7 +31306,7 @@ static void f31(module *self, u64 p0, u64 p1, u64 p2, u64 p3, u64 p4, u64 p5, u6
     i3 *= i4;
     i2 += i3;
     l40 = i2;
-    f24(self, j0, j1, i2);
+    f21(self, j0, j1, i2);
     j0 = l7;
     i0 = (u32)(j0);
     i0 = i32_load8_u(j0 + 152u);
@@ -31397,7 +31322,7 @@ static void f31(module *self, u64 p0, u64 p1, u64 p2, u64 p3, u64 p4, u64 p5, u6
     i2 = l40;
     i3 = 1u;
     i2 += i3;
-    f24(self, j0, j1, i2);
+    f21(self, j0, j1, i2);
     j0 = l7;
     i0 = (u32)(j0);
     i0 = i32_load8_u(j0 + 144u);
@@ -31413,7 +31338,7 @@ static void f31(module *self, u64 p0, u64 p1, u64 p2, u64 p3, u64 p4, u64 p5, u6
     i2 = l40;
     i3 = 2u;
     i2 += i3;
-    f24(self, j0, j1, i2);
+    f21(self, j0, j1, i2);
     j0 = l7;
     i0 = (u32)(j0);
     i0 = i32_load8_u(j0 + 136u);
@@ -31429,7 +31354,7 @@ static void f31(module *self, u64 p0, u64 p1, u64 p2, u64 p3, u64 p4, u64 p5, u6
     i2 = l40;
     i3 = 3u;
     i2 += i3;
-    f24(self, j0, j1, i2);
+    f21(self, j0, j1, i2);
     j0 = l7;
     i0 = (u32)(j0);
     i0 = i32_load8_u(j0 + 128u);
@@ -31445,7 +31370,7 @@ static void f31(module *self, u64 p0, u64 p1, u64 p2, u64 p3, u64 p4, u64 p5, u6
     i2 = l40;
     i3 = 4u;
     i2 += i3;
-    f24(self, j0, j1, i2);
+    f21(self, j0, j1, i2);
     j0 = l7;
     i0 = (u32)(j0);
     i0 = i32_load8_u(j0 + 120u);
@@ -31461,7 +31386,7 @@ static void f31(module *self, u64 p0, u64 p1, u64 p2, u64 p3, u64 p4, u64 p5, u6
     i2 = l40;
     i3 = 5u;
     i2 += i3;
-    f24(self, j0, j1, i2);
+    f21(self, j0, j1, i2);
     j0 = l7;
     i0 = (u32)(j0);
     i0 = i32_load8_u(j0 + 112u);
@@ -31477,7 +31402,7 @@ static void f31(module *self, u64 p0, u64 p1, u64 p2, u64 p3, u64 p4, u64 p5, u6
     i2 = l40;
     i3 = 6u;
     i2 += i3;
-    f24(self, j0, j1, i2);
+    f21(self, j0, j1, i2);
     j0 = l7;
     i0 = (u32)(j0);
     i0 = i32_load8_u(j0 + 104u);
@@ -31493,7 +31418,7 @@ static void f31(module *self, u64 p0, u64 p1, u64 p2, u64 p3, u64 p4, u64 p5, u6
     i2 = l40;
     i3 = 7u;
     i2 += i3;
-    f24(self, j0, j1, i2);
+    f21(self, j0, j1, i2);
     j0 = p6;
     i0 = (u32)(j0);
     i1 = 2u;
@@ -32747,140 +32672,140 @@ static void f31(module *self, u64 p0, u64 p1, u64 p2, u64 p3, u64 p4, u64 p5, u6
   i3 = l40;
   i4 = 15u;
   i3 &= i4;
-  f34(self, j0, i1, i2, i3);
+  f31(self, j0, i1, i2, i3);
   j0 = p1;
   i1 = l25;
   i2 = 0u;
   i3 = l48;
-  f34(self, j0, i1, i2, i3);
+  f31(self, j0, i1, i2, i3);
   j0 = p1;
   i1 = l25;
   i2 = 1u;
   i3 = l47;
-  f34(self, j0, i1, i2, i3);
+  f31(self, j0, i1, i2, i3);
   j0 = p1;
   i1 = l25;
   i2 = 2u;
   i3 = l21;
-  f34(self, j0, i1, i2, i3);
+  f31(self, j0, i1, i2, i3);
   j0 = p1;
   i1 = l25;
   i2 = 3u;
   i3 = l46;
-  f34(self, j0, i1, i2, i3);
+  f31(self, j0, i1, i2, i3);
   j0 = p1;
   i1 = l25;
   i2 = 4u;
   i3 = l45;
-  f34(self, j0, i1, i2, i3);
+  f31(self, j0, i1, i2, i3);
   j0 = p1;
   i1 = l25;
   i2 = 5u;
   i3 = l44;
-  f34(self, j0, i1, i2, i3);
+  f31(self, j0, i1, i2, i3);
   j0 = p1;
   i1 = l25;
   i2 = 6u;
   i3 = l43;
-  f34(self, j0, i1, i2, i3);
+  f31(self, j0, i1, i2, i3);
   j0 = p1;
   i1 = l25;
   i2 = 7u;
   i3 = l42;
-  f34(self, j0, i1, i2, i3);
+  f31(self, j0, i1, i2, i3);
   j0 = p1;
   i1 = l25;
   i2 = 8u;
   i3 = 0u;
-  f34(self, j0, i1, i2, i3);
+  f31(self, j0, i1, i2, i3);
   j0 = p1;
   i1 = l25;
   i2 = 9u;
   i3 = l57;
-  f34(self, j0, i1, i2, i3);
+  f31(self, j0, i1, i2, i3);
   j0 = p1;
   i1 = l25;
   i2 = 10u;
   i3 = l58;
-  f34(self, j0, i1, i2, i3);
+  f31(self, j0, i1, i2, i3);
   j0 = p1;
   i1 = l25;
   i2 = 11u;
   i3 = l59;
-  f34(self, j0, i1, i2, i3);
+  f31(self, j0, i1, i2, i3);
   j0 = p1;
   i1 = l25;
   i2 = 12u;
   j3 = l7;
   i3 = (u32)(j3);
   i3 = i32_load8_u(j3 + 339u);
-  f34(self, j0, i1, i2, i3);
+  f31(self, j0, i1, i2, i3);
   j0 = p1;
   i1 = l25;
   i2 = 13u;
   j3 = l7;
   i3 = (u32)(j3);
   i3 = i32_load8_u(j3 + 340u);
-  f34(self, j0, i1, i2, i3);
+  f31(self, j0, i1, i2, i3);
   j0 = p1;
   i1 = l25;
   i2 = 14u;
   j3 = l7;
   i3 = (u32)(j3);
   i3 = i32_load8_u(j3 + 341u);
-  f34(self, j0, i1, i2, i3);
+  f31(self, j0, i1, i2, i3);
   j0 = p1;
   i1 = l25;
   i2 = 15u;
   j3 = l7;
   i3 = (u32)(j3);
   i3 = i32_load8_u(j3 + 342u);
-  f34(self, j0, i1, i2, i3);
+  f31(self, j0, i1, i2, i3);
   j0 = p1;
   i1 = l25;
   i2 = 16u;
   i3 = l41;
-  f34(self, j0, i1, i2, i3);
+  f31(self, j0, i1, i2, i3);
   j0 = p1;
   i1 = l25;
   i2 = 17u;
   i3 = l40;
-  f34(self, j0, i1, i2, i3);
+  f31(self, j0, i1, i2, i3);
   j0 = p1;
   i1 = l25;
   i2 = 18u;
   i3 = l39;
-  f34(self, j0, i1, i2, i3);
+  f31(self, j0, i1, i2, i3);
   j0 = p1;
   i1 = l25;
   i2 = 19u;
   i3 = l38;
-  f34(self, j0, i1, i2, i3);
+  f31(self, j0, i1, i2, i3);
   j0 = p1;
   i1 = l25;
   i2 = 20u;
   i3 = l60;
-  f34(self, j0, i1, i2, i3);
+  f31(self, j0, i1, i2, i3);
   j0 = p1;
   i1 = l25;
   i2 = 21u;
   i3 = l37;
-  f34(self, j0, i1, i2, i3);
+  f31(self, j0, i1, i2, i3);
   j0 = p1;
   i1 = l25;
   i2 = 22u;
   i3 = l36;
-  f34(self, j0, i1, i2, i3);
+  f31(self, j0, i1, i2, i3);
   j0 = p1;
   i1 = l25;
   i2 = 23u;
   i3 = l35;
-  f34(self, j0, i1, i2, i3);
+  f31(self, j0, i1, i2, i3);
   j0 = p1;
   i1 = l25;
   i2 = 24u;
   i3 = 255u;
-  f34(self, j0, i1, i2, i3);
+  f31(self, j0, i1, i2, i3);
   j0 = l7;
   j1 = 352ull;
   j0 += j1;
@@ -33070,11 +32995,11 @@ static void f31(module *self, u64 p0, u64 p1, u64 p2, u64 p3, u64 p4, u64 p5, u6
   i3 = 6u;
   i2 += i3;
   l40 = i2;
-  f26(self, j0, j1, i2); if (NEVER(self->is_broken)) return;
+  f23(self, j0, j1, i2); if (NEVER(self->is_broken)) return;
   j0 = p1;
   j1 = l9;
   j2 = 21ull;
-  f39(self, j0, j1, j2);
+  f36(self, j0, j1, j2);
   j0 = p1;
   j1 = 205ull;
   j0 += j1;
@@ -33128,7 +33053,7 @@ static void f31(module *self, u64 p0, u64 p1, u64 p2, u64 p3, u64 p4, u64 p5, u6
   j1 = 296ull;
   j0 += j1;
   j1 = p6;
-  f32(self, j0, j1);
+  f29(self, j0, j1);
   j0 = p1;
   j1 = 196ull;
   j0 += j1;
@@ -33166,7 +33091,7 @@ static void f31(module *self, u64 p0, u64 p1, u64 p2, u64 p3, u64 p4, u64 p5, u6
   j0 = l7;
   j1 = p1;
   i2 = l40;
-  f26(self, j0, j1, i2); if (NEVER(self->is_broken)) return;
+  f23(self, j0, j1, i2); if (NEVER(self->is_broken)) return;
   j0 = p1;
   j1 = 2002ull;
   j0 += j1;
@@ -33519,7 +33444,7 @@ static void f31(module *self, u64 p0, u64 p1, u64 p2, u64 p3, u64 p4, u64 p5, u6
   j2 = p3;
   j3 = 1048908ull;
   i4 = l55;
-  f33(self, j0, j1, j2, j3, i4);
+  f30(self, j0, j1, j2, j3, i4);
   i0 = l22;
   i1 = 1u;
   i0 &= i1;
@@ -33529,7 +33454,7 @@ static void f31(module *self, u64 p0, u64 p1, u64 p2, u64 p3, u64 p4, u64 p5, u6
   i2 = 32768u;
   i3 = 32u;
   i4 = 7u;
-  f22(self, j0, i1, i2, i3, i4);
+  f19(self, j0, i1, i2, i3, i4);
   goto B212;
   B213:;
   i0 = l22;
@@ -33541,7 +33466,7 @@ static void f31(module *self, u64 p0, u64 p1, u64 p2, u64 p3, u64 p4, u64 p5, u6
   i2 = 65536u;
   i3 = 0u;
   i4 = 0u;
-  f22(self, j0, i1, i2, i3, i4);
+  f19(self, j0, i1, i2, i3, i4);
   B212:;
   j0 = p2;
   i0 = (u32)(j0);
@@ -33713,7 +33638,7 @@ static void f31(module *self, u64 p0, u64 p1, u64 p2, u64 p3, u64 p4, u64 p5, u6
   self->g0 = j0;
 }
 
-static void f32(module *self, u64 p0, u64 p1) {
+static void f29(module *self, u64 p0, u64 p1) {
   u32 l3 = 0, l4 = 0, l5 = 0, l6 = 0, l7 = 0, l8 = 0, l9 = 0, l10 = 0, 
       l11 = 0, l12 = 0, l13 = 0, l14 = 0, l15 = 0, l16 = 0, l17 = 0, l18 = 0, 
       l19 = 0, l20 = 0, l21 = 0, l22 = 0, l23 = 0, l24 = 0, l25 = 0, l26 = 0, 
@@ -34346,7 +34271,7 @@ static void f32(module *self, u64 p0, u64 p1) {
   i32_store8(j0, i1);
 }
 
-static void f33(module *self, u64 p0, u64 p1, u64 p2, u64 p3, u32 p4) {
+static void f30(module *self, u64 p0, u64 p1, u64 p2, u64 p3, u32 p4) {
   u32 l34 = 0, l35 = 0, l36 = 0, l37 = 0, l38 = 0, l39 = 0, l40 = 0, l41 = 0, 
       l42 = 0, l43 = 0, l44 = 0, l45 = 0, l46 = 0;
   u64 l5 = 0, l6 = 0, l7 = 0, l8 = 0, l9 = 0, l10 = 0, l11 = 0, l12 = 0, 
@@ -35202,7 +35127,7 @@ static void f33(module *self, u64 p0, u64 p1, u64 p2, u64 p3, u32 p4) {
   i32_store(j0, i1);
 }
 
-static void f34(module *self, u64 p0, u32 p1, u32 p2, u32 p3) {
+static void f31(module *self, u64 p0, u32 p1, u32 p2, u32 p3) {
   u32 l5 = 0, l6 = 0, l7 = 0;
   u64 l4 = 0;
   u8 *m = self->memory;
@@ -35289,7 +35214,7 @@ static void f34(module *self, u64 p0, u32 p1, u32 p2, u32 p3) {
   j1 = p0;
   i2 = l6;
   i3 = p2;
-  f41(self, j0, j1, i2, i3);
+  f38(self, j0, j1, i2, i3);
   B0:;
   i0 = p1;
   i1 = 4294966337u;
@@ -35365,7 +35290,7 @@ static void f34(module *self, u64 p0, u32 p1, u32 p2, u32 p3) {
   j1 = p0;
   i2 = l6;
   i3 = p3;
-  f41(self, j0, j1, i2, i3);
+  f38(self, j0, j1, i2, i3);
   B4:;
   j0 = l4;
   j1 = 16ull;
@@ -35373,7 +35298,7 @@ static void f34(module *self, u64 p0, u32 p1, u32 p2, u32 p3) {
   self->g0 = j0;
 }
 
-static u32 f35(module *self, u64 p0, u64 p1, u32 p2, u32 p3, u32 p4, u32 p5) {
+static u32 f32(module *self, u64 p0, u64 p1, u32 p2, u32 p3, u32 p4, u32 p5) {
   u32 l7 = 0;
   u64 l6 = 0;
   u8 *m = self->memory;
@@ -35416,7 +35341,7 @@ static u32 f35(module *self, u64 p0, u64 p1, u32 p2, u32 p3, u32 p4, u32 p5) {
   i2 = (u32)(j2);
   i2 = i32_load8_u(j2);
   i3 = p2;
-  i0 = f44(self, j0, j1, i2, i3); if (NEVER(self->is_broken)) return ZAK_BROKEN;
+  i0 = f41(self, j0, j1, i2, i3); if (NEVER(self->is_broken)) return ZAK_BROKEN;
   goto Bfunc;
   B2:;
   i0 = p2;
@@ -35450,7 +35375,7 @@ static u32 f35(module *self, u64 p0, u64 p1, u32 p2, u32 p3, u32 p4, u32 p5) {
   i3 = p3;
   i4 = p4;
   i5 = p5;
-  f37(self, j0, j1, i2, i3, i4, i5); if (NEVER(self->is_broken)) return ZAK_BROKEN;
+  f34(self, j0, j1, i2, i3, i4, i5); if (NEVER(self->is_broken)) return ZAK_BROKEN;
   i0 = l7;
   i1 = 1u;
   i0 += i1;
@@ -35477,7 +35402,7 @@ static u32 f35(module *self, u64 p0, u64 p1, u32 p2, u32 p3, u32 p4, u32 p5) {
   i2 = (u32)(j2);
   i2 = i32_load8_u(j2);
   i3 = p2;
-  i0 = f44(self, j0, j1, i2, i3); if (NEVER(self->is_broken)) return ZAK_BROKEN;
+  i0 = f41(self, j0, j1, i2, i3); if (NEVER(self->is_broken)) return ZAK_BROKEN;
   i1 = 65280u;
   i0 &= i1;
   p2 = i0;
@@ -35487,7 +35412,7 @@ static u32 f35(module *self, u64 p0, u64 p1, u32 p2, u32 p3, u32 p4, u32 p5) {
   return i0;
 }
 
-static void f36(module *self, u64 p0, u64 p1, u64 p2, u32 p3, u64 p4) {
+static void f33(module *self, u64 p0, u64 p1, u64 p2, u32 p3, u64 p4) {
   u32 l5 = 0, l6 = 0, l7 = 0, l8 = 0, l9 = 0, l10 = 0, l11 = 0, l12 = 0, 
       l13 = 0, l14 = 0, l15 = 0, l16 = 0, l17 = 0, l18 = 0, l19 = 0, l20 = 0, 
       l21 = 0, l22 = 0, l23 = 0, l24 = 0, l25 = 0;
@@ -35829,7 +35754,7 @@ static void f36(module *self, u64 p0, u64 p1, u64 p2, u32 p3, u64 p4) {
       i3 = l10;
       i2 += i3;
       i3 = p3;
-      f42(self, j0, i1, i2, i3);
+      f39(self, j0, i1, i2, i3);
       i0 = l10;
       i1 = l11;
       i0 += i1;
@@ -35923,7 +35848,7 @@ static void f36(module *self, u64 p0, u64 p1, u64 p2, u32 p3, u64 p4) {
       i3 = l10;
       i2 += i3;
       i3 = p3;
-      f42(self, j0, i1, i2, i3);
+      f39(self, j0, i1, i2, i3);
       i0 = l10;
       i1 = l11;
       i0 += i1;
@@ -36146,7 +36071,7 @@ static void f36(module *self, u64 p0, u64 p1, u64 p2, u32 p3, u64 p4) {
       i2 = p3;
       i3 = 32u;
       i4 = l12;
-      f22(self, j0, i1, i2, i3, i4);
+      f19(self, j0, i1, i2, i3, i4);
       i0 = l10;
       i1 = l11;
       i0 += i1;
@@ -36208,7 +36133,7 @@ static void f36(module *self, u64 p0, u64 p1, u64 p2, u32 p3, u64 p4) {
       i2 = p3;
       i3 = 0u;
       i4 = 0u;
-      f22(self, j0, i1, i2, i3, i4);
+      f19(self, j0, i1, i2, i3, i4);
       i0 = l10;
       i1 = l11;
       i0 += i1;
@@ -36363,7 +36288,7 @@ static void f36(module *self, u64 p0, u64 p1, u64 p2, u32 p3, u64 p4) {
       i2 = p3;
       i3 = 255u;
       i4 = 255u;
-      f22(self, j0, i1, i2, i3, i4);
+      f19(self, j0, i1, i2, i3, i4);
       i0 = l10;
       i1 = l11;
       i0 += i1;
@@ -36523,7 +36448,7 @@ static void f36(module *self, u64 p0, u64 p1, u64 p2, u32 p3, u64 p4) {
       i2 = p3;
       i3 = l12;
       i4 = l12;
-      f22(self, j0, i1, i2, i3, i4);
+      f19(self, j0, i1, i2, i3, i4);
       i0 = l10;
       i1 = l11;
       i0 += i1;
@@ -36548,7 +36473,7 @@ static void f36(module *self, u64 p0, u64 p1, u64 p2, u32 p3, u64 p4) {
   Bfunc:;
 }
 
-static void f37(module *self, u64 p0, u64 p1, u32 p2, u32 p3, u32 p4, u32 p5) {
+static void f34(module *self, u64 p0, u64 p1, u32 p2, u32 p3, u32 p4, u32 p5) {
   u32 l28 = 0, l29 = 0, l30 = 0, l31 = 0, l32 = 0, l33 = 0, l34 = 0, l35 = 0, 
       l36 = 0, l37 = 0, l38 = 0, l39 = 0, l40 = 0, l41 = 0, l42 = 0;
   u64 l6 = 0, l7 = 0, l8 = 0, l9 = 0, l10 = 0, l11 = 0, l12 = 0, l13 = 0, 
@@ -36659,7 +36584,7 @@ static void f37(module *self, u64 p0, u64 p1, u32 p2, u32 p3, u32 p4, u32 p5) {
   i1 = (u32)(j1);
   i1 = i32_load8_u(j1);
   i2 = p3;
-  i0 = f21(self, j0, i1, i2);
+  i0 = f18(self, j0, i1, i2);
   l28 = i0;
   j0 = p0;
   j1 = 71ull;
@@ -36793,7 +36718,7 @@ static void f37(module *self, u64 p0, u64 p1, u32 p2, u32 p3, u32 p4, u32 p5) {
   i1 = (u32)(j1);
   i1 = i32_load8_u(j1);
   i2 = p4;
-  i0 = f21(self, j0, i1, i2);
+  i0 = f18(self, j0, i1, i2);
   p2 = i0;
   j0 = p0;
   j1 = 71ull;
@@ -37294,7 +37219,7 @@ static void f37(module *self, u64 p0, u64 p1, u32 p2, u32 p3, u32 p4, u32 p5) {
     i3 *= i4;
     i2 += i3;
     l29 = i2;
-    f24(self, j0, j1, i2);
+    f21(self, j0, j1, i2);
     j0 = p0;
     j1 = 2003ull;
     j0 += j1;
@@ -37326,7 +37251,7 @@ static void f37(module *self, u64 p0, u64 p1, u32 p2, u32 p3, u32 p4, u32 p5) {
     i1 = (u32)(j1);
     i1 = i32_load8_u(j1);
     i2 = p2;
-    i0 = f21(self, j0, i1, i2);
+    i0 = f18(self, j0, i1, i2);
     p2 = i0;
     j0 = p0;
     j1 = 71ull;
@@ -37581,7 +37506,7 @@ static void f37(module *self, u64 p0, u64 p1, u32 p2, u32 p3, u32 p4, u32 p5) {
     i2 = l31;
     i3 = 0u;
     i4 = 0u;
-    f22(self, j0, i1, i2, i3, i4);
+    f19(self, j0, i1, i2, i3, i4);
     i0 = l29;
     i1 = 1u;
     i0 += i1;
@@ -37855,7 +37780,7 @@ static void f37(module *self, u64 p0, u64 p1, u32 p2, u32 p3, u32 p4, u32 p5) {
     j2 = l27;
     i2 = (u32)(j2);
     i2 = i32_load8_u(j2);
-    i0 = f21(self, j0, i1, i2);
+    i0 = f18(self, j0, i1, i2);
     p2 = i0;
     j0 = p0;
     j1 = 71ull;
@@ -38613,7 +38538,7 @@ static void f37(module *self, u64 p0, u64 p1, u32 p2, u32 p3, u32 p4, u32 p5) {
   Bfunc:;
 }
 
-static void f38(module *self, u64 p0, u32 p1, u32 p2, u32 p3) {
+static void f35(module *self, u64 p0, u32 p1, u32 p2, u32 p3) {
   u32 l7 = 0, l8 = 0;
   u64 l4 = 0, l5 = 0, l6 = 0;
   u8 *m = self->memory;
@@ -38632,7 +38557,7 @@ static void f38(module *self, u64 p0, u32 p1, u32 p2, u32 p3) {
   i3 = 6u;
   i2 += i3;
   l7 = i2;
-  f26(self, j0, j1, i2); if (NEVER(self->is_broken)) return;
+  f23(self, j0, j1, i2); if (NEVER(self->is_broken)) return;
   j0 = p0;
   j1 = 146ull;
   j0 += j1;
@@ -38687,7 +38612,7 @@ static void f38(module *self, u64 p0, u32 p1, u32 p2, u32 p3) {
   j1 = 16ull;
   j0 += j1;
   j1 = l5;
-  f32(self, j0, j1);
+  f29(self, j0, j1);
   j0 = p0;
   j1 = 196ull;
   j0 += j1;
@@ -38771,7 +38696,7 @@ static void f38(module *self, u64 p0, u32 p1, u32 p2, u32 p3) {
   j1 = 16ull;
   j0 += j1;
   j1 = l5;
-  f32(self, j0, j1);
+  f29(self, j0, j1);
   j0 = p0;
   j1 = 196ull;
   j0 += j1;
@@ -38835,7 +38760,7 @@ static void f38(module *self, u64 p0, u32 p1, u32 p2, u32 p3) {
   j1 = 16ull;
   j0 += j1;
   j1 = l5;
-  f32(self, j0, j1);
+  f29(self, j0, j1);
   j0 = p0;
   j1 = 196ull;
   j0 += j1;
@@ -38866,14 +38791,14 @@ static void f38(module *self, u64 p0, u32 p1, u32 p2, u32 p3) {
   j0 = l4;
   j1 = p0;
   i2 = l7;
-  f26(self, j0, j1, i2); if (NEVER(self->is_broken)) return;
+  f23(self, j0, j1, i2); if (NEVER(self->is_broken)) return;
   j0 = l4;
   j1 = 32ull;
   j0 += j1;
   self->g0 = j0;
 }
 
-static void f39(module *self, u64 p0, u64 p1, u64 p2) {
+static void f36(module *self, u64 p0, u64 p1, u64 p2) {
   u32 l9 = 0, l10 = 0, l11 = 0, l12 = 0, l13 = 0;
   u64 l3 = 0, l4 = 0, l5 = 0, l6 = 0, l7 = 0, l8 = 0;
   u8 *m = self->memory;
@@ -38959,7 +38884,7 @@ static void f39(module *self, u64 p0, u64 p1, u64 p2) {
     i32_store8(j0, i1);
     j0 = l3;
     j1 = l6;
-    f32(self, j0, j1);
+    f29(self, j0, j1);
     j0 = l4;
     i0 = (u32)(j0);
     j1 = l3;
@@ -39030,7 +38955,7 @@ static void f39(module *self, u64 p0, u64 p1, u64 p2) {
     i32_store8(j0, i1);
     j0 = l3;
     j1 = l6;
-    f32(self, j0, j1);
+    f29(self, j0, j1);
     j0 = l4;
     i0 = (u32)(j0);
     j1 = l3;
@@ -39072,7 +38997,7 @@ static void f39(module *self, u64 p0, u64 p1, u64 p2) {
   self->g0 = j0;
 }
 
-static void f40(module *self, u64 p0, u32 p1, u32 p2, u64 p3) {
+static void f37(module *self, u64 p0, u32 p1, u32 p2, u64 p3) {
   u32 l7 = 0, l8 = 0;
   u64 l4 = 0, l5 = 0, l6 = 0;
   u8 *m = self->memory;
@@ -39091,7 +39016,7 @@ static void f40(module *self, u64 p0, u32 p1, u32 p2, u64 p3) {
   i3 = 6u;
   i2 += i3;
   l7 = i2;
-  f26(self, j0, j1, i2); if (NEVER(self->is_broken)) return;
+  f23(self, j0, j1, i2); if (NEVER(self->is_broken)) return;
   i0 = p2;
   i1 = 32u;
   i0 += i1;
@@ -39149,7 +39074,7 @@ static void f40(module *self, u64 p0, u32 p1, u32 p2, u64 p3) {
   j1 = 16ull;
   j0 += j1;
   j1 = l6;
-  f32(self, j0, j1);
+  f29(self, j0, j1);
   j0 = p0;
   j1 = 196ull;
   j0 += j1;
@@ -39214,7 +39139,7 @@ static void f40(module *self, u64 p0, u32 p1, u32 p2, u64 p3) {
   j0 = l4;
   j1 = p0;
   i2 = l7;
-  f26(self, j0, j1, i2); if (NEVER(self->is_broken)) return;
+  f23(self, j0, j1, i2); if (NEVER(self->is_broken)) return;
   j0 = p3;
   j1 = 3ull;
   j0 += j1;
@@ -39227,7 +39152,7 @@ static void f40(module *self, u64 p0, u32 p1, u32 p2, u64 p3) {
   self->g0 = j0;
 }
 
-static void f41(module *self, u64 p0, u64 p1, u32 p2, u32 p3) {
+static void f38(module *self, u64 p0, u64 p1, u32 p2, u32 p3) {
   u32 l7 = 0, l8 = 0;
   u64 l4 = 0, l5 = 0, l6 = 0;
   u8 *m = self->memory;
@@ -39319,7 +39244,7 @@ static void f41(module *self, u64 p0, u64 p1, u32 p2, u32 p3) {
   i32_store8(j0, i1);
   j0 = l4;
   j1 = l6;
-  f32(self, j0, j1);
+  f29(self, j0, j1);
   j0 = p1;
   j1 = 196ull;
   j0 += j1;
@@ -39976,7 +39901,7 @@ static void f41(module *self, u64 p0, u64 p1, u32 p2, u32 p3) {
   self->g0 = j0;
 }
 
-static void f42(module *self, u64 p0, u32 p1, u32 p2, u32 p3) {
+static void f39(module *self, u64 p0, u32 p1, u32 p2, u32 p3) {
   u32 l6 = 0, l7 = 0, l8 = 0, l9 = 0, l10 = 0, l11 = 0, l12 = 0, l13 = 0, 
       l14 = 0, l15 = 0, l16 = 0;
   u64 l4 = 0, l5 = 0;
@@ -40017,7 +39942,7 @@ static void f42(module *self, u64 p0, u32 p1, u32 p2, u32 p3) {
   i4 = p2;
   i5 = p3;
   i6 = l6;
-  i1 = f43(self, j1, j2, i3, i4, i5, i6);
+  i1 = f40(self, j1, j2, i3, i4, i5, i6);
   l7 = i1;
   i0 = i0 <= i1;
   if (i0) {goto B0;}
@@ -40362,7 +40287,7 @@ static void f42(module *self, u64 p0, u32 p1, u32 p2, u32 p3) {
     i1 = (u32)(j1);
     i1 = i32_load8_u(j1);
     i2 = l15;
-    i0 = f21(self, j0, i1, i2);
+    i0 = f18(self, j0, i1, i2);
     l7 = i0;
     i0 = l6;
     i0 = !(i0);
@@ -40471,7 +40396,7 @@ static void f42(module *self, u64 p0, u32 p1, u32 p2, u32 p3) {
   self->g0 = j0;
 }
 
-static u32 f43(module *self, u64 p0, u64 p1, u32 p2, u32 p3, u32 p4, u32 p5) {
+static u32 f40(module *self, u64 p0, u64 p1, u32 p2, u32 p3, u32 p4, u32 p5) {
   u32 l6 = 0, l7 = 0, l8 = 0, l9 = 0, l10 = 0, l11 = 0, l12 = 0, l13 = 0, 
       l14 = 0;
   u8 *m = self->memory;
@@ -40900,7 +40825,7 @@ static u32 f43(module *self, u64 p0, u64 p1, u32 p2, u32 p3, u32 p4, u32 p5) {
   return i0;
 }
 
-static u32 f44(module *self, u64 p0, u64 p1, u32 p2, u32 p3) {
+static u32 f41(module *self, u64 p0, u64 p1, u32 p2, u32 p3) {
   u32 l5 = 0, l6 = 0, l7 = 0;
   u64 l4 = 0;
   u8 *m = self->memory;
@@ -40991,7 +40916,7 @@ static u32 f44(module *self, u64 p0, u64 p1, u32 p2, u32 p3) {
   i4 = 1u;
   i3 <<= (i4 & 31);
   i2 += i3;
-  f24(self, j0, j1, i2);
+  f21(self, j0, j1, i2);
   i0 = 4294967295u;
   j1 = l4;
   i1 = (u32)(j1);
@@ -41053,7 +40978,7 @@ static u32 f44(module *self, u64 p0, u64 p1, u32 p2, u32 p3) {
   j4 = l4;
   j5 = 32ull;
   j4 += j5;
-  f36(self, j0, j1, j2, i3, j4); if (NEVER(self->is_broken)) return ZAK_BROKEN;
+  f33(self, j0, j1, j2, i3, j4); if (NEVER(self->is_broken)) return ZAK_BROKEN;
   B0:;
   j0 = l4;
   j1 = 48ull;
@@ -41063,7 +40988,7 @@ static u32 f44(module *self, u64 p0, u64 p1, u32 p2, u32 p3) {
   return i0;
 }
 
-static void f45(module *self, u64 p0, u64 p1, u64 p2) {
+static void f42(module *self, u64 p0, u64 p1, u64 p2) {
   u64 l3 = 0, l4 = 0, l5 = 0, l6 = 0, l7 = 0, l8 = 0;
   u8 *m = self->memory;
   u32 i0, i1, i2;
@@ -41124,7 +41049,7 @@ static void f45(module *self, u64 p0, u64 p1, u64 p2) {
   j0 += j1;
   j1 = 2048ull;
   j2 = 1ull;
-  f176(self, j0, j1, j2); m = self->memory; if (NEVER(self->is_broken)) return;
+  f124(self, j0, j1, j2); m = self->memory; if (NEVER(self->is_broken)) return;
   j0 = l3;
   i0 = (u32)(j0);
   j0 = i64_load(j0 + 80u);
@@ -41214,7 +41139,7 @@ static void f45(module *self, u64 p0, u64 p1, u64 p2) {
   j0 += j1;
   j1 = 24ull;
   j2 = 8ull;
-  f176(self, j0, j1, j2); m = self->memory; if (NEVER(self->is_broken)) return;
+  f124(self, j0, j1, j2); m = self->memory; if (NEVER(self->is_broken)) return;
   j0 = l3;
   i0 = (u32)(j0);
   j0 = i64_load(j0 + 64u);
@@ -41223,7 +41148,7 @@ static void f45(module *self, u64 p0, u64 p1, u64 p2) {
   i0 &= i1;
   if (i0) {goto B2;}
   j0 = l4;
-  f179(self, j0);
+  f127(self, j0);
   B3:;
   j0 = p0;
   i0 = (u32)(j0);
@@ -41287,7 +41212,7 @@ static void f45(module *self, u64 p0, u64 p1, u64 p2) {
   j0 += j1;
   j1 = 3584ull;
   j2 = 1ull;
-  f176(self, j0, j1, j2); m = self->memory; if (NEVER(self->is_broken)) return;
+  f124(self, j0, j1, j2); m = self->memory; if (NEVER(self->is_broken)) return;
   j0 = l3;
   i0 = (u32)(j0);
   j0 = i64_load(j0 + 48u);
@@ -41380,7 +41305,7 @@ static void f45(module *self, u64 p0, u64 p1, u64 p2) {
   j0 += j1;
   j1 = 24ull;
   j2 = 8ull;
-  f176(self, j0, j1, j2); m = self->memory; if (NEVER(self->is_broken)) return;
+  f124(self, j0, j1, j2); m = self->memory; if (NEVER(self->is_broken)) return;
   j0 = l3;
   i0 = (u32)(j0);
   j0 = i64_load(j0 + 32u);
@@ -41389,7 +41314,7 @@ static void f45(module *self, u64 p0, u64 p1, u64 p2) {
   i0 &= i1;
   if (i0) {goto B7;}
   j0 = l4;
-  f179(self, j0);
+  f127(self, j0);
   B8:;
   j0 = l7;
   i0 = (u32)(j0);
@@ -41400,12 +41325,12 @@ static void f45(module *self, u64 p0, u64 p1, u64 p2) {
   j0 = i64_load(j0 + 16u);
   p2 = j0;
   j0 = l7;
-  f179(self, j0);
+  f127(self, j0);
   j0 = p2;
   i0 = !(j0);
   if (i0) {goto B12;}
   j0 = l5;
-  f179(self, j0);
+  f127(self, j0);
   B12:;
   j0 = p0;
   i0 = (u32)(j0);
@@ -41469,7 +41394,7 @@ static void f45(module *self, u64 p0, u64 p1, u64 p2) {
   j0 += j1;
   j1 = 4096ull;
   j2 = 1ull;
-  f176(self, j0, j1, j2); m = self->memory; if (NEVER(self->is_broken)) return;
+  f124(self, j0, j1, j2); m = self->memory; if (NEVER(self->is_broken)) return;
   j0 = l3;
   i0 = (u32)(j0);
   j0 = i64_load(j0 + 16u);
@@ -41560,7 +41485,7 @@ static void f45(module *self, u64 p0, u64 p1, u64 p2) {
   j0 = l3;
   j1 = 24ull;
   j2 = 8ull;
-  f176(self, j0, j1, j2); m = self->memory; if (NEVER(self->is_broken)) return;
+  f124(self, j0, j1, j2); m = self->memory; if (NEVER(self->is_broken)) return;
   j0 = l3;
   i0 = (u32)(j0);
   j0 = i64_load(j0);
@@ -41569,7 +41494,7 @@ static void f45(module *self, u64 p0, u64 p1, u64 p2) {
   i0 &= i1;
   if (i0) {goto B13;}
   j0 = l4;
-  f179(self, j0);
+  f127(self, j0);
   B14:;
   j0 = l8;
   i0 = (u32)(j0);
@@ -41580,12 +41505,12 @@ static void f45(module *self, u64 p0, u64 p1, u64 p2) {
   j0 = i64_load(j0 + 16u);
   p2 = j0;
   j0 = l8;
-  f179(self, j0);
+  f127(self, j0);
   j0 = p2;
   i0 = !(j0);
   if (i0) {goto B18;}
   j0 = l5;
-  f179(self, j0);
+  f127(self, j0);
   B18:;
   j0 = l7;
   i0 = (u32)(j0);
@@ -41596,12 +41521,12 @@ static void f45(module *self, u64 p0, u64 p1, u64 p2) {
   j0 = i64_load(j0 + 16u);
   p2 = j0;
   j0 = l7;
-  f179(self, j0);
+  f127(self, j0);
   j0 = p2;
   i0 = !(j0);
   if (i0) {goto B19;}
   j0 = l5;
-  f179(self, j0);
+  f127(self, j0);
   B19:;
   j0 = p0;
   i0 = (u32)(j0);
@@ -41707,7 +41632,7 @@ static void f45(module *self, u64 p0, u64 p1, u64 p2) {
   self->g0 = j0;
 }
 
-static void f46(module *self, u64 p0, u64 p1) {
+static void f43(module *self, u64 p0, u64 p1) {
   u32 l14 = 0, l15 = 0, l16 = 0, l17 = 0, l18 = 0, l19 = 0, l20 = 0, l21 = 0, 
       l22 = 0, l23 = 0, l24 = 0, l25 = 0, l26 = 0, l27 = 0, l28 = 0, l29 = 0;
   u64 l2 = 0, l3 = 0, l4 = 0, l5 = 0, l6 = 0, l7 = 0, l8 = 0, l9 = 0, 
@@ -41957,7 +41882,7 @@ static void f46(module *self, u64 p0, u64 p1) {
   j0 += j1;
   j1 = 262144ull;
   j2 = 4ull;
-  f176(self, j0, j1, j2); m = self->memory; if (NEVER(self->is_broken)) return;
+  f124(self, j0, j1, j2); m = self->memory; if (NEVER(self->is_broken)) return;
   j0 = l2;
   i0 = (u32)(j0);
   j0 = i64_load(j0 + 40u);
@@ -41980,7 +41905,7 @@ static void f46(module *self, u64 p0, u64 p1) {
   j0 += j1;
   j1 = 7077888ull;
   j2 = 1ull;
-  f176(self, j0, j1, j2); m = self->memory; if (NEVER(self->is_broken)) return;
+  f124(self, j0, j1, j2); m = self->memory; if (NEVER(self->is_broken)) return;
   j0 = l2;
   i0 = (u32)(j0);
   j0 = i64_load(j0 + 32u);
@@ -42005,7 +41930,7 @@ static void f46(module *self, u64 p0, u64 p1) {
   j0 += j1;
   j1 = 4096ull;
   j2 = 4ull;
-  f176(self, j0, j1, j2); m = self->memory; if (NEVER(self->is_broken)) return;
+  f124(self, j0, j1, j2); m = self->memory; if (NEVER(self->is_broken)) return;
   j0 = l2;
   i0 = (u32)(j0);
   j0 = i64_load(j0 + 8u);
@@ -42014,7 +41939,7 @@ static void f46(module *self, u64 p0, u64 p1) {
   i0 &= i1;
   if (i0) {goto B4;}
   j0 = l7;
-  f179(self, j0);
+  f127(self, j0);
   j0 = 9ull;
   l8 = j0;
   goto B2;
@@ -42147,7 +42072,7 @@ static void f46(module *self, u64 p0, u64 p1) {
   j1 = l2;
   j2 = 7528ull;
   j1 += j2;
-  f32(self, j0, j1);
+  f29(self, j0, j1);
   j0 = l2;
   j1 = 6248ull;
   j0 += j1;
@@ -42442,7 +42367,7 @@ static void f46(module *self, u64 p0, u64 p1) {
   l8 = j0;
   B2:;
   j0 = l6;
-  f179(self, j0);
+  f127(self, j0);
   i0 = 0u;
   l17 = i0;
   j0 = l2;
@@ -43522,12 +43447,12 @@ static void f46(module *self, u64 p0, u64 p1) {
   j0 = i64_load(j0 + 16u);
   l11 = j0;
   j0 = l3;
-  f179(self, j0);
+  f127(self, j0);
   j0 = l11;
   i0 = !(j0);
   if (i0) {goto B11;}
   j0 = l12;
-  f179(self, j0);
+  f127(self, j0);
   B11:;
   i0 = l15;
   i1 = 255u;
@@ -43544,12 +43469,12 @@ static void f46(module *self, u64 p0, u64 p1) {
   j0 = i64_load(j0 + 16u);
   l11 = j0;
   j0 = l4;
-  f179(self, j0);
+  f127(self, j0);
   j0 = l11;
   i0 = !(j0);
   if (i0) {goto B12;}
   j0 = l12;
-  f179(self, j0);
+  f127(self, j0);
   B12:;
   j0 = l8;
   j1 = 255ull;
@@ -43570,12 +43495,12 @@ static void f46(module *self, u64 p0, u64 p1) {
   j0 = i64_load(j0 + 16u);
   l11 = j0;
   j0 = l5;
-  f179(self, j0);
+  f127(self, j0);
   j0 = l11;
   i0 = !(j0);
   if (i0) {goto B13;}
   j0 = l12;
-  f179(self, j0);
+  f127(self, j0);
   B13:;
   j0 = p0;
   i0 = (u32)(j0);
@@ -43608,7 +43533,7 @@ static void f46(module *self, u64 p0, u64 p1) {
   self->g0 = j0;
 }
 
-static void f47(module *self, u64 p0, u64 p1, u32 p2, u32 p3) {
+static void f44(module *self, u64 p0, u64 p1, u32 p2, u32 p3) {
   u32 l6 = 0, l7 = 0, l8 = 0, l9 = 0, l10 = 0;
   u64 l4 = 0, l5 = 0;
   u8 *m = self->memory;
@@ -44109,7 +44034,7 @@ static void f47(module *self, u64 p0, u64 p1, u32 p2, u32 p3) {
   i2 = 965u;
   i3 = p3;
   i4 = l6;
-  f48(self, j0, j1, i2, i3, i4);
+  f45(self, j0, j1, i2, i3, i4);
   j0 = l4;
   i0 = (u32)(j0);
   i0 = i32_load8_u(j0 + 1u);
@@ -44127,7 +44052,7 @@ static void f47(module *self, u64 p0, u64 p1, u32 p2, u32 p3) {
   i2 = 966u;
   i3 = p3;
   i4 = l6;
-  f48(self, j0, j1, i2, i3, i4);
+  f45(self, j0, j1, i2, i3, i4);
   j0 = l4;
   i0 = (u32)(j0);
   i0 = i32_load8_u(j0 + 9u);
@@ -44145,7 +44070,7 @@ static void f47(module *self, u64 p0, u64 p1, u32 p2, u32 p3) {
   i2 = 967u;
   i3 = p3;
   i4 = l6;
-  f48(self, j0, j1, i2, i3, i4);
+  f45(self, j0, j1, i2, i3, i4);
   j0 = l4;
   i0 = (u32)(j0);
   i0 = i32_load8_u(j0 + 17u);
@@ -44163,7 +44088,7 @@ static void f47(module *self, u64 p0, u64 p1, u32 p2, u32 p3) {
   i2 = 968u;
   i3 = p3;
   i4 = l6;
-  f48(self, j0, j1, i2, i3, i4);
+  f45(self, j0, j1, i2, i3, i4);
   j0 = l4;
   i0 = (u32)(j0);
   i0 = i32_load8_u(j0 + 25u);
@@ -44191,7 +44116,7 @@ static void f47(module *self, u64 p0, u64 p1, u32 p2, u32 p3) {
   self->g0 = j0;
 }
 
-static void f48(module *self, u64 p0, u64 p1, u32 p2, u32 p3, u32 p4) {
+static void f45(module *self, u64 p0, u64 p1, u32 p2, u32 p3, u32 p4) {
   u32 l6 = 0, l7 = 0, l8 = 0, l9 = 0, l10 = 0;
   u64 l5 = 0;
   u8 *m = self->memory;
@@ -44282,7 +44207,7 @@ static void f48(module *self, u64 p0, u64 p1, u32 p2, u32 p3, u32 p4) {
   j1 = p1;
   i2 = l8;
   i3 = p3;
-  f41(self, j0, j1, i2, i3);
+  f38(self, j0, j1, i2, i3);
   j0 = l5;
   i0 = (u32)(j0);
   i0 = i32_load8_u(j0 + 8u);
@@ -44374,7 +44299,7 @@ static void f48(module *self, u64 p0, u64 p1, u32 p2, u32 p3, u32 p4) {
   j1 = p1;
   i2 = l8;
   i3 = p4;
-  f41(self, j0, j1, i2, i3);
+  f38(self, j0, j1, i2, i3);
   j0 = l5;
   i0 = (u32)(j0);
   i0 = i32_load8_u(j0 + 1u);
@@ -44398,7 +44323,7 @@ static void f48(module *self, u64 p0, u64 p1, u32 p2, u32 p3, u32 p4) {
   self->g0 = j0;
 }
 
-static void f49(module *self, u64 p0, u64 p1, u64 p2) {
+static void f46(module *self, u64 p0, u64 p1, u64 p2) {
   u32 l20 = 0, l21 = 0, l22 = 0, l23 = 0, l24 = 0, l25 = 0, l26 = 0, l27 = 0, 
       l28 = 0;
   u64 l3 = 0, l4 = 0, l5 = 0, l6 = 0, l7 = 0, l8 = 0, l9 = 0, l10 = 0, 
@@ -45768,7 +45693,7 @@ static void f49(module *self, u64 p0, u64 p1, u64 p2) {
     j0 += j1;
     j1 = l19;
     j2 = l18;
-    f50(self, j0, j1, j2);
+    f47(self, j0, j1, j2);
     j0 = l3;
     i0 = (u32)(j0);
     j0 = i64_load(j0 + 288u);
@@ -45961,7 +45886,7 @@ static void f49(module *self, u64 p0, u64 p1, u64 p2) {
     j2 = l5;
     j3 = l4;
     i4 = l21;
-    f51(self, j0, j1, j2, j3, i4); if (NEVER(self->is_broken)) return;
+    f48(self, j0, j1, j2, j3, i4); if (NEVER(self->is_broken)) return;
     j0 = l3;
     i0 = (u32)(j0);
     j0 = i64_load(j0 + 256u);
@@ -46058,7 +45983,7 @@ static void f49(module *self, u64 p0, u64 p1, u64 p2) {
   self->g0 = j0;
 }
 
-static void f50(module *self, u64 p0, u64 p1, u64 p2) {
+static void f47(module *self, u64 p0, u64 p1, u64 p2) {
   u32 l6 = 0, l7 = 0, l8 = 0, l9 = 0, l10 = 0, l11 = 0;
   u64 l3 = 0, l4 = 0, l5 = 0;
   u8 *m = self->memory;
@@ -46667,7 +46592,7 @@ static void f50(module *self, u64 p0, u64 p1, u64 p2) {
   Bfunc:;
 }
 
-static void f51(module *self, u64 p0, u64 p1, u64 p2, u64 p3, u32 p4) {
+static void f48(module *self, u64 p0, u64 p1, u64 p2, u64 p3, u32 p4) {
   u32 l25 = 0, l26 = 0, l27 = 0, l28 = 0, l29 = 0, l30 = 0, l31 = 0, l32 = 0;
   u64 l5 = 0, l6 = 0, l7 = 0, l8 = 0, l9 = 0, l10 = 0, l11 = 0, l12 = 0, 
       l13 = 0, l14 = 0, l15 = 0, l16 = 0, l17 = 0, l18 = 0, l19 = 0, l20 = 0, 
@@ -47797,7 +47722,7 @@ static void f51(module *self, u64 p0, u64 p1, u64 p2, u64 p3, u32 p4) {
     j0 += j1;
     j1 = l7;
     j2 = p1;
-    f50(self, j0, j1, j2);
+    f47(self, j0, j1, j2);
     j0 = l5;
     i0 = (u32)(j0);
     j0 = i64_load(j0 + 72u);
@@ -48924,7 +48849,7 @@ static void f51(module *self, u64 p0, u64 p1, u64 p2, u64 p3, u32 p4) {
   j0 += j1;
   j1 = l22;
   j2 = l23;
-  f50(self, j0, j1, j2);
+  f47(self, j0, j1, j2);
   j0 = l5;
   i0 = (u32)(j0);
   j0 = i64_load(j0 + 72u);
@@ -49220,7 +49145,7 @@ static void f51(module *self, u64 p0, u64 p1, u64 p2, u64 p3, u32 p4) {
   self->g0 = j0;
 }
 
-static void f52(module *self, u64 p0, u64 p1, u64 p2) {
+static void f49(module *self, u64 p0, u64 p1, u64 p2) {
   u32 l15 = 0, l16 = 0, l17 = 0, l18 = 0;
   u64 l3 = 0, l4 = 0, l5 = 0, l6 = 0, l7 = 0, l8 = 0, l9 = 0, l10 = 0, 
       l11 = 0, l12 = 0, l13 = 0, l14 = 0;
@@ -49384,7 +49309,7 @@ static void f52(module *self, u64 p0, u64 p1, u64 p2) {
   i5 = 4096u;
   i4 = i4 < i5;
   j2 = i4 ? j2 : j3;
-  f53(self, j0, i1, j2);
+  f50(self, j0, i1, j2);
   j0 = l3;
   j1 = 560ull;
   j0 += j1;
@@ -49442,7 +49367,7 @@ static void f52(module *self, u64 p0, u64 p1, u64 p2) {
   j0 += j1;
   i1 = l15;
   j2 = 2ull;
-  f53(self, j0, i1, j2);
+  f50(self, j0, i1, j2);
   j0 = l3;
   i0 = (u32)(j0);
   j0 = i64_load(j0 + 840u);
@@ -49484,7 +49409,7 @@ static void f52(module *self, u64 p0, u64 p1, u64 p2) {
   if (i0) {goto B17;}
   j0 = p1;
   j1 = p2;
-  i0 = f13(self, j0, j1); m = self->memory; if (NEVER(self->is_broken)) return;
+  i0 = f10(self, j0, j1); m = self->memory; if (NEVER(self->is_broken)) return;
   i0 = !(i0);
   if (i0) {goto B1;}
   j0 = p1;
@@ -49599,7 +49524,7 @@ static void f52(module *self, u64 p0, u64 p1, u64 p2) {
   i5 = 4096u;
   i4 = i4 < i5;
   j2 = i4 ? j2 : j3;
-  f53(self, j0, i1, j2);
+  f50(self, j0, i1, j2);
   j0 = l3;
   j1 = 488ull;
   j0 += j1;
@@ -49657,7 +49582,7 @@ static void f52(module *self, u64 p0, u64 p1, u64 p2) {
   j0 += j1;
   i1 = l15;
   j2 = 4ull;
-  f53(self, j0, i1, j2);
+  f50(self, j0, i1, j2);
   j0 = l3;
   i0 = (u32)(j0);
   j0 = i64_load(j0 + 840u);
@@ -49699,7 +49624,7 @@ static void f52(module *self, u64 p0, u64 p1, u64 p2) {
   if (i0) {goto B21;}
   j0 = p1;
   j1 = p2;
-  i0 = f13(self, j0, j1); m = self->memory; if (NEVER(self->is_broken)) return;
+  i0 = f10(self, j0, j1); m = self->memory; if (NEVER(self->is_broken)) return;
   i0 = !(i0);
   if (i0) {goto B1;}
   j0 = p1;
@@ -49814,7 +49739,7 @@ static void f52(module *self, u64 p0, u64 p1, u64 p2) {
   i5 = 4096u;
   i4 = i4 < i5;
   j2 = i4 ? j2 : j3;
-  f53(self, j0, i1, j2);
+  f50(self, j0, i1, j2);
   j0 = l3;
   j1 = 272ull;
   j0 += j1;
@@ -49880,7 +49805,7 @@ static void f52(module *self, u64 p0, u64 p1, u64 p2) {
   if (i0) {goto B24;}
   j0 = p1;
   j1 = p2;
-  i0 = f13(self, j0, j1); m = self->memory; if (NEVER(self->is_broken)) return;
+  i0 = f10(self, j0, j1); m = self->memory; if (NEVER(self->is_broken)) return;
   i0 = !(i0);
   if (i0) {goto B1;}
   j0 = p1;
@@ -50003,7 +49928,7 @@ static void f52(module *self, u64 p0, u64 p1, u64 p2) {
   i5 = 4096u;
   i4 = i4 < i5;
   j2 = i4 ? j2 : j3;
-  f53(self, j0, i1, j2);
+  f50(self, j0, i1, j2);
   j0 = l3;
   j1 = 200ull;
   j0 += j1;
@@ -50069,7 +49994,7 @@ static void f52(module *self, u64 p0, u64 p1, u64 p2) {
   if (i0) {goto B27;}
   j0 = p1;
   j1 = p2;
-  i0 = f13(self, j0, j1); m = self->memory; if (NEVER(self->is_broken)) return;
+  i0 = f10(self, j0, j1); m = self->memory; if (NEVER(self->is_broken)) return;
   i0 = !(i0);
   if (i0) {goto B1;}
   j0 = p1;
@@ -50202,7 +50127,7 @@ static void f52(module *self, u64 p0, u64 p1, u64 p2) {
   i5 = 1048576u;
   i4 = i4 < i5;
   j2 = i4 ? j2 : j3;
-  f53(self, j0, i1, j2);
+  f50(self, j0, i1, j2);
   j0 = l3;
   j1 = 416ull;
   j0 += j1;
@@ -50260,7 +50185,7 @@ static void f52(module *self, u64 p0, u64 p1, u64 p2) {
   j0 += j1;
   i1 = l15;
   j2 = 2ull;
-  f53(self, j0, i1, j2);
+  f50(self, j0, i1, j2);
   j0 = l3;
   i0 = (u32)(j0);
   j0 = i64_load(j0 + 840u);
@@ -50302,7 +50227,7 @@ static void f52(module *self, u64 p0, u64 p1, u64 p2) {
   if (i0) {goto B31;}
   j0 = p1;
   j1 = p2;
-  i0 = f13(self, j0, j1); m = self->memory; if (NEVER(self->is_broken)) return;
+  i0 = f10(self, j0, j1); m = self->memory; if (NEVER(self->is_broken)) return;
   i0 = !(i0);
   if (i0) {goto B1;}
   j0 = p1;
@@ -50427,7 +50352,7 @@ static void f52(module *self, u64 p0, u64 p1, u64 p2) {
   i5 = 1048576u;
   i4 = i4 < i5;
   j2 = i4 ? j2 : j3;
-  f53(self, j0, i1, j2);
+  f50(self, j0, i1, j2);
   j0 = l3;
   j1 = 344ull;
   j0 += j1;
@@ -50485,7 +50410,7 @@ static void f52(module *self, u64 p0, u64 p1, u64 p2) {
   j0 += j1;
   i1 = l15;
   j2 = 4ull;
-  f53(self, j0, i1, j2);
+  f50(self, j0, i1, j2);
   j0 = l3;
   i0 = (u32)(j0);
   j0 = i64_load(j0 + 840u);
@@ -50527,7 +50452,7 @@ static void f52(module *self, u64 p0, u64 p1, u64 p2) {
   if (i0) {goto B35;}
   j0 = p1;
   j1 = p2;
-  i0 = f13(self, j0, j1); m = self->memory; if (NEVER(self->is_broken)) return;
+  i0 = f10(self, j0, j1); m = self->memory; if (NEVER(self->is_broken)) return;
   i0 = !(i0);
   if (i0) {goto B1;}
   j0 = p1;
@@ -50660,7 +50585,7 @@ static void f52(module *self, u64 p0, u64 p1, u64 p2) {
   i5 = 1048576u;
   i4 = i4 < i5;
   j2 = i4 ? j2 : j3;
-  f53(self, j0, i1, j2);
+  f50(self, j0, i1, j2);
   j0 = l3;
   j1 = 128ull;
   j0 += j1;
@@ -50726,7 +50651,7 @@ static void f52(module *self, u64 p0, u64 p1, u64 p2) {
   if (i0) {goto B38;}
   j0 = p1;
   j1 = p2;
-  i0 = f13(self, j0, j1); m = self->memory; if (NEVER(self->is_broken)) return;
+  i0 = f10(self, j0, j1); m = self->memory; if (NEVER(self->is_broken)) return;
   i0 = !(i0);
   if (i0) {goto B1;}
   j0 = p1;
@@ -50851,7 +50776,7 @@ static void f52(module *self, u64 p0, u64 p1, u64 p2) {
   i5 = 1048576u;
   i4 = i4 < i5;
   j2 = i4 ? j2 : j3;
-  f53(self, j0, i1, j2);
+  f50(self, j0, i1, j2);
   j0 = l3;
   j1 = 56ull;
   j0 += j1;
@@ -50917,7 +50842,7 @@ static void f52(module *self, u64 p0, u64 p1, u64 p2) {
   if (i0) {goto B41;}
   j0 = p1;
   j1 = p2;
-  i0 = f13(self, j0, j1); m = self->memory; if (NEVER(self->is_broken)) return;
+  i0 = f10(self, j0, j1); m = self->memory; if (NEVER(self->is_broken)) return;
   i0 = !(i0);
   if (i0) {goto B1;}
   j0 = p1;
@@ -51077,7 +51002,7 @@ static void f52(module *self, u64 p0, u64 p1, u64 p2) {
   j0 += j1;
   i1 = l18;
   j2 = 4ull;
-  f53(self, j0, i1, j2);
+  f50(self, j0, i1, j2);
   j0 = l3;
   i0 = (u32)(j0);
   j0 = i64_load(j0 + 840u);
@@ -51107,7 +51032,7 @@ static void f52(module *self, u64 p0, u64 p1, u64 p2) {
   j0 += j1;
   i1 = l17;
   j2 = 4ull;
-  f53(self, j0, i1, j2);
+  f50(self, j0, i1, j2);
   j0 = l3;
   i0 = (u32)(j0);
   j0 = i64_load(j0 + 840u);
@@ -51137,7 +51062,7 @@ static void f52(module *self, u64 p0, u64 p1, u64 p2) {
   j0 += j1;
   i1 = l16;
   j2 = 4ull;
-  f53(self, j0, i1, j2);
+  f50(self, j0, i1, j2);
   j0 = l3;
   i0 = (u32)(j0);
   j0 = i64_load(j0 + 840u);
@@ -51167,7 +51092,7 @@ static void f52(module *self, u64 p0, u64 p1, u64 p2) {
   j0 += j1;
   i1 = l15;
   j2 = 4ull;
-  f53(self, j0, i1, j2);
+  f50(self, j0, i1, j2);
   j0 = l3;
   j1 = 632ull;
   j0 += j1;
@@ -51248,7 +51173,7 @@ static void f52(module *self, u64 p0, u64 p1, u64 p2) {
   if (i0) {goto B48;}
   j0 = p1;
   j1 = p2;
-  i0 = f13(self, j0, j1); m = self->memory; if (NEVER(self->is_broken)) return;
+  i0 = f10(self, j0, j1); m = self->memory; if (NEVER(self->is_broken)) return;
   i0 = !(i0);
   if (i0) {goto B1;}
   j0 = p1;
@@ -51377,7 +51302,7 @@ static void f52(module *self, u64 p0, u64 p1, u64 p2) {
   if (i0) {goto B53;}
   j0 = p1;
   j1 = p2;
-  i0 = f13(self, j0, j1); m = self->memory; if (NEVER(self->is_broken)) return;
+  i0 = f10(self, j0, j1); m = self->memory; if (NEVER(self->is_broken)) return;
   i0 = !(i0);
   if (i0) {goto B1;}
   j0 = p1;
@@ -51450,7 +51375,7 @@ static void f52(module *self, u64 p0, u64 p1, u64 p2) {
   j0 += j1;
   j1 = l10;
   j2 = 1ull;
-  f176(self, j0, j1, j2); m = self->memory; if (NEVER(self->is_broken)) return;
+  f124(self, j0, j1, j2); m = self->memory; if (NEVER(self->is_broken)) return;
   i0 = 1u;
   l15 = i0;
   j0 = l3;
@@ -51541,7 +51466,7 @@ static void f52(module *self, u64 p0, u64 p1, u64 p2) {
   if (i0) {goto B59;}
   j0 = p1;
   j1 = l10;
-  i0 = f13(self, j0, j1); m = self->memory; if (NEVER(self->is_broken)) return;
+  i0 = f10(self, j0, j1); m = self->memory; if (NEVER(self->is_broken)) return;
   i0 = !(i0);
   if (i0) {goto B58;}
   j0 = p1;
@@ -51714,7 +51639,7 @@ static void f52(module *self, u64 p0, u64 p1, u64 p2) {
   j1 = l13;
   i64_store(j0, j1);
   j0 = l7;
-  f179(self, j0);
+  f127(self, j0);
   j0 = l4;
   i0 = (u32)(j0);
   j0 = i64_load(j0);
@@ -51727,7 +51652,7 @@ static void f52(module *self, u64 p0, u64 p1, u64 p2) {
   if (i0) {goto B65;}
   j0 = p1;
   j1 = 1ull;
-  i0 = f13(self, j0, j1); m = self->memory; if (NEVER(self->is_broken)) return;
+  i0 = f10(self, j0, j1); m = self->memory; if (NEVER(self->is_broken)) return;
   i0 = !(i0);
   if (i0) {goto B0;}
   j0 = p1;
@@ -51769,7 +51694,7 @@ static void f52(module *self, u64 p0, u64 p1, u64 p2) {
   goto B2;
   B58:;
   j0 = l7;
-  f179(self, j0);
+  f127(self, j0);
   goto B0;
   B5:;
   j0 = p2;
@@ -51841,7 +51766,7 @@ static void f52(module *self, u64 p0, u64 p1, u64 p2) {
   j2 = 704ull;
   j1 += j2;
   i2 = l15;
-  f54(self, j0, j1, i2); if (NEVER(self->is_broken)) return;
+  f51(self, j0, j1, i2); if (NEVER(self->is_broken)) return;
   j0 = l3;
   i0 = (u32)(j0);
   j0 = i64_load(j0 + 32u);
@@ -51918,7 +51843,7 @@ static void f52(module *self, u64 p0, u64 p1, u64 p2) {
   if (i0) {goto B70;}
   j0 = p1;
   j1 = p2;
-  i0 = f13(self, j0, j1); m = self->memory; if (NEVER(self->is_broken)) return;
+  i0 = f10(self, j0, j1); m = self->memory; if (NEVER(self->is_broken)) return;
   i0 = !(i0);
   if (i0) {goto B1;}
   j0 = p1;
@@ -51991,7 +51916,7 @@ static void f52(module *self, u64 p0, u64 p1, u64 p2) {
   if (i0) {goto B72;}
   j0 = p1;
   j1 = 6ull;
-  i0 = f13(self, j0, j1); m = self->memory; if (NEVER(self->is_broken)) return;
+  i0 = f10(self, j0, j1); m = self->memory; if (NEVER(self->is_broken)) return;
   i0 = !(i0);
   if (i0) {goto B1;}
   j0 = p1;
@@ -52107,7 +52032,7 @@ static void f52(module *self, u64 p0, u64 p1, u64 p2) {
   if (i0) {goto B82;}
   j0 = p1;
   j1 = 10ull;
-  i0 = f13(self, j0, j1); m = self->memory; if (NEVER(self->is_broken)) return;
+  i0 = f10(self, j0, j1); m = self->memory; if (NEVER(self->is_broken)) return;
   if (i0) {goto B83;}
   i0 = 1u;
   l15 = i0;
@@ -52232,7 +52157,7 @@ static void f52(module *self, u64 p0, u64 p1, u64 p2) {
   j0 += j1;
   i1 = l15;
   j2 = 2ull;
-  f53(self, j0, i1, j2);
+  f50(self, j0, i1, j2);
   j0 = 64ull;
   p2 = j0;
   j0 = l3;
@@ -52276,7 +52201,7 @@ static void f52(module *self, u64 p0, u64 p1, u64 p2) {
   if (i0) {goto B87;}
   j0 = p1;
   j1 = p2;
-  i0 = f13(self, j0, j1); m = self->memory; if (NEVER(self->is_broken)) return;
+  i0 = f10(self, j0, j1); m = self->memory; if (NEVER(self->is_broken)) return;
   i0 = !(i0);
   if (i0) {goto B1;}
   j0 = p1;
@@ -52351,7 +52276,7 @@ static void f52(module *self, u64 p0, u64 p1, u64 p2) {
   if (i0) {goto B89;}
   j0 = p1;
   j1 = 10ull;
-  i0 = f13(self, j0, j1); m = self->memory; if (NEVER(self->is_broken)) return;
+  i0 = f10(self, j0, j1); m = self->memory; if (NEVER(self->is_broken)) return;
   if (i0) {goto B90;}
   i0 = 1u;
   l15 = i0;
@@ -52445,7 +52370,7 @@ static void f52(module *self, u64 p0, u64 p1, u64 p2) {
   if (i0) {goto B93;}
   j0 = p1;
   j1 = 13ull;
-  i0 = f13(self, j0, j1); m = self->memory; if (NEVER(self->is_broken)) return;
+  i0 = f10(self, j0, j1); m = self->memory; if (NEVER(self->is_broken)) return;
   i0 = !(i0);
   if (i0) {goto B1;}
   j0 = p1;
@@ -52583,7 +52508,7 @@ static void f52(module *self, u64 p0, u64 p1, u64 p2) {
   j0 += j1;
   i1 = l15;
   j2 = 1ull;
-  f53(self, j0, i1, j2);
+  f50(self, j0, i1, j2);
   j0 = 64ull;
   p2 = j0;
   j0 = l3;
@@ -52613,7 +52538,7 @@ static void f52(module *self, u64 p0, u64 p1, u64 p2) {
   j0 += j1;
   i1 = l17;
   j2 = 4ull;
-  f53(self, j0, i1, j2);
+  f50(self, j0, i1, j2);
   j0 = l3;
   i0 = (u32)(j0);
   j0 = i64_load(j0 + 840u);
@@ -52664,7 +52589,7 @@ static void f52(module *self, u64 p0, u64 p1, u64 p2) {
   j2 = 704ull;
   j1 += j2;
   i2 = l16;
-  f54(self, j0, j1, i2); if (NEVER(self->is_broken)) return;
+  f51(self, j0, j1, i2); if (NEVER(self->is_broken)) return;
   j0 = 64ull;
   l4 = j0;
   j0 = 64ull;
@@ -52739,7 +52664,7 @@ static void f52(module *self, u64 p0, u64 p1, u64 p2) {
   if (i0) {goto B101;}
   j0 = p1;
   j1 = l4;
-  i0 = f13(self, j0, j1); m = self->memory; if (NEVER(self->is_broken)) return;
+  i0 = f10(self, j0, j1); m = self->memory; if (NEVER(self->is_broken)) return;
   i0 = !(i0);
   if (i0) {goto B1;}
   j0 = p1;
@@ -52814,7 +52739,7 @@ static void f52(module *self, u64 p0, u64 p1, u64 p2) {
   p2 = j0;
   j0 = p1;
   j1 = 9ull;
-  i0 = f13(self, j0, j1); m = self->memory; if (NEVER(self->is_broken)) return;
+  i0 = f10(self, j0, j1); m = self->memory; if (NEVER(self->is_broken)) return;
   if (i0) {goto B104;}
   i0 = 1u;
   l15 = i0;
@@ -52908,7 +52833,7 @@ static void f52(module *self, u64 p0, u64 p1, u64 p2) {
   if (i0) {goto B107;}
   j0 = p1;
   j1 = 11ull;
-  i0 = f13(self, j0, j1); m = self->memory; if (NEVER(self->is_broken)) return;
+  i0 = f10(self, j0, j1); m = self->memory; if (NEVER(self->is_broken)) return;
   i0 = !(i0);
   if (i0) {goto B1;}
   j0 = p1;
@@ -53017,7 +52942,7 @@ static void f52(module *self, u64 p0, u64 p1, u64 p2) {
   self->g0 = j0;
 }
 
-static void f53(module *self, u64 p0, u32 p1, u64 p2) {
+static void f50(module *self, u64 p0, u32 p1, u64 p2) {
   u64 l3 = 0;
   u8 *m = self->memory;
   u32 i0, i1, i2, i3, i4;
@@ -53032,7 +52957,7 @@ static void f53(module *self, u64 p0, u32 p1, u64 p2) {
   j2 = p2;
   j3 = 18446744073709551615ull;
   j2 += j3;
-  f53(self, j0, i1, j2);
+  f50(self, j0, i1, j2);
   j0 = p0;
   j1 = 64ull;
   j0 += j1;
@@ -53070,7 +52995,7 @@ static void f53(module *self, u64 p0, u32 p1, u64 p2) {
   B0:;
 }
 
-static void f54(module *self, u64 p0, u64 p1, u32 p2) {
+static void f51(module *self, u64 p0, u64 p1, u32 p2) {
   u32 l7 = 0;
   u64 l3 = 0, l4 = 0, l5 = 0, l6 = 0;
   u8 *m = self->memory;
@@ -53252,7 +53177,7 @@ static void f54(module *self, u64 p0, u64 p1, u32 p2) {
   i64_store(j0, j1);
 }
 
-static u32 f55(module *self, u64 p0, u64 p1, u32 p2, u64 p3, u64 p4, u32 p5) {
+static u32 f52(module *self, u64 p0, u64 p1, u32 p2, u64 p3, u64 p4, u32 p5) {
   u32 l6 = 0, l7 = 0, l8 = 0, l9 = 0, l10 = 0, l11 = 0, l12 = 0;
   u8 *m = self->memory;
   u32 i0, i1, i2, i3;
@@ -53596,7 +53521,7 @@ static u32 f55(module *self, u64 p0, u64 p1, u32 p2, u64 p3, u64 p4, u32 p5) {
   return i0;
 }
 
-static void f56(module *self, u64 p0, u64 p1, u32 p2, u32 p3) {
+static void f53(module *self, u64 p0, u64 p1, u32 p2, u32 p3) {
   u32 l4 = 0, l5 = 0, l6 = 0, l7 = 0, l8 = 0, l9 = 0;
   u64 l10 = 0;
   u8 *m = self->memory;
@@ -53659,7 +53584,7 @@ static void f56(module *self, u64 p0, u64 p1, u32 p2, u32 p3) {
   i1 = (u32)(j1);
   i1 = i32_load8_u(j1);
   i2 = p3;
-  i0 = f21(self, j0, i1, i2);
+  i0 = f18(self, j0, i1, i2);
   l5 = i0;
   j0 = p1;
   j1 = 71ull;
@@ -53791,7 +53716,7 @@ static void f56(module *self, u64 p0, u64 p1, u32 p2, u32 p3) {
   i2 &= i3;
   i3 = 8u;
   i2 >>= (i3 & 31);
-  i0 = f21(self, j0, i1, i2);
+  i0 = f18(self, j0, i1, i2);
   l4 = i0;
   j0 = p1;
   j1 = 71ull;
@@ -53899,7 +53824,7 @@ static void f56(module *self, u64 p0, u64 p1, u32 p2, u32 p3) {
   i32_store8(j0, i1);
 }
 
-static u32 f57(module *self, u64 p0, u64 p1, u64 p2) {
+static u32 f54(module *self, u64 p0, u64 p1, u64 p2) {
   u32 l16 = 0, l17 = 0, l18 = 0, l19 = 0, l20 = 0, l21 = 0, l22 = 0, l23 = 0, 
       l24 = 0, l25 = 0, l26 = 0, l27 = 0, l28 = 0, l29 = 0, l30 = 0, l31 = 0, 
       l32 = 0, l33 = 0;
@@ -54153,7 +54078,7 @@ static u32 f57(module *self, u64 p0, u64 p1, u64 p2) {
   j0 = l3;
   j1 = 1024ull;
   j0 += j1;
-  i0 = f29(self, j0);
+  i0 = f26(self, j0);
   i0 = !(i0);
   if (i0) {goto B0;}
   j0 = p1;
@@ -54765,13 +54690,13 @@ static u32 f57(module *self, u64 p0, u64 p1, u64 p2) {
   j1 = 1024ull;
   j0 += j1;
   j1 = l8;
-  f58(self, j0, j1);
+  f55(self, j0, j1);
   j0 = l3;
   j1 = 1024ull;
   j0 += j1;
   j1 = l5;
   j2 = l4;
-  i0 = f59(self, j0, j1, j2);
+  i0 = f56(self, j0, j1, j2);
   i0 = !(i0);
   if (i0) {goto B0;}
   j0 = p0;
@@ -55588,7 +55513,7 @@ static u32 f57(module *self, u64 p0, u64 p1, u64 p2) {
   j1 = 1024ull;
   j0 += j1;
   j1 = l8;
-  f32(self, j0, j1);
+  f29(self, j0, j1);
   j0 = p0;
   j1 = 196ull;
   j0 += j1;
@@ -56586,7 +56511,7 @@ static u32 f57(module *self, u64 p0, u64 p1, u64 p2) {
   j1 = 2008ull;
   j0 += j1;
   j1 = l8;
-  i0 = f6(self, j0, j1); m = self->memory; if (NEVER(self->is_broken)) return ZAK_BROKEN;
+  i0 = f3(self, j0, j1); m = self->memory; if (NEVER(self->is_broken)) return ZAK_BROKEN;
   i0 = !(i0);
   if (i0) {goto B27;}
   j0 = p0;
@@ -56807,7 +56732,7 @@ static u32 f57(module *self, u64 p0, u64 p1, u64 p2) {
   return i0;
 }
 
-static void f58(module *self, u64 p0, u64 p1) {
+static void f55(module *self, u64 p0, u64 p1) {
   u32 l2 = 0, l3 = 0, l4 = 0, l5 = 0, l6 = 0, l7 = 0, l8 = 0;
   u8 *m = self->memory;
   u32 i0, i1, i2;
@@ -56900,7 +56825,7 @@ static void f58(module *self, u64 p0, u64 p1) {
   i32_store8(j0 + 11, i1);
 }
 
-static u32 f59(module *self, u64 p0, u64 p1, u64 p2) {
+static u32 f56(module *self, u64 p0, u64 p1, u64 p2) {
   u32 l3 = 0, l4 = 0, l5 = 0, l6 = 0, l7 = 0, l8 = 0, l9 = 0, l10 = 0;
   u64 l11 = 0;
   u8 *m = self->memory;
@@ -57034,7 +56959,7 @@ static u32 f59(module *self, u64 p0, u64 p1, u64 p2) {
   return i0;
 }
 
-static void f60(module *self, u64 p0, u64 p1, u64 p2, u64 p3, u64 p4, u64 p5, u64 p6) {
+static void f57(module *self, u64 p0, u64 p1, u64 p2, u64 p3, u64 p4, u64 p5, u64 p6) {
   u32 l15 = 0, l16 = 0, l17 = 0, l18 = 0, l19 = 0;
   u64 l7 = 0, l8 = 0, l9 = 0, l10 = 0, l11 = 0, l12 = 0, l13 = 0, l14 = 0;
   u8 *m = self->memory;
@@ -57094,7 +57019,7 @@ static void f60(module *self, u64 p0, u64 p1, u64 p2, u64 p3, u64 p4, u64 p5, u6
   j4 = p4;
   j5 = p5;
   j6 = p6;
-  f31(self, j0, j1, j2, j3, j4, j5, j6); m = self->memory; if (NEVER(self->is_broken)) return;
+  f28(self, j0, j1, j2, j3, j4, j5, j6); m = self->memory; if (NEVER(self->is_broken)) return;
   j0 = l7;
   i0 = (u32)(j0);
   i0 = i32_load8_u(j0 + 40u);
@@ -57235,7 +57160,7 @@ static void f60(module *self, u64 p0, u64 p1, u64 p2, u64 p3, u64 p4, u64 p5, u6
   j1 = 208ull;
   j0 += j1;
   j1 = p3;
-  f61(self, j0, j1); if (NEVER(self->is_broken)) return;
+  f58(self, j0, j1); if (NEVER(self->is_broken)) return;
   j0 = l7;
   i0 = (u32)(j0);
   j0 = i64_load(j0 + 264u);
@@ -57872,7 +57797,7 @@ static void f60(module *self, u64 p0, u64 p1, u64 p2, u64 p3, u64 p4, u64 p5, u6
   if (i0) {goto B19;}
   j0 = p1;
   j1 = p3;
-  i0 = f62(self, j0, j1); m = self->memory; if (NEVER(self->is_broken)) return;
+  i0 = f59(self, j0, j1); m = self->memory; if (NEVER(self->is_broken)) return;
   i0 = !(i0);
   if (i0) {goto B6;}
   j0 = p1;
@@ -58016,7 +57941,7 @@ static void f60(module *self, u64 p0, u64 p1, u64 p2, u64 p3, u64 p4, u64 p5, u6
   if (i0) {goto B27;}
   j0 = p1;
   j1 = 7ull;
-  i0 = f62(self, j0, j1); m = self->memory; if (NEVER(self->is_broken)) return;
+  i0 = f59(self, j0, j1); m = self->memory; if (NEVER(self->is_broken)) return;
   i0 = !(i0);
   if (i0) {goto B26;}
   j0 = l10;
@@ -58100,7 +58025,7 @@ static void f60(module *self, u64 p0, u64 p1, u64 p2, u64 p3, u64 p4, u64 p5, u6
     if (i0) {goto B32;}
     j0 = p1;
     j1 = 2ull;
-    i0 = f62(self, j0, j1); m = self->memory; if (NEVER(self->is_broken)) return;
+    i0 = f59(self, j0, j1); m = self->memory; if (NEVER(self->is_broken)) return;
     i0 = !(i0);
     if (i0) {goto B30;}
     j0 = p1;
@@ -58642,7 +58567,7 @@ static void f60(module *self, u64 p0, u64 p1, u64 p2, u64 p3, u64 p4, u64 p5, u6
   if (i0) {goto B51;}
   j0 = p1;
   j1 = 10ull;
-  i0 = f62(self, j0, j1); m = self->memory; if (NEVER(self->is_broken)) return;
+  i0 = f59(self, j0, j1); m = self->memory; if (NEVER(self->is_broken)) return;
   i0 = !(i0);
   if (i0) {goto B50;}
   j0 = p1;
@@ -58828,7 +58753,7 @@ static void f60(module *self, u64 p0, u64 p1, u64 p2, u64 p3, u64 p4, u64 p5, u6
   if (i0) {goto B55;}
   j0 = p1;
   j1 = 11ull;
-  i0 = f62(self, j0, j1); m = self->memory; if (NEVER(self->is_broken)) return;
+  i0 = f59(self, j0, j1); m = self->memory; if (NEVER(self->is_broken)) return;
   i0 = !(i0);
   if (i0) {goto B54;}
   j0 = p1;
@@ -59030,7 +58955,7 @@ static void f60(module *self, u64 p0, u64 p1, u64 p2, u64 p3, u64 p4, u64 p5, u6
   if (i0) {goto B59;}
   j0 = p1;
   j1 = 12ull;
-  i0 = f62(self, j0, j1); m = self->memory; if (NEVER(self->is_broken)) return;
+  i0 = f59(self, j0, j1); m = self->memory; if (NEVER(self->is_broken)) return;
   i0 = !(i0);
   if (i0) {goto B58;}
   j0 = p1;
@@ -59232,7 +59157,7 @@ static void f60(module *self, u64 p0, u64 p1, u64 p2, u64 p3, u64 p4, u64 p5, u6
   if (i0) {goto B63;}
   j0 = p1;
   j1 = p3;
-  i0 = f62(self, j0, j1); m = self->memory; if (NEVER(self->is_broken)) return;
+  i0 = f59(self, j0, j1); m = self->memory; if (NEVER(self->is_broken)) return;
   i0 = !(i0);
   if (i0) {goto B62;}
   j0 = p1;
@@ -59433,7 +59358,7 @@ static void f60(module *self, u64 p0, u64 p1, u64 p2, u64 p3, u64 p4, u64 p5, u6
   if (i0) {goto B70;}
   j0 = p1;
   j1 = 1ull;
-  i0 = f62(self, j0, j1); m = self->memory; if (NEVER(self->is_broken)) return;
+  i0 = f59(self, j0, j1); m = self->memory; if (NEVER(self->is_broken)) return;
   i0 = !(i0);
   if (i0) {goto B69;}
   j0 = l10;
@@ -59516,12 +59441,12 @@ static void f60(module *self, u64 p0, u64 p1, u64 p2, u64 p3, u64 p4, u64 p5, u6
   j0 = i64_load(j0 + 16u);
   p3 = j0;
   j0 = p1;
-  f179(self, j0);
+  f127(self, j0);
   j0 = p3;
   i0 = !(j0);
   if (i0) {goto B0;}
   j0 = p6;
-  f179(self, j0);
+  f127(self, j0);
   B0:;
   j0 = p0;
   i0 = (u32)(j0);
@@ -59546,7 +59471,7 @@ static void f60(module *self, u64 p0, u64 p1, u64 p2, u64 p3, u64 p4, u64 p5, u6
   self->g0 = j0;
 }
 
-static void f61(module *self, u64 p0, u64 p1) {
+static void f58(module *self, u64 p0, u64 p1) {
   u32 l6 = 0, l7 = 0;
   u64 l2 = 0, l3 = 0, l4 = 0, l5 = 0;
   u8 *m = self->memory;
@@ -59826,7 +59751,7 @@ static void f61(module *self, u64 p0, u64 p1) {
   B8:;
 }
 
-static u32 f62(module *self, u64 p0, u64 p1) {
+static u32 f59(module *self, u64 p0, u64 p1) {
   u32 l6 = 0;
   u64 l2 = 0, l3 = 0, l4 = 0, l5 = 0;
   u8 *m = self->memory;
@@ -59895,7 +59820,7 @@ static u32 f62(module *self, u64 p0, u64 p1) {
   j2 = l3;
   j3 = p1;
   j4 = 1ull;
-  f178(self, j0, j1, j2, j3, j4); m = self->memory; if (NEVER(self->is_broken)) return ZAK_BROKEN;
+  f126(self, j0, j1, j2, j3, j4); m = self->memory; if (NEVER(self->is_broken)) return ZAK_BROKEN;
   j0 = l2;
   i0 = (u32)(j0);
   j0 = i64_load(j0 + 16u);
@@ -59913,7 +59838,7 @@ static u32 f62(module *self, u64 p0, u64 p1) {
   j0 = l2;
   j1 = l5;
   j2 = 1ull;
-  f176(self, j0, j1, j2); m = self->memory; if (NEVER(self->is_broken)) return ZAK_BROKEN;
+  f124(self, j0, j1, j2); m = self->memory; if (NEVER(self->is_broken)) return ZAK_BROKEN;
   j0 = l2;
   i0 = (u32)(j0);
   j0 = i64_load(j0);
@@ -59948,7 +59873,7 @@ static u32 f62(module *self, u64 p0, u64 p1) {
   return i0;
 }
 
-static void f63(module *self, u64 p0, u64 p1, u64 p2, u64 p3) {
+static void f60(module *self, u64 p0, u64 p1, u64 p2, u64 p3) {
   u32 l14 = 0, l15 = 0, l16 = 0;
   u64 l4 = 0, l5 = 0, l6 = 0, l7 = 0, l8 = 0, l9 = 0, l10 = 0, l11 = 0, 
       l12 = 0, l13 = 0;
@@ -60059,7 +59984,7 @@ static void f63(module *self, u64 p0, u64 p1, u64 p2, u64 p3) {
   j2 = 1792ull;
   j1 += j2;
   i2 = l15;
-  f54(self, j0, j1, i2); if (NEVER(self->is_broken)) return;
+  f51(self, j0, j1, i2); if (NEVER(self->is_broken)) return;
   j0 = l4;
   i0 = (u32)(j0);
   j0 = i64_load(j0 + 72u);
@@ -60093,7 +60018,7 @@ static void f63(module *self, u64 p0, u64 p1, u64 p2, u64 p3) {
   j2 = 1792ull;
   j1 += j2;
   i2 = l14;
-  f54(self, j0, j1, i2); if (NEVER(self->is_broken)) return;
+  f51(self, j0, j1, i2); if (NEVER(self->is_broken)) return;
   j0 = l4;
   i0 = (u32)(j0);
   j0 = i64_load(j0 + 56u);
@@ -60134,7 +60059,7 @@ static void f63(module *self, u64 p0, u64 p1, u64 p2, u64 p3) {
   j1 = 1792ull;
   j0 += j1;
   j1 = p2;
-  f61(self, j0, j1); if (NEVER(self->is_broken)) return;
+  f58(self, j0, j1); if (NEVER(self->is_broken)) return;
   i0 = l15;
   i1 = l14;
   i0 *= i1;
@@ -60215,7 +60140,7 @@ static void f63(module *self, u64 p0, u64 p1, u64 p2, u64 p3) {
   j2 = 1000ull;
   j1 += j2;
   i2 = l16;
-  f54(self, j0, j1, i2); if (NEVER(self->is_broken)) return;
+  f51(self, j0, j1, i2); if (NEVER(self->is_broken)) return;
   j0 = 52ull;
   j1 = p3;
   j0 -= j1;
@@ -60382,7 +60307,7 @@ static void f63(module *self, u64 p0, u64 p1, u64 p2, u64 p3) {
   if (i0) {goto B14;}
   j0 = p1;
   j1 = p3;
-  i0 = f62(self, j0, j1); m = self->memory; if (NEVER(self->is_broken)) return;
+  i0 = f59(self, j0, j1); m = self->memory; if (NEVER(self->is_broken)) return;
   i0 = !(i0);
   if (i0) {goto B4;}
   j0 = p1;
@@ -60503,7 +60428,7 @@ static void f63(module *self, u64 p0, u64 p1, u64 p2, u64 p3) {
   j2 = 2584ull;
   j1 += j2;
   i2 = l15;
-  f54(self, j0, j1, i2); if (NEVER(self->is_broken)) return;
+  f51(self, j0, j1, i2); if (NEVER(self->is_broken)) return;
   j0 = l4;
   i0 = (u32)(j0);
   j0 = i64_load(j0 + 24u);
@@ -60579,7 +60504,7 @@ static void f63(module *self, u64 p0, u64 p1, u64 p2, u64 p3) {
   j2 = 2584ull;
   j1 += j2;
   i2 = l14;
-  f54(self, j0, j1, i2); if (NEVER(self->is_broken)) return;
+  f51(self, j0, j1, i2); if (NEVER(self->is_broken)) return;
   j0 = 782ull;
   j1 = p3;
   j0 -= j1;
@@ -60685,7 +60610,7 @@ static void f63(module *self, u64 p0, u64 p1, u64 p2, u64 p3) {
   if (i0) {goto B23;}
   j0 = p1;
   j1 = p3;
-  i0 = f62(self, j0, j1); m = self->memory; if (NEVER(self->is_broken)) return;
+  i0 = f59(self, j0, j1); m = self->memory; if (NEVER(self->is_broken)) return;
   i0 = !(i0);
   if (i0) {goto B3;}
   j0 = p1;
@@ -60756,7 +60681,7 @@ static void f63(module *self, u64 p0, u64 p1, u64 p2, u64 p3) {
   if (i0) {goto B27;}
   j0 = p1;
   j1 = l5;
-  i0 = f62(self, j0, j1); m = self->memory; if (NEVER(self->is_broken)) return;
+  i0 = f59(self, j0, j1); m = self->memory; if (NEVER(self->is_broken)) return;
   i0 = !(i0);
   if (i0) {goto B2;}
   j0 = p1;
@@ -60934,7 +60859,7 @@ static void f63(module *self, u64 p0, u64 p1, u64 p2, u64 p3) {
   if (i0) {goto B34;}
   j0 = p1;
   j1 = 1ull;
-  i0 = f62(self, j0, j1); m = self->memory; if (NEVER(self->is_broken)) return;
+  i0 = f59(self, j0, j1); m = self->memory; if (NEVER(self->is_broken)) return;
   i0 = !(i0);
   if (i0) {goto B33;}
   j0 = p1;
@@ -61031,7 +60956,7 @@ static void f63(module *self, u64 p0, u64 p1, u64 p2, u64 p3) {
   j1 = 1792ull;
   j0 += j1;
   j1 = p2;
-  f61(self, j0, j1); if (NEVER(self->is_broken)) return;
+  f58(self, j0, j1); if (NEVER(self->is_broken)) return;
   j0 = l4;
   i0 = (u32)(j0);
   j0 = i64_load(j0 + 1848u);
@@ -61091,7 +61016,7 @@ static void f63(module *self, u64 p0, u64 p1, u64 p2, u64 p3) {
   if (i0) {goto B37;}
   j0 = p1;
   j1 = p3;
-  i0 = f62(self, j0, j1); m = self->memory; if (NEVER(self->is_broken)) return;
+  i0 = f59(self, j0, j1); m = self->memory; if (NEVER(self->is_broken)) return;
   i0 = !(i0);
   if (i0) {goto B36;}
   j0 = p1;
@@ -61212,7 +61137,7 @@ static void f63(module *self, u64 p0, u64 p1, u64 p2, u64 p3) {
   self->g0 = j0;
 }
 
-static void f64(module *self, u64 p0, u64 p1, u64 p2, u64 p3, u64 p4) {
+static void f61(module *self, u64 p0, u64 p1, u64 p2, u64 p3, u64 p4) {
   u32 l8 = 0;
   u64 l5 = 0, l6 = 0, l7 = 0;
   u8 *m = self->memory;
@@ -61285,7 +61210,7 @@ static void f64(module *self, u64 p0, u64 p1, u64 p2, u64 p3, u64 p4) {
   j1 = 32ull;
   j0 += j1;
   j1 = p2;
-  f61(self, j0, j1); if (NEVER(self->is_broken)) return;
+  f58(self, j0, j1); if (NEVER(self->is_broken)) return;
   j0 = l5;
   i0 = (u32)(j0);
   j0 = i64_load(j0 + 88u);
@@ -61311,7 +61236,7 @@ static void f64(module *self, u64 p0, u64 p1, u64 p2, u64 p3, u64 p4) {
   if (i0) {goto B6;}
   j0 = p1;
   j1 = p4;
-  i0 = f62(self, j0, j1); m = self->memory; if (NEVER(self->is_broken)) return;
+  i0 = f59(self, j0, j1); m = self->memory; if (NEVER(self->is_broken)) return;
   i0 = !(i0);
   if (i0) {goto B4;}
   j0 = p1;
@@ -61370,7 +61295,7 @@ static void f64(module *self, u64 p0, u64 p1, u64 p2, u64 p3, u64 p4) {
   j3 = l5;
   j4 = 26ull;
   j3 += j4;
-  f65(self, j0, j1, j2, j3); m = self->memory; if (NEVER(self->is_broken)) return;
+  f62(self, j0, j1, j2, j3); m = self->memory; if (NEVER(self->is_broken)) return;
   j0 = l5;
   i0 = (u32)(j0);
   i0 = i32_load8_u(j0);
@@ -61517,7 +61442,7 @@ static void f64(module *self, u64 p0, u64 p1, u64 p2, u64 p3, u64 p4) {
   if (i0) {goto B10;}
   j0 = p1;
   j1 = p2;
-  i0 = f62(self, j0, j1); m = self->memory; if (NEVER(self->is_broken)) return;
+  i0 = f59(self, j0, j1); m = self->memory; if (NEVER(self->is_broken)) return;
   i0 = !(i0);
   if (i0) {goto B9;}
   j0 = p1;
@@ -61610,7 +61535,7 @@ static void f64(module *self, u64 p0, u64 p1, u64 p2, u64 p3, u64 p4) {
   self->g0 = j0;
 }
 
-static void f65(module *self, u64 p0, u64 p1, u64 p2, u64 p3) {
+static void f62(module *self, u64 p0, u64 p1, u64 p2, u64 p3) {
   u32 l13 = 0, l14 = 0, l15 = 0, l16 = 0, l17 = 0, l18 = 0, l19 = 0, l20 = 0, 
       l21 = 0;
   u64 l4 = 0, l5 = 0, l6 = 0, l7 = 0, l8 = 0, l9 = 0, l10 = 0, l11 = 0, 
@@ -61754,7 +61679,7 @@ static void f65(module *self, u64 p0, u64 p1, u64 p2, u64 p3) {
   j5 = 33ull;
   j4 += j5;
   j5 = 5ull;
-  f66(self, j0, j1, j2, i3, j4, j5);
+  f63(self, j0, j1, j2, i3, j4, j5);
   j0 = l4;
   j1 = 2552ull;
   j0 += j1;
@@ -61769,7 +61694,7 @@ static void f65(module *self, u64 p0, u64 p1, u64 p2, u64 p3) {
   j5 = 105ull;
   j4 += j5;
   j5 = 25ull;
-  f66(self, j0, j1, j2, i3, j4, j5);
+  f63(self, j0, j1, j2, i3, j4, j5);
   j0 = l4;
   j1 = 2552ull;
   j0 += j1;
@@ -61784,7 +61709,7 @@ static void f65(module *self, u64 p0, u64 p1, u64 p2, u64 p3) {
   j5 = 47ull;
   j4 += j5;
   j5 = 9ull;
-  f66(self, j0, j1, j2, i3, j4, j5);
+  f63(self, j0, j1, j2, i3, j4, j5);
   j0 = l4;
   i0 = (u32)(j0);
   j0 = i64_load(j0 + 3336u);
@@ -62322,7 +62247,7 @@ static void f65(module *self, u64 p0, u64 p1, u64 p2, u64 p3) {
   if (i0) {goto B32;}
   j0 = p1;
   j1 = 19ull;
-  i0 = f62(self, j0, j1); m = self->memory; if (NEVER(self->is_broken)) return;
+  i0 = f59(self, j0, j1); m = self->memory; if (NEVER(self->is_broken)) return;
   i0 = !(i0);
   if (i0) {goto B31;}
   j0 = p1;
@@ -62830,7 +62755,7 @@ static void f65(module *self, u64 p0, u64 p1, u64 p2, u64 p3) {
   j2 = 136ull;
   j1 += j2;
   i2 = l17;
-  f54(self, j0, j1, i2); if (NEVER(self->is_broken)) return;
+  f51(self, j0, j1, i2); if (NEVER(self->is_broken)) return;
   j0 = l4;
   i0 = (u32)(j0);
   j0 = i64_load(j0 + 128u);
@@ -63096,7 +63021,7 @@ static void f65(module *self, u64 p0, u64 p1, u64 p2, u64 p3) {
   j2 = 136ull;
   j1 += j2;
   i2 = l15;
-  f54(self, j0, j1, i2); if (NEVER(self->is_broken)) return;
+  f51(self, j0, j1, i2); if (NEVER(self->is_broken)) return;
   j0 = 782ull;
   l7 = j0;
   j0 = 782ull;
@@ -63352,7 +63277,7 @@ static void f65(module *self, u64 p0, u64 p1, u64 p2, u64 p3) {
   j2 = 136ull;
   j1 += j2;
   i2 = l16;
-  f54(self, j0, j1, i2); if (NEVER(self->is_broken)) return;
+  f51(self, j0, j1, i2); if (NEVER(self->is_broken)) return;
   j0 = 782ull;
   l12 = j0;
   j0 = 782ull;
@@ -63620,7 +63545,7 @@ static void f65(module *self, u64 p0, u64 p1, u64 p2, u64 p3) {
   j2 = 136ull;
   j1 += j2;
   i2 = l13;
-  f54(self, j0, j1, i2); if (NEVER(self->is_broken)) return;
+  f51(self, j0, j1, i2); if (NEVER(self->is_broken)) return;
   j0 = 782ull;
   l7 = j0;
   j0 = 782ull;
@@ -63777,7 +63702,7 @@ static void f65(module *self, u64 p0, u64 p1, u64 p2, u64 p3) {
   j1 = 1049312ull;
   j2 = 4ull;
   i3 = l21;
-  f67(self, j0, j1, j2, i3);
+  f64(self, j0, j1, j2, i3);
   j0 = l4;
   i0 = (u32)(j0);
   j0 = i64_load(j0 + 3336u);
@@ -63885,7 +63810,7 @@ static void f65(module *self, u64 p0, u64 p1, u64 p2, u64 p3) {
   j2 = 136ull;
   j1 += j2;
   i2 = l20;
-  f54(self, j0, j1, i2); if (NEVER(self->is_broken)) return;
+  f51(self, j0, j1, i2); if (NEVER(self->is_broken)) return;
   j0 = 782ull;
   p2 = j0;
   j0 = 782ull;
@@ -64141,7 +64066,7 @@ static void f65(module *self, u64 p0, u64 p1, u64 p2, u64 p3) {
   j2 = 136ull;
   j1 += j2;
   i2 = l19;
-  f54(self, j0, j1, i2); if (NEVER(self->is_broken)) return;
+  f51(self, j0, j1, i2); if (NEVER(self->is_broken)) return;
   j0 = 782ull;
   l7 = j0;
   j0 = 782ull;
@@ -64409,7 +64334,7 @@ static void f65(module *self, u64 p0, u64 p1, u64 p2, u64 p3) {
   j2 = 136ull;
   j1 += j2;
   i2 = l18;
-  f54(self, j0, j1, i2); if (NEVER(self->is_broken)) return;
+  f51(self, j0, j1, i2); if (NEVER(self->is_broken)) return;
   j0 = 782ull;
   p2 = j0;
   j0 = 782ull;
@@ -64651,7 +64576,7 @@ static void f65(module *self, u64 p0, u64 p1, u64 p2, u64 p3) {
   j2 = 136ull;
   j1 += j2;
   i2 = l14;
-  f54(self, j0, j1, i2); if (NEVER(self->is_broken)) return;
+  f51(self, j0, j1, i2); if (NEVER(self->is_broken)) return;
   j0 = 782ull;
   j1 = p2;
   j0 -= j1;
@@ -64867,7 +64792,7 @@ static void f65(module *self, u64 p0, u64 p1, u64 p2, u64 p3) {
   if (i0) {goto B119;}
   j0 = p1;
   j1 = p3;
-  i0 = f62(self, j0, j1); m = self->memory; if (NEVER(self->is_broken)) return;
+  i0 = f59(self, j0, j1); m = self->memory; if (NEVER(self->is_broken)) return;
   i0 = !(i0);
   if (i0) {goto B118;}
   j0 = p1;
@@ -64977,7 +64902,7 @@ static void f65(module *self, u64 p0, u64 p1, u64 p2, u64 p3) {
   if (i0) {goto B122;}
   j0 = p1;
   j1 = 20ull;
-  i0 = f62(self, j0, j1); m = self->memory; if (NEVER(self->is_broken)) return;
+  i0 = f59(self, j0, j1); m = self->memory; if (NEVER(self->is_broken)) return;
   i0 = !(i0);
   if (i0) {goto B121;}
   j0 = p1;
@@ -65529,7 +65454,7 @@ static void f65(module *self, u64 p0, u64 p1, u64 p2, u64 p3) {
   if (i0) {goto B129;}
   j0 = p1;
   j1 = p3;
-  i0 = f62(self, j0, j1); m = self->memory; if (NEVER(self->is_broken)) return;
+  i0 = f59(self, j0, j1); m = self->memory; if (NEVER(self->is_broken)) return;
   i0 = !(i0);
   if (i0) {goto B128;}
   j0 = p1;
@@ -65732,7 +65657,7 @@ static void f65(module *self, u64 p0, u64 p1, u64 p2, u64 p3) {
   j3 += j4;
   i3 = (u32)(j3);
   i3 = i32_load16_u(j3);
-  f67(self, j0, j1, j2, i3);
+  f64(self, j0, j1, j2, i3);
   j0 = l4;
   j1 = 2552ull;
   j0 += j1;
@@ -65743,7 +65668,7 @@ static void f65(module *self, u64 p0, u64 p1, u64 p2, u64 p3) {
   j3 += j4;
   i3 = (u32)(j3);
   i3 = i32_load16_u(j3);
-  f67(self, j0, j1, j2, i3);
+  f64(self, j0, j1, j2, i3);
   j0 = l4;
   j1 = 2552ull;
   j0 += j1;
@@ -65754,7 +65679,7 @@ static void f65(module *self, u64 p0, u64 p1, u64 p2, u64 p3) {
   j3 += j4;
   i3 = (u32)(j3);
   i3 = i32_load16_u(j3);
-  f67(self, j0, j1, j2, i3);
+  f64(self, j0, j1, j2, i3);
   j0 = l4;
   i0 = (u32)(j0);
   j0 = i64_load(j0 + 3336u);
@@ -65953,7 +65878,7 @@ static void f65(module *self, u64 p0, u64 p1, u64 p2, u64 p3) {
   j3 += j4;
   i3 = (u32)(j3);
   i3 = i32_load16_u(j3);
-  f67(self, j0, j1, j2, i3);
+  f64(self, j0, j1, j2, i3);
   j0 = l4;
   i0 = (u32)(j0);
   j0 = i64_load(j0 + 3336u);
@@ -66099,7 +66024,7 @@ static void f65(module *self, u64 p0, u64 p1, u64 p2, u64 p3) {
   j3 += j4;
   i3 = (u32)(j3);
   i3 = i32_load16_u(j3);
-  f67(self, j0, j1, j2, i3);
+  f64(self, j0, j1, j2, i3);
   j0 = l4;
   i0 = (u32)(j0);
   j0 = i64_load(j0 + 3336u);
@@ -66245,7 +66170,7 @@ static void f65(module *self, u64 p0, u64 p1, u64 p2, u64 p3) {
   j3 += j4;
   i3 = (u32)(j3);
   i3 = i32_load16_u(j3);
-  f67(self, j0, j1, j2, i3);
+  f64(self, j0, j1, j2, i3);
   j0 = l4;
   i0 = (u32)(j0);
   j0 = i64_load(j0 + 3336u);
@@ -66315,7 +66240,7 @@ static void f65(module *self, u64 p0, u64 p1, u64 p2, u64 p3) {
   if (i0) {goto B149;}
   j0 = p1;
   j1 = p3;
-  i0 = f62(self, j0, j1); m = self->memory; if (NEVER(self->is_broken)) return;
+  i0 = f59(self, j0, j1); m = self->memory; if (NEVER(self->is_broken)) return;
   i0 = !(i0);
   if (i0) {goto B148;}
   j0 = p1;
@@ -66736,7 +66661,7 @@ static void f65(module *self, u64 p0, u64 p1, u64 p2, u64 p3) {
     if (i0) {goto B163;}
     j0 = p1;
     j1 = p3;
-    i0 = f62(self, j0, j1); m = self->memory; if (NEVER(self->is_broken)) return;
+    i0 = f59(self, j0, j1); m = self->memory; if (NEVER(self->is_broken)) return;
     i0 = !(i0);
     if (i0) {goto B151;}
     j0 = p1;
@@ -67201,7 +67126,7 @@ static void f65(module *self, u64 p0, u64 p1, u64 p2, u64 p3) {
   if (i0) {goto B171;}
   j0 = p1;
   j1 = p3;
-  i0 = f62(self, j0, j1); m = self->memory; if (NEVER(self->is_broken)) return;
+  i0 = f59(self, j0, j1); m = self->memory; if (NEVER(self->is_broken)) return;
   i0 = !(i0);
   if (i0) {goto B170;}
   j0 = p1;
@@ -67314,7 +67239,7 @@ static void f65(module *self, u64 p0, u64 p1, u64 p2, u64 p3) {
   self->g0 = j0;
 }
 
-static void f66(module *self, u64 p0, u64 p1, u64 p2, u32 p3, u64 p4, u64 p5) {
+static void f63(module *self, u64 p0, u64 p1, u64 p2, u32 p3, u64 p4, u64 p5) {
   u32 l8 = 0;
   u64 l6 = 0, l7 = 0;
   u8 *m = self->memory;
@@ -67602,7 +67527,7 @@ static void f66(module *self, u64 p0, u64 p1, u64 p2, u32 p3, u64 p4, u64 p5) {
   B3:;
 }
 
-static void f67(module *self, u64 p0, u64 p1, u64 p2, u32 p3) {
+static void f64(module *self, u64 p0, u64 p1, u64 p2, u32 p3) {
   u32 l7 = 0, l8 = 0;
   u64 l4 = 0, l5 = 0, l6 = 0;
   u8 *m = self->memory;
@@ -67824,7 +67749,7 @@ static void f67(module *self, u64 p0, u64 p1, u64 p2, u32 p3) {
   B4:;
 }
 
-static void f68(module *self, u64 p0, u64 p1, u64 p2, u64 p3, u64 p4, u64 p5) {
+static void f65(module *self, u64 p0, u64 p1, u64 p2, u64 p3, u64 p4, u64 p5) {
   u32 l37 = 0, l38 = 0, l39 = 0, l40 = 0, l41 = 0, l42 = 0, l43 = 0, l44 = 0, 
       l45 = 0, l46 = 0;
   u64 l6 = 0, l7 = 0, l8 = 0, l9 = 0, l10 = 0, l11 = 0, l12 = 0, l13 = 0, 
@@ -69248,7 +69173,7 @@ static void f68(module *self, u64 p0, u64 p1, u64 p2, u64 p3, u64 p4, u64 p5) {
     j0 += j1;
     j1 = l28;
     j2 = p4;
-    f50(self, j0, j1, j2);
+    f47(self, j0, j1, j2);
     j0 = l6;
     i0 = (u32)(j0);
     i0 = i32_load16_u(j0 + 178u);
@@ -69514,7 +69439,7 @@ static void f68(module *self, u64 p0, u64 p1, u64 p2, u64 p3, u64 p4, u64 p5) {
     j1 = l6;
     j2 = 64ull;
     j1 += j2;
-    f69(self, j0, j1); if (NEVER(self->is_broken)) return;
+    f66(self, j0, j1); if (NEVER(self->is_broken)) return;
     j0 = l6;
     i0 = (u32)(j0);
     j0 = i64_load(j0 + 112u);
@@ -70750,7 +70675,7 @@ static void f68(module *self, u64 p0, u64 p1, u64 p2, u64 p3, u64 p4, u64 p5) {
     j0 += j1;
     j1 = l22;
     j2 = l23;
-    f50(self, j0, j1, j2);
+    f47(self, j0, j1, j2);
     j0 = l6;
     i0 = (u32)(j0);
     i0 = i32_load16_u(j0 + 178u);
@@ -71184,7 +71109,7 @@ static void f68(module *self, u64 p0, u64 p1, u64 p2, u64 p3, u64 p4, u64 p5) {
     j1 = p3;
     i2 = l46;
     i3 = l40;
-    f41(self, j0, j1, i2, i3);
+    f38(self, j0, j1, i2, i3);
     j0 = l6;
     i0 = (u32)(j0);
     i0 = i32_load8_u(j0 + 8u);
@@ -71216,7 +71141,7 @@ static void f68(module *self, u64 p0, u64 p1, u64 p2, u64 p3, u64 p4, u64 p5) {
     i5 = 255u;
     i4 &= i5;
     i3 |= i4;
-    f47(self, j0, j1, i2, i3);
+    f44(self, j0, j1, i2, i3);
     j0 = l6;
     i0 = (u32)(j0);
     i0 = i32_load8_u(j0 + 16u);
@@ -71241,7 +71166,7 @@ static void f68(module *self, u64 p0, u64 p1, u64 p2, u64 p3, u64 p4, u64 p5) {
     i4 = 255u;
     i3 &= i4;
     i2 |= i3;
-    f27(self, j0, j1, i2); if (NEVER(self->is_broken)) return;
+    f24(self, j0, j1, i2); if (NEVER(self->is_broken)) return;
     j0 = l6;
     i0 = (u32)(j0);
     i0 = i32_load8_u(j0 + 440u);
@@ -71296,7 +71221,7 @@ static void f68(module *self, u64 p0, u64 p1, u64 p2, u64 p3, u64 p4, u64 p5) {
     i1 = (u32)(j1);
     i1 = i32_load8_u(j1);
     i2 = l45;
-    i0 = f21(self, j0, i1, i2);
+    i0 = f18(self, j0, i1, i2);
     l46 = i0;
     j0 = p3;
     j1 = 71ull;
@@ -71405,7 +71330,7 @@ static void f68(module *self, u64 p0, u64 p1, u64 p2, u64 p3, u64 p4, u64 p5) {
     i5 = 255u;
     i4 &= i5;
     i3 |= i4;
-    f56(self, j0, j1, i2, i3);
+    f53(self, j0, j1, i2, i3);
     j0 = l6;
     i0 = (u32)(j0);
     i0 = i32_load8_u(j0 + 32u);
@@ -71464,7 +71389,7 @@ static void f68(module *self, u64 p0, u64 p1, u64 p2, u64 p3, u64 p4, u64 p5) {
     j0 += j1;
     j1 = p3;
     i2 = l40;
-    f24(self, j0, j1, i2);
+    f21(self, j0, j1, i2);
     j0 = l6;
     i0 = (u32)(j0);
     i0 = i32_load8_u(j0 + 57u);
@@ -71478,7 +71403,7 @@ static void f68(module *self, u64 p0, u64 p1, u64 p2, u64 p3, u64 p4, u64 p5) {
     j0 += j1;
     j1 = p3;
     i2 = l39;
-    f24(self, j0, j1, i2);
+    f21(self, j0, j1, i2);
     j0 = l6;
     i0 = (u32)(j0);
     i0 = i32_load8_u(j0 + 49u);
@@ -71533,7 +71458,7 @@ static void f68(module *self, u64 p0, u64 p1, u64 p2, u64 p3, u64 p4, u64 p5) {
     j4 |= j5;
     j5 = l28;
     j6 = p4;
-    f60(self, j0, j1, j2, j3, j4, j5, j6); m = self->memory; if (NEVER(self->is_broken)) return;
+    f57(self, j0, j1, j2, j3, j4, j5, j6); m = self->memory; if (NEVER(self->is_broken)) return;
     goto B78;
     B90:;
     i0 = l40;
@@ -71556,7 +71481,7 @@ static void f68(module *self, u64 p0, u64 p1, u64 p2, u64 p3, u64 p4, u64 p5) {
     j1 = 168ull;
     j0 += j1;
     j1 = p3;
-    f23(self, j0, j1); m = self->memory; if (NEVER(self->is_broken)) return;
+    f20(self, j0, j1); m = self->memory; if (NEVER(self->is_broken)) return;
     j0 = l6;
     j1 = 104ull;
     j0 += j1;
@@ -71565,7 +71490,7 @@ static void f68(module *self, u64 p0, u64 p1, u64 p2, u64 p3, u64 p4, u64 p5) {
     j3 = l6;
     j4 = 168ull;
     j3 += j4;
-    f63(self, j0, j1, j2, j3); m = self->memory; if (NEVER(self->is_broken)) return;
+    f60(self, j0, j1, j2, j3); m = self->memory; if (NEVER(self->is_broken)) return;
     goto B78;
     B88:;
     j0 = l6;
@@ -71601,12 +71526,12 @@ static void f68(module *self, u64 p0, u64 p1, u64 p2, u64 p3, u64 p4, u64 p5) {
     j4 = l6;
     j5 = 64ull;
     j4 += j5;
-    f64(self, j0, j1, j2, j3, j4); m = self->memory; if (NEVER(self->is_broken)) return;
+    f61(self, j0, j1, j2, j3, j4); m = self->memory; if (NEVER(self->is_broken)) return;
     goto B78;
     B87:;
     j0 = p3;
     i1 = l40;
-    f5(self, j0, i1); m = self->memory; if (NEVER(self->is_broken)) return;
+    f2(self, j0, i1); m = self->memory; if (NEVER(self->is_broken)) return;
     B86:;
     j0 = p2;
     j1 = 64ull;
@@ -71705,7 +71630,7 @@ static void f68(module *self, u64 p0, u64 p1, u64 p2, u64 p3, u64 p4, u64 p5) {
     j0 += j1;
     j1 = p3;
     i2 = l40;
-    f24(self, j0, j1, i2);
+    f21(self, j0, j1, i2);
     j0 = l6;
     i0 = (u32)(j0);
     i0 = i32_load8_u(j0 + 41u);
@@ -71887,7 +71812,7 @@ static void f68(module *self, u64 p0, u64 p1, u64 p2, u64 p3, u64 p4, u64 p5) {
     i4 = 255u;
     i3 &= i4;
     i2 |= i3;
-    f26(self, j0, j1, i2); if (NEVER(self->is_broken)) return;
+    f23(self, j0, j1, i2); if (NEVER(self->is_broken)) return;
     j0 = l6;
     i0 = (u32)(j0);
     i0 = i32_load8_u(j0 + 25u);
@@ -72553,7 +72478,7 @@ static void f68(module *self, u64 p0, u64 p1, u64 p2, u64 p3, u64 p4, u64 p5) {
     if (i0) {goto B147;}
     j0 = p1;
     j1 = 10ull;
-    i0 = f62(self, j0, j1); m = self->memory; if (NEVER(self->is_broken)) return;
+    i0 = f59(self, j0, j1); m = self->memory; if (NEVER(self->is_broken)) return;
     i0 = !(i0);
     if (i0) {goto B146;}
     j0 = p1;
@@ -72738,7 +72663,7 @@ static void f68(module *self, u64 p0, u64 p1, u64 p2, u64 p3, u64 p4, u64 p5) {
     if (i0) {goto B151;}
     j0 = p1;
     j1 = 11ull;
-    i0 = f62(self, j0, j1); m = self->memory; if (NEVER(self->is_broken)) return;
+    i0 = f59(self, j0, j1); m = self->memory; if (NEVER(self->is_broken)) return;
     i0 = !(i0);
     if (i0) {goto B150;}
     j0 = p1;
@@ -72939,7 +72864,7 @@ static void f68(module *self, u64 p0, u64 p1, u64 p2, u64 p3, u64 p4, u64 p5) {
     if (i0) {goto B155;}
     j0 = p1;
     j1 = 12ull;
-    i0 = f62(self, j0, j1); m = self->memory; if (NEVER(self->is_broken)) return;
+    i0 = f59(self, j0, j1); m = self->memory; if (NEVER(self->is_broken)) return;
     i0 = !(i0);
     if (i0) {goto B154;}
     j0 = p1;
@@ -73140,7 +73065,7 @@ static void f68(module *self, u64 p0, u64 p1, u64 p2, u64 p3, u64 p4, u64 p5) {
     if (i0) {goto B159;}
     j0 = p1;
     j1 = p4;
-    i0 = f62(self, j0, j1); m = self->memory; if (NEVER(self->is_broken)) return;
+    i0 = f59(self, j0, j1); m = self->memory; if (NEVER(self->is_broken)) return;
     i0 = !(i0);
     if (i0) {goto B158;}
     j0 = p1;
@@ -73418,7 +73343,7 @@ static void f68(module *self, u64 p0, u64 p1, u64 p2, u64 p3, u64 p4, u64 p5) {
     B167:;
     j0 = l7;
     j1 = l28;
-    f61(self, j0, j1); if (NEVER(self->is_broken)) return;
+    f58(self, j0, j1); if (NEVER(self->is_broken)) return;
     j0 = p2;
     j1 = 72ull;
     j0 += j1;
@@ -73482,7 +73407,7 @@ static void f68(module *self, u64 p0, u64 p1, u64 p2, u64 p3, u64 p4, u64 p5) {
   self->g0 = j0;
 }
 
-static void f69(module *self, u64 p0, u64 p1) {
+static void f66(module *self, u64 p0, u64 p1) {
   u32 l9 = 0, l10 = 0;
   u64 l2 = 0, l3 = 0, l4 = 0, l5 = 0, l6 = 0, l7 = 0, l8 = 0;
   u8 *m = self->memory;
@@ -73797,7 +73722,7 @@ static void f69(module *self, u64 p0, u64 p1) {
   Bfunc:;
 }
 
-static void f70(module *self, u64 p0, u64 p1) {
+static void f67(module *self, u64 p0, u64 p1) {
   u32 l10 = 0, l11 = 0, l12 = 0, l13 = 0, l14 = 0, l15 = 0, l16 = 0;
   u64 l2 = 0, l3 = 0, l4 = 0, l5 = 0, l6 = 0, l7 = 0, l8 = 0, l9 = 0;
   u8 *m = self->memory;
@@ -75826,7 +75751,7 @@ static void f70(module *self, u64 p0, u64 p1) {
   self->g0 = j0;
 }
 
-static void f71(module *self, u64 p0, u64 p1, u64 p2) {
+static void f68(module *self, u64 p0, u64 p1, u64 p2) {
   u32 l16 = 0, l17 = 0, l18 = 0, l19 = 0, l20 = 0, l21 = 0, l22 = 0, l23 = 0, 
       l24 = 0, l25 = 0, l26 = 0, l27 = 0, l28 = 0, l29 = 0;
   u64 l3 = 0, l4 = 0, l5 = 0, l6 = 0, l7 = 0, l8 = 0, l9 = 0, l10 = 0, 
@@ -75900,7 +75825,7 @@ static void f71(module *self, u64 p0, u64 p1, u64 p2) {
   i2 = (u32)(j2);
   i2 = i32_load16_u(j2);
   l17 = i2;
-  f30(self, j0, i1, i2);
+  f27(self, j0, i1, i2);
   j0 = l3;
   i0 = (u32)(j0);
   i0 = i32_load8_u(j0 + 848u);
@@ -76761,7 +76686,7 @@ static void f71(module *self, u64 p0, u64 p1, u64 p2) {
     j0 = l3;
     j1 = 1744ull;
     j0 += j1;
-    i0 = f72(self, j0); m = self->memory; if (NEVER(self->is_broken)) return;
+    i0 = f69(self, j0); m = self->memory; if (NEVER(self->is_broken)) return;
     i0 = !(i0);
     if (i0) {goto B7;}
     j0 = l3;
@@ -76955,7 +76880,7 @@ static void f71(module *self, u64 p0, u64 p1, u64 p2) {
     j0 = l3;
     j1 = 1744ull;
     j0 += j1;
-    i0 = f73(self, j0); m = self->memory; if (NEVER(self->is_broken)) return;
+    i0 = f70(self, j0); m = self->memory; if (NEVER(self->is_broken)) return;
     i0 = !(i0);
     if (i0) {goto B14;}
     j0 = l3;
@@ -76976,13 +76901,13 @@ static void f71(module *self, u64 p0, u64 p1, u64 p2) {
     j0 = l3;
     i0 = (u32)(j0);
     j0 = i64_load(j0 + 1744u);
-    f179(self, j0);
+    f127(self, j0);
     B15:;
     j0 = l14;
     i0 = !(j0);
     if (i0) {goto B6;}
     j0 = l15;
-    f179(self, j0);
+    f127(self, j0);
     goto B6;
     B13:;
     j0 = l11;
@@ -77217,7 +77142,7 @@ static void f71(module *self, u64 p0, u64 p1, u64 p2) {
       j0 = l3;
       j1 = 1744ull;
       j0 += j1;
-      i0 = f73(self, j0); m = self->memory; if (NEVER(self->is_broken)) return;
+      i0 = f70(self, j0); m = self->memory; if (NEVER(self->is_broken)) return;
       i0 = !(i0);
       if (i0) {goto B17;}
       j0 = l3;
@@ -77352,7 +77277,7 @@ static void f71(module *self, u64 p0, u64 p1, u64 p2) {
       j0 = l3;
       j1 = 1744ull;
       j0 += j1;
-      i0 = f73(self, j0); m = self->memory; if (NEVER(self->is_broken)) return;
+      i0 = f70(self, j0); m = self->memory; if (NEVER(self->is_broken)) return;
       i0 = !(i0);
       if (i0) {goto B17;}
       j0 = l3;
@@ -77420,7 +77345,7 @@ static void f71(module *self, u64 p0, u64 p1, u64 p2) {
   j0 = l3;
   i0 = (u32)(j0);
   j0 = i64_load(j0 + 1744u);
-  f179(self, j0);
+  f127(self, j0);
   B25:;
   j0 = p0;
   j1 = 8ull;
@@ -77789,7 +77714,7 @@ static void f71(module *self, u64 p0, u64 p1, u64 p2) {
   j0 = l3;
   i0 = (u32)(j0);
   j0 = i64_load(j0 + 1744u);
-  f179(self, j0);
+  f127(self, j0);
   B6:;
   j0 = p0;
   j1 = 8ull;
@@ -77816,7 +77741,7 @@ static void f71(module *self, u64 p0, u64 p1, u64 p2) {
   self->g0 = j0;
 }
 
-static u32 f72(module *self, u64 p0) {
+static u32 f69(module *self, u64 p0) {
   u32 l6 = 0;
   u64 l1 = 0, l2 = 0, l3 = 0, l4 = 0, l5 = 0;
   u8 *m = self->memory;
@@ -77886,7 +77811,7 @@ static u32 f72(module *self, u64 p0) {
   j4 = 1ull;
   j3 <<= (j4 & 63);
   j4 = 1ull;
-  f178(self, j0, j1, j2, j3, j4); m = self->memory; if (NEVER(self->is_broken)) return ZAK_BROKEN;
+  f126(self, j0, j1, j2, j3, j4); m = self->memory; if (NEVER(self->is_broken)) return ZAK_BROKEN;
   j0 = l1;
   i0 = (u32)(j0);
   j0 = i64_load(j0 + 16u);
@@ -77906,7 +77831,7 @@ static u32 f72(module *self, u64 p0) {
   j2 = 1ull;
   j1 <<= (j2 & 63);
   j2 = 1ull;
-  f176(self, j0, j1, j2); m = self->memory; if (NEVER(self->is_broken)) return ZAK_BROKEN;
+  f124(self, j0, j1, j2); m = self->memory; if (NEVER(self->is_broken)) return ZAK_BROKEN;
   j0 = l1;
   i0 = (u32)(j0);
   j0 = i64_load(j0);
@@ -77941,7 +77866,7 @@ static u32 f72(module *self, u64 p0) {
   return i0;
 }
 
-static u32 f73(module *self, u64 p0) {
+static u32 f70(module *self, u64 p0) {
   u32 l6 = 0;
   u64 l1 = 0, l2 = 0, l3 = 0, l4 = 0, l5 = 0;
   u8 *m = self->memory;
@@ -78007,7 +77932,7 @@ static u32 f73(module *self, u64 p0) {
   j2 = l2;
   j3 = l3;
   j4 = 1ull;
-  f178(self, j0, j1, j2, j3, j4); m = self->memory; if (NEVER(self->is_broken)) return ZAK_BROKEN;
+  f126(self, j0, j1, j2, j3, j4); m = self->memory; if (NEVER(self->is_broken)) return ZAK_BROKEN;
   j0 = l1;
   i0 = (u32)(j0);
   j0 = i64_load(j0 + 16u);
@@ -78025,7 +77950,7 @@ static u32 f73(module *self, u64 p0) {
   j0 = l1;
   j1 = l5;
   j2 = 1ull;
-  f176(self, j0, j1, j2); m = self->memory; if (NEVER(self->is_broken)) return ZAK_BROKEN;
+  f124(self, j0, j1, j2); m = self->memory; if (NEVER(self->is_broken)) return ZAK_BROKEN;
   j0 = l1;
   i0 = (u32)(j0);
   j0 = i64_load(j0);
@@ -78060,7 +77985,7 @@ static u32 f73(module *self, u64 p0) {
   return i0;
 }
 
-static u32 f74(module *self, u64 p0, u64 p1, u64 p2, u64 p3, u64 p4) {
+static u32 f71(module *self, u64 p0, u64 p1, u64 p2, u64 p3, u64 p4) {
   u32 l11 = 0, l12 = 0, l13 = 0, l14 = 0;
   u64 l5 = 0, l6 = 0, l7 = 0, l8 = 0, l9 = 0, l10 = 0;
   u8 *m = self->memory;
@@ -78108,7 +78033,7 @@ static u32 f74(module *self, u64 p0, u64 p1, u64 p2, u64 p3, u64 p4) {
   i0 = !(i0);
   if (i0) {goto B1;}
   j0 = p0;
-  f4(self, j0); m = self->memory; if (NEVER(self->is_broken)) return ZAK_BROKEN;
+  f1(self, j0); m = self->memory; if (NEVER(self->is_broken)) return ZAK_BROKEN;
   B1:;
   j0 = p0;
   i0 = (u32)(j0);
@@ -78155,7 +78080,7 @@ static u32 f74(module *self, u64 p0, u64 p1, u64 p2, u64 p3, u64 p4) {
   j0 = p1;
   j1 = 2072ull;
   j0 += j1;
-  i0 = f29(self, j0);
+  i0 = f26(self, j0);
   i0 = !(i0);
   if (i0) {goto B2;}
   j0 = l5;
@@ -78190,7 +78115,7 @@ static u32 f74(module *self, u64 p0, u64 p1, u64 p2, u64 p3, u64 p4) {
   j3 = l5;
   j4 = 72ull;
   j3 += j4;
-  f65(self, j0, j1, j2, j3); m = self->memory; if (NEVER(self->is_broken)) return ZAK_BROKEN;
+  f62(self, j0, j1, j2, j3); m = self->memory; if (NEVER(self->is_broken)) return ZAK_BROKEN;
   j0 = l5;
   i0 = (u32)(j0);
   i0 = i32_load8_u(j0 + 8u);
@@ -78349,7 +78274,7 @@ static u32 f74(module *self, u64 p0, u64 p1, u64 p2, u64 p3, u64 p4) {
   i0 = !(j0);
   if (i0) {goto B2;}
   j0 = l8;
-  f179(self, j0);
+  f127(self, j0);
   goto B2;
   B4:;
   j0 = l5;
@@ -78366,7 +78291,7 @@ static u32 f74(module *self, u64 p0, u64 p1, u64 p2, u64 p3, u64 p4) {
   j0 = l5;
   i0 = (u32)(j0);
   j0 = i64_load(j0 + 32u);
-  f179(self, j0);
+  f127(self, j0);
   goto B2;
   B3:;
   i0 = 23u;
@@ -78379,7 +78304,7 @@ static u32 f74(module *self, u64 p0, u64 p1, u64 p2, u64 p3, u64 p4) {
   j0 = l5;
   i0 = (u32)(j0);
   j0 = i64_load(j0 + 32u);
-  f179(self, j0);
+  f127(self, j0);
   B2:;
   j0 = p0;
   i0 = (u32)(j0);
@@ -78406,7 +78331,7 @@ static u32 f74(module *self, u64 p0, u64 p1, u64 p2, u64 p3, u64 p4) {
   return i0;
 }
 
-static u32 f75(module *self, u64 p0, u32 p1) {
+static u32 module_zak_advance(module *self, u64 p0, u32 p1) {
   u32 l2 = 0, l3 = 0;
   u64 l4 = 0;
   u8 *m = self->memory;
@@ -78457,7 +78382,7 @@ static u32 f75(module *self, u64 p0, u32 p1) {
   i0 = !(i0);
   if (i0) {goto B2;}
   j0 = p0;
-  f4(self, j0); m = self->memory; if (NEVER(self->is_broken)) return ZAK_BROKEN;
+  f1(self, j0); m = self->memory; if (NEVER(self->is_broken)) return ZAK_BROKEN;
   B2:;
   j0 = p0;
   i0 = (u32)(j0);
@@ -78479,7 +78404,7 @@ static u32 f75(module *self, u64 p0, u32 p1) {
   if (i0) {goto B3;}
   j0 = l4;
   i1 = p1;
-  f5(self, j0, i1); m = self->memory; if (NEVER(self->is_broken)) return ZAK_BROKEN;
+  f2(self, j0, i1); m = self->memory; if (NEVER(self->is_broken)) return ZAK_BROKEN;
   i0 = 0u;
   l2 = i0;
   B3:;
@@ -78505,7 +78430,7 @@ static u32 f75(module *self, u64 p0, u32 p1) {
   return i0;
 }
 
-static u32 f76(module *self, u64 p0, u64 p1, u64 p2, u64 p3, u64 p4, u64 p5) {
+static u32 module_zak_assemble(module *self, u64 p0, u64 p1, u64 p2, u64 p3, u64 p4, u64 p5) {
   u32 l25 = 0, l26 = 0, l27 = 0, l28 = 0;
   u64 l6 = 0, l7 = 0, l8 = 0, l9 = 0, l10 = 0, l11 = 0, l12 = 0, l13 = 0, 
       l14 = 0, l15 = 0, l16 = 0, l17 = 0, l18 = 0, l19 = 0, l20 = 0, l21 = 0, 
@@ -79126,7 +79051,7 @@ static u32 f76(module *self, u64 p0, u64 p1, u64 p2, u64 p3, u64 p4, u64 p5) {
   j1 = 32ull;
   j0 += j1;
   j1 = 4ull;
-  i0 = f13(self, j0, j1); m = self->memory; if (NEVER(self->is_broken)) return ZAK_BROKEN;
+  i0 = f10(self, j0, j1); m = self->memory; if (NEVER(self->is_broken)) return ZAK_BROKEN;
   i0 = !(i0);
   if (i0) {goto B50;}
   j0 = l6;
@@ -79175,7 +79100,7 @@ static u32 f76(module *self, u64 p0, u64 p1, u64 p2, u64 p3, u64 p4, u64 p5) {
   j1 = 32ull;
   j0 += j1;
   j1 = 1ull;
-  i0 = f13(self, j0, j1); m = self->memory; if (NEVER(self->is_broken)) return ZAK_BROKEN;
+  i0 = f10(self, j0, j1); m = self->memory; if (NEVER(self->is_broken)) return ZAK_BROKEN;
   i0 = !(i0);
   if (i0) {goto B53;}
   j0 = l6;
@@ -79711,7 +79636,7 @@ static u32 f76(module *self, u64 p0, u64 p1, u64 p2, u64 p3, u64 p4, u64 p5) {
       j1 = 32ull;
       j0 += j1;
       j1 = 1ull;
-      i0 = f13(self, j0, j1); m = self->memory; if (NEVER(self->is_broken)) return ZAK_BROKEN;
+      i0 = f10(self, j0, j1); m = self->memory; if (NEVER(self->is_broken)) return ZAK_BROKEN;
       i0 = !(i0);
       if (i0) {goto B82;}
       j0 = l6;
@@ -79757,7 +79682,7 @@ static u32 f76(module *self, u64 p0, u64 p1, u64 p2, u64 p3, u64 p4, u64 p5) {
       j1 = 32ull;
       j0 += j1;
       j1 = 2ull;
-      i0 = f13(self, j0, j1); m = self->memory; if (NEVER(self->is_broken)) return ZAK_BROKEN;
+      i0 = f10(self, j0, j1); m = self->memory; if (NEVER(self->is_broken)) return ZAK_BROKEN;
       i0 = !(i0);
       if (i0) {goto B82;}
       j0 = l6;
@@ -80103,7 +80028,7 @@ static u32 f76(module *self, u64 p0, u64 p1, u64 p2, u64 p3, u64 p4, u64 p5) {
           j1 = 32ull;
           j0 += j1;
           j1 = 1ull;
-          i0 = f13(self, j0, j1); m = self->memory; if (NEVER(self->is_broken)) return ZAK_BROKEN;
+          i0 = f10(self, j0, j1); m = self->memory; if (NEVER(self->is_broken)) return ZAK_BROKEN;
           i0 = !(i0);
           if (i0) {goto B82;}
           j0 = l6;
@@ -80177,7 +80102,7 @@ static u32 f76(module *self, u64 p0, u64 p1, u64 p2, u64 p3, u64 p4, u64 p5) {
         j1 += j2;
         j2 = l12;
         j3 = l14;
-        f15(self, j0, j1, j2, j3); m = self->memory; if (NEVER(self->is_broken)) return ZAK_BROKEN;
+        f12(self, j0, j1, j2, j3); m = self->memory; if (NEVER(self->is_broken)) return ZAK_BROKEN;
         j0 = l6;
         i0 = (u32)(j0);
         i0 = i32_load8_u(j0 + 16u);
@@ -80233,7 +80158,7 @@ static u32 f76(module *self, u64 p0, u64 p1, u64 p2, u64 p3, u64 p4, u64 p5) {
     j1 += j2;
     j2 = l11;
     j3 = p1;
-    f15(self, j0, j1, j2, j3); m = self->memory; if (NEVER(self->is_broken)) return ZAK_BROKEN;
+    f12(self, j0, j1, j2, j3); m = self->memory; if (NEVER(self->is_broken)) return ZAK_BROKEN;
     j0 = l6;
     i0 = (u32)(j0);
     i0 = i32_load8_u(j0);
@@ -80279,7 +80204,7 @@ static u32 f76(module *self, u64 p0, u64 p1, u64 p2, u64 p3, u64 p4, u64 p5) {
   j0 = l6;
   i0 = (u32)(j0);
   j0 = i64_load(j0 + 32u);
-  f179(self, j0);
+  f127(self, j0);
   goto B41;
   B50:;
   i0 = 9u;
@@ -80292,7 +80217,7 @@ static u32 f76(module *self, u64 p0, u64 p1, u64 p2, u64 p3, u64 p4, u64 p5) {
   j0 = l6;
   i0 = (u32)(j0);
   j0 = i64_load(j0 + 32u);
-  f179(self, j0);
+  f127(self, j0);
   goto B41;
   B49:;
   j0 = 0ull;
@@ -80366,7 +80291,7 @@ static u32 f76(module *self, u64 p0, u64 p1, u64 p2, u64 p3, u64 p4, u64 p5) {
     j1 += j2;
     j2 = l11;
     j3 = p0;
-    f15(self, j0, j1, j2, j3); m = self->memory; if (NEVER(self->is_broken)) return ZAK_BROKEN;
+    f12(self, j0, j1, j2, j3); m = self->memory; if (NEVER(self->is_broken)) return ZAK_BROKEN;
     j0 = l6;
     i0 = (u32)(j0);
     i0 = i32_load8_u(j0);
@@ -80429,7 +80354,7 @@ static u32 f76(module *self, u64 p0, u64 p1, u64 p2, u64 p3, u64 p4, u64 p5) {
   j0 = l6;
   i0 = (u32)(j0);
   j0 = i64_load(j0 + 32u);
-  f179(self, j0);
+  f127(self, j0);
   goto B41;
   B45:;
   j0 = l6;
@@ -80453,13 +80378,13 @@ static u32 f76(module *self, u64 p0, u64 p1, u64 p2, u64 p3, u64 p4, u64 p5) {
   i0 = !(j0);
   if (i0) {goto B1;}
   j0 = l16;
-  f179(self, j0);
+  f127(self, j0);
   goto B1;
   B43:;
   j0 = l6;
   i0 = (u32)(j0);
   j0 = i64_load(j0 + 32u);
-  f179(self, j0);
+  f127(self, j0);
   j0 = l9;
   l12 = j0;
   goto B41;
@@ -80494,7 +80419,7 @@ static u32 f76(module *self, u64 p0, u64 p1, u64 p2, u64 p3, u64 p4, u64 p5) {
   j1 = 32ull;
   j0 += j1;
   j1 = p0;
-  i0 = f13(self, j0, j1); m = self->memory; if (NEVER(self->is_broken)) return ZAK_BROKEN;
+  i0 = f10(self, j0, j1); m = self->memory; if (NEVER(self->is_broken)) return ZAK_BROKEN;
   i0 = !(i0);
   if (i0) {goto B113;}
   j0 = l6;
@@ -80655,7 +80580,7 @@ static u32 f76(module *self, u64 p0, u64 p1, u64 p2, u64 p3, u64 p4, u64 p5) {
   j0 = l6;
   i0 = (u32)(j0);
   j0 = i64_load(j0 + 32u);
-  f179(self, j0);
+  f127(self, j0);
   B119:;
   j0 = 0ull;
   p1 = j0;
@@ -80668,7 +80593,7 @@ static u32 f76(module *self, u64 p0, u64 p1, u64 p2, u64 p3, u64 p4, u64 p5) {
   i0 = !(j0);
   if (i0) {goto B120;}
   j0 = l16;
-  f179(self, j0);
+  f127(self, j0);
   B120:;
   i0 = l27;
   if (i0) {goto B40;}
@@ -80840,7 +80765,7 @@ static u32 f76(module *self, u64 p0, u64 p1, u64 p2, u64 p3, u64 p4, u64 p5) {
   i0 = !(j0);
   if (i0) {goto B0;}
   j0 = l20;
-  f179(self, j0);
+  f127(self, j0);
   goto B0;
   B39:;
   j0 = p5;
@@ -80893,7 +80818,7 @@ static u32 f76(module *self, u64 p0, u64 p1, u64 p2, u64 p3, u64 p4, u64 p5) {
   return i0;
 }
 
-static u32 f77(module *self, u64 p0, u64 p1, u64 p2) {
+static u32 module_zak_block(module *self, u64 p0, u64 p1, u64 p2) {
   u32 l7 = 0;
   u64 l3 = 0, l4 = 0, l5 = 0, l6 = 0;
   u8 *m = self->memory;
@@ -80920,7 +80845,7 @@ static u32 f77(module *self, u64 p0, u64 p1, u64 p2) {
   i0 = !(i0);
   if (i0) {goto B1;}
   j0 = p0;
-  f4(self, j0); m = self->memory; if (NEVER(self->is_broken)) return ZAK_BROKEN;
+  f1(self, j0); m = self->memory; if (NEVER(self->is_broken)) return ZAK_BROKEN;
   B1:;
   j0 = 0ull;
   l4 = j0;
@@ -80957,7 +80882,7 @@ static u32 f77(module *self, u64 p0, u64 p1, u64 p2) {
   j2 = i64_load16_u(j2);
   p1 = j2;
   j1 |= j2;
-  f20(self, j0, j1);
+  f17(self, j0, j1);
   j0 = l3;
   i0 = (u32)(j0);
   i0 = i32_load8_u(j0);
@@ -81097,7 +81022,7 @@ static u32 f77(module *self, u64 p0, u64 p1, u64 p2) {
   return i0;
 }
 
-static u32 f78(module *self, u64 p0, u64 p1) {
+static u32 module_zak_clock(module *self, u64 p0, u64 p1) {
   u32 l2 = 0, l3 = 0, l4 = 0, l5 = 0, l6 = 0, l7 = 0, l8 = 0, l9 = 0, 
       l10 = 0, l11 = 0, l12 = 0, l13 = 0, l14 = 0, l15 = 0, l16 = 0;
   u64 l17 = 0, l18 = 0;
@@ -81120,7 +81045,7 @@ static u32 f78(module *self, u64 p0, u64 p1) {
   i0 = !(i0);
   if (i0) {goto B1;}
   j0 = p0;
-  f4(self, j0); m = self->memory; if (NEVER(self->is_broken)) return ZAK_BROKEN;
+  f1(self, j0); m = self->memory; if (NEVER(self->is_broken)) return ZAK_BROKEN;
   B1:;
   j0 = p0;
   i0 = (u32)(j0);
@@ -81593,7 +81518,7 @@ static u32 f78(module *self, u64 p0, u64 p1) {
   return i0;
 }
 
-static u32 f79(module *self, u64 p0) {
+static u32 module_zak_close(module *self, u64 p0) {
   u32 l1 = 0, l2 = 0, l3 = 0;
   u64 l4 = 0, l5 = 0, l6 = 0, l7 = 0, l8 = 0, l9 = 0, l10 = 0, l11 = 0, 
       l12 = 0;
@@ -81616,7 +81541,7 @@ static u32 f79(module *self, u64 p0) {
   i0 = !(i0);
   if (i0) {goto B1;}
   j0 = p0;
-  f4(self, j0); m = self->memory; if (NEVER(self->is_broken)) return ZAK_BROKEN;
+  f1(self, j0); m = self->memory; if (NEVER(self->is_broken)) return ZAK_BROKEN;
   B1:;
   j0 = p0;
   i0 = (u32)(j0);
@@ -81679,24 +81604,24 @@ static u32 f79(module *self, u64 p0) {
   j0 = i64_load(j0 + 16u);
   l12 = j0;
   j0 = l4;
-  f179(self, j0);
+  f127(self, j0);
   j0 = l12;
   i0 = !(j0);
   if (i0) {goto B2;}
   j0 = l11;
-  f179(self, j0);
+  f127(self, j0);
   B2:;
   j0 = l9;
   i0 = !(j0);
   if (i0) {goto B3;}
   j0 = l10;
-  f179(self, j0);
+  f127(self, j0);
   B3:;
   j0 = l7;
   i0 = !(j0);
   if (i0) {goto B4;}
   j0 = l8;
-  f179(self, j0);
+  f127(self, j0);
   B4:;
   i0 = l3;
   i1 = 255u;
@@ -81712,12 +81637,12 @@ static u32 f79(module *self, u64 p0) {
   j0 = i64_load(j0 + 16u);
   l4 = j0;
   j0 = l6;
-  f179(self, j0);
+  f127(self, j0);
   j0 = l4;
   i0 = !(j0);
   if (i0) {goto B5;}
   j0 = l7;
-  f179(self, j0);
+  f127(self, j0);
   B5:;
   i0 = l1;
   i1 = 255u;
@@ -81733,12 +81658,12 @@ static u32 f79(module *self, u64 p0) {
   j0 = i64_load(j0 + 16u);
   l4 = j0;
   j0 = l5;
-  f179(self, j0);
+  f127(self, j0);
   j0 = l4;
   i0 = !(j0);
   if (i0) {goto B6;}
   j0 = l6;
-  f179(self, j0);
+  f127(self, j0);
   B6:;
   i0 = 0u;
   l1 = i0;
@@ -81756,18 +81681,18 @@ static u32 f79(module *self, u64 p0) {
   j0 = i64_load(j0 + 16u);
   l4 = j0;
   j0 = p0;
-  f179(self, j0);
+  f127(self, j0);
   j0 = l4;
   i0 = !(j0);
   if (i0) {goto B0;}
   j0 = l5;
-  f179(self, j0);
+  f127(self, j0);
   B0:;
   i0 = l1;
   return i0;
 }
 
-static u32 f80(module *self, u64 p0, u32 p1, u32 p2, u64 p3, u32 p4, u64 p5) {
+static u32 module_zak_fill_bytes(module *self, u64 p0, u32 p1, u32 p2, u64 p3, u32 p4, u64 p5) {
   u32 l6 = 0, l7 = 0, l8 = 0, l9 = 0, l10 = 0, l11 = 0, l12 = 0;
   u64 l13 = 0, l14 = 0;
   u8 *m = self->memory;
@@ -81789,7 +81714,7 @@ static u32 f80(module *self, u64 p0, u32 p1, u32 p2, u64 p3, u32 p4, u64 p5) {
   i0 = !(i0);
   if (i0) {goto B1;}
   j0 = p0;
-  f4(self, j0); m = self->memory; if (NEVER(self->is_broken)) return ZAK_BROKEN;
+  f1(self, j0); m = self->memory; if (NEVER(self->is_broken)) return ZAK_BROKEN;
   B1:;
   j0 = 0ull;
   l13 = j0;
@@ -81925,7 +81850,7 @@ static u32 f80(module *self, u64 p0, u32 p1, u32 p2, u64 p3, u32 p4, u64 p5) {
     i1 = (u32)(j1);
     i1 = i32_load8_u(j1);
     i2 = p2;
-    i0 = f21(self, j0, i1, i2);
+    i0 = f18(self, j0, i1, i2);
     l9 = i0;
     j0 = l14;
     j1 = 71ull;
@@ -82042,7 +81967,7 @@ static u32 f80(module *self, u64 p0, u32 p1, u32 p2, u64 p3, u32 p4, u64 p5) {
   i2 = l7;
   i3 = p2;
   i4 = p2;
-  f22(self, j0, i1, i2, i3, i4);
+  f19(self, j0, i1, i2, i3, i4);
   i0 = 0u;
   l6 = i0;
   B2:;
@@ -82067,7 +81992,7 @@ static u32 f80(module *self, u64 p0, u32 p1, u32 p2, u64 p3, u32 p4, u64 p5) {
   return i0;
 }
 
-static u32 f81(module *self, u64 p0, u64 p1, u64 p2, u64 p3) {
+static u32 module_zak_frame(module *self, u64 p0, u64 p1, u64 p2, u64 p3) {
   u32 l12 = 0;
   u64 l4 = 0, l5 = 0, l6 = 0, l7 = 0, l8 = 0, l9 = 0, l10 = 0, l11 = 0;
   u8 *m = self->memory;
@@ -82094,7 +82019,7 @@ static u32 f81(module *self, u64 p0, u64 p1, u64 p2, u64 p3) {
   i0 = !(i0);
   if (i0) {goto B1;}
   j0 = p0;
-  f4(self, j0); m = self->memory; if (NEVER(self->is_broken)) return ZAK_BROKEN;
+  f1(self, j0); m = self->memory; if (NEVER(self->is_broken)) return ZAK_BROKEN;
   B1:;
   j0 = p0;
   i0 = (u32)(j0);
@@ -82126,7 +82051,7 @@ static u32 f81(module *self, u64 p0, u64 p1, u64 p2, u64 p3) {
   i64_store(j0, j1);
   j0 = l4;
   j1 = l5;
-  f23(self, j0, j1); m = self->memory; if (NEVER(self->is_broken)) return ZAK_BROKEN;
+  f20(self, j0, j1); m = self->memory; if (NEVER(self->is_broken)) return ZAK_BROKEN;
   j0 = l4;
   i0 = (u32)(j0);
   i0 = i32_load8_u(j0);
@@ -82314,7 +82239,7 @@ static u32 f81(module *self, u64 p0, u64 p1, u64 p2, u64 p3) {
   return i0;
 }
 
-static u32 f82(module *self, u64 p0, u64 p1, u64 p2, u64 p3, u64 p4) {
+static u32 module_zak_frame_lines(module *self, u64 p0, u64 p1, u64 p2, u64 p3, u64 p4) {
   u32 l5 = 0, l6 = 0, l7 = 0;
   u64 l8 = 0, l9 = 0, l10 = 0, l11 = 0, l12 = 0, l13 = 0, l14 = 0, l15 = 0, 
       l16 = 0, l17 = 0;
@@ -82337,7 +82262,7 @@ static u32 f82(module *self, u64 p0, u64 p1, u64 p2, u64 p3, u64 p4) {
   i0 = !(i0);
   if (i0) {goto B1;}
   j0 = p0;
-  f4(self, j0); m = self->memory; if (NEVER(self->is_broken)) return ZAK_BROKEN;
+  f1(self, j0); m = self->memory; if (NEVER(self->is_broken)) return ZAK_BROKEN;
   B1:;
   j0 = p0;
   i0 = (u32)(j0);
@@ -82451,7 +82376,7 @@ static u32 f82(module *self, u64 p0, u64 p1, u64 p2, u64 p3, u64 p4) {
   i1 += i2;
   i2 = 1u;
   i1 += i2;
-  f5(self, j0, i1); m = self->memory; if (NEVER(self->is_broken)) return ZAK_BROKEN;
+  f2(self, j0, i1); m = self->memory; if (NEVER(self->is_broken)) return ZAK_BROKEN;
   j0 = l8;
   j1 = 2032ull;
   j0 += j1;
@@ -82775,7 +82700,7 @@ static u32 f82(module *self, u64 p0, u64 p1, u64 p2, u64 p3, u64 p4) {
   return i0;
 }
 
-static u32 f83(module *self, u64 p0, u32 p1, u64 p2, u64 p3, u64 p4, u64 p5) {
+static u32 module_zak_frame_words(module *self, u64 p0, u32 p1, u64 p2, u64 p3, u64 p4, u64 p5) {
   u32 l15 = 0, l16 = 0, l17 = 0, l18 = 0, l19 = 0, l20 = 0, l21 = 0, l22 = 0;
   u64 l6 = 0, l7 = 0, l8 = 0, l9 = 0, l10 = 0, l11 = 0, l12 = 0, l13 = 0, 
       l14 = 0;
@@ -82803,7 +82728,7 @@ static u32 f83(module *self, u64 p0, u32 p1, u64 p2, u64 p3, u64 p4, u64 p5) {
   i0 = !(i0);
   if (i0) {goto B1;}
   j0 = p0;
-  f4(self, j0); m = self->memory; if (NEVER(self->is_broken)) return ZAK_BROKEN;
+  f1(self, j0); m = self->memory; if (NEVER(self->is_broken)) return ZAK_BROKEN;
   B1:;
   j0 = p0;
   i0 = (u32)(j0);
@@ -82909,7 +82834,7 @@ static u32 f83(module *self, u64 p0, u32 p1, u64 p2, u64 p3, u64 p4, u64 p5) {
   j1 = 16ull;
   j0 += j1;
   j1 = l7;
-  f23(self, j0, j1); m = self->memory; if (NEVER(self->is_broken)) return ZAK_BROKEN;
+  f20(self, j0, j1); m = self->memory; if (NEVER(self->is_broken)) return ZAK_BROKEN;
   i0 = 24u;
   l15 = i0;
   j0 = l6;
@@ -82983,7 +82908,7 @@ static u32 f83(module *self, u64 p0, u32 p1, u64 p2, u64 p3, u64 p4, u64 p5) {
   j2 = 0ull;
   j3 = p5;
   j4 = 0ull;
-  f3(self, j0, j1, j2, j3, j4);
+  f0(self, j0, j1, j2, j3, j4);
   i0 = 25u;
   l15 = i0;
   j0 = p5;
@@ -83073,39 +82998,27 @@ static u32 f83(module *self, u64 p0, u32 p1, u64 p2, u64 p3, u64 p4, u64 p5) {
       j1 = p2;
       i1 = (u32)(j1);
       i1 = i32_load8_u(j1);
-      p1 = i1;
-      i2 = 12u;
+      i2 = 16u;
       i1 <<= (i2 & 31);
-      i2 = 983040u;
-      i1 &= i2;
-      i2 = p1;
-      i3 = 18u;
-      i2 <<= (i3 & 31);
-      i1 += i2;
-      j2 = p2;
-      j3 = 1ull;
-      j2 += j3;
-      i2 = (u32)(j2);
-      i2 = i32_load8_u(j2);
-      p1 = i2;
-      i3 = 10u;
-      i2 <<= (i3 & 31);
-      i1 += i2;
-      i2 = p1;
-      i3 = 4u;
-      i2 <<= (i3 & 31);
-      i3 = 3840u;
-      i2 &= i3;
-      i1 += i2;
       j2 = p2;
       j3 = 2ull;
       j2 += j3;
       i2 = (u32)(j2);
       i2 = i32_load8_u(j2);
-      p1 = i2;
-      i3 = 4u;
-      i2 >>= (i3 & 31);
       i1 |= i2;
+      j2 = p2;
+      j3 = 1ull;
+      j2 += j3;
+      i2 = (u32)(j2);
+      i2 = i32_load8_u(j2);
+      i3 = 8u;
+      i2 <<= (i3 & 31);
+      i1 |= i2;
+      p1 = i1;
+      i2 = 4u;
+      i1 >>= (i2 & 31);
+      i2 = 986895u;
+      i1 &= i2;
       i2 = p1;
       i3 = 2u;
       i2 <<= (i3 & 31);
@@ -83169,7 +83082,7 @@ static u32 f83(module *self, u64 p0, u32 p1, u64 p2, u64 p3, u64 p4, u64 p5) {
   return i0;
 }
 
-static u32 f84(module *self, u64 p0, u64 p1, u64 p2, u64 p3, u64 p4) {
+static u32 module_zak_frame_xrgb(module *self, u64 p0, u64 p1, u64 p2, u64 p3, u64 p4) {
   u32 l13 = 0, l14 = 0, l15 = 0, l16 = 0;
   u64 l5 = 0, l6 = 0, l7 = 0, l8 = 0, l9 = 0, l10 = 0, l11 = 0, l12 = 0;
   u8 *m = self->memory;
@@ -83196,7 +83109,7 @@ static u32 f84(module *self, u64 p0, u64 p1, u64 p2, u64 p3, u64 p4) {
   i0 = !(i0);
   if (i0) {goto B1;}
   j0 = p0;
-  f4(self, j0); m = self->memory; if (NEVER(self->is_broken)) return ZAK_BROKEN;
+  f1(self, j0); m = self->memory; if (NEVER(self->is_broken)) return ZAK_BROKEN;
   B1:;
   j0 = p0;
   i0 = (u32)(j0);
@@ -83230,7 +83143,7 @@ static u32 f84(module *self, u64 p0, u64 p1, u64 p2, u64 p3, u64 p4) {
   j1 = 16ull;
   j0 += j1;
   j1 = l6;
-  f23(self, j0, j1); m = self->memory; if (NEVER(self->is_broken)) return ZAK_BROKEN;
+  f20(self, j0, j1); m = self->memory; if (NEVER(self->is_broken)) return ZAK_BROKEN;
   i0 = 24u;
   l13 = i0;
   j0 = l5;
@@ -83262,7 +83175,7 @@ static u32 f84(module *self, u64 p0, u64 p1, u64 p2, u64 p3, u64 p4) {
   j2 = 0ull;
   j3 = p4;
   j4 = 0ull;
-  f3(self, j0, j1, j2, j3, j4);
+  f0(self, j0, j1, j2, j3, j4);
   i0 = 25u;
   l13 = i0;
   j0 = p4;
@@ -83326,39 +83239,27 @@ static u32 f84(module *self, u64 p0, u64 p1, u64 p2, u64 p3, u64 p4) {
       j1 = p4;
       i1 = (u32)(j1);
       i1 = i32_load8_u(j1);
-      l14 = i1;
-      i2 = 12u;
+      i2 = 16u;
       i1 <<= (i2 & 31);
-      i2 = 983040u;
-      i1 &= i2;
-      i2 = l14;
-      i3 = 18u;
-      i2 <<= (i3 & 31);
-      i1 += i2;
-      j2 = p4;
-      j3 = 1ull;
-      j2 += j3;
-      i2 = (u32)(j2);
-      i2 = i32_load8_u(j2);
-      l14 = i2;
-      i3 = 10u;
-      i2 <<= (i3 & 31);
-      i1 += i2;
-      i2 = l14;
-      i3 = 4u;
-      i2 <<= (i3 & 31);
-      i3 = 3840u;
-      i2 &= i3;
-      i1 += i2;
       j2 = p4;
       j3 = 2ull;
       j2 += j3;
       i2 = (u32)(j2);
       i2 = i32_load8_u(j2);
-      l14 = i2;
-      i3 = 4u;
-      i2 >>= (i3 & 31);
       i1 |= i2;
+      j2 = p4;
+      j3 = 1ull;
+      j2 += j3;
+      i2 = (u32)(j2);
+      i2 = i32_load8_u(j2);
+      i3 = 8u;
+      i2 <<= (i3 & 31);
+      i1 |= i2;
+      l14 = i1;
+      i2 = 4u;
+      i1 >>= (i2 & 31);
+      i2 = 986895u;
+      i1 &= i2;
       i2 = l14;
       i3 = 2u;
       i2 <<= (i3 & 31);
@@ -83420,7 +83321,7 @@ static u32 f84(module *self, u64 p0, u64 p1, u64 p2, u64 p3, u64 p4) {
   return i0;
 }
 
-static u32 f85(module *self, u64 p0, u32 p1, u64 p2) {
+static u32 module_zak_get(module *self, u64 p0, u32 p1, u64 p2) {
   u32 l5 = 0;
   u64 l3 = 0, l4 = 0;
   u8 *m = self->memory;
@@ -83447,7 +83348,7 @@ static u32 f85(module *self, u64 p0, u32 p1, u64 p2) {
   i0 = !(i0);
   if (i0) {goto B1;}
   j0 = p0;
-  f4(self, j0); m = self->memory; if (NEVER(self->is_broken)) return ZAK_BROKEN;
+  f1(self, j0); m = self->memory; if (NEVER(self->is_broken)) return ZAK_BROKEN;
   B1:;
   j0 = p0;
   i0 = (u32)(j0);
@@ -83466,7 +83367,7 @@ static u32 f85(module *self, u64 p0, u32 p1, u64 p2) {
   j0 += j1;
   j1 = l4;
   i2 = p1;
-  f24(self, j0, j1, i2);
+  f21(self, j0, j1, i2);
   j0 = l3;
   i0 = (u32)(j0);
   i0 = i32_load8_u(j0 + 9u);
@@ -83517,7 +83418,7 @@ static u32 f85(module *self, u64 p0, u32 p1, u64 p2) {
   return i0;
 }
 
-static u32 f86(module *self, u64 p0, u32 p1, u64 p2, u64 p3, u32 p4, u64 p5) {
+static u32 module_zak_get_bytes(module *self, u64 p0, u32 p1, u64 p2, u64 p3, u32 p4, u64 p5) {
   u32 l10 = 0, l11 = 0, l12 = 0, l13 = 0, l14 = 0;
   u64 l6 = 0, l7 = 0, l8 = 0, l9 = 0;
   u8 *m = self->memory;
@@ -83544,7 +83445,7 @@ static u32 f86(module *self, u64 p0, u32 p1, u64 p2, u64 p3, u32 p4, u64 p5) {
   i0 = !(i0);
   if (i0) {goto B1;}
   j0 = p0;
-  f4(self, j0); m = self->memory; if (NEVER(self->is_broken)) return ZAK_BROKEN;
+  f1(self, j0); m = self->memory; if (NEVER(self->is_broken)) return ZAK_BROKEN;
   B1:;
   j0 = 0ull;
   l7 = j0;
@@ -83659,7 +83560,7 @@ static u32 f86(module *self, u64 p0, u32 p1, u64 p2, u64 p3, u32 p4, u64 p5) {
     j0 += j1;
     j1 = l8;
     i2 = p1;
-    f24(self, j0, j1, i2);
+    f21(self, j0, j1, i2);
     j0 = p2;
     j1 = p3;
     j0 += j1;
@@ -83965,7 +83866,7 @@ static u32 f86(module *self, u64 p0, u32 p1, u64 p2, u64 p3, u32 p4, u64 p5) {
   i2 = p1;
   j3 = p2;
   j4 = p3;
-  f25(self, j0, j1, i2, j3, j4); if (NEVER(self->is_broken)) return ZAK_BROKEN;
+  f22(self, j0, j1, i2, j3, j4); if (NEVER(self->is_broken)) return ZAK_BROKEN;
   i0 = l11;
   i1 = p4;
   i2 = 4294967295u;
@@ -84049,7 +83950,7 @@ static u32 f86(module *self, u64 p0, u32 p1, u64 p2, u64 p3, u32 p4, u64 p5) {
   return i0;
 }
 
-static u32 f87(module *self, u64 p0, u32 p1, u64 p2) {
+static u32 module_zak_get_word(module *self, u64 p0, u32 p1, u64 p2) {
   u32 l5 = 0, l6 = 0, l7 = 0;
   u64 l3 = 0, l4 = 0;
   u8 *m = self->memory;
@@ -84076,7 +83977,7 @@ static u32 f87(module *self, u64 p0, u32 p1, u64 p2) {
   i0 = !(i0);
   if (i0) {goto B1;}
   j0 = p0;
-  f4(self, j0); m = self->memory; if (NEVER(self->is_broken)) return ZAK_BROKEN;
+  f1(self, j0); m = self->memory; if (NEVER(self->is_broken)) return ZAK_BROKEN;
   B1:;
   j0 = p0;
   i0 = (u32)(j0);
@@ -84137,7 +84038,7 @@ static u32 f87(module *self, u64 p0, u32 p1, u64 p2) {
   j0 += j1;
   j1 = l4;
   i2 = p1;
-  f24(self, j0, j1, i2);
+  f21(self, j0, j1, i2);
   j0 = l3;
   i0 = (u32)(j0);
   i0 = i32_load8_u(j0 + 9u);
@@ -84149,7 +84050,7 @@ static u32 f87(module *self, u64 p0, u32 p1, u64 p2) {
   j0 = l3;
   j1 = l4;
   i2 = l7;
-  f24(self, j0, j1, i2);
+  f21(self, j0, j1, i2);
   j0 = l3;
   i0 = (u32)(j0);
   i0 = i32_load8_u(j0 + 1u);
@@ -84208,7 +84109,7 @@ static u32 f87(module *self, u64 p0, u32 p1, u64 p2) {
   return i0;
 }
 
-static u32 f88(module *self, u64 p0, u32 p1, u64 p2) {
+static u32 module_zak_in(module *self, u64 p0, u32 p1, u64 p2) {
   u32 l5 = 0;
   u64 l3 = 0, l4 = 0;
   u8 *m = self->memory;
@@ -84235,7 +84136,7 @@ static u32 f88(module *self, u64 p0, u32 p1, u64 p2) {
   i0 = !(i0);
   if (i0) {goto B1;}
   j0 = p0;
-  f4(self, j0); m = self->memory; if (NEVER(self->is_broken)) return ZAK_BROKEN;
+  f1(self, j0); m = self->memory; if (NEVER(self->is_broken)) return ZAK_BROKEN;
   B1:;
   j0 = p0;
   i0 = (u32)(j0);
@@ -84254,7 +84155,7 @@ static u32 f88(module *self, u64 p0, u32 p1, u64 p2) {
   j0 += j1;
   j1 = l4;
   i2 = p1;
-  f26(self, j0, j1, i2); if (NEVER(self->is_broken)) return ZAK_BROKEN;
+  f23(self, j0, j1, i2); if (NEVER(self->is_broken)) return ZAK_BROKEN;
   j0 = l3;
   i0 = (u32)(j0);
   i0 = i32_load8_u(j0 + 9u);
@@ -84305,7 +84206,7 @@ static u32 f88(module *self, u64 p0, u32 p1, u64 p2) {
   return i0;
 }
 
-static u32 f89(module *self, u64 p0, u32 p1, u64 p2) {
+static u32 module_zak_in_word(module *self, u64 p0, u32 p1, u64 p2) {
   u32 l5 = 0;
   u64 l3 = 0, l4 = 0;
   u8 *m = self->memory;
@@ -84332,7 +84233,7 @@ static u32 f89(module *self, u64 p0, u32 p1, u64 p2) {
   i0 = !(i0);
   if (i0) {goto B1;}
   j0 = p0;
-  f4(self, j0); m = self->memory; if (NEVER(self->is_broken)) return ZAK_BROKEN;
+  f1(self, j0); m = self->memory; if (NEVER(self->is_broken)) return ZAK_BROKEN;
   B1:;
   j0 = p0;
   i0 = (u32)(j0);
@@ -84351,7 +84252,7 @@ static u32 f89(module *self, u64 p0, u32 p1, u64 p2) {
   j0 += j1;
   j1 = l4;
   i2 = p1;
-  f27(self, j0, j1, i2); if (NEVER(self->is_broken)) return ZAK_BROKEN;
+  f24(self, j0, j1, i2); if (NEVER(self->is_broken)) return ZAK_BROKEN;
   j0 = l3;
   i0 = (u32)(j0);
   i0 = i32_load8_u(j0 + 12u);
@@ -84398,7 +84299,7 @@ static u32 f89(module *self, u64 p0, u32 p1, u64 p2) {
   return i0;
 }
 
-static u32 f90(module *self, u64 p0, u64 p1, u64 p2, u64 p3, u64 p4, u64 p5, u64 p6) {
+static u32 module_zak_int10(module *self, u64 p0, u64 p1, u64 p2, u64 p3, u64 p4, u64 p5, u64 p6) {
   u32 l12 = 0, l13 = 0;
   u64 l7 = 0, l8 = 0, l9 = 0, l10 = 0, l11 = 0;
   u8 *m = self->memory;
@@ -84426,7 +84327,7 @@ static u32 f90(module *self, u64 p0, u64 p1, u64 p2, u64 p3, u64 p4, u64 p5, u64
   i0 = !(i0);
   if (i0) {goto B1;}
   j0 = p0;
-  f4(self, j0); m = self->memory; if (NEVER(self->is_broken)) return ZAK_BROKEN;
+  f1(self, j0); m = self->memory; if (NEVER(self->is_broken)) return ZAK_BROKEN;
   B1:;
   j0 = p0;
   i0 = (u32)(j0);
@@ -84446,7 +84347,7 @@ static u32 f90(module *self, u64 p0, u64 p1, u64 p2, u64 p3, u64 p4, u64 p5, u64
   j1 = 2072ull;
   j0 += j1;
   l9 = j0;
-  i0 = f29(self, j0);
+  i0 = f26(self, j0);
   i0 = !(i0);
   if (i0) {goto B2;}
   j0 = l7;
@@ -84488,7 +84389,7 @@ static u32 f90(module *self, u64 p0, u64 p1, u64 p2, u64 p3, u64 p4, u64 p5, u64
   j6 = i8 ? j6 : j7;
   j5 += j6;
   j6 = p3;
-  f31(self, j0, j1, j2, j3, j4, j5, j6); m = self->memory; if (NEVER(self->is_broken)) return ZAK_BROKEN;
+  f28(self, j0, j1, j2, j3, j4, j5, j6); m = self->memory; if (NEVER(self->is_broken)) return ZAK_BROKEN;
   j0 = l7;
   i0 = (u32)(j0);
   i0 = i32_load8_u(j0 + 8u);
@@ -84743,12 +84644,12 @@ static u32 f90(module *self, u64 p0, u64 p1, u64 p2, u64 p3, u64 p4, u64 p5, u64
   j0 = i64_load(j0 + 16u);
   p1 = j0;
   j0 = p2;
-  f179(self, j0);
+  f127(self, j0);
   j0 = p1;
   i0 = !(j0);
   if (i0) {goto B2;}
   j0 = p3;
-  f179(self, j0);
+  f127(self, j0);
   goto B2;
   B3:;
   i0 = 23u;
@@ -84791,7 +84692,7 @@ static u32 f90(module *self, u64 p0, u64 p1, u64 p2, u64 p3, u64 p4, u64 p5, u64
   return i0;
 }
 
-static u32 f91(module *self, u64 p0, u32 p1, u64 p2, u64 p3, u64 p4) {
+static u32 module_zak_line(module *self, u64 p0, u32 p1, u64 p2, u64 p3, u64 p4) {
   u32 l5 = 0, l6 = 0, l7 = 0, l8 = 0;
   u64 l9 = 0, l10 = 0, l11 = 0, l12 = 0;
   u8 *m = self->memory;
@@ -84813,7 +84714,7 @@ static u32 f91(module *self, u64 p0, u32 p1, u64 p2, u64 p3, u64 p4) {
   i0 = !(i0);
   if (i0) {goto B1;}
   j0 = p0;
-  f4(self, j0); m = self->memory; if (NEVER(self->is_broken)) return ZAK_BROKEN;
+  f1(self, j0); m = self->memory; if (NEVER(self->is_broken)) return ZAK_BROKEN;
   B1:;
   j0 = p0;
   i0 = (u32)(j0);
@@ -84900,7 +84801,7 @@ static u32 f91(module *self, u64 p0, u32 p1, u64 p2, u64 p3, u64 p4) {
   i1 += i2;
   i2 = 1u;
   i1 += i2;
-  f5(self, j0, i1); m = self->memory; if (NEVER(self->is_broken)) return ZAK_BROKEN;
+  f2(self, j0, i1); m = self->memory; if (NEVER(self->is_broken)) return ZAK_BROKEN;
   j0 = l12;
   i0 = (u32)(j0);
   i0 = i32_load16_u(j0);
@@ -85024,39 +84925,27 @@ static u32 f91(module *self, u64 p0, u32 p1, u64 p2, u64 p3, u64 p4) {
     j1 = p2;
     i1 = (u32)(j1);
     i1 = i32_load8_u(j1);
-    p1 = i1;
-    i2 = 12u;
+    i2 = 16u;
     i1 <<= (i2 & 31);
-    i2 = 983040u;
-    i1 &= i2;
-    i2 = p1;
-    i3 = 18u;
-    i2 <<= (i3 & 31);
-    i1 += i2;
-    j2 = p2;
-    j3 = 1ull;
-    j2 += j3;
-    i2 = (u32)(j2);
-    i2 = i32_load8_u(j2);
-    p1 = i2;
-    i3 = 10u;
-    i2 <<= (i3 & 31);
-    i1 += i2;
-    i2 = p1;
-    i3 = 4u;
-    i2 <<= (i3 & 31);
-    i3 = 3840u;
-    i2 &= i3;
-    i1 += i2;
     j2 = p2;
     j3 = 2ull;
     j2 += j3;
     i2 = (u32)(j2);
     i2 = i32_load8_u(j2);
-    p1 = i2;
-    i3 = 4u;
-    i2 >>= (i3 & 31);
     i1 |= i2;
+    j2 = p2;
+    j3 = 1ull;
+    j2 += j3;
+    i2 = (u32)(j2);
+    i2 = i32_load8_u(j2);
+    i3 = 8u;
+    i2 <<= (i3 & 31);
+    i1 |= i2;
+    p1 = i1;
+    i2 = 4u;
+    i1 >>= (i2 & 31);
+    i2 = 986895u;
+    i1 &= i2;
     i2 = p1;
     i3 = 2u;
     i2 <<= (i3 & 31);
@@ -85101,7 +84990,7 @@ static u32 f91(module *self, u64 p0, u32 p1, u64 p2, u64 p3, u64 p4) {
   return i0;
 }
 
-static u32 f92(module *self, u64 p0, u32 p1, u32 p2, u64 p3, u32 p4, u64 p5) {
+static u32 module_zak_move_bytes(module *self, u64 p0, u32 p1, u32 p2, u64 p3, u32 p4, u64 p5) {
   u32 l9 = 0, l10 = 0, l11 = 0, l12 = 0, l13 = 0, l14 = 0, l15 = 0;
   u64 l6 = 0, l7 = 0, l8 = 0;
   u8 *m = self->memory;
@@ -85128,7 +85017,7 @@ static u32 f92(module *self, u64 p0, u32 p1, u32 p2, u64 p3, u32 p4, u64 p5) {
   i0 = !(i0);
   if (i0) {goto B1;}
   j0 = p0;
-  f4(self, j0); m = self->memory; if (NEVER(self->is_broken)) return ZAK_BROKEN;
+  f1(self, j0); m = self->memory; if (NEVER(self->is_broken)) return ZAK_BROKEN;
   B1:;
   j0 = p0;
   i0 = (u32)(j0);
@@ -85273,7 +85162,7 @@ static u32 f92(module *self, u64 p0, u32 p1, u32 p2, u64 p3, u32 p4, u64 p5) {
     i2 = p4;
     i3 = l10;
     i2 += i3;
-    f24(self, j0, j1, i2);
+    f21(self, j0, j1, i2);
     j0 = l7;
     j1 = 2003ull;
     j0 += j1;
@@ -85317,7 +85206,7 @@ static u32 f92(module *self, u64 p0, u32 p1, u32 p2, u64 p3, u32 p4, u64 p5) {
     i5 = 255u;
     i4 &= i5;
     i2 = i4 ? i2 : i3;
-    i0 = f21(self, j0, i1, i2);
+    i0 = f18(self, j0, i1, i2);
     l12 = i0;
     j0 = l7;
     j1 = 71ull;
@@ -85433,7 +85322,7 @@ static u32 f92(module *self, u64 p0, u32 p1, u32 p2, u64 p3, u32 p4, u64 p5) {
   i1 = p1;
   i2 = p2;
   i3 = l10;
-  f42(self, j0, i1, i2, i3);
+  f39(self, j0, i1, i2, i3);
   i0 = 0u;
   l9 = i0;
   B2:;
@@ -85462,7 +85351,7 @@ static u32 f92(module *self, u64 p0, u32 p1, u32 p2, u64 p3, u32 p4, u64 p5) {
   return i0;
 }
 
-static u32 f93(module *self, u64 p0, u64 p1, u64 p2) {
+static u32 module_zak_open(module *self, u64 p0, u64 p1, u64 p2) {
   u32 l17 = 0, l18 = 0, l19 = 0;
   u64 l3 = 0, l4 = 0, l5 = 0, l6 = 0, l7 = 0, l8 = 0, l9 = 0, l10 = 0, 
       l11 = 0, l12 = 0, l13 = 0, l14 = 0, l15 = 0, l16 = 0;
@@ -85527,7 +85416,7 @@ static u32 f93(module *self, u64 p0, u64 p1, u64 p2) {
   j2 = i4 ? j2 : j3;
   j1 += j2;
   j2 = p2;
-  f45(self, j0, j1, j2); m = self->memory; if (NEVER(self->is_broken)) return ZAK_BROKEN;
+  f42(self, j0, j1, j2); m = self->memory; if (NEVER(self->is_broken)) return ZAK_BROKEN;
   j0 = l3;
   i0 = (u32)(j0);
   j0 = i64_load(j0 + 2120u);
@@ -85576,7 +85465,7 @@ static u32 f93(module *self, u64 p0, u64 p1, u64 p2) {
   j1 = l3;
   j2 = 2064ull;
   j1 += j2;
-  f46(self, j0, j1); m = self->memory; if (NEVER(self->is_broken)) return ZAK_BROKEN;
+  f43(self, j0, j1); m = self->memory; if (NEVER(self->is_broken)) return ZAK_BROKEN;
   j0 = l3;
   i0 = (u32)(j0);
   j1 = l3;
@@ -85773,7 +85662,7 @@ static u32 f93(module *self, u64 p0, u64 p1, u64 p2) {
   j0 = l3;
   j1 = 2160ull;
   j2 = 8ull;
-  f176(self, j0, j1, j2); m = self->memory; if (NEVER(self->is_broken)) return ZAK_BROKEN;
+  f124(self, j0, j1, j2); m = self->memory; if (NEVER(self->is_broken)) return ZAK_BROKEN;
   j0 = l3;
   i0 = (u32)(j0);
   j0 = i64_load(j0);
@@ -85996,19 +85885,19 @@ static u32 f93(module *self, u64 p0, u64 p1, u64 p2) {
   i0 = !(j0);
   if (i0) {goto B3;}
   j0 = p1;
-  f179(self, j0);
+  f127(self, j0);
   B3:;
   j0 = l11;
   i0 = !(j0);
   if (i0) {goto B4;}
   j0 = l13;
-  f179(self, j0);
+  f127(self, j0);
   B4:;
   j0 = l7;
   i0 = !(j0);
   if (i0) {goto B5;}
   j0 = l9;
-  f179(self, j0);
+  f127(self, j0);
   B5:;
   i0 = l17;
   i1 = 255u;
@@ -86025,12 +85914,12 @@ static u32 f93(module *self, u64 p0, u64 p1, u64 p2) {
   j0 = i64_load(j0 + 16u);
   p0 = j0;
   j0 = l14;
-  f179(self, j0);
+  f127(self, j0);
   j0 = p0;
   i0 = !(j0);
   if (i0) {goto B6;}
   j0 = p1;
-  f179(self, j0);
+  f127(self, j0);
   B6:;
   i0 = l18;
   i1 = 255u;
@@ -86047,12 +85936,12 @@ static u32 f93(module *self, u64 p0, u64 p1, u64 p2) {
   j0 = i64_load(j0 + 16u);
   p0 = j0;
   j0 = l15;
-  f179(self, j0);
+  f127(self, j0);
   j0 = p0;
   i0 = !(j0);
   if (i0) {goto B7;}
   j0 = p1;
-  f179(self, j0);
+  f127(self, j0);
   B7:;
   i0 = 23u;
   l17 = i0;
@@ -86071,12 +85960,12 @@ static u32 f93(module *self, u64 p0, u64 p1, u64 p2) {
   j0 = i64_load(j0 + 16u);
   p0 = j0;
   j0 = l16;
-  f179(self, j0);
+  f127(self, j0);
   j0 = p0;
   i0 = !(j0);
   if (i0) {goto B0;}
   j0 = p1;
-  f179(self, j0);
+  f127(self, j0);
   goto B0;
   B1:;
   i0 = 22u;
@@ -86096,7 +85985,7 @@ static u32 f93(module *self, u64 p0, u64 p1, u64 p2) {
   return i0;
 }
 
-static u32 f94(module *self, u64 p0, u32 p1, u32 p2) {
+static u32 module_zak_out(module *self, u64 p0, u32 p1, u32 p2) {
   u32 l5 = 0, l6 = 0, l7 = 0, l8 = 0;
   u64 l3 = 0, l4 = 0;
   u8 *m = self->memory;
@@ -86123,7 +86012,7 @@ static u32 f94(module *self, u64 p0, u32 p1, u32 p2) {
   i0 = !(i0);
   if (i0) {goto B1;}
   j0 = p0;
-  f4(self, j0); m = self->memory; if (NEVER(self->is_broken)) return ZAK_BROKEN;
+  f1(self, j0); m = self->memory; if (NEVER(self->is_broken)) return ZAK_BROKEN;
   B1:;
   j0 = p0;
   i0 = (u32)(j0);
@@ -86215,7 +86104,7 @@ static u32 f94(module *self, u64 p0, u32 p1, u32 p2) {
   j1 = l4;
   i2 = l6;
   i3 = p2;
-  f41(self, j0, j1, i2, i3);
+  f38(self, j0, j1, i2, i3);
   j0 = l3;
   i0 = (u32)(j0);
   i0 = i32_load8_u(j0 + 9u);
@@ -86255,7 +86144,7 @@ static u32 f94(module *self, u64 p0, u32 p1, u32 p2) {
   return i0;
 }
 
-static u32 f95(module *self, u64 p0, u32 p1, u32 p2) {
+static u32 module_zak_out_word(module *self, u64 p0, u32 p1, u32 p2) {
   u32 l5 = 0;
   u64 l3 = 0, l4 = 0;
   u8 *m = self->memory;
@@ -86282,7 +86171,7 @@ static u32 f95(module *self, u64 p0, u32 p1, u32 p2) {
   i0 = !(i0);
   if (i0) {goto B1;}
   j0 = p0;
-  f4(self, j0); m = self->memory; if (NEVER(self->is_broken)) return ZAK_BROKEN;
+  f1(self, j0); m = self->memory; if (NEVER(self->is_broken)) return ZAK_BROKEN;
   B1:;
   j0 = p0;
   i0 = (u32)(j0);
@@ -86302,7 +86191,7 @@ static u32 f95(module *self, u64 p0, u32 p1, u32 p2) {
   j1 = l4;
   i2 = p1;
   i3 = p2;
-  f47(self, j0, j1, i2, i3);
+  f44(self, j0, j1, i2, i3);
   j0 = l3;
   i0 = (u32)(j0);
   i0 = i32_load8_u(j0 + 9u);
@@ -86345,7 +86234,7 @@ static u32 f95(module *self, u64 p0, u32 p1, u32 p2) {
   return i0;
 }
 
-static u32 f96(module *self, u64 p0, u64 p1, u64 p2, u64 p3, u64 p4, u64 p5) {
+static u32 module_zak_print(module *self, u64 p0, u64 p1, u64 p2, u64 p3, u64 p4, u64 p5) {
   u32 l32 = 0, l33 = 0, l34 = 0, l35 = 0, l36 = 0, l37 = 0, l38 = 0, l39 = 0, 
       l40 = 0;
   u64 l6 = 0, l7 = 0, l8 = 0, l9 = 0, l10 = 0, l11 = 0, l12 = 0, l13 = 0, 
@@ -86385,7 +86274,7 @@ static u32 f96(module *self, u64 p0, u64 p1, u64 p2, u64 p3, u64 p4, u64 p5) {
   j1 += j2;
   l8 = j1;
   j2 = p1;
-  f49(self, j0, j1, j2); if (NEVER(self->is_broken)) return ZAK_BROKEN;
+  f46(self, j0, j1, j2); if (NEVER(self->is_broken)) return ZAK_BROKEN;
   j0 = l6;
   i0 = (u32)(j0);
   i0 = i32_load8_u(j0 + 48u);
@@ -86423,7 +86312,7 @@ static u32 f96(module *self, u64 p0, u64 p1, u64 p2, u64 p3, u64 p4, u64 p5) {
   j1 = 176ull;
   j0 += j1;
   j1 = p1;
-  i0 = f13(self, j0, j1); m = self->memory; if (NEVER(self->is_broken)) return ZAK_BROKEN;
+  i0 = f10(self, j0, j1); m = self->memory; if (NEVER(self->is_broken)) return ZAK_BROKEN;
   i0 = !(i0);
   if (i0) {goto B12;}
   j0 = l6;
@@ -86579,7 +86468,7 @@ static u32 f96(module *self, u64 p0, u64 p1, u64 p2, u64 p3, u64 p4, u64 p5) {
   j0 = l6;
   i0 = (u32)(j0);
   j0 = i64_load(j0 + 176u);
-  f179(self, j0);
+  f127(self, j0);
   goto B9;
   B11:;
   j0 = l6;
@@ -86626,7 +86515,7 @@ static u32 f96(module *self, u64 p0, u64 p1, u64 p2, u64 p3, u64 p4, u64 p5) {
   j1 = 24ull;
   j0 += j1;
   j1 = 10ull;
-  i0 = f13(self, j0, j1); m = self->memory; if (NEVER(self->is_broken)) return ZAK_BROKEN;
+  i0 = f10(self, j0, j1); m = self->memory; if (NEVER(self->is_broken)) return ZAK_BROKEN;
   i0 = !(i0);
   if (i0) {goto B20;}
   j0 = l6;
@@ -86921,7 +86810,7 @@ static u32 f96(module *self, u64 p0, u64 p1, u64 p2, u64 p3, u64 p4, u64 p5) {
     j2 = l10;
     j3 = 0ull;
     i4 = l35;
-    f51(self, j0, j1, j2, j3, i4); if (NEVER(self->is_broken)) return ZAK_BROKEN;
+    f48(self, j0, j1, j2, j3, i4); if (NEVER(self->is_broken)) return ZAK_BROKEN;
     j0 = l6;
     i0 = (u32)(j0);
     i0 = i32_load8_u(j0 + 48u);
@@ -87032,7 +86921,7 @@ static u32 f96(module *self, u64 p0, u64 p1, u64 p2, u64 p3, u64 p4, u64 p5) {
     j2 = 248ull;
     j1 += j2;
     i2 = l34;
-    f54(self, j0, j1, i2); if (NEVER(self->is_broken)) return ZAK_BROKEN;
+    f51(self, j0, j1, i2); if (NEVER(self->is_broken)) return ZAK_BROKEN;
     j0 = l6;
     i0 = (u32)(j0);
     j0 = i64_load(j0 + 16u);
@@ -87103,7 +86992,7 @@ static u32 f96(module *self, u64 p0, u64 p1, u64 p2, u64 p3, u64 p4, u64 p5) {
     j1 = 24ull;
     j0 += j1;
     j1 = l15;
-    i0 = f13(self, j0, j1); m = self->memory; if (NEVER(self->is_broken)) return ZAK_BROKEN;
+    i0 = f10(self, j0, j1); m = self->memory; if (NEVER(self->is_broken)) return ZAK_BROKEN;
     i0 = !(i0);
     if (i0) {goto B37;}
     j0 = l6;
@@ -88475,7 +88364,7 @@ static u32 f96(module *self, u64 p0, u64 p1, u64 p2, u64 p3, u64 p4, u64 p5) {
       j0 += j1;
       j1 = l14;
       j2 = p0;
-      f50(self, j0, j1, j2);
+      f47(self, j0, j1, j2);
       j0 = l6;
       i0 = (u32)(j0);
       j0 = i64_load(j0 + 224u);
@@ -88748,7 +88637,7 @@ static u32 f96(module *self, u64 p0, u64 p1, u64 p2, u64 p3, u64 p4, u64 p5) {
       j2 = l6;
       j3 = 248ull;
       j2 += j3;
-      f52(self, j0, j1, j2); m = self->memory; if (NEVER(self->is_broken)) return ZAK_BROKEN;
+      f49(self, j0, j1, j2); m = self->memory; if (NEVER(self->is_broken)) return ZAK_BROKEN;
       j0 = l12;
       l15 = j0;
       j0 = l8;
@@ -88784,7 +88673,7 @@ static u32 f96(module *self, u64 p0, u64 p1, u64 p2, u64 p3, u64 p4, u64 p5) {
     j1 = 24ull;
     j0 += j1;
     j1 = 4ull;
-    i0 = f13(self, j0, j1); m = self->memory; if (NEVER(self->is_broken)) return ZAK_BROKEN;
+    i0 = f10(self, j0, j1); m = self->memory; if (NEVER(self->is_broken)) return ZAK_BROKEN;
     if (i0) {goto B76;}
     i0 = 9u;
     l32 = i0;
@@ -88855,7 +88744,7 @@ static u32 f96(module *self, u64 p0, u64 p1, u64 p2, u64 p3, u64 p4, u64 p5) {
     j2 = 24ull;
     j1 += j2;
     j2 = l31;
-    f52(self, j0, j1, j2); m = self->memory; if (NEVER(self->is_broken)) return ZAK_BROKEN;
+    f49(self, j0, j1, j2); m = self->memory; if (NEVER(self->is_broken)) return ZAK_BROKEN;
     j0 = l6;
     i0 = (u32)(j0);
     i0 = i32_load8_u(j0 + 152u);
@@ -88887,7 +88776,7 @@ static u32 f96(module *self, u64 p0, u64 p1, u64 p2, u64 p3, u64 p4, u64 p5) {
     j0 = l6;
     i0 = (u32)(j0);
     j0 = i64_load(j0 + 24u);
-    f179(self, j0);
+    f127(self, j0);
     goto B19;
     B30:;
     j0 = l10;
@@ -88931,12 +88820,12 @@ static u32 f96(module *self, u64 p0, u64 p1, u64 p2, u64 p3, u64 p4, u64 p5) {
   j0 = l6;
   i0 = (u32)(j0);
   j0 = i64_load(j0 + 24u);
-  f179(self, j0);
+  f127(self, j0);
   B19:;
   i0 = l33;
   if (i0) {goto B79;}
   j0 = l9;
-  f179(self, j0);
+  f127(self, j0);
   B79:;
   i0 = l32;
   if (i0) {goto B8;}
@@ -89115,7 +89004,7 @@ static u32 f96(module *self, u64 p0, u64 p1, u64 p2, u64 p3, u64 p4, u64 p5) {
   i0 = l34;
   if (i0) {goto B0;}
   j0 = l11;
-  f179(self, j0);
+  f127(self, j0);
   goto B0;
   B7:;
   j0 = p5;
@@ -89168,7 +89057,7 @@ static u32 f96(module *self, u64 p0, u64 p1, u64 p2, u64 p3, u64 p4, u64 p5) {
   return i0;
 }
 
-static u32 f97(module *self, u64 p0, u32 p1, u32 p2) {
+static u32 module_zak_put(module *self, u64 p0, u32 p1, u32 p2) {
   u32 l3 = 0, l4 = 0, l5 = 0, l6 = 0;
   u64 l7 = 0, l8 = 0;
   u8 *m = self->memory;
@@ -89190,7 +89079,7 @@ static u32 f97(module *self, u64 p0, u32 p1, u32 p2) {
   i0 = !(i0);
   if (i0) {goto B1;}
   j0 = p0;
-  f4(self, j0); m = self->memory; if (NEVER(self->is_broken)) return ZAK_BROKEN;
+  f1(self, j0); m = self->memory; if (NEVER(self->is_broken)) return ZAK_BROKEN;
   B1:;
   j0 = p0;
   i0 = (u32)(j0);
@@ -89236,7 +89125,7 @@ static u32 f97(module *self, u64 p0, u32 p1, u32 p2) {
   i1 = (u32)(j1);
   i1 = i32_load8_u(j1);
   i2 = p2;
-  i0 = f21(self, j0, i1, i2);
+  i0 = f18(self, j0, i1, i2);
   p2 = i0;
   j0 = l7;
   j1 = 71ull;
@@ -89353,7 +89242,7 @@ static u32 f97(module *self, u64 p0, u32 p1, u32 p2) {
   return i0;
 }
 
-static u32 f98(module *self, u64 p0, u32 p1, u64 p2, u64 p3, u32 p4, u64 p5) {
+static u32 module_zak_put_bytes(module *self, u64 p0, u32 p1, u64 p2, u64 p3, u32 p4, u64 p5) {
   u32 l11 = 0, l12 = 0, l13 = 0, l14 = 0, l15 = 0, l16 = 0;
   u64 l6 = 0, l7 = 0, l8 = 0, l9 = 0, l10 = 0;
   u8 *m = self->memory;
@@ -89380,7 +89269,7 @@ static u32 f98(module *self, u64 p0, u32 p1, u64 p2, u64 p3, u32 p4, u64 p5) {
   i0 = !(i0);
   if (i0) {goto B1;}
   j0 = p0;
-  f4(self, j0); m = self->memory; if (NEVER(self->is_broken)) return ZAK_BROKEN;
+  f1(self, j0); m = self->memory; if (NEVER(self->is_broken)) return ZAK_BROKEN;
   B1:;
   j0 = 0ull;
   l7 = j0;
@@ -89529,7 +89418,7 @@ static u32 f98(module *self, u64 p0, u32 p1, u64 p2, u64 p3, u32 p4, u64 p5) {
     j2 += j3;
     i2 = (u32)(j2);
     i2 = i32_load8_u(j2);
-    i0 = f21(self, j0, i1, i2);
+    i0 = f18(self, j0, i1, i2);
     l14 = i0;
     j0 = l8;
     j1 = 71ull;
@@ -89676,7 +89565,7 @@ static u32 f98(module *self, u64 p0, u32 p1, u64 p2, u64 p3, u32 p4, u64 p5) {
   j4 = l10;
   j5 = p3;
   i6 = p4;
-  i1 = f55(self, j1, j2, i3, j4, j5, i6);
+  i1 = f52(self, j1, j2, i3, j4, j5, i6);
   l15 = i1;
   i0 = i0 <= i1;
   if (i0) {goto B9;}
@@ -89756,7 +89645,7 @@ static u32 f98(module *self, u64 p0, u32 p1, u64 p2, u64 p3, u32 p4, u64 p5) {
     j3 = p3;
     i3 = (u32)(j3);
     i3 = i32_load8_u(j3);
-    i1 = f21(self, j1, i2, i3);
+    i1 = f18(self, j1, i2, i3);
     j2 = p2;
     i2 = (u32)(j2);
     i2 = i32_load(j2);
@@ -89856,7 +89745,7 @@ static u32 f98(module *self, u64 p0, u32 p1, u64 p2, u64 p3, u32 p4, u64 p5) {
     j3 = p3;
     i3 = (u32)(j3);
     i3 = i32_load8_u(j3);
-    i1 = f21(self, j1, i2, i3);
+    i1 = f18(self, j1, i2, i3);
     j2 = p2;
     i2 = (u32)(j2);
     i2 = i32_load(j2);
@@ -89948,7 +89837,7 @@ static u32 f98(module *self, u64 p0, u32 p1, u64 p2, u64 p3, u32 p4, u64 p5) {
     j3 = p3;
     i3 = (u32)(j3);
     i3 = i32_load8_u(j3);
-    i1 = f21(self, j1, i2, i3);
+    i1 = f18(self, j1, i2, i3);
     j2 = p2;
     i2 = (u32)(j2);
     i2 = i32_load(j2);
@@ -90042,7 +89931,7 @@ static u32 f98(module *self, u64 p0, u32 p1, u64 p2, u64 p3, u32 p4, u64 p5) {
     j3 = p3;
     i3 = (u32)(j3);
     i3 = i32_load8_u(j3);
-    i1 = f21(self, j1, i2, i3);
+    i1 = f18(self, j1, i2, i3);
     j2 = p2;
     i2 = (u32)(j2);
     i2 = i32_load(j2);
@@ -90106,7 +89995,7 @@ static u32 f98(module *self, u64 p0, u32 p1, u64 p2, u64 p3, u32 p4, u64 p5) {
   return i0;
 }
 
-static u32 f99(module *self, u64 p0, u32 p1, u32 p2) {
+static u32 module_zak_put_word(module *self, u64 p0, u32 p1, u32 p2) {
   u32 l5 = 0;
   u64 l3 = 0, l4 = 0;
   u8 *m = self->memory;
@@ -90133,7 +90022,7 @@ static u32 f99(module *self, u64 p0, u32 p1, u32 p2) {
   i0 = !(i0);
   if (i0) {goto B1;}
   j0 = p0;
-  f4(self, j0); m = self->memory; if (NEVER(self->is_broken)) return ZAK_BROKEN;
+  f1(self, j0); m = self->memory; if (NEVER(self->is_broken)) return ZAK_BROKEN;
   B1:;
   j0 = p0;
   i0 = (u32)(j0);
@@ -90153,7 +90042,7 @@ static u32 f99(module *self, u64 p0, u32 p1, u32 p2) {
   j1 = l4;
   i2 = p1;
   i3 = p2;
-  f56(self, j0, j1, i2, i3);
+  f53(self, j0, j1, i2, i3);
   j0 = l3;
   i0 = (u32)(j0);
   i0 = i32_load8_u(j0 + 9u);
@@ -90196,7 +90085,7 @@ static u32 f99(module *self, u64 p0, u32 p1, u32 p2) {
   return i0;
 }
 
-static u32 f100(module *self, u64 p0, u64 p1) {
+static u32 module_zak_read_bda(module *self, u64 p0, u64 p1) {
   u32 l6 = 0, l7 = 0, l8 = 0, l9 = 0, l10 = 0, l11 = 0, l12 = 0;
   u64 l2 = 0, l3 = 0, l4 = 0, l5 = 0;
   u8 *m = self->memory;
@@ -90223,7 +90112,7 @@ static u32 f100(module *self, u64 p0, u64 p1) {
   i0 = !(i0);
   if (i0) {goto B1;}
   j0 = p0;
-  f4(self, j0); m = self->memory; if (NEVER(self->is_broken)) return ZAK_BROKEN;
+  f1(self, j0); m = self->memory; if (NEVER(self->is_broken)) return ZAK_BROKEN;
   B1:;
   j0 = p0;
   i0 = (u32)(j0);
@@ -90378,7 +90267,7 @@ static u32 f100(module *self, u64 p0, u64 p1) {
   return i0;
 }
 
-static u32 f101(module *self, u64 p0, u64 p1) {
+static u32 module_zak_read_beam(module *self, u64 p0, u64 p1) {
   u32 l2 = 0, l3 = 0, l4 = 0, l5 = 0, l6 = 0, l7 = 0, l8 = 0, l9 = 0, 
       l10 = 0, l11 = 0;
   u64 l12 = 0, l13 = 0, l14 = 0, l15 = 0, l16 = 0, l17 = 0;
@@ -90401,7 +90290,7 @@ static u32 f101(module *self, u64 p0, u64 p1) {
   i0 = !(i0);
   if (i0) {goto B1;}
   j0 = p0;
-  f4(self, j0); m = self->memory; if (NEVER(self->is_broken)) return ZAK_BROKEN;
+  f1(self, j0); m = self->memory; if (NEVER(self->is_broken)) return ZAK_BROKEN;
   B1:;
   j0 = p0;
   i0 = (u32)(j0);
@@ -90663,7 +90552,7 @@ static u32 f101(module *self, u64 p0, u64 p1) {
   return i0;
 }
 
-static u32 f102(module *self, u64 p0, u32 p1, u64 p2) {
+static u32 module_zak_read_colour(module *self, u64 p0, u32 p1, u64 p2) {
   u32 l3 = 0;
   u64 l4 = 0, l5 = 0;
   u8 *m = self->memory;
@@ -90685,7 +90574,7 @@ static u32 f102(module *self, u64 p0, u32 p1, u64 p2) {
   i0 = !(i0);
   if (i0) {goto B1;}
   j0 = p0;
-  f4(self, j0); m = self->memory; if (NEVER(self->is_broken)) return ZAK_BROKEN;
+  f1(self, j0); m = self->memory; if (NEVER(self->is_broken)) return ZAK_BROKEN;
   B1:;
   j0 = p0;
   i0 = (u32)(j0);
@@ -90756,7 +90645,7 @@ static u32 f102(module *self, u64 p0, u32 p1, u64 p2) {
   return i0;
 }
 
-static u32 f103(module *self, u64 p0, u64 p1) {
+static u32 module_zak_read_latches(module *self, u64 p0, u64 p1) {
   u32 l2 = 0;
   u64 l3 = 0;
   u8 *m = self->memory;
@@ -90778,7 +90667,7 @@ static u32 f103(module *self, u64 p0, u64 p1) {
   i0 = !(i0);
   if (i0) {goto B1;}
   j0 = p0;
-  f4(self, j0); m = self->memory; if (NEVER(self->is_broken)) return ZAK_BROKEN;
+  f1(self, j0); m = self->memory; if (NEVER(self->is_broken)) return ZAK_BROKEN;
   B1:;
   j0 = p0;
   i0 = (u32)(j0);
@@ -90823,7 +90712,7 @@ static u32 f103(module *self, u64 p0, u64 p1) {
   return i0;
 }
 
-static u32 f104(module *self, u64 p0, u32 p1, u32 p2, u64 p3, u64 p4) {
+static u32 module_zak_read_plane(module *self, u64 p0, u32 p1, u32 p2, u64 p3, u64 p4) {
   u32 l5 = 0;
   u64 l6 = 0, l7 = 0, l8 = 0, l9 = 0, l10 = 0, l11 = 0;
   u8 *m = self->memory;
@@ -90845,7 +90734,7 @@ static u32 f104(module *self, u64 p0, u32 p1, u32 p2, u64 p3, u64 p4) {
   i0 = !(i0);
   if (i0) {goto B1;}
   j0 = p0;
-  f4(self, j0); m = self->memory; if (NEVER(self->is_broken)) return ZAK_BROKEN;
+  f1(self, j0); m = self->memory; if (NEVER(self->is_broken)) return ZAK_BROKEN;
   B1:;
   j0 = p0;
   i0 = (u32)(j0);
@@ -91009,7 +90898,7 @@ static u32 f104(module *self, u64 p0, u32 p1, u32 p2, u64 p3, u64 p4) {
   return i0;
 }
 
-static u32 f105(module *self, u64 p0, u64 p1) {
+static u32 module_zak_read_registers(module *self, u64 p0, u64 p1) {
   u32 l8 = 0, l9 = 0, l10 = 0, l11 = 0, l12 = 0, l13 = 0, l14 = 0, l15 = 0, 
       l16 = 0;
   u64 l2 = 0, l3 = 0, l4 = 0, l5 = 0, l6 = 0, l7 = 0;
@@ -91037,7 +90926,7 @@ static u32 f105(module *self, u64 p0, u64 p1) {
   i0 = !(i0);
   if (i0) {goto B1;}
   j0 = p0;
-  f4(self, j0); m = self->memory; if (NEVER(self->is_broken)) return ZAK_BROKEN;
+  f1(self, j0); m = self->memory; if (NEVER(self->is_broken)) return ZAK_BROKEN;
   B1:;
   j0 = p0;
   i0 = (u32)(j0);
@@ -91330,7 +91219,7 @@ static u32 f105(module *self, u64 p0, u64 p1) {
   return i0;
 }
 
-static u32 f106(module *self, u64 p0, u64 p1, u64 p2) {
+static u32 module_zak_restore(module *self, u64 p0, u64 p1, u64 p2) {
   u32 l3 = 0;
   u64 l4 = 0;
   u8 *m = self->memory;
@@ -91360,7 +91249,7 @@ static u32 f106(module *self, u64 p0, u64 p1, u64 p2) {
   i0 = !(i0);
   if (i0) {goto B1;}
   j0 = p0;
-  f4(self, j0); m = self->memory; if (NEVER(self->is_broken)) return ZAK_BROKEN;
+  f1(self, j0); m = self->memory; if (NEVER(self->is_broken)) return ZAK_BROKEN;
   B1:;
   j0 = p0;
   i0 = (u32)(j0);
@@ -91377,7 +91266,7 @@ static u32 f106(module *self, u64 p0, u64 p1, u64 p2) {
   j0 = p1;
   j1 = l4;
   j2 = p2;
-  i0 = f57(self, j0, j1, j2); m = self->memory; if (NEVER(self->is_broken)) return ZAK_BROKEN;
+  i0 = f54(self, j0, j1, j2); m = self->memory; if (NEVER(self->is_broken)) return ZAK_BROKEN;
   l3 = i0;
   j0 = p0;
   i0 = (u32)(j0);
@@ -91400,7 +91289,7 @@ static u32 f106(module *self, u64 p0, u64 p1, u64 p2) {
   return i0;
 }
 
-static u32 f107(module *self, u64 p0, u64 p1, u64 p2) {
+static u32 module_zak_restore_fixed(module *self, u64 p0, u64 p1, u64 p2) {
   u32 l3 = 0, l4 = 0, l5 = 0, l6 = 0, l7 = 0;
   u64 l8 = 0, l9 = 0, l10 = 0, l11 = 0, l12 = 0;
   u8 *m = self->memory;
@@ -91422,7 +91311,7 @@ static u32 f107(module *self, u64 p0, u64 p1, u64 p2) {
   i0 = !(i0);
   if (i0) {goto B1;}
   j0 = p0;
-  f4(self, j0); m = self->memory; if (NEVER(self->is_broken)) return ZAK_BROKEN;
+  f1(self, j0); m = self->memory; if (NEVER(self->is_broken)) return ZAK_BROKEN;
   B1:;
   j0 = p0;
   i0 = (u32)(j0);
@@ -91578,7 +91467,7 @@ static u32 f107(module *self, u64 p0, u64 p1, u64 p2) {
   j0 = l8;
   j1 = l9;
   j2 = l10;
-  i0 = f57(self, j0, j1, j2); m = self->memory; if (NEVER(self->is_broken)) return ZAK_BROKEN;
+  i0 = f54(self, j0, j1, j2); m = self->memory; if (NEVER(self->is_broken)) return ZAK_BROKEN;
   l3 = i0;
   B2:;
   j0 = p0;
@@ -91602,7 +91491,7 @@ static u32 f107(module *self, u64 p0, u64 p1, u64 p2) {
   return i0;
 }
 
-static u32 f108(module *self, u64 p0, u64 p1, u64 p2, u64 p3, u64 p4, u64 p5, u64 p6, u64 p7) {
+static u32 module_zak_run(module *self, u64 p0, u64 p1, u64 p2, u64 p3, u64 p4, u64 p5, u64 p6, u64 p7) {
   u32 l11 = 0, l12 = 0, l13 = 0, l14 = 0;
   u64 l8 = 0, l9 = 0, l10 = 0;
   u8 *m = self->memory;
@@ -91674,7 +91563,7 @@ static u32 f108(module *self, u64 p0, u64 p1, u64 p2, u64 p3, u64 p4, u64 p5, u6
   j2 = i4 ? j2 : j3;
   j1 += j2;
   j2 = p3;
-  f45(self, j0, j1, j2); m = self->memory; if (NEVER(self->is_broken)) return ZAK_BROKEN;
+  f42(self, j0, j1, j2); m = self->memory; if (NEVER(self->is_broken)) return ZAK_BROKEN;
   j0 = l8;
   i0 = (u32)(j0);
   j0 = i64_load(j0 + 56u);
@@ -91727,7 +91616,7 @@ static u32 f108(module *self, u64 p0, u64 p1, u64 p2, u64 p3, u64 p4, u64 p5, u6
   j1 += j2;
   p0 = j1;
   j2 = p1;
-  f49(self, j0, j1, j2); if (NEVER(self->is_broken)) return ZAK_BROKEN;
+  f46(self, j0, j1, j2); if (NEVER(self->is_broken)) return ZAK_BROKEN;
   j0 = l8;
   i0 = (u32)(j0);
   i0 = i32_load8_u(j0 + 144u);
@@ -91818,7 +91707,7 @@ static u32 f108(module *self, u64 p0, u64 p1, u64 p2, u64 p3, u64 p4, u64 p5, u6
   j1 = l8;
   j2 = 96ull;
   j1 += j2;
-  f46(self, j0, j1); m = self->memory; if (NEVER(self->is_broken)) return ZAK_BROKEN;
+  f43(self, j0, j1); m = self->memory; if (NEVER(self->is_broken)) return ZAK_BROKEN;
   j0 = l8;
   i0 = (u32)(j0);
   j0 = i64_load(j0 + 160u);
@@ -91898,7 +91787,7 @@ static u32 f108(module *self, u64 p0, u64 p1, u64 p2, u64 p3, u64 p4, u64 p5, u6
   j1 = 4616ull;
   j0 += j1;
   j1 = 1ull;
-  f61(self, j0, j1); if (NEVER(self->is_broken)) return ZAK_BROKEN;
+  f58(self, j0, j1); if (NEVER(self->is_broken)) return ZAK_BROKEN;
   j0 = l8;
   i0 = (u32)(j0);
   j1 = l8;
@@ -91970,7 +91859,7 @@ static u32 f108(module *self, u64 p0, u64 p1, u64 p2, u64 p3, u64 p4, u64 p5, u6
   j5 = 4472ull;
   j4 += j5;
   j5 = 18446744073709551615ull;
-  f68(self, j0, j1, j2, j3, j4, j5); m = self->memory; if (NEVER(self->is_broken)) return ZAK_BROKEN;
+  f65(self, j0, j1, j2, j3, j4, j5); m = self->memory; if (NEVER(self->is_broken)) return ZAK_BROKEN;
   j0 = l8;
   i0 = (u32)(j0);
   j0 = i64_load(j0 + 4528u);
@@ -92007,19 +91896,19 @@ static u32 f108(module *self, u64 p0, u64 p1, u64 p2, u64 p3, u64 p4, u64 p5, u6
   j0 = l8;
   i0 = (u32)(j0);
   j0 = i64_load(j0 + 2312u);
-  f179(self, j0);
+  f127(self, j0);
   B7:;
   j0 = p3;
   i0 = !(j0);
   if (i0) {goto B8;}
   j0 = l9;
-  f179(self, j0);
+  f127(self, j0);
   B8:;
   j0 = p2;
   i0 = !(j0);
   if (i0) {goto B9;}
   j0 = p1;
-  f179(self, j0);
+  f127(self, j0);
   B9:;
   j0 = l8;
   i0 = (u32)(j0);
@@ -92055,12 +91944,12 @@ static u32 f108(module *self, u64 p0, u64 p1, u64 p2, u64 p3, u64 p4, u64 p5, u6
   j0 = i64_load(j0 + 16u);
   l9 = j0;
   j0 = p1;
-  f179(self, j0);
+  f127(self, j0);
   j0 = l9;
   i0 = !(j0);
   if (i0) {goto B10;}
   j0 = l10;
-  f179(self, j0);
+  f127(self, j0);
   B10:;
   i0 = l14;
   i1 = 255u;
@@ -92077,12 +91966,12 @@ static u32 f108(module *self, u64 p0, u64 p1, u64 p2, u64 p3, u64 p4, u64 p5, u6
   j0 = i64_load(j0 + 16u);
   p1 = j0;
   j0 = p3;
-  f179(self, j0);
+  f127(self, j0);
   j0 = p1;
   i0 = !(j0);
   if (i0) {goto B11;}
   j0 = l9;
-  f179(self, j0);
+  f127(self, j0);
   B11:;
   i0 = l12;
   i1 = 255u;
@@ -92099,12 +91988,12 @@ static u32 f108(module *self, u64 p0, u64 p1, u64 p2, u64 p3, u64 p4, u64 p5, u6
   j0 = i64_load(j0 + 16u);
   p3 = j0;
   j0 = p2;
-  f179(self, j0);
+  f127(self, j0);
   j0 = p3;
   i0 = !(j0);
   if (i0) {goto B12;}
   j0 = p1;
-  f179(self, j0);
+  f127(self, j0);
   B12:;
   i0 = l11;
   i1 = 255u;
@@ -92156,12 +92045,12 @@ static u32 f108(module *self, u64 p0, u64 p1, u64 p2, u64 p3, u64 p4, u64 p5, u6
   j0 = i64_load(j0 + 16u);
   p3 = j0;
   j0 = p2;
-  f179(self, j0);
+  f127(self, j0);
   j0 = p3;
   i0 = !(j0);
   if (i0) {goto B13;}
   j0 = p1;
-  f179(self, j0);
+  f127(self, j0);
   B13:;
   i0 = l12;
   i1 = 255u;
@@ -92178,12 +92067,12 @@ static u32 f108(module *self, u64 p0, u64 p1, u64 p2, u64 p3, u64 p4, u64 p5, u6
   j0 = i64_load(j0 + 16u);
   p2 = j0;
   j0 = l10;
-  f179(self, j0);
+  f127(self, j0);
   j0 = p2;
   i0 = !(j0);
   if (i0) {goto B14;}
   j0 = p3;
-  f179(self, j0);
+  f127(self, j0);
   B14:;
   i0 = l11;
   i1 = 255u;
@@ -92200,12 +92089,12 @@ static u32 f108(module *self, u64 p0, u64 p1, u64 p2, u64 p3, u64 p4, u64 p5, u6
   j0 = i64_load(j0 + 16u);
   p2 = j0;
   j0 = l9;
-  f179(self, j0);
+  f127(self, j0);
   j0 = p2;
   i0 = !(j0);
   if (i0) {goto B1;}
   j0 = p3;
-  f179(self, j0);
+  f127(self, j0);
   goto B1;
   B5:;
   j0 = p4;
@@ -92345,7 +92234,7 @@ static u32 f108(module *self, u64 p0, u64 p1, u64 p2, u64 p3, u64 p4, u64 p5, u6
   i0 = !(j0);
   if (i0) {goto B0;}
   j0 = p7;
-  f179(self, j0);
+  f127(self, j0);
   goto B0;
   B3:;
   j0 = p2;
@@ -92367,7 +92256,7 @@ static u32 f108(module *self, u64 p0, u64 p1, u64 p2, u64 p3, u64 p4, u64 p5, u6
   j0 = l8;
   i0 = (u32)(j0);
   j0 = i64_load(j0);
-  f179(self, j0);
+  f127(self, j0);
   B20:;
   i0 = 22u;
   l11 = i0;
@@ -92442,11 +92331,10 @@ static u32 f108(module *self, u64 p0, u64 p1, u64 p2, u64 p3, u64 p4, u64 p5, u6
   return i0;
 }
 
-static u32 f109(module *self, u64 p0, u64 p1, u64 p2, u32 p3, u32 p4, u64 p5, u64 p6, u64 p7, 
+static u32 module_zak_run_on(module *self, u64 p0, u64 p1, u64 p2, u32 p3, u32 p4, u64 p5, u64 p6, u64 p7, 
     u64 p8, u64 p9) {
-  u32 l19 = 0, l20 = 0;
-  u64 l10 = 0, l11 = 0, l12 = 0, l13 = 0, l14 = 0, l15 = 0, l16 = 0, l17 = 0, 
-      l18 = 0;
+  u32 l17 = 0, l18 = 0;
+  u64 l10 = 0, l11 = 0, l12 = 0, l13 = 0, l14 = 0, l15 = 0, l16 = 0;
   u8 *m = self->memory;
   u32 i0, i1, i2, i3, i4, i5;
   u64 j0, j1, j2, j3, j4, j5;
@@ -92456,7 +92344,7 @@ static u32 f109(module *self, u64 p0, u64 p1, u64 p2, u32 p3, u32 p4, u64 p5, u6
   l10 = j0;
   self->g0 = j0;
   i0 = 20u;
-  l19 = i0;
+  l17 = i0;
   j0 = p0;
   i0 = (u32)(j0);
   i0 = i32_load8_u(j0);
@@ -92471,7 +92359,7 @@ static u32 f109(module *self, u64 p0, u64 p1, u64 p2, u32 p3, u32 p4, u64 p5, u6
   i0 = !(i0);
   if (i0) {goto B1;}
   j0 = p0;
-  f4(self, j0); m = self->memory; if (NEVER(self->is_broken)) return ZAK_BROKEN;
+  f1(self, j0); m = self->memory; if (NEVER(self->is_broken)) return ZAK_BROKEN;
   B1:;
   j0 = p0;
   i0 = (u32)(j0);
@@ -92486,11 +92374,11 @@ static u32 f109(module *self, u64 p0, u64 p1, u64 p2, u32 p3, u32 p4, u64 p5, u6
   j1 = 0ull;
   i64_store(j0 + 8, j1);
   i0 = 27u;
-  l19 = i0;
+  l17 = i0;
   j0 = l11;
   j1 = 2072ull;
   j0 += j1;
-  i0 = f29(self, j0);
+  i0 = f26(self, j0);
   i0 = !(i0);
   if (i0) {goto B2;}
   j0 = l10;
@@ -92517,13 +92405,13 @@ static u32 f109(module *self, u64 p0, u64 p1, u64 p2, u32 p3, u32 p4, u64 p5, u6
   j1 += j2;
   l12 = j1;
   j2 = p2;
-  f49(self, j0, j1, j2); if (NEVER(self->is_broken)) return ZAK_BROKEN;
+  f46(self, j0, j1, j2); if (NEVER(self->is_broken)) return ZAK_BROKEN;
   j0 = l10;
   i0 = (u32)(j0);
   i0 = i32_load8_u(j0 + 120u);
   if (i0) {goto B3;}
   i0 = 0u;
-  l19 = i0;
+  l18 = i0;
   j0 = l10;
   i0 = (u32)(j0);
   i1 = 0u;
@@ -92560,12 +92448,12 @@ static u32 f109(module *self, u64 p0, u64 p1, u64 p2, u32 p3, u32 p4, u64 p5, u6
   goto B4;
   B6:;
   i0 = 0u;
-  l19 = i0;
+  l18 = i0;
   j0 = l13;
   l15 = j0;
   j0 = 0ull;
   l14 = j0;
-  L8: 
+  L7: 
     j0 = l10;
     i0 = (u32)(j0);
     j1 = 0ull;
@@ -92609,19 +92497,17 @@ static u32 f109(module *self, u64 p0, u64 p1, u64 p2, u32 p3, u32 p4, u64 p5, u6
     j0 = p1;
     i0 = !(j0);
     i0 = !(i0);
-    if (i0) {goto B9;}
+    if (i0) {goto B11;}
     j0 = p2;
     p9 = j0;
     j0 = 0ull;
     l16 = j0;
-    goto B7;
-    B9:;
+    goto B10;
+    B11:;
     j0 = p2;
     i0 = (u32)(j0);
     i0 = i32_load8_u(j0);
-    p3 = i0;
-    j0 = 0ull;
-    p9 = j0;
+    l17 = i0;
     j0 = l10;
     i0 = (u32)(j0);
     j1 = 0ull;
@@ -92653,45 +92539,41 @@ static u32 f109(module *self, u64 p0, u64 p1, u64 p2, u32 p3, u32 p4, u64 p5, u6
     j0 = p1;
     j1 = 18446744073709551615ull;
     j0 += j1;
-    l17 = j0;
+    p9 = j0;
     j0 = p2;
     j1 = 1ull;
     j0 += j1;
-    l18 = j0;
-    i0 = 0u;
-    l20 = i0;
-    j0 = 0ull;
     l16 = j0;
-    i0 = p3;
+    i0 = l17;
     i1 = 4294967295u;
     i0 += i1;
     switch (i0) {
-      case 0: goto B25;
-      case 1: goto B24;
-      case 2: goto B23;
-      case 3: goto B22;
-      case 4: goto B21;
-      case 5: goto B20;
-      case 6: goto B19;
-      case 7: goto B18;
-      case 8: goto B27;
-      case 9: goto B17;
-      case 10: goto B26;
-      case 11: goto B15;
-      default: goto B14;
+      case 0: goto B22;
+      case 1: goto B21;
+      case 2: goto B20;
+      case 3: goto B19;
+      case 4: goto B18;
+      case 5: goto B17;
+      case 6: goto B16;
+      case 7: goto B15;
+      case 8: goto B24;
+      case 9: goto B14;
+      case 10: goto B23;
+      case 11: goto B13;
+      default: goto B12;
     }
-    B27:;
+    B24:;
     j0 = p1;
     j1 = 3ull;
     i0 = j0 < j1;
-    if (i0) {goto B11;}
-    j0 = l17;
+    if (i0) {goto B12;}
+    j0 = p9;
     j1 = 18446744073709551614ull;
     j0 &= j1;
     p9 = j0;
     j1 = 8ull;
     i0 = j0 > j1;
-    if (i0) {goto B28;}
+    if (i0) {goto B25;}
     j0 = 1ull;
     j1 = p9;
     j0 <<= (j1 & 63);
@@ -92699,274 +92581,178 @@ static u32 f109(module *self, u64 p0, u64 p1, u64 p2, u32 p3, u32 p4, u64 p5, u6
     j0 &= j1;
     j1 = 0ull;
     i0 = j0 != j1;
-    if (i0) {goto B11;}
-    B28:;
+    if (i0) {goto B12;}
+    B25:;
     j0 = p1;
     j1 = 18446744073709551605ull;
     j0 += j1;
-    l16 = j0;
+    p9 = j0;
     j1 = p2;
     j2 = 9ull;
     j1 += j2;
     i1 = (u32)(j1);
     j1 = i64_load16_u(j1);
-    p9 = j1;
+    l16 = j1;
     i0 = j0 < j1;
-    if (i0) {goto B11;}
-    j0 = l16;
-    j1 = p9;
+    if (i0) {goto B12;}
+    j0 = p9;
+    j1 = l16;
     j0 -= j1;
-    l17 = j0;
+    p9 = j0;
     j0 = p2;
-    j1 = p9;
+    j1 = l16;
     j0 += j1;
     j1 = 11ull;
     j0 += j1;
-    l18 = j0;
-    B26:;
-    j0 = l18;
+    l16 = j0;
+    B23:;
+    j0 = l16;
     p2 = j0;
-    j0 = l17;
+    j0 = p9;
     p1 = j0;
-    goto B10;
-    B25:;
+    goto B8;
+    B22:;
     j0 = p1;
     j1 = 4ull;
     i0 = j0 < j1;
-    if (i0) {goto B11;}
+    if (i0) {goto B12;}
     j0 = p1;
     j1 = 18446744073709551612ull;
     j0 += j1;
-    p9 = j0;
+    p1 = j0;
     j0 = p2;
     j1 = 4ull;
     j0 += j1;
-    l16 = j0;
-    i0 = 1u;
-    l20 = i0;
-    goto B14;
-    B24:;
-    j0 = p1;
-    j1 = 5ull;
-    i0 = j0 < j1;
-    if (i0) {goto B11;}
-    j0 = p1;
-    j1 = 18446744073709551611ull;
-    j0 += j1;
-    p9 = j0;
-    j0 = p2;
-    j1 = 5ull;
-    j0 += j1;
-    l16 = j0;
-    i0 = 1u;
-    l20 = i0;
-    goto B14;
-    B23:;
-    j0 = p1;
-    j1 = 3ull;
-    i0 = j0 < j1;
-    if (i0) {goto B16;}
-    j0 = p1;
-    j1 = 18446744073709551613ull;
-    j0 += j1;
-    p9 = j0;
-    j0 = p2;
-    j1 = 3ull;
-    j0 += j1;
-    l16 = j0;
-    i0 = 1u;
-    l20 = i0;
-    goto B14;
-    B22:;
-    j0 = p1;
-    j1 = 3ull;
-    i0 = j0 < j1;
-    if (i0) {goto B29;}
-    j0 = p1;
-    j1 = 18446744073709551613ull;
-    j0 += j1;
-    p9 = j0;
-    j0 = p2;
-    j1 = 3ull;
-    j0 += j1;
-    l16 = j0;
-    i0 = 1u;
-    l20 = i0;
-    goto B14;
-    B29:;
-    j0 = l10;
-    i0 = (u32)(j0);
-    i1 = 1u;
-    i32_store8(j0 + 120, i1);
-    goto B11;
+    p2 = j0;
+    goto B8;
     B21:;
-    j0 = p1;
-    j1 = 5ull;
-    i0 = j0 < j1;
-    if (i0) {goto B13;}
-    j0 = p1;
-    j1 = 5ull;
-    i0 = j0 == j1;
-    if (i0) {goto B30;}
-    j0 = p1;
-    j1 = 18446744073709551610ull;
-    j0 += j1;
-    p9 = j0;
-    j0 = p2;
-    j1 = 6ull;
-    j0 += j1;
-    l16 = j0;
-    i0 = 1u;
-    l20 = i0;
-    goto B14;
-    B30:;
-    j0 = l10;
-    i0 = (u32)(j0);
-    i1 = 1u;
-    i32_store8(j0 + 120, i1);
-    goto B11;
-    B20:;
     j0 = p1;
     j1 = 5ull;
     i0 = j0 < j1;
     if (i0) {goto B12;}
     j0 = p1;
+    j1 = 18446744073709551611ull;
+    j0 += j1;
+    p1 = j0;
+    j0 = p2;
+    j1 = 5ull;
+    j0 += j1;
+    p2 = j0;
+    goto B8;
+    B20:;
+    j0 = p1;
+    j1 = 3ull;
+    i0 = j0 < j1;
+    if (i0) {goto B12;}
+    j0 = p1;
+    j1 = 18446744073709551613ull;
+    j0 += j1;
+    p1 = j0;
+    j0 = p2;
+    j1 = 3ull;
+    j0 += j1;
+    p2 = j0;
+    goto B8;
+    B19:;
+    j0 = p1;
+    j1 = 3ull;
+    i0 = j0 < j1;
+    if (i0) {goto B12;}
+    j0 = p1;
+    j1 = 18446744073709551613ull;
+    j0 += j1;
+    p1 = j0;
+    j0 = p2;
+    j1 = 3ull;
+    j0 += j1;
+    p2 = j0;
+    goto B8;
+    B18:;
+    j0 = p1;
+    j1 = 6ull;
+    i0 = j0 < j1;
+    if (i0) {goto B12;}
+    j0 = p1;
+    j1 = 18446744073709551610ull;
+    j0 += j1;
+    p1 = j0;
+    j0 = p2;
+    j1 = 6ull;
+    j0 += j1;
+    p2 = j0;
+    goto B8;
+    B17:;
+    j0 = p1;
     j1 = 7ull;
     i0 = j0 < j1;
-    if (i0) {goto B31;}
+    if (i0) {goto B12;}
     j0 = p1;
     j1 = 18446744073709551609ull;
     j0 += j1;
-    p9 = j0;
+    p1 = j0;
     j0 = p2;
     j1 = 7ull;
     j0 += j1;
-    l16 = j0;
-    i0 = 1u;
-    l20 = i0;
-    goto B14;
-    B31:;
-    j0 = l10;
-    i0 = (u32)(j0);
-    i1 = 1u;
-    i32_store8(j0 + 120, i1);
-    goto B11;
-    B19:;
-    j0 = p1;
-    j1 = 5ull;
-    i0 = j0 < j1;
-    if (i0) {goto B32;}
-    j0 = p1;
-    j1 = 18446744073709551611ull;
-    j0 += j1;
-    p9 = j0;
-    j0 = p2;
-    j1 = 5ull;
-    j0 += j1;
-    l16 = j0;
-    i0 = 1u;
-    l20 = i0;
-    goto B14;
-    B32:;
-    j0 = l10;
-    i0 = (u32)(j0);
-    i1 = 1u;
-    i32_store8(j0 + 120, i1);
-    goto B11;
-    B18:;
-    j0 = p1;
-    j1 = 5ull;
-    i0 = j0 < j1;
-    if (i0) {goto B33;}
-    j0 = p1;
-    j1 = 18446744073709551611ull;
-    j0 += j1;
-    p9 = j0;
-    j0 = p2;
-    j1 = 5ull;
-    j0 += j1;
-    l16 = j0;
-    i0 = 1u;
-    l20 = i0;
-    goto B14;
-    B33:;
-    j0 = l10;
-    i0 = (u32)(j0);
-    i1 = 257u;
-    i32_store16(j0 + 120, i1);
-    goto B11;
-    B17:;
-    j0 = p1;
-    j1 = 5ull;
-    i0 = j0 < j1;
-    if (i0) {goto B34;}
-    j0 = p1;
-    j1 = 18446744073709551611ull;
-    j0 += j1;
-    p9 = j0;
-    j0 = p2;
-    j1 = 5ull;
-    j0 += j1;
-    l16 = j0;
-    i0 = 1u;
-    l20 = i0;
-    goto B14;
-    B34:;
-    j0 = l10;
-    i0 = (u32)(j0);
-    i1 = 257u;
-    i32_store16(j0 + 120, i1);
-    goto B11;
+    p2 = j0;
+    goto B8;
     B16:;
-    j0 = l10;
-    i0 = (u32)(j0);
-    i1 = 1u;
-    i32_store8(j0 + 120, i1);
-    goto B11;
+    j0 = p1;
+    j1 = 5ull;
+    i0 = j0 < j1;
+    if (i0) {goto B12;}
+    j0 = p1;
+    j1 = 18446744073709551611ull;
+    j0 += j1;
+    p1 = j0;
+    j0 = p2;
+    j1 = 5ull;
+    j0 += j1;
+    p2 = j0;
+    goto B8;
     B15:;
+    j0 = p1;
+    j1 = 5ull;
+    i0 = j0 < j1;
+    if (i0) {goto B12;}
+    j0 = p1;
+    j1 = 18446744073709551611ull;
+    j0 += j1;
+    p1 = j0;
+    j0 = p2;
+    j1 = 5ull;
+    j0 += j1;
+    p2 = j0;
+    goto B8;
+    B14:;
+    j0 = p1;
+    j1 = 5ull;
+    i0 = j0 < j1;
+    if (i0) {goto B12;}
+    j0 = p1;
+    j1 = 18446744073709551611ull;
+    j0 += j1;
+    p1 = j0;
+    j0 = p2;
+    j1 = 5ull;
+    j0 += j1;
+    p2 = j0;
+    goto B8;
+    B13:;
     j0 = l10;
     j1 = 120ull;
     j0 += j1;
-    j1 = l18;
-    j2 = l17;
-    f50(self, j0, j1, j2);
+    j1 = l16;
+    j2 = p9;
+    f47(self, j0, j1, j2);
     j0 = l10;
     i0 = (u32)(j0);
     i0 = i32_load8_u(j0 + 120u);
     i0 = !(i0);
-    l20 = i0;
-    j0 = l10;
-    i0 = (u32)(j0);
-    j0 = i64_load(j0 + 168u);
-    p9 = j0;
-    j0 = l10;
-    i0 = (u32)(j0);
-    j0 = i64_load(j0 + 160u);
-    l16 = j0;
-    B14:;
-    i0 = l20;
-    i0 = !(i0);
-    if (i0) {goto B11;}
-    j0 = l16;
-    p2 = j0;
-    j0 = p9;
-    p1 = j0;
-    goto B10;
-    B13:;
-    j0 = l10;
-    i0 = (u32)(j0);
-    i1 = 1u;
-    i32_store8(j0 + 120, i1);
-    goto B11;
+    if (i0) {goto B9;}
     B12:;
     j0 = l10;
     i0 = (u32)(j0);
-    i1 = 1u;
-    i32_store8(j0 + 120, i1);
-    B11:;
-    j0 = l10;
-    i0 = (u32)(j0);
-    i1 = l19;
+    i1 = l18;
     i32_store16(j0 + 88, i1);
     j0 = l10;
     i0 = (u32)(j0);
@@ -92990,11 +92776,11 @@ static u32 f109(module *self, u64 p0, u64 p1, u64 p2, u32 p3, u32 p4, u64 p5, u6
     j1 = l10;
     j2 = 56ull;
     j1 += j2;
-    f69(self, j0, j1); if (NEVER(self->is_broken)) return ZAK_BROKEN;
+    f66(self, j0, j1); if (NEVER(self->is_broken)) return ZAK_BROKEN;
     j0 = l10;
     i0 = (u32)(j0);
     i0 = i32_load16_u(j0 + 232u);
-    l19 = i0;
+    l18 = i0;
     j0 = l10;
     i0 = (u32)(j0);
     j0 = i64_load(j0 + 224u);
@@ -93013,17 +92799,15 @@ static u32 f109(module *self, u64 p0, u64 p1, u64 p2, u32 p3, u32 p4, u64 p5, u6
     l16 = j0;
     i0 = !(j0);
     i0 = !(i0);
-    if (i0) {goto B35;}
+    if (i0) {goto B26;}
     j0 = 0ull;
     l16 = j0;
-    goto B7;
-    B35:;
+    goto B10;
+    B26:;
     j0 = p9;
     i0 = (u32)(j0);
     i0 = i32_load8_u(j0);
-    l20 = i0;
-    j0 = 0ull;
-    p1 = j0;
+    l17 = i0;
     j0 = l10;
     i0 = (u32)(j0);
     j1 = 0ull;
@@ -93055,45 +92839,41 @@ static u32 f109(module *self, u64 p0, u64 p1, u64 p2, u32 p3, u32 p4, u64 p5, u6
     j0 = l16;
     j1 = 18446744073709551615ull;
     j0 += j1;
-    l17 = j0;
+    p1 = j0;
     j0 = p9;
     j1 = 1ull;
     j0 += j1;
-    l18 = j0;
-    i0 = 0u;
-    p3 = i0;
-    j0 = 0ull;
     p2 = j0;
-    i0 = l20;
+    i0 = l17;
     i1 = 4294967295u;
     i0 += i1;
     switch (i0) {
-      case 0: goto B46;
-      case 1: goto B45;
-      case 2: goto B44;
-      case 3: goto B43;
-      case 4: goto B42;
-      case 5: goto B41;
-      case 6: goto B40;
-      case 7: goto B39;
-      case 8: goto B48;
-      case 9: goto B38;
-      case 10: goto B47;
-      case 11: goto B37;
-      default: goto B36;
+      case 0: goto B36;
+      case 1: goto B35;
+      case 2: goto B34;
+      case 3: goto B33;
+      case 4: goto B32;
+      case 5: goto B31;
+      case 6: goto B30;
+      case 7: goto B29;
+      case 8: goto B37;
+      case 9: goto B28;
+      case 10: goto B8;
+      case 11: goto B27;
+      default: goto B10;
     }
-    B48:;
+    B37:;
     j0 = l16;
     j1 = 3ull;
     i0 = j0 < j1;
-    if (i0) {goto B7;}
-    j0 = l17;
+    if (i0) {goto B10;}
+    j0 = p1;
     j1 = 18446744073709551614ull;
     j0 &= j1;
     p1 = j0;
     j1 = 8ull;
     i0 = j0 > j1;
-    if (i0) {goto B49;}
+    if (i0) {goto B38;}
     j0 = 1ull;
     j1 = p1;
     j0 <<= (j1 & 63);
@@ -93101,41 +92881,36 @@ static u32 f109(module *self, u64 p0, u64 p1, u64 p2, u32 p3, u32 p4, u64 p5, u6
     j0 &= j1;
     j1 = 0ull;
     i0 = j0 != j1;
-    if (i0) {goto B7;}
-    B49:;
+    if (i0) {goto B10;}
+    B38:;
     j0 = l16;
     j1 = 18446744073709551605ull;
     j0 += j1;
-    p2 = j0;
+    p1 = j0;
     j1 = p9;
     j2 = 9ull;
     j1 += j2;
     i1 = (u32)(j1);
     j1 = i64_load16_u(j1);
-    p1 = j1;
+    p2 = j1;
     i0 = j0 < j1;
-    if (i0) {goto B7;}
-    j0 = p2;
-    j1 = p1;
+    if (i0) {goto B10;}
+    j0 = p1;
+    j1 = p2;
     j0 -= j1;
-    l17 = j0;
+    p1 = j0;
     j0 = p9;
-    j1 = p1;
+    j1 = p2;
     j0 += j1;
     j1 = 11ull;
     j0 += j1;
-    l18 = j0;
-    B47:;
-    j0 = l18;
     p2 = j0;
-    j0 = l17;
-    p1 = j0;
-    goto B10;
-    B46:;
+    goto B8;
+    B36:;
     j0 = l16;
     j1 = 4ull;
     i0 = j0 < j1;
-    if (i0) {goto B7;}
+    if (i0) {goto B10;}
     j0 = l16;
     j1 = 18446744073709551612ull;
     j0 += j1;
@@ -93144,14 +92919,12 @@ static u32 f109(module *self, u64 p0, u64 p1, u64 p2, u32 p3, u32 p4, u64 p5, u6
     j1 = 4ull;
     j0 += j1;
     p2 = j0;
-    i0 = 1u;
-    p3 = i0;
-    goto B36;
-    B45:;
+    goto B8;
+    B35:;
     j0 = l16;
     j1 = 5ull;
     i0 = j0 < j1;
-    if (i0) {goto B7;}
+    if (i0) {goto B10;}
     j0 = l16;
     j1 = 18446744073709551611ull;
     j0 += j1;
@@ -93160,14 +92933,12 @@ static u32 f109(module *self, u64 p0, u64 p1, u64 p2, u32 p3, u32 p4, u64 p5, u6
     j1 = 5ull;
     j0 += j1;
     p2 = j0;
-    i0 = 1u;
-    p3 = i0;
-    goto B36;
-    B44:;
+    goto B8;
+    B34:;
     j0 = l16;
     j1 = 3ull;
     i0 = j0 < j1;
-    if (i0) {goto B7;}
+    if (i0) {goto B10;}
     j0 = l16;
     j1 = 18446744073709551613ull;
     j0 += j1;
@@ -93176,14 +92947,12 @@ static u32 f109(module *self, u64 p0, u64 p1, u64 p2, u32 p3, u32 p4, u64 p5, u6
     j1 = 3ull;
     j0 += j1;
     p2 = j0;
-    i0 = 1u;
-    p3 = i0;
-    goto B36;
-    B43:;
+    goto B8;
+    B33:;
     j0 = l16;
     j1 = 3ull;
     i0 = j0 < j1;
-    if (i0) {goto B7;}
+    if (i0) {goto B10;}
     j0 = l16;
     j1 = 18446744073709551613ull;
     j0 += j1;
@@ -93192,14 +92961,12 @@ static u32 f109(module *self, u64 p0, u64 p1, u64 p2, u32 p3, u32 p4, u64 p5, u6
     j1 = 3ull;
     j0 += j1;
     p2 = j0;
-    i0 = 1u;
-    p3 = i0;
-    goto B36;
-    B42:;
+    goto B8;
+    B32:;
     j0 = l16;
     j1 = 6ull;
     i0 = j0 < j1;
-    if (i0) {goto B7;}
+    if (i0) {goto B10;}
     j0 = l16;
     j1 = 18446744073709551610ull;
     j0 += j1;
@@ -93208,14 +92975,12 @@ static u32 f109(module *self, u64 p0, u64 p1, u64 p2, u32 p3, u32 p4, u64 p5, u6
     j1 = 6ull;
     j0 += j1;
     p2 = j0;
-    i0 = 1u;
-    p3 = i0;
-    goto B36;
-    B41:;
+    goto B8;
+    B31:;
     j0 = l16;
     j1 = 7ull;
     i0 = j0 < j1;
-    if (i0) {goto B7;}
+    if (i0) {goto B10;}
     j0 = l16;
     j1 = 18446744073709551609ull;
     j0 += j1;
@@ -93224,14 +92989,12 @@ static u32 f109(module *self, u64 p0, u64 p1, u64 p2, u32 p3, u32 p4, u64 p5, u6
     j1 = 7ull;
     j0 += j1;
     p2 = j0;
-    i0 = 1u;
-    p3 = i0;
-    goto B36;
-    B40:;
+    goto B8;
+    B30:;
     j0 = l16;
     j1 = 5ull;
     i0 = j0 < j1;
-    if (i0) {goto B7;}
+    if (i0) {goto B10;}
     j0 = l16;
     j1 = 18446744073709551611ull;
     j0 += j1;
@@ -93240,14 +93003,12 @@ static u32 f109(module *self, u64 p0, u64 p1, u64 p2, u32 p3, u32 p4, u64 p5, u6
     j1 = 5ull;
     j0 += j1;
     p2 = j0;
-    i0 = 1u;
-    p3 = i0;
-    goto B36;
-    B39:;
+    goto B8;
+    B29:;
     j0 = l16;
     j1 = 5ull;
     i0 = j0 < j1;
-    if (i0) {goto B7;}
+    if (i0) {goto B10;}
     j0 = l16;
     j1 = 18446744073709551611ull;
     j0 += j1;
@@ -93256,14 +93017,12 @@ static u32 f109(module *self, u64 p0, u64 p1, u64 p2, u32 p3, u32 p4, u64 p5, u6
     j1 = 5ull;
     j0 += j1;
     p2 = j0;
-    i0 = 1u;
-    p3 = i0;
-    goto B36;
-    B38:;
+    goto B8;
+    B28:;
     j0 = l16;
     j1 = 5ull;
     i0 = j0 < j1;
-    if (i0) {goto B7;}
+    if (i0) {goto B10;}
     j0 = l16;
     j1 = 18446744073709551611ull;
     j0 += j1;
@@ -93272,21 +93031,26 @@ static u32 f109(module *self, u64 p0, u64 p1, u64 p2, u32 p3, u32 p4, u64 p5, u6
     j1 = 5ull;
     j0 += j1;
     p2 = j0;
-    i0 = 1u;
-    p3 = i0;
-    goto B36;
-    B37:;
+    goto B8;
+    B27:;
     j0 = l10;
     j1 = 120ull;
     j0 += j1;
-    j1 = l18;
-    j2 = l17;
-    f50(self, j0, j1, j2);
+    j1 = p2;
+    j2 = p1;
+    f47(self, j0, j1, j2);
     j0 = l10;
     i0 = (u32)(j0);
     i0 = i32_load8_u(j0 + 120u);
     i0 = !(i0);
-    p3 = i0;
+    if (i0) {goto B9;}
+    B10:;
+    j0 = p9;
+    p2 = j0;
+    j0 = l16;
+    p1 = j0;
+    goto B4;
+    B9:;
     j0 = l10;
     i0 = (u32)(j0);
     j0 = i64_load(j0 + 168u);
@@ -93295,24 +93059,14 @@ static u32 f109(module *self, u64 p0, u64 p1, u64 p2, u32 p3, u32 p4, u64 p5, u6
     i0 = (u32)(j0);
     j0 = i64_load(j0 + 160u);
     p2 = j0;
-    B36:;
-    i0 = p3;
-    i0 = !(i0);
-    if (i0) {goto B7;}
-    B10:;
+    B8:;
     j0 = l15;
     j1 = 18446744073709551615ull;
     j0 += j1;
     l15 = j0;
     i0 = !(j0);
-    if (i0) {goto B4;}
-    goto L8;
-  { self->is_broken = true; return ZAK_BROKEN; }
-  B7:;
-  j0 = p9;
-  p2 = j0;
-  j0 = l16;
-  p1 = j0;
+    i0 = !(i0);
+    if (i0) {goto L7;}
   B4:;
   j0 = l10;
   i0 = (u32)(j0);
@@ -93338,7 +93092,7 @@ static u32 f109(module *self, u64 p0, u64 p1, u64 p2, u32 p3, u32 p4, u64 p5, u6
   i64_store(j0 + 16, j1);
   j0 = l10;
   i0 = (u32)(j0);
-  i1 = l19;
+  i1 = l18;
   i32_store16(j0 + 88, i1);
   j0 = l10;
   i0 = (u32)(j0);
@@ -93419,7 +93173,7 @@ static u32 f109(module *self, u64 p0, u64 p1, u64 p2, u32 p3, u32 p4, u64 p5, u6
   j2 = 1ull;
   j1 += j2;
   p1 = j1;
-  f61(self, j0, j1); if (NEVER(self->is_broken)) return ZAK_BROKEN;
+  f58(self, j0, j1); if (NEVER(self->is_broken)) return ZAK_BROKEN;
   j0 = l10;
   i0 = (u32)(j0);
   j1 = l10;
@@ -93492,11 +93246,11 @@ static u32 f109(module *self, u64 p0, u64 p1, u64 p2, u32 p3, u32 p4, u64 p5, u6
   j4 += j5;
   i5 = p4;
   j5 = (u64)(i5);
-  f68(self, j0, j1, j2, j3, j4, j5); m = self->memory; if (NEVER(self->is_broken)) return ZAK_BROKEN;
+  f65(self, j0, j1, j2, j3, j4, j5); m = self->memory; if (NEVER(self->is_broken)) return ZAK_BROKEN;
   j0 = l10;
   i0 = (u32)(j0);
   i0 = i32_load8_u(j0 + 96u);
-  if (i0) {goto B50;}
+  if (i0) {goto B39;}
   j0 = p8;
   i0 = (u32)(j0);
   j1 = l10;
@@ -93523,25 +93277,25 @@ static u32 f109(module *self, u64 p0, u64 p1, u64 p2, u32 p3, u32 p4, u64 p5, u6
   j0 = p6;
   j1 = p1;
   i0 = j0 >= j1;
-  if (i0) {goto B52;}
+  if (i0) {goto B41;}
   i0 = 25u;
-  l19 = i0;
-  goto B51;
-  B52:;
+  l17 = i0;
+  goto B40;
+  B41:;
   j0 = p5;
   j1 = 4096ull;
   j2 = 0ull;
   j3 = p5;
   i3 = !(j3);
   j1 = i3 ? j1 : j2;
-  l14 = j1;
+  l15 = j1;
   j0 += j1;
   p6 = j0;
   j1 = p7;
   j0 -= j1;
   j1 = p1;
   i0 = j0 >= j1;
-  if (i0) {goto B54;}
+  if (i0) {goto B43;}
   j0 = p1;
   j1 = 3ull;
   j0 &= j1;
@@ -93551,14 +93305,14 @@ static u32 f109(module *self, u64 p0, u64 p1, u64 p2, u32 p3, u32 p4, u64 p5, u6
   j0 = p1;
   j1 = 4ull;
   i0 = j0 < j1;
-  if (i0) {goto B55;}
+  if (i0) {goto B44;}
   j0 = p1;
   j1 = 18446744073709551612ull;
   j0 &= j1;
   l12 = j0;
   j0 = 0ull;
   p2 = j0;
-  L56: 
+  L45: 
     j0 = p6;
     j1 = p2;
     j0 += j1;
@@ -93607,22 +93361,22 @@ static u32 f109(module *self, u64 p0, u64 p1, u64 p2, u32 p3, u32 p4, u64 p5, u6
     j1 += j2;
     p2 = j1;
     i0 = j0 != j1;
-    if (i0) {goto L56;}
+    if (i0) {goto L45;}
   j0 = p8;
   i0 = !(j0);
-  if (i0) {goto B53;}
-  B55:;
+  if (i0) {goto B42;}
+  B44:;
   j0 = p7;
   j1 = p2;
   j0 += j1;
   p1 = j0;
   j0 = p5;
-  j1 = l14;
+  j1 = l15;
   j2 = p2;
   j1 += j2;
   j0 += j1;
   p2 = j0;
-  L57: 
+  L46: 
     j0 = p2;
     i0 = (u32)(j0);
     j1 = p1;
@@ -93643,13 +93397,13 @@ static u32 f109(module *self, u64 p0, u64 p1, u64 p2, u32 p3, u32 p4, u64 p5, u6
     p8 = j0;
     j1 = 0ull;
     i0 = j0 != j1;
-    if (i0) {goto L57;}
-    goto B53;
+    if (i0) {goto L46;}
+    goto B42;
   { self->is_broken = true; return ZAK_BROKEN; }
-  B54:;
+  B43:;
   j0 = p1;
   i0 = !(j0);
-  if (i0) {goto B53;}
+  if (i0) {goto B42;}
   j0 = p6;
   i0 = (u32)(j0);
   j1 = p7;
@@ -93657,19 +93411,19 @@ static u32 f109(module *self, u64 p0, u64 p1, u64 p2, u32 p3, u32 p4, u64 p5, u6
   j2 = p1;
   i2 = (u32)(j2);
   memory_copy(j0, j1, j2);
-  B53:;
+  B42:;
   i0 = 0u;
-  l19 = i0;
-  B51:;
+  l17 = i0;
+  B40:;
   j0 = l16;
   i0 = !(j0);
   if (i0) {goto B2;}
   j0 = p7;
-  f179(self, j0);
+  f127(self, j0);
   goto B2;
-  B50:;
+  B39:;
   i0 = 23u;
-  l19 = i0;
+  l17 = i0;
   j0 = l10;
   i0 = (u32)(j0);
   j0 = i64_load(j0 + 32u);
@@ -93678,7 +93432,7 @@ static u32 f109(module *self, u64 p0, u64 p1, u64 p2, u32 p3, u32 p4, u64 p5, u6
   j0 = l10;
   i0 = (u32)(j0);
   j0 = i64_load(j0 + 16u);
-  f179(self, j0);
+  f127(self, j0);
   goto B2;
   B3:;
   j0 = l10;
@@ -93686,7 +93440,7 @@ static u32 f109(module *self, u64 p0, u64 p1, u64 p2, u32 p3, u32 p4, u64 p5, u6
   j0 = i64_load(j0 + 136u);
   p1 = j0;
   i0 = 22u;
-  l19 = i0;
+  l17 = i0;
   j0 = l10;
   i0 = (u32)(j0);
   j0 = i64_load8_u(j0 + 128u);
@@ -93694,27 +93448,27 @@ static u32 f109(module *self, u64 p0, u64 p1, u64 p2, u32 p3, u32 p4, u64 p5, u6
   i0 = (u32)(j0);
   switch (i0) {
     case 0: goto B2;
-    case 1: goto B62;
-    case 2: goto B61;
-    case 3: goto B63;
-    case 4: goto B63;
-    case 5: goto B60;
-    case 6: goto B64;
-    case 7: goto B59;
-    case 8: goto B58;
-    case 9: goto B58;
-    case 10: goto B63;
+    case 1: goto B51;
+    case 2: goto B50;
+    case 3: goto B52;
+    case 4: goto B52;
+    case 5: goto B49;
+    case 6: goto B53;
+    case 7: goto B48;
+    case 8: goto B47;
+    case 9: goto B47;
+    case 10: goto B52;
     default: goto B2;
   }
-  B64:;
+  B53:;
   j0 = p9;
   i0 = (u32)(j0);
   j1 = p1;
   i64_store(j0, j1);
   i0 = 107u;
-  l19 = i0;
+  l17 = i0;
   goto B2;
-  B63:;
+  B52:;
   j0 = p9;
   i0 = (u32)(j0);
   j1 = p1;
@@ -93727,27 +93481,27 @@ static u32 f109(module *self, u64 p0, u64 p1, u64 p2, u32 p3, u32 p4, u64 p5, u6
   j0 += j1;
   i0 = (u32)(j0);
   i0 = i32_load(j0);
-  l19 = i0;
+  l17 = i0;
   goto B2;
-  B62:;
+  B51:;
   i0 = 102u;
-  l19 = i0;
+  l17 = i0;
   goto B2;
-  B61:;
+  B50:;
   i0 = 103u;
-  l19 = i0;
+  l17 = i0;
   goto B2;
-  B60:;
+  B49:;
   i0 = 106u;
-  l19 = i0;
+  l17 = i0;
   goto B2;
-  B59:;
+  B48:;
   i0 = 108u;
-  l19 = i0;
+  l17 = i0;
   goto B2;
-  B58:;
+  B47:;
   i0 = 23u;
-  l19 = i0;
+  l17 = i0;
   B2:;
   j0 = p0;
   i0 = (u32)(j0);
@@ -93770,11 +93524,11 @@ static u32 f109(module *self, u64 p0, u64 p1, u64 p2, u32 p3, u32 p4, u64 p5, u6
   j1 = 272ull;
   j0 += j1;
   self->g0 = j0;
-  i0 = l19;
+  i0 = l17;
   return i0;
 }
 
-static u32 f110(module *self, u64 p0, u64 p1, u64 p2, u64 p3) {
+static u32 module_zak_save(module *self, u64 p0, u64 p1, u64 p2, u64 p3) {
   u32 l4 = 0;
   u64 l5 = 0, l6 = 0;
   u8 *m = self->memory;
@@ -93796,7 +93550,7 @@ static u32 f110(module *self, u64 p0, u64 p1, u64 p2, u64 p3) {
   i0 = !(i0);
   if (i0) {goto B1;}
   j0 = p0;
-  f4(self, j0); m = self->memory; if (NEVER(self->is_broken)) return ZAK_BROKEN;
+  f1(self, j0); m = self->memory; if (NEVER(self->is_broken)) return ZAK_BROKEN;
   B1:;
   j0 = p0;
   i0 = (u32)(j0);
@@ -93861,7 +93615,7 @@ static u32 f110(module *self, u64 p0, u64 p1, u64 p2, u64 p3) {
   i4 = !(j4);
   j2 = i4 ? j2 : j3;
   j1 += j2;
-  f70(self, j0, j1); if (NEVER(self->is_broken)) return ZAK_BROKEN;
+  f67(self, j0, j1); if (NEVER(self->is_broken)) return ZAK_BROKEN;
   i0 = 0u;
   l4 = i0;
   B4:;
@@ -93886,7 +93640,7 @@ static u32 f110(module *self, u64 p0, u64 p1, u64 p2, u64 p3) {
   return i0;
 }
 
-static u32 f111(module *self, u64 p0, u64 p1, u64 p2) {
+static u32 module_zak_save_fixed(module *self, u64 p0, u64 p1, u64 p2) {
   u32 l3 = 0, l4 = 0, l5 = 0;
   u64 l6 = 0, l7 = 0, l8 = 0, l9 = 0, l10 = 0;
   u8 *m = self->memory;
@@ -93908,7 +93662,7 @@ static u32 f111(module *self, u64 p0, u64 p1, u64 p2) {
   i0 = !(i0);
   if (i0) {goto B1;}
   j0 = p0;
-  f4(self, j0); m = self->memory; if (NEVER(self->is_broken)) return ZAK_BROKEN;
+  f1(self, j0); m = self->memory; if (NEVER(self->is_broken)) return ZAK_BROKEN;
   B1:;
   j0 = p0;
   i0 = (u32)(j0);
@@ -93972,7 +93726,7 @@ static u32 f111(module *self, u64 p0, u64 p1, u64 p2) {
   j2 = i4 ? j2 : j3;
   j1 += j2;
   l8 = j1;
-  f70(self, j0, j1); if (NEVER(self->is_broken)) return ZAK_BROKEN;
+  f67(self, j0, j1); if (NEVER(self->is_broken)) return ZAK_BROKEN;
   j0 = p2;
   j1 = 18446744073709551612ull;
   j0 += j1;
@@ -94125,7 +93879,7 @@ static u32 f111(module *self, u64 p0, u64 p1, u64 p2) {
   return i0;
 }
 
-static u32 f112(module *self, u64 p0, u64 p1) {
+static u32 module_zak_save_size(module *self, u64 p0, u64 p1) {
   u32 l2 = 0;
   u64 l3 = 0, l4 = 0;
   u8 *m = self->memory;
@@ -94147,7 +93901,7 @@ static u32 f112(module *self, u64 p0, u64 p1) {
   i0 = !(i0);
   if (i0) {goto B1;}
   j0 = p0;
-  f4(self, j0); m = self->memory; if (NEVER(self->is_broken)) return ZAK_BROKEN;
+  f1(self, j0); m = self->memory; if (NEVER(self->is_broken)) return ZAK_BROKEN;
   B1:;
   j0 = p0;
   i0 = (u32)(j0);
@@ -94221,7 +93975,7 @@ static u32 f112(module *self, u64 p0, u64 p1) {
   return i0;
 }
 
-static u32 f113(module *self, u64 p0, u32 p1, u32 p2, u32 p3, u64 p4) {
+static u32 module_zak_screen_cell(module *self, u64 p0, u32 p1, u32 p2, u32 p3, u64 p4) {
   u32 l12 = 0, l13 = 0;
   u64 l5 = 0, l6 = 0, l7 = 0, l8 = 0, l9 = 0, l10 = 0, l11 = 0;
   u8 *m = self->memory;
@@ -94248,7 +94002,7 @@ static u32 f113(module *self, u64 p0, u32 p1, u32 p2, u32 p3, u64 p4) {
   i0 = !(i0);
   if (i0) {goto B1;}
   j0 = p0;
-  f4(self, j0); m = self->memory; if (NEVER(self->is_broken)) return ZAK_BROKEN;
+  f1(self, j0); m = self->memory; if (NEVER(self->is_broken)) return ZAK_BROKEN;
   B1:;
   j0 = p0;
   i0 = (u32)(j0);
@@ -94277,7 +94031,7 @@ static u32 f113(module *self, u64 p0, u32 p1, u32 p2, u32 p3, u64 p4) {
   j2 = l6;
   j3 = 2072ull;
   j2 += j3;
-  f71(self, j0, j1, j2); m = self->memory; if (NEVER(self->is_broken)) return ZAK_BROKEN;
+  f68(self, j0, j1, j2); m = self->memory; if (NEVER(self->is_broken)) return ZAK_BROKEN;
   j0 = l5;
   i0 = (u32)(j0);
   i0 = i32_load8_u(j0 + 8u);
@@ -94399,19 +94153,19 @@ static u32 f113(module *self, u64 p0, u32 p1, u32 p2, u32 p3, u64 p4) {
   i0 = !(j0);
   if (i0) {goto B6;}
   j0 = l8;
-  f179(self, j0);
+  f127(self, j0);
   B6:;
   j0 = l10;
   i0 = !(j0);
   if (i0) {goto B7;}
   j0 = l11;
-  f179(self, j0);
+  f127(self, j0);
   B7:;
   j0 = p4;
   i0 = !(j0);
   if (i0) {goto B2;}
   j0 = l9;
-  f179(self, j0);
+  f127(self, j0);
   B2:;
   j0 = p0;
   i0 = (u32)(j0);
@@ -94438,7 +94192,7 @@ static u32 f113(module *self, u64 p0, u32 p1, u32 p2, u32 p3, u64 p4) {
   return i0;
 }
 
-static u32 f114(module *self, u64 p0, u32 p1, u64 p2) {
+static u32 module_zak_screen_cursor(module *self, u64 p0, u32 p1, u64 p2) {
   u32 l5 = 0;
   u64 l3 = 0, l4 = 0;
   u8 *m = self->memory;
@@ -94465,7 +94219,7 @@ static u32 f114(module *self, u64 p0, u32 p1, u64 p2) {
   i0 = !(i0);
   if (i0) {goto B1;}
   j0 = p0;
-  f4(self, j0); m = self->memory; if (NEVER(self->is_broken)) return ZAK_BROKEN;
+  f1(self, j0); m = self->memory; if (NEVER(self->is_broken)) return ZAK_BROKEN;
   B1:;
   j0 = p0;
   i0 = (u32)(j0);
@@ -94490,7 +94244,7 @@ static u32 f114(module *self, u64 p0, u32 p1, u64 p2) {
   j2 = l4;
   j3 = 2072ull;
   j2 += j3;
-  f71(self, j0, j1, j2); m = self->memory; if (NEVER(self->is_broken)) return ZAK_BROKEN;
+  f68(self, j0, j1, j2); m = self->memory; if (NEVER(self->is_broken)) return ZAK_BROKEN;
   j0 = l3;
   i0 = (u32)(j0);
   i0 = i32_load8_u(j0);
@@ -94562,7 +94316,7 @@ static u32 f114(module *self, u64 p0, u32 p1, u64 p2) {
   j0 = l3;
   i0 = (u32)(j0);
   j0 = i64_load(j0 + 936u);
-  f179(self, j0);
+  f127(self, j0);
   B6:;
   j0 = l3;
   i0 = (u32)(j0);
@@ -94572,7 +94326,7 @@ static u32 f114(module *self, u64 p0, u32 p1, u64 p2) {
   j0 = l3;
   i0 = (u32)(j0);
   j0 = i64_load(j0 + 960u);
-  f179(self, j0);
+  f127(self, j0);
   B7:;
   j0 = l3;
   i0 = (u32)(j0);
@@ -94582,7 +94336,7 @@ static u32 f114(module *self, u64 p0, u32 p1, u64 p2) {
   j0 = l3;
   i0 = (u32)(j0);
   j0 = i64_load(j0 + 1792u);
-  f179(self, j0);
+  f127(self, j0);
   B2:;
   j0 = p0;
   i0 = (u32)(j0);
@@ -94609,7 +94363,7 @@ static u32 f114(module *self, u64 p0, u32 p1, u64 p2) {
   return i0;
 }
 
-static u32 f115(module *self, u64 p0, u32 p1, u32 p2, u32 p3, u64 p4) {
+static u32 module_zak_screen_pixel(module *self, u64 p0, u32 p1, u32 p2, u32 p3, u64 p4) {
   u32 l13 = 0;
   u64 l5 = 0, l6 = 0, l7 = 0, l8 = 0, l9 = 0, l10 = 0, l11 = 0, l12 = 0;
   u8 *m = self->memory;
@@ -94636,7 +94390,7 @@ static u32 f115(module *self, u64 p0, u32 p1, u32 p2, u32 p3, u64 p4) {
   i0 = !(i0);
   if (i0) {goto B1;}
   j0 = p0;
-  f4(self, j0); m = self->memory; if (NEVER(self->is_broken)) return ZAK_BROKEN;
+  f1(self, j0); m = self->memory; if (NEVER(self->is_broken)) return ZAK_BROKEN;
   B1:;
   j0 = p0;
   i0 = (u32)(j0);
@@ -94665,7 +94419,7 @@ static u32 f115(module *self, u64 p0, u32 p1, u32 p2, u32 p3, u64 p4) {
   j2 = l6;
   j3 = 2072ull;
   j2 += j3;
-  f71(self, j0, j1, j2); m = self->memory; if (NEVER(self->is_broken)) return ZAK_BROKEN;
+  f68(self, j0, j1, j2); m = self->memory; if (NEVER(self->is_broken)) return ZAK_BROKEN;
   j0 = l5;
   i0 = (u32)(j0);
   i0 = i32_load8_u(j0 + 8u);
@@ -94782,19 +94536,19 @@ static u32 f115(module *self, u64 p0, u32 p1, u32 p2, u32 p3, u64 p4) {
   j0 = l5;
   i0 = (u32)(j0);
   j0 = i64_load(j0 + 40u);
-  f179(self, j0);
+  f127(self, j0);
   B6:;
   j0 = l9;
   i0 = !(j0);
   if (i0) {goto B7;}
   j0 = l7;
-  f179(self, j0);
+  f127(self, j0);
   B7:;
   j0 = p4;
   i0 = !(j0);
   if (i0) {goto B2;}
   j0 = l10;
-  f179(self, j0);
+  f127(self, j0);
   B2:;
   j0 = p0;
   i0 = (u32)(j0);
@@ -94821,7 +94575,7 @@ static u32 f115(module *self, u64 p0, u32 p1, u32 p2, u32 p3, u64 p4) {
   return i0;
 }
 
-static u32 f116(module *self, u64 p0, u64 p1) {
+static u32 module_zak_screen_read(module *self, u64 p0, u64 p1) {
   u32 l10 = 0, l11 = 0, l12 = 0, l13 = 0, l14 = 0;
   u64 l2 = 0, l3 = 0, l4 = 0, l5 = 0, l6 = 0, l7 = 0, l8 = 0, l9 = 0;
   u8 *m = self->memory;
@@ -94848,7 +94602,7 @@ static u32 f116(module *self, u64 p0, u64 p1) {
   i0 = !(i0);
   if (i0) {goto B1;}
   j0 = p0;
-  f4(self, j0); m = self->memory; if (NEVER(self->is_broken)) return ZAK_BROKEN;
+  f1(self, j0); m = self->memory; if (NEVER(self->is_broken)) return ZAK_BROKEN;
   B1:;
   j0 = p0;
   i0 = (u32)(j0);
@@ -94873,7 +94627,7 @@ static u32 f116(module *self, u64 p0, u64 p1) {
   j2 = l3;
   j3 = 2072ull;
   j2 += j3;
-  f71(self, j0, j1, j2); m = self->memory; if (NEVER(self->is_broken)) return ZAK_BROKEN;
+  f68(self, j0, j1, j2); m = self->memory; if (NEVER(self->is_broken)) return ZAK_BROKEN;
   j0 = l2;
   i0 = (u32)(j0);
   i0 = i32_load8_u(j0);
@@ -94932,7 +94686,7 @@ static u32 f116(module *self, u64 p0, u64 p1) {
   i2 = (u32)(j2);
   i2 = i32_load16_u(j2);
   l11 = i2;
-  f30(self, j0, i1, i2);
+  f27(self, j0, i1, i2);
   j0 = l2;
   i0 = (u32)(j0);
   i0 = i32_load8_u(j0 + 920u);
@@ -95021,19 +94775,19 @@ static u32 f116(module *self, u64 p0, u64 p1) {
   i0 = !(j0);
   if (i0) {goto B7;}
   j0 = l9;
-  f179(self, j0);
+  f127(self, j0);
   B7:;
   j0 = l6;
   i0 = !(j0);
   if (i0) {goto B8;}
   j0 = l7;
-  f179(self, j0);
+  f127(self, j0);
   B8:;
   j0 = l4;
   i0 = !(j0);
   if (i0) {goto B2;}
   j0 = l5;
-  f179(self, j0);
+  f127(self, j0);
   B2:;
   j0 = p0;
   i0 = (u32)(j0);
@@ -95060,7 +94814,7 @@ static u32 f116(module *self, u64 p0, u64 p1) {
   return i0;
 }
 
-static u32 f117(module *self, u64 p0, u64 p1, u64 p2, u64 p3) {
+static u32 module_zak_show_bda(module *self, u64 p0, u64 p1, u64 p2, u64 p3) {
   u32 l5 = 0;
   u64 l4 = 0;
   u8 *m = self->memory;
@@ -95096,7 +94850,7 @@ static u32 f117(module *self, u64 p0, u64 p1, u64 p2, u64 p3) {
   j2 += j3;
   j3 = p2;
   j4 = p3;
-  i0 = f74(self, j0, j1, j2, j3, j4); m = self->memory; if (NEVER(self->is_broken)) return ZAK_BROKEN;
+  i0 = f71(self, j0, j1, j2, j3, j4); m = self->memory; if (NEVER(self->is_broken)) return ZAK_BROKEN;
   l5 = i0;
   j0 = l4;
   j1 = 16ull;
@@ -95106,7 +94860,7 @@ static u32 f117(module *self, u64 p0, u64 p1, u64 p2, u64 p3) {
   return i0;
 }
 
-static u32 f118(module *self, u64 p0, u64 p1, u64 p2, u64 p3) {
+static u32 module_zak_show_beam(module *self, u64 p0, u64 p1, u64 p2, u64 p3) {
   u32 l5 = 0;
   u64 l4 = 0;
   u8 *m = self->memory;
@@ -95142,7 +94896,7 @@ static u32 f118(module *self, u64 p0, u64 p1, u64 p2, u64 p3) {
   j2 += j3;
   j3 = p2;
   j4 = p3;
-  i0 = f74(self, j0, j1, j2, j3, j4); m = self->memory; if (NEVER(self->is_broken)) return ZAK_BROKEN;
+  i0 = f71(self, j0, j1, j2, j3, j4); m = self->memory; if (NEVER(self->is_broken)) return ZAK_BROKEN;
   l5 = i0;
   j0 = l4;
   j1 = 16ull;
@@ -95152,7 +94906,7 @@ static u32 f118(module *self, u64 p0, u64 p1, u64 p2, u64 p3) {
   return i0;
 }
 
-static u32 f119(module *self, u64 p0, u64 p1, u64 p2, u64 p3) {
+static u32 module_zak_show_cells(module *self, u64 p0, u64 p1, u64 p2, u64 p3) {
   u32 l5 = 0;
   u64 l4 = 0;
   u8 *m = self->memory;
@@ -95188,7 +94942,7 @@ static u32 f119(module *self, u64 p0, u64 p1, u64 p2, u64 p3) {
   j2 += j3;
   j3 = p2;
   j4 = p3;
-  i0 = f74(self, j0, j1, j2, j3, j4); m = self->memory; if (NEVER(self->is_broken)) return ZAK_BROKEN;
+  i0 = f71(self, j0, j1, j2, j3, j4); m = self->memory; if (NEVER(self->is_broken)) return ZAK_BROKEN;
   l5 = i0;
   j0 = l4;
   j1 = 16ull;
@@ -95198,7 +94952,7 @@ static u32 f119(module *self, u64 p0, u64 p1, u64 p2, u64 p3) {
   return i0;
 }
 
-static u32 f120(module *self, u64 p0, u32 p1, u64 p2, u64 p3, u64 p4) {
+static u32 module_zak_show_dac(module *self, u64 p0, u32 p1, u64 p2, u64 p3, u64 p4) {
   u64 l5 = 0;
   u8 *m = self->memory;
   u32 i0, i1, i5;
@@ -95233,7 +94987,7 @@ static u32 f120(module *self, u64 p0, u32 p1, u64 p2, u64 p3, u64 p4) {
   j2 += j3;
   j3 = p3;
   j4 = p4;
-  i0 = f74(self, j0, j1, j2, j3, j4); m = self->memory; if (NEVER(self->is_broken)) return ZAK_BROKEN;
+  i0 = f71(self, j0, j1, j2, j3, j4); m = self->memory; if (NEVER(self->is_broken)) return ZAK_BROKEN;
   p1 = i0;
   j0 = l5;
   j1 = 16ull;
@@ -95243,7 +94997,7 @@ static u32 f120(module *self, u64 p0, u32 p1, u64 p2, u64 p3, u64 p4) {
   return i0;
 }
 
-static u32 f121(module *self, u64 p0, u64 p1, u64 p2, u64 p3) {
+static u32 module_zak_show_latches(module *self, u64 p0, u64 p1, u64 p2, u64 p3) {
   u32 l5 = 0;
   u64 l4 = 0;
   u8 *m = self->memory;
@@ -95279,7 +95033,7 @@ static u32 f121(module *self, u64 p0, u64 p1, u64 p2, u64 p3) {
   j2 += j3;
   j3 = p2;
   j4 = p3;
-  i0 = f74(self, j0, j1, j2, j3, j4); m = self->memory; if (NEVER(self->is_broken)) return ZAK_BROKEN;
+  i0 = f71(self, j0, j1, j2, j3, j4); m = self->memory; if (NEVER(self->is_broken)) return ZAK_BROKEN;
   l5 = i0;
   j0 = l4;
   j1 = 16ull;
@@ -95289,7 +95043,7 @@ static u32 f121(module *self, u64 p0, u64 p1, u64 p2, u64 p3) {
   return i0;
 }
 
-static u32 f122(module *self, u64 p0, u32 p1, u32 p2, u32 p3, u64 p4, u64 p5, u64 p6) {
+static u32 module_zak_show_plane(module *self, u64 p0, u32 p1, u32 p2, u32 p3, u64 p4, u64 p5, u64 p6) {
   u32 l8 = 0;
   u64 l7 = 0;
   u8 *m = self->memory;
@@ -95363,7 +95117,7 @@ static u32 f122(module *self, u64 p0, u32 p1, u32 p2, u32 p3, u64 p4, u64 p5, u6
   j2 += j3;
   j3 = p5;
   j4 = p6;
-  i0 = f74(self, j0, j1, j2, j3, j4); m = self->memory; if (NEVER(self->is_broken)) return ZAK_BROKEN;
+  i0 = f71(self, j0, j1, j2, j3, j4); m = self->memory; if (NEVER(self->is_broken)) return ZAK_BROKEN;
   l8 = i0;
   B0:;
   j0 = l7;
@@ -95374,7 +95128,7 @@ static u32 f122(module *self, u64 p0, u32 p1, u32 p2, u32 p3, u64 p4, u64 p5, u6
   return i0;
 }
 
-static u32 f123(module *self, u64 p0, u64 p1, u64 p2, u64 p3) {
+static u32 module_zak_show_regs(module *self, u64 p0, u64 p1, u64 p2, u64 p3) {
   u32 l5 = 0;
   u64 l4 = 0;
   u8 *m = self->memory;
@@ -95406,13 +95160,19 @@ static u32 f123(module *self, u64 p0, u64 p1, u64 p2, u64 p3) {
   j2 += j3;
   j3 = p2;
   j4 = p3;
-  i0 = f74(self, j0, j1, j2, j3, j4); m = self->memory; if (NEVER(self->is_broken)) return ZAK_BROKEN;
+  i0 = f71(self, j0, j1, j2, j3, j4); m = self->memory; if (NEVER(self->is_broken)) return ZAK_BROKEN;
   l5 = i0;
   j0 = l4;
   j1 = 16ull;
   j0 += j1;
   self->g0 = j0;
   i0 = l5;
+  return i0;
+}
+
+static u32 module_zak_version(module *self) {
+  u32 i0;
+  i0 = 65541u;
   return i0;
 }
 
@@ -95429,7 +95189,7 @@ static u64 module_page_take(module *self, u64 p0) {
   j0 = l1;
   j1 = p0;
   j2 = 16ull;
-  f176(self, j0, j1, j2); m = self->memory; if (NEVER(self->is_broken)) return ZAK_BROKEN;
+  f124(self, j0, j1, j2); m = self->memory; if (NEVER(self->is_broken)) return 0;
   j0 = l1;
   i0 = (u32)(j0);
   j0 = i64_load(j0);
@@ -95450,686 +95210,16 @@ static u64 module_page_take(module *self, u64 p0) {
   return j0;
 }
 
-static void module_page_give(module *self, u64 p0) {
-  u64 j0;
-  j0 = p0;
-  f179(self, j0);
-}
-
-static u32 module_zak_advance(module *self, u64 p0, u32 p1) {
-  u32 i0, i1;
-  u64 j0;
-  j0 = p0;
-  i1 = p1;
-  i0 = f75(self, j0, i1);
-  p1 = i0;
-  i0 = p1;
-  return i0;
-}
-
-static u32 module_zak_assemble(module *self, u64 p0, u64 p1, u64 p2, u64 p3, u64 p4, u64 p5) {
-  u32 l6 = 0;
-  u32 i0;
-  u64 j0, j1, j2, j3, j4, j5;
-  j0 = p0;
-  j1 = p1;
-  j2 = p2;
-  j3 = p3;
-  j4 = p4;
-  j5 = p5;
-  i0 = f76(self, j0, j1, j2, j3, j4, j5);
-  l6 = i0;
-  i0 = l6;
-  return i0;
-}
-
-static u32 module_zak_block(module *self, u64 p0, u64 p1, u64 p2) {
-  u32 l3 = 0;
-  u32 i0;
-  u64 j0, j1, j2;
-  j0 = p0;
-  j1 = p1;
-  j2 = p2;
-  i0 = f77(self, j0, j1, j2);
-  l3 = i0;
-  i0 = l3;
-  return i0;
-}
-
-static u32 module_zak_clock(module *self, u64 p0, u64 p1) {
-  u32 l2 = 0;
-  u32 i0;
-  u64 j0, j1;
-  j0 = p0;
-  j1 = p1;
-  i0 = f78(self, j0, j1);
-  l2 = i0;
-  i0 = l2;
-  return i0;
-}
-
-static u32 module_zak_close(module *self, u64 p0) {
-  u32 l1 = 0;
+static u32 module_page_give(module *self, u64 p0) {
   u32 i0;
   u64 j0;
   j0 = p0;
-  i0 = f79(self, j0);
-  l1 = i0;
-  i0 = l1;
+  f127(self, j0);
+  i0 = 0u;
   return i0;
 }
 
-static u32 module_zak_fill_bytes(module *self, u64 p0, u32 p1, u32 p2, u64 p3, u32 p4, u64 p5) {
-  u32 i0, i1, i2, i4;
-  u64 j0, j3, j5;
-  j0 = p0;
-  i1 = p1;
-  i2 = p2;
-  j3 = p3;
-  i4 = p4;
-  j5 = p5;
-  i0 = f80(self, j0, i1, i2, j3, i4, j5);
-  p4 = i0;
-  i0 = p4;
-  return i0;
-}
-
-static u32 module_zak_frame(module *self, u64 p0, u64 p1, u64 p2, u64 p3) {
-  u32 l4 = 0;
-  u32 i0;
-  u64 j0, j1, j2, j3;
-  j0 = p0;
-  j1 = p1;
-  j2 = p2;
-  j3 = p3;
-  i0 = f81(self, j0, j1, j2, j3);
-  l4 = i0;
-  i0 = l4;
-  return i0;
-}
-
-static u32 module_zak_frame_lines(module *self, u64 p0, u64 p1, u64 p2, u64 p3, u64 p4) {
-  u32 l5 = 0;
-  u32 i0;
-  u64 j0, j1, j2, j3, j4;
-  j0 = p0;
-  j1 = p1;
-  j2 = p2;
-  j3 = p3;
-  j4 = p4;
-  i0 = f82(self, j0, j1, j2, j3, j4);
-  l5 = i0;
-  i0 = l5;
-  return i0;
-}
-
-static u32 module_zak_frame_words(module *self, u64 p0, u32 p1, u64 p2, u64 p3, u64 p4, u64 p5) {
-  u32 i0, i1;
-  u64 j0, j2, j3, j4, j5;
-  j0 = p0;
-  i1 = p1;
-  j2 = p2;
-  j3 = p3;
-  j4 = p4;
-  j5 = p5;
-  i0 = f83(self, j0, i1, j2, j3, j4, j5);
-  p1 = i0;
-  i0 = p1;
-  return i0;
-}
-
-static u32 module_zak_frame_xrgb(module *self, u64 p0, u64 p1, u64 p2, u64 p3, u64 p4) {
-  u32 l5 = 0;
-  u32 i0;
-  u64 j0, j1, j2, j3, j4;
-  j0 = p0;
-  j1 = p1;
-  j2 = p2;
-  j3 = p3;
-  j4 = p4;
-  i0 = f84(self, j0, j1, j2, j3, j4);
-  l5 = i0;
-  i0 = l5;
-  return i0;
-}
-
-static u32 module_zak_get(module *self, u64 p0, u32 p1, u64 p2) {
-  u32 i0, i1;
-  u64 j0, j2;
-  j0 = p0;
-  i1 = p1;
-  j2 = p2;
-  i0 = f85(self, j0, i1, j2);
-  p1 = i0;
-  i0 = p1;
-  return i0;
-}
-
-static u32 module_zak_get_bytes(module *self, u64 p0, u32 p1, u64 p2, u64 p3, u32 p4, u64 p5) {
-  u32 i0, i1, i4;
-  u64 j0, j2, j3, j5;
-  j0 = p0;
-  i1 = p1;
-  j2 = p2;
-  j3 = p3;
-  i4 = p4;
-  j5 = p5;
-  i0 = f86(self, j0, i1, j2, j3, i4, j5);
-  p4 = i0;
-  i0 = p4;
-  return i0;
-}
-
-static u32 module_zak_get_word(module *self, u64 p0, u32 p1, u64 p2) {
-  u32 i0, i1;
-  u64 j0, j2;
-  j0 = p0;
-  i1 = p1;
-  j2 = p2;
-  i0 = f87(self, j0, i1, j2);
-  p1 = i0;
-  i0 = p1;
-  return i0;
-}
-
-static u32 module_zak_in(module *self, u64 p0, u32 p1, u64 p2) {
-  u32 i0, i1;
-  u64 j0, j2;
-  j0 = p0;
-  i1 = p1;
-  j2 = p2;
-  i0 = f88(self, j0, i1, j2);
-  p1 = i0;
-  i0 = p1;
-  return i0;
-}
-
-static u32 module_zak_in_word(module *self, u64 p0, u32 p1, u64 p2) {
-  u32 i0, i1;
-  u64 j0, j2;
-  j0 = p0;
-  i1 = p1;
-  j2 = p2;
-  i0 = f89(self, j0, i1, j2);
-  p1 = i0;
-  i0 = p1;
-  return i0;
-}
-
-static u32 module_zak_int10(module *self, u64 p0, u64 p1, u64 p2, u64 p3, u64 p4, u64 p5, u64 p6) {
-  u32 l7 = 0;
-  u32 i0;
-  u64 j0, j1, j2, j3, j4, j5, j6;
-  j0 = p0;
-  j1 = p1;
-  j2 = p2;
-  j3 = p3;
-  j4 = p4;
-  j5 = p5;
-  j6 = p6;
-  i0 = f90(self, j0, j1, j2, j3, j4, j5, j6);
-  l7 = i0;
-  i0 = l7;
-  return i0;
-}
-
-static u32 module_zak_line(module *self, u64 p0, u32 p1, u64 p2, u64 p3, u64 p4) {
-  u32 i0, i1;
-  u64 j0, j2, j3, j4;
-  j0 = p0;
-  i1 = p1;
-  j2 = p2;
-  j3 = p3;
-  j4 = p4;
-  i0 = f91(self, j0, i1, j2, j3, j4);
-  p1 = i0;
-  i0 = p1;
-  return i0;
-}
-
-static u32 module_zak_move_bytes(module *self, u64 p0, u32 p1, u32 p2, u64 p3, u32 p4, u64 p5) {
-  u32 i0, i1, i2, i4;
-  u64 j0, j3, j5;
-  j0 = p0;
-  i1 = p1;
-  i2 = p2;
-  j3 = p3;
-  i4 = p4;
-  j5 = p5;
-  i0 = f92(self, j0, i1, i2, j3, i4, j5);
-  p4 = i0;
-  i0 = p4;
-  return i0;
-}
-
-static u32 module_zak_open(module *self, u64 p0, u64 p1, u64 p2) {
-  u32 l3 = 0;
-  u32 i0;
-  u64 j0, j1, j2;
-  j0 = p0;
-  j1 = p1;
-  j2 = p2;
-  i0 = f93(self, j0, j1, j2);
-  l3 = i0;
-  i0 = l3;
-  return i0;
-}
-
-static u32 module_zak_out(module *self, u64 p0, u32 p1, u32 p2) {
-  u32 i0, i1, i2;
-  u64 j0;
-  j0 = p0;
-  i1 = p1;
-  i2 = p2;
-  i0 = f94(self, j0, i1, i2);
-  p2 = i0;
-  i0 = p2;
-  return i0;
-}
-
-static u32 module_zak_out_word(module *self, u64 p0, u32 p1, u32 p2) {
-  u32 i0, i1, i2;
-  u64 j0;
-  j0 = p0;
-  i1 = p1;
-  i2 = p2;
-  i0 = f95(self, j0, i1, i2);
-  p2 = i0;
-  i0 = p2;
-  return i0;
-}
-
-static u32 module_zak_print(module *self, u64 p0, u64 p1, u64 p2, u64 p3, u64 p4, u64 p5) {
-  u32 l6 = 0;
-  u32 i0;
-  u64 j0, j1, j2, j3, j4, j5;
-  j0 = p0;
-  j1 = p1;
-  j2 = p2;
-  j3 = p3;
-  j4 = p4;
-  j5 = p5;
-  i0 = f96(self, j0, j1, j2, j3, j4, j5);
-  l6 = i0;
-  i0 = l6;
-  return i0;
-}
-
-static u32 module_zak_put(module *self, u64 p0, u32 p1, u32 p2) {
-  u32 i0, i1, i2;
-  u64 j0;
-  j0 = p0;
-  i1 = p1;
-  i2 = p2;
-  i0 = f97(self, j0, i1, i2);
-  p2 = i0;
-  i0 = p2;
-  return i0;
-}
-
-static u32 module_zak_put_bytes(module *self, u64 p0, u32 p1, u64 p2, u64 p3, u32 p4, u64 p5) {
-  u32 i0, i1, i4;
-  u64 j0, j2, j3, j5;
-  j0 = p0;
-  i1 = p1;
-  j2 = p2;
-  j3 = p3;
-  i4 = p4;
-  j5 = p5;
-  i0 = f98(self, j0, i1, j2, j3, i4, j5);
-  p4 = i0;
-  i0 = p4;
-  return i0;
-}
-
-static u32 module_zak_put_word(module *self, u64 p0, u32 p1, u32 p2) {
-  u32 i0, i1, i2;
-  u64 j0;
-  j0 = p0;
-  i1 = p1;
-  i2 = p2;
-  i0 = f99(self, j0, i1, i2);
-  p2 = i0;
-  i0 = p2;
-  return i0;
-}
-
-static u32 module_zak_read_bda(module *self, u64 p0, u64 p1) {
-  u32 l2 = 0;
-  u32 i0;
-  u64 j0, j1;
-  j0 = p0;
-  j1 = p1;
-  i0 = f100(self, j0, j1);
-  l2 = i0;
-  i0 = l2;
-  return i0;
-}
-
-static u32 module_zak_read_beam(module *self, u64 p0, u64 p1) {
-  u32 l2 = 0;
-  u32 i0;
-  u64 j0, j1;
-  j0 = p0;
-  j1 = p1;
-  i0 = f101(self, j0, j1);
-  l2 = i0;
-  i0 = l2;
-  return i0;
-}
-
-static u32 module_zak_read_colour(module *self, u64 p0, u32 p1, u64 p2) {
-  u32 i0, i1;
-  u64 j0, j2;
-  j0 = p0;
-  i1 = p1;
-  j2 = p2;
-  i0 = f102(self, j0, i1, j2);
-  p1 = i0;
-  i0 = p1;
-  return i0;
-}
-
-static u32 module_zak_read_latches(module *self, u64 p0, u64 p1) {
-  u32 l2 = 0;
-  u32 i0;
-  u64 j0, j1;
-  j0 = p0;
-  j1 = p1;
-  i0 = f103(self, j0, j1);
-  l2 = i0;
-  i0 = l2;
-  return i0;
-}
-
-static u32 module_zak_read_plane(module *self, u64 p0, u32 p1, u32 p2, u64 p3, u64 p4) {
-  u32 i0, i1, i2;
-  u64 j0, j3, j4;
-  j0 = p0;
-  i1 = p1;
-  i2 = p2;
-  j3 = p3;
-  j4 = p4;
-  i0 = f104(self, j0, i1, i2, j3, j4);
-  p2 = i0;
-  i0 = p2;
-  return i0;
-}
-
-static u32 module_zak_read_registers(module *self, u64 p0, u64 p1) {
-  u32 l2 = 0;
-  u32 i0;
-  u64 j0, j1;
-  j0 = p0;
-  j1 = p1;
-  i0 = f105(self, j0, j1);
-  l2 = i0;
-  i0 = l2;
-  return i0;
-}
-
-static u32 module_zak_restore(module *self, u64 p0, u64 p1, u64 p2) {
-  u32 l3 = 0;
-  u32 i0;
-  u64 j0, j1, j2;
-  j0 = p0;
-  j1 = p1;
-  j2 = p2;
-  i0 = f106(self, j0, j1, j2);
-  l3 = i0;
-  i0 = l3;
-  return i0;
-}
-
-static u32 module_zak_restore_fixed(module *self, u64 p0, u64 p1, u64 p2) {
-  u32 l3 = 0;
-  u32 i0;
-  u64 j0, j1, j2;
-  j0 = p0;
-  j1 = p1;
-  j2 = p2;
-  i0 = f107(self, j0, j1, j2);
-  l3 = i0;
-  i0 = l3;
-  return i0;
-}
-
-static u32 module_zak_run(module *self, u64 p0, u64 p1, u64 p2, u64 p3, u64 p4, u64 p5, u64 p6, u64 p7) {
-  u32 l8 = 0;
-  u32 i0;
-  u64 j0, j1, j2, j3, j4, j5, j6, j7;
-  j0 = p0;
-  j1 = p1;
-  j2 = p2;
-  j3 = p3;
-  j4 = p4;
-  j5 = p5;
-  j6 = p6;
-  j7 = p7;
-  i0 = f108(self, j0, j1, j2, j3, j4, j5, j6, j7);
-  l8 = i0;
-  i0 = l8;
-  return i0;
-}
-
-static u32 module_zak_run_on(module *self, u64 p0, u64 p1, u64 p2, u32 p3, u32 p4, u64 p5, u64 p6, u64 p7, 
-    u64 p8, u64 p9) {
-  u32 i0, i3, i4;
-  u64 j0, j1, j2, j5, j6, j7, j8, j9;
-  j0 = p0;
-  j1 = p1;
-  j2 = p2;
-  i3 = p3;
-  i4 = p4;
-  j5 = p5;
-  j6 = p6;
-  j7 = p7;
-  j8 = p8;
-  j9 = p9;
-  i0 = f109(self, j0, j1, j2, i3, i4, j5, j6, j7, j8, j9);
-  p4 = i0;
-  i0 = p4;
-  return i0;
-}
-
-static u32 module_zak_save(module *self, u64 p0, u64 p1, u64 p2, u64 p3) {
-  u32 l4 = 0;
-  u32 i0;
-  u64 j0, j1, j2, j3;
-  j0 = p0;
-  j1 = p1;
-  j2 = p2;
-  j3 = p3;
-  i0 = f110(self, j0, j1, j2, j3);
-  l4 = i0;
-  i0 = l4;
-  return i0;
-}
-
-static u32 module_zak_save_fixed(module *self, u64 p0, u64 p1, u64 p2) {
-  u32 l3 = 0;
-  u32 i0;
-  u64 j0, j1, j2;
-  j0 = p0;
-  j1 = p1;
-  j2 = p2;
-  i0 = f111(self, j0, j1, j2);
-  l3 = i0;
-  i0 = l3;
-  return i0;
-}
-
-static u32 module_zak_save_size(module *self, u64 p0, u64 p1) {
-  u32 l2 = 0;
-  u32 i0;
-  u64 j0, j1;
-  j0 = p0;
-  j1 = p1;
-  i0 = f112(self, j0, j1);
-  l2 = i0;
-  i0 = l2;
-  return i0;
-}
-
-static u32 module_zak_screen_cell(module *self, u64 p0, u32 p1, u32 p2, u32 p3, u64 p4) {
-  u32 i0, i1, i2, i3;
-  u64 j0, j4;
-  j0 = p0;
-  i1 = p1;
-  i2 = p2;
-  i3 = p3;
-  j4 = p4;
-  i0 = f113(self, j0, i1, i2, i3, j4);
-  p3 = i0;
-  i0 = p3;
-  return i0;
-}
-
-static u32 module_zak_screen_cursor(module *self, u64 p0, u32 p1, u64 p2) {
-  u32 i0, i1;
-  u64 j0, j2;
-  j0 = p0;
-  i1 = p1;
-  j2 = p2;
-  i0 = f114(self, j0, i1, j2);
-  p1 = i0;
-  i0 = p1;
-  return i0;
-}
-
-static u32 module_zak_screen_pixel(module *self, u64 p0, u32 p1, u32 p2, u32 p3, u64 p4) {
-  u32 i0, i1, i2, i3;
-  u64 j0, j4;
-  j0 = p0;
-  i1 = p1;
-  i2 = p2;
-  i3 = p3;
-  j4 = p4;
-  i0 = f115(self, j0, i1, i2, i3, j4);
-  p3 = i0;
-  i0 = p3;
-  return i0;
-}
-
-static u32 module_zak_screen_read(module *self, u64 p0, u64 p1) {
-  u32 l2 = 0;
-  u32 i0;
-  u64 j0, j1;
-  j0 = p0;
-  j1 = p1;
-  i0 = f116(self, j0, j1);
-  l2 = i0;
-  i0 = l2;
-  return i0;
-}
-
-static u32 module_zak_show_bda(module *self, u64 p0, u64 p1, u64 p2, u64 p3) {
-  u32 l4 = 0;
-  u32 i0;
-  u64 j0, j1, j2, j3;
-  j0 = p0;
-  j1 = p1;
-  j2 = p2;
-  j3 = p3;
-  i0 = f117(self, j0, j1, j2, j3);
-  l4 = i0;
-  i0 = l4;
-  return i0;
-}
-
-static u32 module_zak_show_beam(module *self, u64 p0, u64 p1, u64 p2, u64 p3) {
-  u32 l4 = 0;
-  u32 i0;
-  u64 j0, j1, j2, j3;
-  j0 = p0;
-  j1 = p1;
-  j2 = p2;
-  j3 = p3;
-  i0 = f118(self, j0, j1, j2, j3);
-  l4 = i0;
-  i0 = l4;
-  return i0;
-}
-
-static u32 module_zak_show_cells(module *self, u64 p0, u64 p1, u64 p2, u64 p3) {
-  u32 l4 = 0;
-  u32 i0;
-  u64 j0, j1, j2, j3;
-  j0 = p0;
-  j1 = p1;
-  j2 = p2;
-  j3 = p3;
-  i0 = f119(self, j0, j1, j2, j3);
-  l4 = i0;
-  i0 = l4;
-  return i0;
-}
-
-static u32 module_zak_show_dac(module *self, u64 p0, u32 p1, u64 p2, u64 p3, u64 p4) {
-  u32 i0, i1;
-  u64 j0, j2, j3, j4;
-  j0 = p0;
-  i1 = p1;
-  j2 = p2;
-  j3 = p3;
-  j4 = p4;
-  i0 = f120(self, j0, i1, j2, j3, j4);
-  p1 = i0;
-  i0 = p1;
-  return i0;
-}
-
-static u32 module_zak_show_latches(module *self, u64 p0, u64 p1, u64 p2, u64 p3) {
-  u32 l4 = 0;
-  u32 i0;
-  u64 j0, j1, j2, j3;
-  j0 = p0;
-  j1 = p1;
-  j2 = p2;
-  j3 = p3;
-  i0 = f121(self, j0, j1, j2, j3);
-  l4 = i0;
-  i0 = l4;
-  return i0;
-}
-
-static u32 module_zak_show_plane(module *self, u64 p0, u32 p1, u32 p2, u32 p3, u64 p4, u64 p5, u64 p6) {
-  u32 i0, i1, i2, i3;
-  u64 j0, j4, j5, j6;
-  j0 = p0;
-  i1 = p1;
-  i2 = p2;
-  i3 = p3;
-  j4 = p4;
-  j5 = p5;
-  j6 = p6;
-  i0 = f122(self, j0, i1, i2, i3, j4, j5, j6);
-  p3 = i0;
-  i0 = p3;
-  return i0;
-}
-
-static u32 module_zak_show_regs(module *self, u64 p0, u64 p1, u64 p2, u64 p3) {
-  u32 l4 = 0;
-  u32 i0;
-  u64 j0, j1, j2, j3;
-  j0 = p0;
-  j1 = p1;
-  j2 = p2;
-  j3 = p3;
-  i0 = f123(self, j0, j1, j2, j3);
-  l4 = i0;
-  i0 = l4;
-  return i0;
-}
-
-static u32 module_zak_version(module *self) {
-  u32 i0;
-  i0 = 65540u;
-  return i0;
-}
-
-static void f176(module *self, u64 p0, u64 p1, u64 p2) {
+static void f124(module *self, u64 p0, u64 p1, u64 p2) {
   u64 l3 = 0;
   u8 *m = self->memory;
   u32 i0, i1;
@@ -96141,7 +95231,7 @@ static void f176(module *self, u64 p0, u64 p1, u64 p2) {
   i0 = j0 > j1;
   if (i0) {goto B0;}
   j0 = p1;
-  j0 = f177(self, j0); m = self->memory; if (NEVER(self->is_broken)) return;
+  j0 = f125(self, j0); m = self->memory; if (NEVER(self->is_broken)) return;
   l3 = j0;
   B0:;
   j0 = p0;
@@ -96157,14 +95247,14 @@ static void f176(module *self, u64 p0, u64 p1, u64 p2) {
   i64_store(j0, j1);
 }
 
-static u64 f177(module *self, u64 p0) {
+static u64 f125(module *self, u64 p0) {
   u32 l8 = 0;
   u64 l1 = 0, l2 = 0, l3 = 0, l4 = 0, l5 = 0, l6 = 0, l7 = 0;
   u8 *m = self->memory;
   u32 i0, i1, i2;
   u64 j0, j1, j2, j3;
   j0 = p0;
-  j1 = 1099511627776ull;
+  j1 = 4294967296ull;
   i0 = j0 <= j1;
   if (i0) {goto B0;}
   j0 = 0ull;
@@ -96178,7 +95268,7 @@ static u64 f177(module *self, u64 p0) {
   j0 = i2 ? j0 : j1;
   j1 = 15ull;
   j0 += j1;
-  j1 = 4398046511088ull;
+  j1 = 17179869168ull;
   j0 &= j1;
   j1 = 16ull;
   j0 += j1;
@@ -96214,7 +95304,7 @@ static u64 f177(module *self, u64 p0) {
     i0 = j0 >= j1;
     if (i0) {goto B9;}
     goto L11;
-  { self->is_broken = true; return ZAK_BROKEN; }
+  { self->is_broken = true; return 0; }
   B10:;
   j0 = l1;
   j1 = 16ull;
@@ -96423,8 +95513,8 @@ static u64 f177(module *self, u64 p0) {
     i0 = memory_grow(self, i0); m = self->memory;
     j0 = (u64)(i0);
     p0 = j0;
-    j1 = 18446744073709551615ull;
-    i0 = j0 != j1;
+    j1 = 65535ull;
+    i0 = j0 <= j1;
     if (i0) {goto B24;}
     j0 = 0ull;
     goto Bfunc;
@@ -96623,7 +95713,7 @@ static u64 f177(module *self, u64 p0) {
     i0 = 0u;
     l8 = i0;
     goto L18;
-  { self->is_broken = true; return ZAK_BROKEN; }
+  { self->is_broken = true; return 0; }
   B1:;
   j0 = l2;
   j1 = 16ull;
@@ -96632,7 +95722,7 @@ static u64 f177(module *self, u64 p0) {
   return j0;
 }
 
-static void f178(module *self, u64 p0, u64 p1, u64 p2, u64 p3, u64 p4) {
+static void f126(module *self, u64 p0, u64 p1, u64 p2, u64 p3, u64 p4) {
   u32 l8 = 0;
   u64 l5 = 0, l6 = 0, l7 = 0;
   u8 *m = self->memory;
@@ -96668,7 +95758,7 @@ static void f178(module *self, u64 p0, u64 p1, u64 p2, u64 p3, u64 p4) {
   i0 = j0 > j1;
   if (i0) {goto B1;}
   j0 = p3;
-  j0 = f177(self, j0); m = self->memory; if (NEVER(self->is_broken)) return;
+  j0 = f125(self, j0); m = self->memory; if (NEVER(self->is_broken)) return;
   l7 = j0;
   i0 = !(j0);
   i0 = !(i0);
@@ -96805,7 +95895,7 @@ static void f178(module *self, u64 p0, u64 p1, u64 p2, u64 p3, u64 p4) {
   Bfunc:;
 }
 
-static void f179(module *self, u64 p0) {
+static void f127(module *self, u64 p0) {
   u32 l6 = 0;
   u64 l1 = 0, l2 = 0, l3 = 0, l4 = 0, l5 = 0;
   u8 *m = self->memory;
@@ -97034,7 +96124,6 @@ static void start(module *self)
 {
     memcpy(self->memory + 1048576u, d0, 1248);
     self->g0 = 1048576ull;
-    self->g1 = 0u;
 }
 
 /* The calls of zaklimot.h. Each copies what the caller's pointers name into the module's memory,
@@ -97058,7 +96147,8 @@ static void start(module *self)
 #else
 #define MACHINE 9437184u
 #endif
-/* A script or its text, and what a service reads of the caller's memory, have at most so many bytes. */
+/* A script or its text, and what a service reads of the caller's memory, have at most so many
+ * bytes. */
 #define MOST_SCRIPT 16777216u
 #define MOST_BLOCK 16711425u
 
@@ -97101,7 +96191,8 @@ static u32 room(module *self, size_t len)
 {
     if (len <= DESK_LEN)
         return DESK;
-    return len > MOST_PAGES * (u64)PAGE - 1 ? 0 : (u32)module_page_take(self, len);
+    u64 taken = len;
+    return taken >= MOST_PAGES * (u64)PAGE ? 0 : (u32)module_page_take(self, taken);
 }
 
 static void give_room(module *self, u32 at)
@@ -97153,7 +96244,7 @@ static void close_broken(zak_card *card)
 #define BEGIN(card)                                                                                \
     module *const self = (card)->machine;                                                          \
     if (!(card)->is_open)                                                                          \
-        return ZAK_NO_CARD
+    return ZAK_NO_CARD
 #define END(card, outcome)                                                                         \
     zak_status status = (outcome);                                                                 \
     if (NEVER(status == ZAK_BROKEN))                                                               \
@@ -97285,8 +96376,8 @@ static zak_status put_bytes(module *self, uint32_t address, const uint8_t *bytes
     do {
         size_t piece = least(len - done, DESK_LEN), at = down ? len - done - piece : done;
         hand_over(self, DESK, bytes + at, piece);
-        zak_status status = module_zak_put_bytes(self, CARD, address + (u32)at, DESK,
-                                                 piece, down, TOLD);
+        zak_status status =
+            module_zak_put_bytes(self, CARD, address + (u32)at, DESK, piece, down, TOLD);
         if (status != ZAK_OK)
             return status;
         sum += told_size(self, 0);
@@ -97304,8 +96395,8 @@ static zak_status get_bytes(module *self, uint32_t address, uint8_t *bytes, size
         return ZAK_BAD_ARGUMENT;
     do {
         size_t piece = least(len - done, DESK_LEN), at = down ? len - done - piece : done;
-        zak_status status = module_zak_get_bytes(self, CARD, address + (u32)at, DESK,
-                                                 piece, down, TOLD);
+        zak_status status =
+            module_zak_get_bytes(self, CARD, address + (u32)at, DESK, piece, down, TOLD);
         if (status != ZAK_OK)
             return status;
         get_back(self, bytes + at, DESK, piece);
@@ -97335,7 +96426,7 @@ zak_status zak_fill_bytes(zak_card *card, uint32_t address, uint8_t value, size_
 {
     BEGIN(card);
     END_WITH(card, module_zak_fill_bytes(self, CARD, address, value, count, down, TOLD),
-          *decoded = told_size(self, 0));
+             *decoded = told_size(self, 0));
 }
 
 zak_status zak_move_bytes(zak_card *card, uint32_t from, uint32_t to, size_t count, bool down,
@@ -97343,7 +96434,7 @@ zak_status zak_move_bytes(zak_card *card, uint32_t from, uint32_t to, size_t cou
 {
     BEGIN(card);
     END_WITH(card, module_zak_move_bytes(self, CARD, from, to, count, down, TOLD),
-          *decoded = told_size(self, 0));
+             *decoded = told_size(self, 0));
 }
 
 static zak_timing told_timing(module *self)
@@ -97408,15 +96499,14 @@ static void get_words(module *self, uint32_t *words, u32 at, size_t count)
 static void get_rows(module *self, const canvas *canvas, uint32_t width, uint32_t height)
 {
     for (uint32_t y = 0; y < height; y++)
-        get_words(self, canvas->pixels + canvas->pitch * y,
-                  DESK + 4 * canvas->desk_pitch * y, width);
+        get_words(self, canvas->pixels + canvas->pitch * y, DESK + 4 * canvas->desk_pitch * y,
+                  width);
 }
 
 static zak_status frame_xrgb(module *self, zak_size *size, const canvas *canvas)
 {
-    zak_status status = module_zak_frame_xrgb(self, CARD, TOLD, DESK,
-                                              canvas->desk_rows * canvas->desk_pitch,
-                                              canvas->desk_pitch);
+    zak_status status = module_zak_frame_xrgb(
+        self, CARD, TOLD, DESK, canvas->desk_rows * canvas->desk_pitch, canvas->desk_pitch);
     if (is_told(status))
         *size = (zak_size){told32(self, 0), told32(self, 4)};
     if (status == ZAK_OK)
@@ -97435,12 +96525,11 @@ zak_status zak_frame_xrgb(zak_card *card, zak_size *size, uint32_t *pixels, size
 static zak_status frame_words(module *self, uint32_t flags, zak_picture *picture,
                               const canvas *canvas)
 {
-    zak_status status = module_zak_frame_words(self, CARD, flags, TOLD, DESK,
-                                               canvas->desk_rows * canvas->desk_pitch,
-                                               canvas->desk_pitch);
+    zak_status status = module_zak_frame_words(
+        self, CARD, flags, TOLD, DESK, canvas->desk_rows * canvas->desk_pitch, canvas->desk_pitch);
     if (is_told(status))
-        *picture = (zak_picture){told32(self, 0), told32(self, 4), told32(self, 8),
-                                 told32(self, 12)};
+        *picture =
+            (zak_picture){told32(self, 0), told32(self, 4), told32(self, 8), told32(self, 12)};
     if (status == ZAK_OK)
         get_rows(self, canvas, picture->width, picture->height);
     return status;
@@ -97457,8 +96546,8 @@ zak_status zak_frame_words(zak_card *card, uint32_t flags, zak_picture *picture,
 static zak_status line(module *self, uint32_t flags, zak_scan_line *line, uint32_t *pixels,
                        size_t pixels_len)
 {
-    zak_status status = module_zak_line(self, CARD, flags, TOLD, DESK,
-                                        least(pixels_len, ZAK_WIDEST));
+    zak_status status =
+        module_zak_line(self, CARD, flags, TOLD, DESK, least(pixels_len, ZAK_WIDEST));
     if (is_told(status))
         *line = (zak_scan_line){told32(self, 0), told32(self, 4), told8(self, 8) != 0};
     if (status == ZAK_OK)
@@ -97515,8 +96604,8 @@ static zak_status int10(module *self, zak_regs *regs, const uint8_t *block, size
         return ZAK_OUT_OF_MEMORY;
     hand_registers(self, regs);
     hand_over(self, at + ZAK_MOST_TABLE, block, len);
-    zak_status status = module_zak_int10(self, CARD, TOLD, at + ZAK_MOST_TABLE, len,
-                                         at, cap, TOLD + REGISTERS);
+    zak_status status =
+        module_zak_int10(self, CARD, TOLD, at + ZAK_MOST_TABLE, len, at, cap, TOLD + REGISTERS);
     if (is_told(status)) {
         *regs = (zak_regs){told16(self, 0), told16(self, 2), told16(self, 4), told16(self, 6)};
         *table_len = told_size(self, REGISTERS);
@@ -97537,8 +96626,7 @@ zak_status zak_int10(zak_card *card, zak_regs *regs, const uint8_t *block, size_
 static zak_status block_of(module *self, const zak_regs *regs, zak_source *source)
 {
     hand_registers(self, regs);
-    zak_status status =
-        module_zak_block(self, CARD, TOLD, TOLD + REGISTERS);
+    zak_status status = module_zak_block(self, CARD, TOLD, TOLD + REGISTERS);
     if (status == ZAK_OK)
         *source = (zak_source){told_size(self, REGISTERS), told8(self, REGISTERS + 8) != 0};
     return status;
@@ -97566,8 +96654,7 @@ static zak_status give_desk(module *self, zak_status status, uint8_t *bytes, siz
     {                                                                                              \
         BEGIN(card);                                                                               \
         size_t cap = least(text_cap, ZAK_MOST_TEXT);                                               \
-        zak_status shown = module_##name(self, CARD, __VA_ARGS__ DESK, cap,            \
-                                         TOLD);                                              \
+        zak_status shown = module_##name(self, CARD, __VA_ARGS__ DESK, cap, TOLD);                 \
         END(card, give_desk(self, shown, text, text_len));                                         \
     }
 #define TEXT uint8_t *text, size_t text_cap, size_t *text_len
@@ -97611,7 +96698,7 @@ static zak_registers told_registers(module *self)
 static zak_beam told_beam(module *self)
 {
     return (zak_beam){
-        told16(self, 0),  told16(self, 2), told16(self, 4),  told16(self, 6),  told16(self, 8),
+        told16(self, 0),  told16(self, 2), told16(self, 4), told16(self, 6), told16(self, 8),
         told16(self, 10), told8(self, 12), told8(self, 13), told8(self, 14),
     };
 }
@@ -97633,15 +96720,14 @@ static zak_bda told_bda(module *self)
 zak_status zak_read_registers(zak_card *card, zak_registers *registers)
 {
     BEGIN(card);
-    END_WITH(card, module_zak_read_registers(self, CARD, TOLD),
-          *registers = told_registers(self));
+    END_WITH(card, module_zak_read_registers(self, CARD, TOLD), *registers = told_registers(self));
 }
 
 zak_status zak_read_colour(zak_card *card, uint8_t index, zak_colour *colour)
 {
     BEGIN(card);
     END_WITH(card, module_zak_read_colour(self, CARD, index, TOLD),
-          *colour = ((zak_colour){told8(self, 0), told8(self, 1), told8(self, 2)}));
+             *colour = ((zak_colour){told8(self, 0), told8(self, 1), told8(self, 2)}));
 }
 
 zak_status zak_read_beam(zak_card *card, zak_beam *beam)
@@ -97654,7 +96740,7 @@ zak_status zak_read_latches(zak_card *card, zak_latches *latches)
 {
     BEGIN(card);
     END_WITH(card, module_zak_read_latches(self, CARD, TOLD),
-          get_back(self, latches->plane, TOLD, sizeof latches->plane));
+             get_back(self, latches->plane, TOLD, sizeof latches->plane));
 }
 
 zak_status zak_read_bda(zak_card *card, zak_bda *bda)
@@ -97670,16 +96756,16 @@ zak_status zak_read_plane(zak_card *card, uint8_t plane, uint16_t offset, uint8_
     /* More bytes than the desk has go past the plane's end as well. */
     size_t len = least(bytes_len, DESK_LEN);
     END_WITH(card, module_zak_read_plane(self, CARD, plane, offset, DESK, len),
-          get_back(self, bytes, DESK, len));
+             get_back(self, bytes, DESK, len));
 }
 
 zak_status zak_screen_read(zak_card *card, zak_screen *screen)
 {
     BEGIN(card);
     END_WITH(card, module_zak_screen_read(self, CARD, TOLD),
-          *screen = ((zak_screen){told32(self, 0), told32(self, 4), told16(self, 8),
-                                  told16(self, 10), told8(self, 12), told8(self, 13),
-                                  told8(self, 14), told8(self, 15)}));
+             *screen = ((zak_screen){told32(self, 0), told32(self, 4), told16(self, 8),
+                                     told16(self, 10), told8(self, 12), told8(self, 13),
+                                     told8(self, 14), told8(self, 15)}));
 }
 
 zak_status zak_screen_cell(zak_card *card, uint8_t page, uint8_t row, uint8_t column,
@@ -97687,21 +96773,20 @@ zak_status zak_screen_cell(zak_card *card, uint8_t page, uint8_t row, uint8_t co
 {
     BEGIN(card);
     END_WITH(card, module_zak_screen_cell(self, CARD, page, row, column, TOLD),
-          *cell = ((zak_cell){told8(self, 0), told8(self, 1)}));
+             *cell = ((zak_cell){told8(self, 0), told8(self, 1)}));
 }
 
 zak_status zak_screen_pixel(zak_card *card, uint8_t page, uint16_t x, uint16_t y, uint8_t *pixel)
 {
     BEGIN(card);
-    END_WITH(card, module_zak_screen_pixel(self, CARD, page, x, y, TOLD),
-          *pixel = told8(self, 0));
+    END_WITH(card, module_zak_screen_pixel(self, CARD, page, x, y, TOLD), *pixel = told8(self, 0));
 }
 
 zak_status zak_screen_cursor(zak_card *card, uint8_t page, zak_place *place)
 {
     BEGIN(card);
     END_WITH(card, module_zak_screen_cursor(self, CARD, page, TOLD),
-          *place = ((zak_place){told8(self, 0), told8(self, 1)}));
+             *place = ((zak_place){told8(self, 0), told8(self, 1)}));
 }
 
 zak_status zak_save_size(zak_card *card, size_t *len)
@@ -97713,8 +96798,7 @@ zak_status zak_save_size(zak_card *card, size_t *len)
 zak_status zak_save(zak_card *card, uint8_t *bytes, size_t bytes_cap, size_t *len)
 {
     BEGIN(card);
-    zak_status saved = module_zak_save(self, CARD, DESK,
-                                       least(bytes_cap, ZAK_MOST_STATE), TOLD);
+    zak_status saved = module_zak_save(self, CARD, DESK, least(bytes_cap, ZAK_MOST_STATE), TOLD);
     END(card, give_desk(self, saved, bytes, len));
 }
 
@@ -97726,7 +96810,7 @@ zak_status zak_save(zak_card *card, uint8_t *bytes, size_t bytes_cap, size_t *le
         if (!at)                                                                                   \
             return ZAK_OUT_OF_MEMORY;                                                              \
         hand_over(self, at, bytes, len);                                                           \
-        zak_status status = module_zak_##name(self, CARD, at, len);                          \
+        zak_status status = module_zak_##name(self, CARD, at, len);                                \
         give_room(self, at);                                                                       \
         return status;                                                                             \
     }
@@ -97836,7 +96920,8 @@ zak_status zak_run(const uint8_t *script, size_t script_len, const uint8_t *font
                    uint8_t *report, size_t report_cap, size_t *report_len, size_t *place)
 {
     /* A longer file is as wrong as one that is one byte too long. */
-    size_t len = least(script_len, MOST_SCRIPT + 1), font_len = least(fonts_len, ZAK_FONTS_SIZE + 1);
+    size_t len = least(script_len, MOST_SCRIPT + 1),
+           font_len = least(fonts_len, ZAK_FONTS_SIZE + 1);
     module *self = new_script_module(script, len, MACHINE);
     u32 fonts_at = self ? (u32)module_page_take(self, font_len) : 0;
     zak_status status = ZAK_OUT_OF_MEMORY;

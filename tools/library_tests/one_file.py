@@ -37,7 +37,7 @@ OUTSIDE = frozenset(("calloc", "realloc", "free", "memcpy", "memmove", "memset",
 HELPERS = ("__", "_GLOBAL_OFFSET_TABLE_")
 # With these words the file ends the program at an access beside its memory, and a card has no memory to spare.
 CHECKED, TIGHT = "-DZAKLIMOT_CHECKED", "-DZAKLIMOT_TIGHT"
-LEAST_REFUSED = 40
+LEAST_REFUSED = 10
 
 
 class Maker(NamedTuple):
