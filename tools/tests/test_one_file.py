@@ -1,5 +1,6 @@
 """How the library as one C file is made of what wasm2c writes, and what of that is refused."""
 
+import re
 import unittest
 
 from library_tests import one_file as checks
@@ -149,7 +150,8 @@ class Kept(unittest.TestCase):
         self.assertEqual(sorted(path.name for path in HAND.iterdir()),
                          sorted(path.name for path in (portable.HEAD, portable.MEMORY, *portable.CALLS)))
         for name in calls_of(HEADER.read_text("ascii")):
-            self.assertTrue(f" {name}(" in self.text and f"module_{name}(" in self.text, name)
+            self.assertTrue(f"static u32 module_{name}(module *self" in self.text, name)
+            self.assertTrue(re.search(rf"^(?:zak_status|uint32_t) {name}\(|^SHOW\({name},", self.text, re.M), name)
 
     def test_its_head_tells_what_made_it(self) -> None:
         head = self.text.partition("*/")[0]

@@ -456,8 +456,11 @@ class Gate(Folder):
         gate, notes = self.folder / "gate", Path(self.write("notes", ""))
         shutil.copytree(TOP / ".ci", gate / ".ci")
         fakes = dict.fromkeys(("vga-page-tests", "vga-bindings-tests", "vga-library-tests", "rt"), NOTING)
-        for name, text in {**fakes, "vga-memory": memory, "tests-of-tools": tests}.items():
+        for name, text in {**fakes, "vga-memory": memory, "vga-check": tests, "tests-of-tools": NOTING}.items():
             self.program(f"gate/tools/{name}", text)
+        # The gate fetches these where they are lacking.
+        for name in ("wasm-opt", "wasm2c"):
+            self.program(f"gate/tools/{name}", NOTING)
         given = {"NOTES": str(notes), "PATH": f"{gate / 'tools'}:{os.environ['PATH']}", "TMPDIR": self.temporary()}
         return ended(gate / ".ci" / "run", env={**os.environ, **given})[0], notes.read_text("utf-8")
 
@@ -471,4 +474,5 @@ class Gate(Folder):
     def test_all_tests_run_again_once_the_program_is_built(self) -> None:
         status, notes = self.run_gate(NOTING)
         self.assertEqual(status, 0)
-        self.assertIn("\ntests-of-tools \nrt ci\ntests-of-tools --built\n", notes)
+        self.assertIn("\nvga-check \nrt ci\ntests-of-tools --built\n", notes)
+        self.assertIn("\nvga-library-tests --portable --gated --proof ", notes)
