@@ -66,7 +66,7 @@ static void init_globals({INSTANCE}* instance) {{
 }}
 
 static const u8 data_segment_data_w2c_d0[] = {{
-  0x01, 0x02, 
+  0x01, 0x02,{" "}
 }};
 
 static void init_memories({INSTANCE}* instance) {{
