@@ -345,7 +345,7 @@ class Runs(Folder):
         words = ["vga-floppy", "run", "--on", "dosbox", self.write("script.vga", "frame\n")]
         with begin(*words, env=environment) as process:
             child = self.wait_for(told, process)
-            emulators = ended("ps", "-o", "pid=", "--ppid", str(process.pid))[1].split()
+            emulators = Path(f"/proc/{process.pid}/task/{process.pid}/children").read_text().split()
             process.kill()
         self.assertEqual(len(emulators), 1)
         self.assert_ended(int(emulators[0]))

@@ -2,12 +2,13 @@
 
 import re
 import unittest
+from unittest import mock
 
 from library_tests import one_file as checks
 from vga_library import one_file as portable
 from vga_library.one_file import C_FILE, HAND, Places, one_file
 from vga_report import TOP
-from vga_report.trouble import Wrong
+from vga_report.trouble import Trouble, Wrong
 from vga_report.version import HEADER, calls_of
 
 from .tools import hold_refused
@@ -79,6 +80,13 @@ static void init_memories({INSTANCE}* instance) {{
 """
 
 
+def setUpModule() -> None:
+    """Where the translators are lacking, the file is made all the same: only its head names them."""
+    made = mock.patch.object(portable, "number_of", return_value="1")
+    made.start()
+    unittest.addModuleCleanup(made.stop)
+
+
 class Made(unittest.TestCase):
     def test_functions_are_the_ones_that_were_written(self) -> None:
         made = one_file(WRITTEN)
@@ -119,7 +127,8 @@ class Made(unittest.TestCase):
 
     def test_a_file_that_is_too_long(self) -> None:
         more = "  w2c_i0 = 65541u;\n"
-        hold_refused(self, one_file, [(WRITTEN.replace(more, more * 200_000), "3,000,000 are the most")])
+        with self.assertRaisesRegex(Trouble, "3,000,000 are the most"):
+            one_file(WRITTEN.replace(more, more * 200_000))
 
     def test_another_file_is_told(self) -> None:
         self.addCleanup(setattr, checks, "written_by_wasm2c", checks.written_by_wasm2c)
