@@ -71,7 +71,7 @@ class Maker(NamedTuple):
 
     def sanitized(self) -> Built:
         """The same under the sanitizers of addresses and of undefined behaviour."""
-        return self.library(self.compilers[0], "-O1", *SANITIZED)
+        return self.library(self.compilers[0], "-O0", *SANITIZED)
 
     def program(self, *flags: str) -> list[str | Path]:
         """Builds the program over the library with these flags, and answers the words that run it."""
@@ -171,7 +171,7 @@ HOST: dict[str, Check] = {
     "checked": lambda maker: check_suite(maker, USUAL, CHECKED),
     **{way: _by(partial(check_cases, way)) for way in ("restored", "sliced", "joined")},
     "misuse": _by(check_misuse, True),
-    **{name: _by(partial(check_counted, name), True) for name in COUNTED},
+    **{name: _by(partial(check_counted, name), flags == SANITIZED) for name, (flags, _, _) in COUNTED.items()},
     "memory": check_memory, "threads": _by(check_threads), "examples": _by(check_examples),
 }
 
