@@ -71,7 +71,8 @@ class Maker(NamedTuple):
 
     def sanitized(self) -> Built:
         """The same under the sanitizers of addresses and of undefined behaviour."""
-        return self.library(self.compilers[0], "-O0", *SANITIZED)
+        # Places in a source of 100,000 lines would take longer to write than the rest.
+        return self.library(self.compilers[0], "-O1", *(flag for flag in SANITIZED if flag != "-g"))
 
     def program(self, *flags: str) -> list[str | Path]:
         """Builds the program over the library with these flags, and answers the words that run it."""
