@@ -247,7 +247,7 @@ static void little_pixels(void)
     SHOW(zak_frame_xrgb(&card, &size, pixels, room, 639));
     SHOW(zak_frame_xrgb(&card, &size, pixels, room - 1, 641));
     SHOW(zak_frame_xrgb(&card, &size, pixels, 0, (size_t)-1));
-    SHOW(zak_frame_xrgb(&card, &size, pixels, room, (size_t)1 << 62));
+    SHOW(zak_frame_xrgb(&card, &size, pixels, room, SIZE_MAX / 4 + 1));
     SHOW(size.width == 640 && size.height == 400 && pixels[0] == 0xEEEEEEEE);
     SHOW(zak_frame_xrgb(&card, &size, pixels, room, 641));
     SHOW(pixels[0] == 0 && pixels[639] == 0 && pixels[640] == 0xEEEEEEEE);
