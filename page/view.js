@@ -17,7 +17,10 @@ import { byId, element, pageLink, setText } from "./dom.js";
 import { CellPanel } from "./cellpanel.js";
 import { changesOf } from "./changes.js";
 import { ColourPanel } from "./colourpanel.js";
-import { contentsOf, packed, printedText, unpacked } from "./share.js";
+import { Drafts } from "./drafts.js";
+import { Scripts } from "./scripts.js";
+import { bytesOfFiles, contentsOf, packed, printedText, readFragment } from "./share.js";
+import { isNewText, linesAfter } from "./history.js";
 import { isRefusal } from "./expecting.js";
 import { RegisterPanel } from "./registerpanel.js";
 import { whyRefused } from "./refusals.js";
@@ -30,16 +33,22 @@ const FIRST_EXAMPLE = "text-by-services";
 const SAVED = ["text", "bytes", "report", "png", "apng"];
 const TABS = ["registers", "memory", "cells", "colours", "BIOS data", "breakpoints"];
 
+/** Whether keys that are pressed at an element are letters of a text. */
+function takesText({ tagName, type }) {
+  return tagName === "TEXTAREA" || (tagName === "INPUT" && !["checkbox", "button", "range"].includes(type));
+}
+
 /** The page over a module, with the data that it was built with. */
 export class View {
   constructor(adapter, module, data) {
     const fonts = bytesOfBase64(data.fonts);
-    Object.assign(this, { adapter, module, data, fonts, ownFonts: fonts, name: "script", tab: TABS[0],
-      points: [] });
+    Object.assign(this, { adapter, module, data, fonts, ownFonts: fonts, tab: TABS[0], points: [] });
     Object.assign(this, { session: null, seen: null, steps: 0, coming: null, search: null });
-    Object.assign(this, { isPlaying: false, isHalted: false });
+    Object.assign(this, { isPlaying: false, isHalted: false, isNew: false, openings: 0 });
+    this.scripts = new Scripts(data.examples, new Drafts(), text => this.tell(text, true));
     this.last = { place: new Text(), step: element("code"), told: element("code") };
-    this.editor = new Editor({ changed: () => this.typed(),
+    this.editor = new Editor({ typed: (change, old) => this.typed(change, old),
+      switched: (change, old) => this.changed(change.after.script, change, old),
       pointed: line => this.pointPanel.toggleLine(line) });
     this.listing = new Listing(steps => this.go(steps));
     this.screen = new Screen({ clicked: (line, dot) => this.toDot(line, dot) });
@@ -63,9 +72,7 @@ export class View {
   // What the controls do.
 
   makeControls() {
-    const { examples, pages } = this.data;
-    byId("examples").append(new Option("your own script", ""),
-      ...examples.map(one => new Option(one.name, one.name)));
+    const { pages } = this.data;
     byId("pagedoc").href = `${pages}PAGE.md#what-is-proved`;
     byId("tabs").append(...TABS.map((tab, i) =>
       element("button", { type: "button", role: "tab", id: `tab${i + 1}`,
@@ -76,8 +83,8 @@ export class View {
       first: () => this.go(0),
       runback: () => this.find(this.active, true),
       framebefore: () => this.find(frames, true),
-      back: () => this.go(this.steps - 1),
-      next: () => this.go(this.steps + 1),
+      back: () => this.go(this.goal - 1),
+      next: () => this.go(this.goal + 1),
       frameafter: () => this.find(frames, false),
       run: () => this.run(),
       last: () => this.toEnd(),
@@ -86,6 +93,7 @@ export class View {
       share: () => this.share(),
       help: () => byId("helpbox").showModal(),
       ownfonts: () => this.useFonts(this.ownFonts),
+      takeback: () => this.load(this.before.text, this.before.script),
     };
     for (const what of SAVED) clicks[`save${what}`] = () => this.save(what);
     for (const [name, does] of Object.entries(clicks)) {
@@ -98,10 +106,17 @@ export class View {
   }
 
   makeChoices() {
-    byId("examples").addEventListener("change",
-      ({ target }) => this.guarded(() => this.loadExample(target.value)));
+    const list = byId("examples");
+    let key = "";
+    list.addEventListener("pointerdown", () => { key = ""; });
+    list.addEventListener("keydown", event => { ({ key } = event); });
+    list.addEventListener("change", () => {
+      this.guarded(() => this.choose(list.value));
+      // Whoever goes through the list by arrows goes on; once something is chosen, the page has the keys.
+      if (!/^Arrow(Up|Down)$/.test(key)) list.blur();
+    });
     byId("slider").addEventListener("input", event => this.go(Number(event.target.value)));
-    byId("notice").lastElementChild.addEventListener("click", () => this.tell(""));
+    byId("notice").lastElementChild.addEventListener("click", () => this.tell("", true));
     byId("goto").addEventListener("submit", event => {
       event.preventDefault();
       this.guarded(() => this.goTo(byId("gotokind").value, byId("gotonumber").value));
@@ -111,25 +126,30 @@ export class View {
   makeFiles() {
     const box = byId("drop");
     byId("file").addEventListener("change", event => {
-      this.openFile(event.target.files[0]);
+      this.openFiles([...event.target.files]);
       event.target.value = "";
     });
+    // Text that is dragged is the editor's.
+    const hasFiles = event => event.dataTransfer?.types.includes("Files");
     document.addEventListener("dragover", event => {
+      if (!hasFiles(event)) return;
       event.preventDefault();
       box.hidden = false;
     });
     document.addEventListener("dragleave", event => { box.hidden = event.relatedTarget === null; });
     document.addEventListener("drop", event => {
-      event.preventDefault();
       box.hidden = true;
-      this.openFile(event.dataTransfer.files[0]);
+      if (!hasFiles(event)) return;
+      event.preventDefault();
+      this.openFiles([...event.dataTransfer.files]);
     });
   }
 
   pressed(event) {
-    if (event.altKey || event.metaKey || document.querySelector("dialog[open]")) return;
-    const { tagName, type } = event.target, inText = event.target === this.editor.area;
-    const isTyping = /^(INPUT|SELECT|TEXTAREA)$/.test(tagName) && !["checkbox", "button"].includes(type);
+    if (document.querySelector("dialog[open]")) return;
+    const inText = event.target === this.editor.area, isTyping = takesText(event.target);
+    if ((inText || !isTyping) && this.pressedUndo(event)) return event.preventDefault();
+    if (event.altKey || event.metaKey) return;
     if (inText && this.pressedInText(event)) return event.preventDefault();
     if (event.key === "Escape") return document.activeElement?.blur();
     const isFunction = /^F\d+$/.test(event.key);
@@ -140,10 +160,20 @@ export class View {
     this.press(found[3], event.key);
   }
 
+  /** Whether a key undoes a change of the script, or does one again. */
+  pressedUndo({ key, ctrlKey, metaKey, altKey, shiftKey }) {
+    const way = { z: shiftKey ? "redo" : "undo", y: "redo" }[key.toLowerCase()];
+    if (!way || altKey || ctrlKey === metaKey) return false;
+    this.editor.turn(way);
+    return true;
+  }
+
   /** Whether the element of a key's event goes on by this key itself, as tabs and lists do by arrows. */
   hasOwnKeys(event) {
     const isTab = event.target.getAttribute?.("role") === "tab" && event.key.startsWith("Arrow");
-    return isTab && this.nextTab(event);
+    // A list of choices goes up and down, and to letters.
+    const isChoice = event.target.tagName === "SELECT" && !/^(Arrow(Left|Right)|Home|End|F\d+)$/.test(event.key);
+    return isChoice || (isTab && this.nextTab(event));
   }
 
   nextTab(event) {
@@ -162,7 +192,7 @@ export class View {
       made.open = !made.open;
       return made.querySelector("button, summary").focus();
     }
-    return made.click();
+    return made.hidden || made.click();
   }
 
   /** Whether a key means something in the text alone. */
@@ -197,73 +227,132 @@ export class View {
       `The module has stopped (${error.message}). It is opened anew: change the script, and it runs again.`);
   }
 
-  /** Says something in the line above the page; an empty text takes the line away. */
-  tell(text) {
+  /**
+   * Says something in the line above the page; an empty text takes the line away. What `isKept` stays until
+   * the user closes it.
+   */
+  tell(text, isKept = false) {
+    if (!text && this.isToldKept && !isKept) return;
+    this.isToldKept = isKept && text !== "";
     byId("notice").hidden = !text;
     byId("notice").firstElementChild.textContent = text;
   }
 
   // Scripts.
 
-  loadExample(name) {
-    const found = this.data.examples.find(one => one.name === name);
-    if (found) this.load(found.name, found.text);
+  /** Loads what was chosen in the list of scripts. */
+  choose(value) {
+    const found = this.scripts.chosen(value);
+    if (found) return this.load(found.text, found.script);
+    this.scripts.fill();
+    if (value) throw new Trouble("This script is gone from the browser's storage.");
+    return null;
   }
 
-  load(name, text, asked = Infinity) {
-    const example = this.data.examples.find(one => one.name === name && one.text === text);
-    this.name = name.replace(/\.\w{1,6}$/, "");
-    byId("examples").value = example ? name : "";
-    byId("about").textContent = example ? example.about : name;
-    document.title = `${this.name}: Zaklimot`;
-    this.pointPanel.change(this.points.filter(point => point.kind !== "line"));
-    this.editor.load(text);
-    if (this.editor.isLong) byId("about").textContent = `${name}. ${this.editor.note}`;
+  /** Shows a script in place of the one that stands there, to which `takeback` leads. */
+  load(text, script, { asked = Infinity, isAsked = false } = {}) {
+    const { editor } = this, old = { text: editor.text, script: editor.script };
+    editor.load(text, script);
+    if (old.script && old.script !== script) this.offerBack(old);
+    this.swapLines(old.script, script);
+    this.scripts.show(script, editor.text, isAsked);
+    if (editor.isLong) byId("about").textContent = `${script.name}. ${editor.note}`;
     this.begin(asked);
   }
 
-  /** What the link or the tool that made the page asks for. */
+  /** Offers the way back to a script. */
+  offerBack({ text, script }) {
+    this.before = { text, script };
+    byId("takeback").hidden = !text.trim();
+    byId("takeback").textContent = `↶ ${this.scripts.title(script, text)}`;
+  }
+
+  /** Sets the breakpoints of another script's lines. */
+  swapLines(old, script) {
+    const isLine = point => point.kind === "line";
+    if (old) old.points = this.points.filter(isLine);
+    this.pointPanel.change([...this.points.filter(point => !isLine(point)), ...script.points ?? []]);
+  }
+
+  /** What the browser's history, the link or the tool that made the page asks for. */
   async follow() {
-    const words = new URLSearchParams(location.hash.slice(1)), { open } = this.data;
-    const asked = words.has("step") ? Number(words.get("step")) : Infinity;
-    if (TABS.includes(words.get("tab"))) this.tab = words.get("tab");
+    const opening = ++this.openings;
     await this.guarded(async () => {
-      if (words.has("fonts")) this.fonts = await unpacked(words.get("fonts"));
-      if (words.has("script")) {
-        const text = new TextDecoder().decode(await unpacked(words.get("script")));
-        return this.load("your own script", text, asked);
-      }
-      const { examples } = this.data, named = name => examples.find(one => one.name === name);
-      const example = named(words.get("example")) ?? (open ? null : named(FIRST_EXAMPLE) ?? examples[0]);
-      if (example) return this.load(example.name, example.text, asked);
-      if (open.fonts) this.fonts = bytesOfBase64(open.fonts);
-      return this.load(open.name, open.text ?? printedText(bytesOfBase64(open.bytes), this.adapter), asked);
+      const examples = this.data.examples.map(({ name }) => name);
+      const asked = await readFragment(location.hash, { tabs: TABS, examples });
+      if (opening !== this.openings) return;
+      if (asked.fonts) this.setFonts(asked.fonts);
+      if (asked.tab) this.open(asked.tab);
+      const found = this.wanted(asked);
+      if (found) this.load(found.text, found.script, { asked: asked.step, ...found });
+      else if (asked.step !== undefined) this.go(asked.step);
+      if (asked.wrong.length) throw new Trouble(asked.wrong.join(" "));
     });
   }
 
-  async openFile(file) {
-    if (!file) return;
+  /** The script that is asked for, as { text, script }; null where the one that stands there stays. */
+  wanted({ script, example }) {
+    const { scripts, data: { open, examples } } = this, { noted } = scripts;
+    if (noted) return { ...noted, asked: undefined };
+    if (script !== undefined) return { text: script, script: scripts.made("", "a script from a link"), isAsked: true };
+    if (example) return { ...scripts.example(example), isAsked: true };
+    if (this.session || this.editor.script) return null;
+    if (!open) return scripts.last ?? { ...scripts.example(FIRST_EXAMPLE) ?? scripts.example(examples[0].name),
+      isAsked: true };
+    if (open.fonts) this.setFonts(bytesOfBase64(open.fonts));
+    const text = open.text ?? printedText(bytesOfBase64(open.bytes), this.adapter);
+    return { text, script: scripts.made(open.name, open.name), isAsked: true };
+  }
+
+  async openFiles(files) {
+    if (!files.length) return;
+    const opening = ++this.openings, [{ name }] = files;
     await this.guarded(async () => {
-      const found = await contentsOf(new Uint8Array(await file.arrayBuffer()), this.adapter);
-      if (found.fonts) return this.useFonts(found.fonts, file.name);
-      return this.load(file.name, found.text);
+      const found = await contentsOf(await bytesOfFiles(files), this.adapter);
+      // Of several that are opened at a time, the last one stands there.
+      if (opening !== this.openings) return null;
+      if (found.fonts) return this.useFonts(found.fonts, name);
+      return this.load(found.text, this.scripts.made(name, name, true));
     });
+  }
+
+  setFonts(fonts) {
+    this.fonts = fonts;
+    byId("ownfonts").hidden = fonts === this.ownFonts;
   }
 
   useFonts(fonts, name = "") {
-    this.fonts = fonts;
-    byId("ownfonts").hidden = fonts === this.ownFonts;
+    this.setFonts(fonts);
     this.begin();
     if (name) this.tell(`Mode sets load the glyphs of ${name} now.`);
   }
 
-  typed() {
-    byId("examples").value = "";
-    byId("about").textContent = "";
+  /** Takes what was typed; which script the text is now. */
+  typed(change, old) {
+    const script = this.scripts.afterChange(this.editor.text, change, old);
+    this.changed(script, change, old);
+    return script;
+  }
+
+  /** Takes a change of the text, by which it is a script that may be another one. */
+  changed(script, change, old) {
+    const isNew = change.isWhole || isNewText(old, change);
+    this.isNew ||= isNew;
+    if (isNew) this.swapLines(this.scripts.now, script);
+    else this.moveLines(old, change);
+    this.scripts.show(script, this.editor.text);
     this.forget();
     clearTimeout(this.timer);
     const wait = this.editor.text.length > MUCH_TEXT ? TYPED_MUCH : TYPED;
-    this.timer = setTimeout(() => this.guarded(() => this.begin()), wait);
+    this.timer = setTimeout(() => this.guarded(() => this.begin(this.isNew ? Infinity : undefined)), wait);
+  }
+
+  /** Breakpoints go where their lines go. */
+  moveLines(old, change) {
+    if (!this.points.some(point => point.kind === "line")) return;
+    const lineAfter = linesAfter(old, change);
+    this.pointPanel.change(this.points.map(point => (point.kind === "line"
+      ? { ...point, line: lineAfter(point.line) } : point)).filter(point => point.line !== null));
   }
 
   /** Runs the text, and shows what is asked for: so many steps, or as many as before, or all. */
@@ -271,7 +360,7 @@ export class View {
     clearTimeout(this.timer);
     this.forget();
     Object.assign(this, { search: null, coming: null, isHalted: false, asked, begun: performance.now(),
-      shownAt: performance.now() });
+      shownAt: performance.now(), isNew: false });
     this.play(false);
     try {
       const { text } = this.editor, judged = judgedText(this.adapter, text);
@@ -404,8 +493,14 @@ export class View {
     this.come(Math.max(0, Math.min(steps, this.session.length)));
   }
 
+  /** The step that is shown, or will be: keys may come faster than pictures. */
+  get goal() {
+    return this.coming ?? this.steps;
+  }
+
   come(steps) {
     this.coming = steps;
+    this.buttons();
     this.wake();
   }
 
@@ -590,8 +685,8 @@ export class View {
 
   buttons() {
     setText(byId("run"), this.isBusy && !this.isPlaying ? "stop ■" : "run ▶▶");
-    const isAtEnd = this.session.isDone && this.steps >= this.session.length;
-    for (const name of ["first", "back", "framebefore", "runback"]) byId(name).disabled = this.steps === 0;
+    const { goal } = this, isAtEnd = this.session.isDone && goal >= this.session.length;
+    for (const name of ["first", "back", "framebefore", "runback"]) byId(name).disabled = goal === 0;
     for (const name of ["next", "frameafter", "last"]) byId(name).disabled = isAtEnd;
   }
 
@@ -614,7 +709,7 @@ export class View {
 
   async save(what) {
     byId("savemenu").open = false;
-    const { session, name, seen } = this;
+    const { session, seen, scripts: { now: { name } } } = this;
     if (what === "text") return saveFile(`${name}.vga`, new TextEncoder().encode(this.editor.text),
       "text/plain");
     if (!session || !seen || this.editor.isStale) {

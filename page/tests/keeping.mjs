@@ -1,0 +1,279 @@
+// The page in a browser, as a person uses it with keys and pointer: nothing that was typed is lost, and no
+// control keeps the keyboard.
+// node page/tests/keeping.mjs [ENGINE]: ENGINE is chromium or firefox. ZAKLIMOT_PAGE names another page.
+import assert from "node:assert/strict";
+import { mkdtempSync, rmSync, writeFileSync } from "node:fs";
+import { tmpdir } from "node:os";
+import { resolve } from "node:path";
+import { pathToFileURL } from "node:url";
+import { begun } from "./engines.mjs";
+import { IDLE, fragmentOf } from "./jumps.mjs";
+import { PAGE } from "./loading.mjs";
+
+const ADDRESS = pathToFileURL(resolve(PAGE)).href, WINDOW = { width: 1280, height: 860 };
+const { browser } = await begun(), seen = [], folder = mkdtempSync(`${tmpdir()}/zaklimot-keeping-`);
+const OWN = "; my own bars\nint ax=3\nin 3DA\nframe\n", OTHER = "; another one\nin 3CC\nin 3DA\n";
+
+const until = condition => browser.until(condition, 40000);
+const value = id => browser.value(`document.getElementById("${id}").value`);
+const text = id => browser.value(`document.getElementById("${id}").textContent`);
+const pause = () => browser.value("new Promise(done => setTimeout(done, 60))");
+
+async function check(name, does) {
+  try {
+    await does();
+    assert.deepEqual(await browser.heard(), [], "the console");
+    seen.push(name);
+  } catch (error) {
+    error.message = `${name}: ${error.message}`;
+    throw error;
+  }
+}
+
+async function open(hash = "", address = ADDRESS) {
+  await browser.open(address + hash);
+  await until(IDLE);
+  await pause();
+}
+
+/** Does something by which the page goes elsewhere, and waits for the page that is there then. */
+async function leaving(does) {
+  await browser.value(`(() => { window.isOld = true; setTimeout(() => { ${does}; }, 0); })()`);
+  await new Promise(done => setTimeout(done, 200));
+  await until(`!window.isOld && document.readyState === "complete" && ${IDLE}`);
+}
+
+const reload = () => leaving("location.reload()");
+
+/** Puts the caret at a place of the text; at its end if none is told. */
+async function caretAt(place) {
+  await browser.value(`(() => { const area = document.getElementById("text"), at = ${place ?? "area.value.length"};
+    area.focus(); area.setSelectionRange(at, at); })()`);
+}
+
+async function textIs(wanted) {
+  await until(`document.getElementById("text")?.value === ${JSON.stringify(wanted)}`);
+  await until(IDLE);
+}
+
+async function stepIs(step) {
+  const told = step ? `After step ${step} of` : "Power-on: no step";
+  await until(`document.getElementById("laststep").textContent.startsWith("${told}")`);
+}
+
+/** Pastes a text over the one in the page. */
+async function paste(script) {
+  await browser.click("#text");
+  await browser.selectAll();
+  await browser.paste(script);
+  await textIs(script);
+}
+
+/** Chooses an entry of the list of scripts, as by its list that opens: the pointer, and then the entry. */
+async function choose(entry) {
+  await browser.value(`(() => {
+    const list = document.getElementById("examples");
+    list.dispatchEvent(new PointerEvent("pointerdown", { bubbles: true }));
+    list.focus();
+    const found = [...list.options].find(({ text, value }) => value === ${JSON.stringify(entry)} ||
+      text.startsWith(${JSON.stringify(entry)}));
+    list.value = found.value;
+    list.dispatchEvent(new Event("input", { bubbles: true }));
+    list.dispatchEvent(new Event("change", { bubbles: true }));
+  })()`);
+  await pause();
+  await until(IDLE);
+}
+
+const listed = () => browser.value(`(() => {
+  const list = document.getElementById("examples");
+  list.dispatchEvent(new PointerEvent("pointerdown", { bubbles: true }));
+  return [...list.querySelectorAll("optgroup:not(:last-child) option")].map(one => one.text);
+})()`);
+
+/** Takes away what earlier checks have kept. */
+async function forget() {
+  await open();
+  await browser.value("(() => { localStorage.clear(); history.replaceState(null, ''); })()");
+}
+
+const CHECKS = {
+  async "what was typed stands there after a reload"() {
+    await forget();
+    await open("#example=copper-bars");
+    await paste(OWN);
+    await reload();
+    await textIs(OWN);
+    assert.equal(await text("about"), "");
+    await caretAt();
+    await browser.type(";");
+    // Before the page has run it, too.
+    await reload();
+    await until(`document.getElementById("text").value === ${JSON.stringify(`${OWN};`)}`);
+    await caretAt();
+    await browser.press("Backspace");
+    await textIs(OWN);
+  },
+
+  async "it stands there after Back, and after another page"() {
+    await browser.value(`void setTimeout(() => { location.href = "about:blank"; }, 0)`);
+    await until("location.href === 'about:blank'");
+    await browser.value("void setTimeout(() => history.back(), 0)");
+    await until(IDLE);
+    await textIs(OWN);
+  },
+
+  async "a fragment that changes loads its script, and Back, or a press, gives back the own one"() {
+    await browser.value("void (location.hash = '#example=hunt')");
+    await until("document.title.startsWith('hunt')");
+    await browser.value("void setTimeout(() => history.back(), 0)");
+    await textIs(OWN);
+    await browser.value("void (location.hash = '#example=hunt&step=3')");
+    await until("document.title.startsWith('hunt')");
+    await stepIs(3);
+    await browser.click("#takeback");
+    await textIs(OWN);
+    await browser.press("u");
+    await until("document.title.startsWith('hunt')");
+    await browser.press("u");
+    await textIs(OWN);
+  },
+
+  async "a fragment that names no script leaves the one that stands there"() {
+    await browser.value("void (location.hash = '#step=2')");
+    await stepIs(2);
+    assert.equal(await value("text"), OWN);
+    await browser.value("void (location.hash = '#tab=memory')");
+    await until(`document.getElementById("tab2").getAttribute("aria-selected") === "true"`);
+    assert.equal(await value("text"), OWN);
+  },
+
+  async "it stands there in a page that is opened anew, as after a crash"() {
+    await open();
+    await textIs(OWN);
+  },
+
+  async "Ctrl+Z after loading gives back the own script, and mixes none"() {
+    await forget();
+    await open();
+    const first = await value("text");
+    await paste(OWN);
+    await choose("hunt");
+    const hunt = await value("text");
+    assert.ok(hunt !== OWN && hunt.length > 100);
+    await browser.click("#text");
+    await browser.press("z", { control: true });
+    await textIs(OWN);
+    await browser.press("z", { control: true });
+    await textIs(first);
+    await browser.press("y", { control: true });
+    await textIs(OWN);
+    await browser.press("y", { control: true });
+    await textIs(hunt);
+    assert.equal(await value("examples"), "hunt");
+    await browser.press("Escape");
+    await browser.press("z", { control: true });
+    await textIs(OWN);
+  },
+
+  async "the list has the last scripts by their first comment, with a way back to each"() {
+    await paste(OTHER);
+    await choose("raster-bands");
+    const names = await listed();
+    assert.equal(names.length, 2);
+    assert.match(names[0], /^another one · .*\d/);
+    assert.match(names[1], /^my own bars · .*\d/);
+    await choose("my own bars");
+    await textIs(OWN);
+    await choose("another one");
+    await textIs(OTHER);
+    await reload();
+    assert.deepEqual((await listed()).length, 2);
+    await textIs(OTHER);
+  },
+
+  async "a script that is pasted over an example is no longer that example"() {
+    await choose("hunt");
+    assert.match(await browser.value("document.title"), /^hunt:/);
+    await paste(OWN);
+    assert.match(await browser.value("document.title"), /^script:/);
+    assert.ok(!/hunt/.test(await value("examples")) && await text("about") === "");
+    await paste(await browser.value("document.title") && OTHER);
+    await browser.press("z", { control: true });
+    await browser.press("z", { control: true });
+    await until("document.title.startsWith('hunt:')");
+    assert.equal(await value("examples"), "hunt");
+  },
+
+  async "a new text starts at its end, and a changed one at the same step"() {
+    await paste(OWN);
+    await browser.press("Escape");
+    await browser.press("Home");
+    await browser.press("ArrowRight");
+    await stepIs(1);
+    await caretAt();
+    await browser.type("f");
+    await browser.type("rame");
+    await textIs(`${OWN}frame`);
+    await stepIs(1);
+    await paste(OTHER);
+    await stepIs(2);
+  },
+
+  async "breakpoints follow their lines"() {
+    await paste(OWN);
+    await browser.click(".number[data-line='3']");
+    await caretAt(0);
+    await browser.press("Enter");
+    await textIs(`\n${OWN}`);
+    const points = () => browser.value(
+      "[...document.querySelectorAll('.number.point')].map(one => one.dataset.line).join()");
+    assert.equal(await points(), "4");
+    await browser.press("z", { control: true });
+    await textIs(OWN);
+    assert.equal(await points(), "3");
+    // Those of another script are its own.
+    await choose("hunt");
+    assert.equal(await points(), "");
+    await browser.press("u");
+    await textIs(OWN);
+    assert.equal(await points(), "3");
+    await browser.click(".number[data-line='3']");
+  },
+
+  async "a file that was opened is kept under its name"() {
+    writeFileSync(`${folder}/mine.vga`, OTHER);
+    await browser.choose("#file", `${folder}/mine.vga`);
+    await textIs(OTHER);
+    await reload();
+    await textIs(OTHER);
+    assert.match(await browser.value("document.title"), /^mine:/);
+  },
+
+  async "a storage that is full is told once, and the page goes on"() {
+    await forget();
+    await open("#example=hunt");
+    await browser.value(`(() => {
+      for (let size = 1 << 23; size; size >>= 1) {
+        try { localStorage.setItem("other" + size, "x".repeat(size)); } catch { }
+      }
+    })()`);
+    await paste(OWN);
+    await until("document.getElementById('notice').textContent.includes('storage is full')");
+    await pause();
+    assert.equal(await browser.value("document.getElementById('notice').hidden"), false);
+    await browser.click("#notice button");
+    await paste(OTHER);
+    assert.equal(await browser.value("document.getElementById('notice').hidden"), true);
+    await forget();
+  },
+};
+
+try {
+  await browser.look(WINDOW);
+  for (const [name, does] of Object.entries(CHECKS)) await check(name, does);
+  console.log(`${seen.length} checks in ${browser.name}: ${seen.join("; ")}; the console is empty`);
+} finally {
+  await browser.stop();
+  rmSync(folder, { recursive: true });
+}
