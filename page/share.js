@@ -49,9 +49,12 @@ const WORDS = {
     throw new Trouble(`The font file in this link has ${counted(fonts.length, "byte")}, and needs ${grouped(FONTS_SIZE)}.`);
   },
   async script(text) {
-    const bytes = await unpacked(text), trouble = encodingTrouble(bytes);
-    if (trouble) throw new Trouble(`The script in this link is not run: ${trouble}.`);
-    return new TextDecoder().decode(bytes);
+    const bytes = await unpacked(text);
+    try {
+      return new TextDecoder("utf-8", { fatal: true }).decode(bytes);
+    } catch {
+      throw new Trouble("The script in this link is damaged: it is no text in UTF-8.");
+    }
   },
 };
 

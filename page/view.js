@@ -204,27 +204,45 @@ export class View {
     return true;
   }
 
-  /** Does something, and tells what is wrong where it can't be done. */
+  /** Does something for a control, and tells what is wrong where it can't be done. A run goes on meanwhile. */
   async guarded(does) {
     try {
       this.tell("");
       await does();
     } catch (error) {
-      await this.failed(error);
+      if (error instanceof Trouble) this.tell(error.message);
+      else await this.failed(error);
     }
   }
 
+  /** Ends what is under way, since it can't go on, and tells why. */
   async failed(error) {
-    Object.assign(this, { search: null, coming: null, isHalted: true });
+    Object.assign(this, { search: null, coming: null, asked: null, isHalted: true });
     this.play(false);
+    if (error instanceof WebAssembly.RuntimeError) return this.openAnew(error);
+    this.sayStopped();
     if (error instanceof Trouble) return this.tell(error.message);
     if (error instanceof RangeError) return this.tell(`There is no memory left for this: ${error.message}.`);
-    if (!(error instanceof WebAssembly.RuntimeError)) throw error;
+    this.tell(`The page has a fault: ${error.message}. Please report it.`);
+    throw error;
+  }
+
+  async openAnew({ message }) {
     this.session = null;
     this.forget();
+    this.sayStopped();
     this.adapter = await Adapter.opened(this.module);
-    return this.tell(
-      `The module has stopped (${error.message}). It is opened anew: change the script, and it runs again.`);
+    this.tell(
+      `The module has stopped (${message}). It is opened anew: change the script, and it runs again.`);
+  }
+
+  /** Says how far the run came, which does not go on. */
+  sayStopped() {
+    const { session } = this;
+    if (!session) return this.say("no run");
+    this.buttons();
+    if (session.isDone) return this.saySummary();
+    return this.say(`stopped: step ${grouped(session.ran)} of ${grouped(session.length)}`);
   }
 
   /**
@@ -368,8 +386,9 @@ export class View {
       this.session = null;
       this.session = new Session(this.adapter, this.fonts, text, judged);
     } catch (error) {
-      if (!(error instanceof Trouble) || !error.line) throw error;
-      return this.blame(error);
+      if (error instanceof Trouble && error.line) return this.blame(error);
+      this.sayStopped();
+      throw error;
     }
     this.editor.blame(null);
     this.editor.isStale = false;

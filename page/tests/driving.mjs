@@ -176,6 +176,15 @@ export class Browser {
     }
   }
 
+  /** Moves the pointer from a place to another with its button held. */
+  async drag([left, top], [x, y]) {
+    const steps = [["mouseMoved", left, top], ["mousePressed", left, top], ["mouseMoved", (left + x) / 2, y],
+      ["mouseMoved", x, y], ["mouseReleased", x, y]];
+    for (const [type, across, down] of steps) {
+      await this.send("Input.dispatchMouseEvent", { type, x: across, y: down, button: "left", clickCount: 1 });
+    }
+  }
+
   /** Presses a key: { key, code, text, shift, control }. */
   async press(key, { shift = false, control = false } = {}) {
     const text = key.length === 1 && !control ? key : key === "Enter" ? "\r" : undefined,

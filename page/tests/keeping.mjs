@@ -1,6 +1,7 @@
 // The page in a browser, as a person uses it with keys and pointer: nothing that was typed is lost, and no
 // control keeps the keyboard.
-// node page/tests/keeping.mjs [ENGINE]: ENGINE is chromium or firefox. ZAKLIMOT_PAGE names another page.
+// node page/tests/keeping.mjs [ENGINE [WORDS]]: ENGINE is chromium or firefox. With WORDS only the checks are done
+// whose names have them. ZAKLIMOT_PAGE names another page.
 import assert from "node:assert/strict";
 import { mkdtempSync, rmSync, writeFileSync } from "node:fs";
 import { tmpdir } from "node:os";
@@ -83,6 +84,25 @@ async function choose(entry) {
   })()`);
   await pause();
   await until(IDLE);
+}
+
+/** Drags the knob of a slider half its way, by the pointer. */
+async function drag(selector) {
+  const [x, y, width] = await browser.value(`(() => {
+    const box = document.querySelector("${selector}").getBoundingClientRect();
+    return [Math.round(box.left) + 8, Math.round(box.top + box.height / 2), Math.round(box.width)]; })()`);
+  await browser.drag([x, y], [x + Math.round(width / 2), y]);
+}
+
+/** Drops files, which an expression makes, onto the page. */
+async function drop(files) {
+  await browser.value(`(() => {
+    const data = new DataTransfer();
+    for (const file of ${files}) data.items.add(file);
+    for (const kind of ["dragover", "drop"]) {
+      document.body.dispatchEvent(new DragEvent(kind, { bubbles: true, cancelable: true, dataTransfer: data }));
+    }
+  })()`);
 }
 
 const listed = () => browser.value(`(() => {
@@ -267,11 +287,110 @@ const CHECKS = {
     assert.equal(await browser.value("document.getElementById('notice').hidden"), true);
     await forget();
   },
+
+  async "after an example was chosen, keys are the page's"() {
+    await choose("copper-bars");
+    assert.equal(await browser.value("document.activeElement.tagName"), "BODY");
+    await browser.press("Home");
+    await stepIs(0);
+    for (let step = 1; step < 4; step++) await browser.press("ArrowRight");
+    await stepIs(3);
+    assert.equal(await value("examples"), "copper-bars");
+    // By keys alone: the list goes up and down, and the other keys are the page's.
+    await browser.value("document.getElementById('examples').focus()");
+    await browser.press("Home");
+    await stepIs(0);
+    await browser.press("ArrowRight");
+    await stepIs(1);
+    await browser.press("End");
+    await until("document.getElementById('next').disabled");
+    assert.equal(await value("examples"), "copper-bars");
+    await browser.press("Escape");
+  },
+
+  async "after the slider was dragged, keys are the page's"() {
+    await browser.press("Home");
+    await stepIs(0);
+    await drag("#slider");
+    await until("!document.getElementById('laststep').textContent.startsWith('Power-on')");
+    assert.equal(await browser.value("document.activeElement.id"), "slider");
+    await browser.press("Home");
+    await stepIs(0);
+    await browser.press("p");
+    await until("document.getElementById('play').textContent === 'pause'");
+    await browser.press("p");
+    await until("document.getElementById('play').textContent === 'play'");
+    await browser.press("3");
+    await until(`document.getElementById("tab3").getAttribute("aria-selected") === "true"`);
+    await browser.press("1");
+  },
+
+  async "a hostile fragment is told in a sentence, and the page stays usable"() {
+    await forget();
+    const cut = (await fragmentOf(OWN)).slice(0, -4);
+    for (const [hash, said, count] of [["#step=abc", "step=abc names no step", 0], ["#step=-5", "names no step", 0],
+      ["#example=hunt&step=0.5", "names no step", 0], ["#fonts=AAAA", "font file in this link is damaged", 0],
+      ["#fonts=Y2AYBSMFAAA", "needs 9,728", 0], [cut, "script in this link is damaged", 0],
+      ["#script=%%%&fonts=x", "damaged", 0], ["#tab=none", "names none of", 0], ["#%E0%A4", "", 0]]) {
+      await open(hash);
+      const notice = await text("notice");
+      assert.ok(notice.includes(said), `${hash}: ${notice}`);
+      assert.ok((await value("text")).length > 50 && /^\d+ steps/.test(await text("state")), hash);
+      await browser.press("Home");
+      await stepIs(count);
+      await browser.press("ArrowRight");
+      await stepIs(1);
+    }
+    await paste(OWN);
+    await stepIs(3);
+    await browser.value("void (location.hash = '#script=AAAA')");
+    await until("document.getElementById('notice').textContent.includes('damaged')");
+    assert.equal(await value("text"), OWN);
+  },
+
+  async "several files, a folder, and junk amid a run"() {
+    await open();
+    await paste(OWN);
+    await drop('[new File(["frame"], "a.vga"), new File(["frame"], "b.vga")]');
+    await until("document.getElementById('notice').textContent.includes('These are 2 files')");
+    if (browser.send) {
+      for (const type of ["dragEnter", "dragOver", "drop"]) {
+        await browser.send("Input.dispatchDragEvent", { type, x: 300, y: 300,
+          data: { items: [], files: [folder], dragOperationsMask: 1 } });
+      }
+      await until("document.getElementById('notice').textContent.includes('is a folder')");
+      assert.equal(await browser.value("document.getElementById('drop').hidden"), true);
+    }
+    assert.equal(await value("text"), OWN);
+    await browser.open(ADDRESS + await fragmentOf("version 2\nint ax=3\nrepeat 1000\nint ax=E41\nframe\nend\n"));
+    await until("document.getElementById('state').textContent.startsWith('running: step')");
+    await drop('[new File([Uint8Array.from({ length: 99 }, (_, i) => i)], "junk")]');
+    await until("document.getElementById('notice').textContent.includes('no script, no trace')");
+    // The run goes on to its end.
+    await browser.until("document.getElementById('state').textContent.startsWith('2,001 steps')");
+    await browser.open(ADDRESS + await fragmentOf("version 2\nint ax=3\nrepeat 60000\nint ax=E41\nframe\nend\n"));
+    await until("document.getElementById('state').textContent.startsWith('running: step')");
+    await drop('[new File(["in 3CC\\nframe\\n"], "b.vga")]');
+    await textIs("in 3CC\nframe\n");
+    await stepIs(2);
+  },
+
+  async "text that is dragged into the script is not taken for a file"() {
+    const isTaken = await browser.value(`(() => {
+      const data = new DataTransfer();
+      data.setData("text/plain", "frame");
+      const event = new DragEvent("dragover", { bubbles: true, cancelable: true, dataTransfer: data });
+      document.getElementById("text").dispatchEvent(event);
+      return event.defaultPrevented || !document.getElementById("drop").hidden;
+    })()`);
+    assert.equal(isTaken, false);
+  },
 };
 
 try {
   await browser.look(WINDOW);
-  for (const [name, does] of Object.entries(CHECKS)) await check(name, does);
+  const only = process.argv[3] ?? "";
+  for (const [name, does] of Object.entries(CHECKS)) if (name.includes(only)) await check(name, does);
   console.log(`${seen.length} checks in ${browser.name}: ${seen.join("; ")}; the console is empty`);
 } finally {
   await browser.stop();

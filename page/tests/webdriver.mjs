@@ -91,6 +91,13 @@ export class Driven {
     await this.act(pointer([{ type: "pointerDown", button: 0 }, { type: "pointerUp", button: 0 }]));
   }
 
+  /** Moves the pointer from a place to another with its button held. */
+  async drag([left, top], [x, y]) {
+    const move = (across, down) => ({ type: "pointerMove", duration: 50, origin: "viewport", x: across, y: down });
+    await this.act(pointer([move(left, top), { type: "pointerDown", button: 0 }, move(x, y),
+      { type: "pointerUp", button: 0 }]));
+  }
+
   async click(selector) {
     const [x, y] = await this.value(`(() => {
       const control = document.querySelector(${JSON.stringify(selector)});
