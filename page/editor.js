@@ -226,8 +226,8 @@ export class Editor {
 
   /** The answer of a step beside its line, pale where the step is still to come. */
   answer(step, isLater) {
-    const { session } = this, { outline, answers } = session, entry = outline.entryOf(step);
-    const answer = answers.get(step), expected = outline.expectedOf(entry);
+    const { session } = this, { outline } = session, entry = outline.entryOf(step);
+    const answer = session.answerOf(step), expected = outline.expectedOf(entry);
     const words = outline.wordsOf(entry), [first, ...more] = shortAnswer(answer, words).split("\n");
     const isWrong = expected !== null && session.isWrong(step);
     const sign = expected === null ? "" : isWrong ? "✗ " : "✓ ";

@@ -5,12 +5,13 @@ import { Editor } from "./editor.js";
 import { KEYS, keyName, keyTables } from "./keys.js";
 import { Listing } from "./listing.js";
 import { MemoryPanel } from "./memorypanel.js";
+import { Menu } from "./menu.js";
 import { PointPanel } from "./pointpanel.js";
 import { Screen } from "./screen.js";
 import { Search, pointText } from "./points.js";
 import { Session, judgedText } from "./session.js";
 import { Trouble } from "./trouble.js";
-import { apngOfRun, pngOfSeen, reportOf, saveFile } from "./saving.js";
+import { apngOfRun, frameSeconds, pngOfSeen, reportOf, saveFile } from "./saving.js";
 import { bytesOfBase64, counted, grouped } from "./bytes.js";
 import { BiosPanel } from "./biospanel.js";
 import { byId, element, pageLink, setText } from "./dom.js";
@@ -26,6 +27,8 @@ import { RegisterPanel } from "./registerpanel.js";
 import { whyRefused } from "./refusals.js";
 
 const SLICE_TIME = 14, SHOWN_EVERY = 250, TYPED = 250, TYPED_MUCH = 1000, MUCH_TEXT = 100000;
+// Play may be so many milliseconds behind, and looks so soon whether a frame is due.
+const MOST_LATE = 200, SOON = 4, MOST_PASSED = 5;
 const MOST_LINK = 200000, MOST_WORDS = 160;
 const NOT_HELD = "The answers of this run are not held to those of zak_run";
 /** What the page shows first. */
@@ -64,7 +67,7 @@ export class View {
   /** What makes the panel of each tab for what is seen. */
   makePanels(pages) {
     const panels = { registers: new RegisterPanel(pages), memory: new MemoryPanel(), cells: new CellPanel(),
-      colours: new ColourPanel(), "BIOS data": new BiosPanel(pages) };
+      colours: new ColourPanel(pages), "BIOS data": new BiosPanel(pages) };
     this.panels = { breakpoints: () => this.pointPanel.box };
     for (const [tab, panel] of Object.entries(panels)) this.panels[tab] = () => panel.made(this.seen);
   }
@@ -73,6 +76,7 @@ export class View {
 
   makeControls() {
     const { pages } = this.data;
+    byId("version").textContent = `Zaklimot ${this.data.version}.`;
     byId("pagedoc").href = `${pages}PAGE.md#what-is-proved`;
     byId("tabs").append(...TABS.map((tab, i) =>
       element("button", { type: "button", role: "tab", id: `tab${i + 1}`,
@@ -91,6 +95,7 @@ export class View {
       play: () => this.play(!this.isPlaying),
       openfile: () => byId("file").click(),
       share: () => this.share(),
+      copylink: () => this.copyLink(),
       help: () => byId("helpbox").showModal(),
       ownfonts: () => this.useFonts(this.ownFonts),
       takeback: () => this.load(this.before.text, this.before.script),
@@ -99,6 +104,7 @@ export class View {
     for (const [name, does] of Object.entries(clicks)) {
       byId(name).addEventListener("click", () => this.guarded(does));
     }
+    this.saveMenu = new Menu(byId("savemenu"));
     this.makeChoices();
     this.makeFiles();
     document.addEventListener("keydown", event => this.pressed(event));
@@ -188,10 +194,7 @@ export class View {
     if (control === "tab") return this.open(TABS[Number(key) - 1]);
     const made = byId(control);
     if (control === "gotonumber" || control === "text") return made.focus();
-    if (control === "savemenu") {
-      made.open = !made.open;
-      return made.querySelector("button, summary").focus();
-    }
+    if (control === "savemenu") return this.saveMenu.toggle();
     return made.hidden || made.click();
   }
 
@@ -584,7 +587,12 @@ export class View {
       this.say(`looking at step ${grouped(search.looked + 1)} of ${grouped(this.session.length)}`);
       return;
     }
-    this.search = null;
+    if (found.steps && this.isLate && found.steps < this.session.length && this.passed++ < MOST_PASSED) {
+      this.due += this.frameTime();
+      this.search = { search: new Search(this.session, points, found.steps, false), points, isBack };
+      return;
+    }
+    Object.assign(this, { search: null, passed: 0 });
     const steps = found.steps ?? (isBack ? 0 : this.session.length);
     this.come(steps);
     if (found.ended) this.play(false);
@@ -626,13 +634,29 @@ export class View {
     setText(byId("play"), isOn ? "pause" : "play");
     if (!isOn || !this.session) return;
     if (this.steps >= this.session.length) this.come(0);
+    Object.assign(this, { due: performance.now(), passed: 0 });
     this.playOn();
   }
 
+  /** Shows the next frame when its time has come, by the clock that the registers select. */
   playOn() {
     if (!this.isPlaying) return;
-    if (this.coming === null && !this.search) this.find([{ kind: "frame" }], false);
-    setTimeout(() => this.playOn(), 15);
+    const now = performance.now();
+    if (this.coming === null && !this.search && now >= this.due) {
+      this.find([{ kind: "frame" }], false);
+      this.due = Math.max(now - MOST_LATE, this.due + this.frameTime());
+    }
+    setTimeout(() => this.playOn(), Math.min(SOON, Math.max(0, this.due - now)));
+  }
+
+  /** How long the frame under way lasts, in milliseconds. */
+  frameTime() {
+    return this.seen ? 1000 * frameSeconds(this.seen.after.registers) : SOON;
+  }
+
+  /** Whether a frame that was found is passed over, since the next one is due. */
+  get isLate() {
+    return this.isPlaying && performance.now() > this.due + this.frameTime();
   }
 
   pointsChanged(points) {
@@ -664,7 +688,7 @@ export class View {
       return;
     }
     const entry = outline.entryOf(steps - 1), words = outline.wordsOf(entry);
-    const answer = session.answers.get(steps - 1), { place, step, told } = this.last;
+    const answer = session.answerOf(steps - 1), { place, step, told } = this.last;
     place.data =
       `After step ${grouped(steps)} of ${grouped(session.length)}, line ${grouped(outline.lineOf(entry))}: `;
     setText(step, words.slice(0, MOST_WORDS));
@@ -722,12 +746,32 @@ export class View {
       (isTooLong ? ", more than many programs take: save the script as a file."
         : ", and holds the whole script.");
     byId("link").value = link;
+    byId("copied").textContent = "";
     byId("linkbox").showModal();
     byId("link").select();
   }
 
+  /** Puts the link into the clipboard, where the browser lets the page. */
+  async copyLink() {
+    byId("link").select();
+    let isDone = document.execCommand("copy");
+    if (!isDone) isDone = await navigator.clipboard?.writeText(byId("link").value).then(() => true, () => false);
+    byId("copied").textContent = isDone ? "Copied." : "This browser does not let the page: press Ctrl+C.";
+  }
+
+  /** Saves, one thing at a time. */
   async save(what) {
-    byId("savemenu").open = false;
+    this.saveMenu.close();
+    if (this.isSaving) throw new Trouble("Something is being saved: wait until it is done.");
+    this.isSaving = true;
+    try {
+      await this.saveNow(what);
+    } finally {
+      this.isSaving = false;
+    }
+  }
+
+  async saveNow(what) {
     const { session, seen, scripts: { now: { name } } } = this;
     if (what === "text") return saveFile(`${name}.vga`, new TextEncoder().encode(this.editor.text),
       "text/plain");

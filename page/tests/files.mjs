@@ -5,7 +5,9 @@ import { execFileSync } from "node:child_process";
 import { deflateRawSync, gzipSync, inflateSync } from "node:zlib";
 import { mkdtempSync, readFileSync, rmSync, writeFileSync } from "node:fs";
 import { tmpdir } from "node:os";
-import { apngOf, packedRows, pngOf } from "../png.js";
+import { Session } from "../session.js";
+import { apngOf, packedRows, padded, pngOf } from "../png.js";
+import { apngOfRun } from "../saving.js";
 import { base64OfBytes, bytesOfBase64, counted, grouped } from "../bytes.js";
 import { bytesOfFiles, contentsOf, packed, readFragment, unpacked } from "../share.js";
 import { textOfTrace, traceForm } from "../trace.js";
@@ -183,7 +185,20 @@ for seconds in (0.0142, 1.5):
 animation.write(sys.stdout.buffer)`;
   const theirs = execFileSync("python3", ["-c", source], { cwd: TOP });
   assert.deepEqual(animated(apngOf(frames)), animated(theirs));
-  assert.throws(() => apngOf([frames[0], { ...frames[1], width: 8 }]), /another size/);
+  assert.throws(() => apngOf([frames[0], { ...frames[1], width: 8 }]), /Frame 2 is larger/);
+});
+
+test("pictures of several sizes move in one PNG, and none shows through another", async () => {
+  const session = new Session(adapter, FONTS, "int ax=3\nframe\nint ax=13\nframe\nint ax=12\nframe\n");
+  const png = Buffer.from(await apngOfRun(session, () => true)), sizes = [];
+  for (let at = 8; at < png.length; at += 12 + png.readUInt32BE(at)) {
+    if (png.toString("latin1", at + 4, at + 8) !== "fcTL") continue;
+    sizes.push([png.readUInt32BE(at + 12), png.readUInt32BE(at + 16), png[at + 32]]);
+  }
+  assert.deepEqual([png.readUInt32BE(16), png.readUInt32BE(20)], [720, 480]);
+  assert.deepEqual(sizes, [[720, 480, 1], [640, 400, 1], [640, 480, 1]]);
+  const black = padded({ width: 1, height: 1, rgb: Uint8Array.of(1, 2, 3) }, 2, 2);
+  assert.deepEqual([...black.rgb], [1, 2, 3, 0, 0, 0, 0, 0, 0, 0, 0, 0]);
 });
 
 /** The chunks of an APNG, with what they pack unpacked. */

@@ -385,6 +385,98 @@ const CHECKS = {
     })()`);
     assert.equal(isTaken, false);
   },
+
+  async "words: what a call hands back, a picture's size, whose palette mode 13 has, the version"() {
+    await open();
+    await paste(OWN);
+    const answers = await browser.value("[...document.querySelectorAll('.answer')].map(one => one.textContent).join()");
+    assert.match(answers, /ax to dx as given,00,picture 720x400/);
+    assert.equal(await text("laststep"), "After step 3 of 3, line 4: frame answers picture 720x400");
+    await browser.press("Escape");
+    await browser.press("4");
+    const isTold = "!document.querySelector('.colours .hint').hidden";
+    assert.equal(await browser.value(isTold), false);
+    await paste("int ax=13\nframe\n");
+    await until(isTold);
+    assert.match(await browser.value("document.querySelector('.colours .hint').textContent"), /not IBM's/);
+    assert.match(await text("version"), /^Zaklimot \d+\.\d+/);
+    await browser.press("Escape");
+    await browser.press("1");
+  },
+
+  async "the Save menu by keys, and what closes it"() {
+    const isOpen = () => browser.value("document.getElementById('savemenu').open");
+    const here = () => browser.value("document.activeElement.id || document.activeElement.tagName");
+    await open();
+    await browser.press("s");
+    assert.deepEqual([await isOpen(), await here()], [true, "savetext"]);
+    for (const [key, wanted] of [["ArrowDown", "savebytes"], ["ArrowUp", "savetext"], ["ArrowUp", "saveapng"],
+      ["ArrowDown", "savetext"], ["End", "saveapng"], ["Home", "savetext"]]) {
+      await browser.press(key);
+      assert.equal(await here(), wanted, key);
+    }
+    // While it is open, keys are its own.
+    await browser.press("p");
+    assert.equal(await text("play"), "play");
+    await browser.press("Escape");
+    assert.deepEqual([await isOpen(), await here()], [false, "SUMMARY"]);
+    await browser.press("Enter");
+    assert.equal(await isOpen(), true);
+    await browser.click("#laststep");
+    assert.equal(await isOpen(), false);
+    await browser.click("#savemenu summary");
+    assert.equal(await isOpen(), true);
+    await browser.press("ArrowDown");
+    assert.equal(await here(), "savetext");
+    await browser.press("Enter");
+    assert.equal(await isOpen(), false);
+  },
+
+  async "one thing is saved at a time"() {
+    await open();
+    await paste("version 2\nint ax=3\nrepeat 60\nframe\nend\n");
+    // Counts what is handed to the browser.
+    await browser.value(`(() => { window.saved = 0; HTMLAnchorElement.prototype.click = () => { window.saved++; }; })()`);
+    for (let time = 0; time < 3; time++) {
+      await browser.click("#savemenu summary");
+      await browser.click("#saveapng");
+    }
+    assert.match(await text("notice"), /Something is being saved/);
+    await until("window.saved === 1");
+    await new Promise(done => setTimeout(done, 1500));
+    assert.equal(await browser.value("window.saved"), 1);
+    await browser.click("#savemenu summary");
+    await browser.click("#savetext");
+    await until("window.saved === 2");
+  },
+
+  async "a link is copied at a press"() {
+    await open();
+    await browser.press("l");
+    await until("document.getElementById('linkbox').open");
+    await browser.value("document.addEventListener('copy', () => { window.copied = getSelection().toString() || " +
+      "document.getElementById('link').value.slice(document.getElementById('link').selectionStart); })");
+    await browser.click("#copylink");
+    await until("document.getElementById('copied').textContent === 'Copied.'");
+    assert.equal(await browser.value("window.copied === document.getElementById('link').value"), true);
+    await browser.press("Escape");
+  },
+
+  async "play shows frames at the mode's rate"() {
+    await open();
+    // 280 frames of mode 3, of which 70.09 come in a second.
+    await paste("version 2\nint ax=3\nrepeat 280\nframe\nend\n");
+    await browser.press("Escape");
+    await browser.press("Home");
+    await stepIs(0);
+    const seconds = await browser.value(`(async () => {
+      const begun = performance.now(), isAt = word => document.getElementById("play").textContent === word;
+      document.getElementById("play").click();
+      do await new Promise(done => setTimeout(done, 5)); while (isAt("pause"));
+      return (performance.now() - begun) / 1000;
+    })()`);
+    assert.ok(seconds > 3.7 && seconds < 5.5, `${seconds} seconds for 4.0`);
+  },
 };
 
 try {
