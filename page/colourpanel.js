@@ -1,5 +1,5 @@
 // The palette and the DAC as swatches with numbers.
-import { classesOf, cssColour, element, setAll, setText } from "./dom.js";
+import { classesOf, cssColour, element, pageLink, setAll, setText } from "./dom.js";
 import { dacEntry } from "./state.js";
 import { differingColours } from "./changes.js";
 import { hex } from "./bytes.js";
@@ -28,7 +28,11 @@ class Swatch {
 
 /** The panel of colours. */
 export class ColourPanel {
-  constructor() {
+  constructor(base) {
+    const link = pageLink(base, "DECISIONS.md", "the-dacs-palettes", "Why");
+    this.said = element("p", { className: "hint", hidden: true }, "A mode set of mode 13 gives this adapter's own " +
+      "palette, not IBM's: 00 to 0F are the text colours, 10 to 1F greys, and from 20 on bits 7 to 5 of the " +
+      "number are red, 4 to 2 green, 1 and 0 blue. ", link, ".");
     const told = element("output", { className: "told" }),
       title = "Palette: four bits of a dot, and their entry of the DAC";
     const tell = event => { told.textContent = event.target.dataset?.told ?? ""; };
@@ -38,7 +42,7 @@ export class ColourPanel {
     this.title = element("h3");
     const pairs = this.palette.map(({ button }, four) =>
       element("span", { className: "pair" }, button, this.entries[four]));
-    this.root = element("div", { className: "colours" }, element("h3", {}, title),
+    this.root = element("div", { className: "colours" }, this.said, element("h3", {}, title),
       element("div", { className: "palette" }, ...pairs), this.title,
       element("div", { className: "dac" }, ...this.dac.map(({ button }) => button)), told);
     for (const event of ["pointerover", "focusin"]) this.root.addEventListener(event, tell);
@@ -47,6 +51,7 @@ export class ColourPanel {
   made({ before, after }) {
     const { registers } = after, changed = new Set(differingColours(before, after));
     const mask = hex(registers.dacMask, 2);
+    this.said.hidden = after.bda.mode !== 0x13;
     setText(this.title, `DAC: 256 entries, mask ${mask}; the index's entry has a border`);
     this.palette.forEach((swatch, four) => {
       const entry = dacEntry(registers, four), own = registers.attr[four];

@@ -3,6 +3,7 @@ import { Scroller } from "./scroller.js";
 import { Rows, isWritten } from "./rows.js";
 import { byId, classesOf, element, rowsInSight, setAll, setText } from "./dom.js";
 import { grouped } from "./bytes.js";
+import { History, changeBetween } from "./history.js";
 import { isPlainAnswer, isRefusal, shortAnswer } from "./expecting.js";
 
 const ROW = 18, TOP = 6, TAB = 8;
@@ -11,22 +12,27 @@ const MOST_EDITED = 300000;
 // Browsers have no elements that are much higher.
 const HIGHEST_TEXT = 8000000, WIDEST_LINE = 400;
 
-/** The editor. `heard` has `changed(text)` and `pointed(line)`, a breakpoint's mark that was clicked. */
+/**
+ * The editor. `heard` has `typed(change, old)`, which answers which script the changed text is, `switched(change,
+ * old)`, a change that was undone or done again, and `pointed(line)`, a breakpoint's mark that was clicked.
+ */
 export class Editor {
   constructor(heard) {
     Object.assign(this, { heard, area: byId("text"), gutter: byId("gutter"), told: byId("told"),
       why: byId("why") });
     Object.assign(this, { long: byId("long"), rows: byId("longrows"), starts: null, whole: "" });
+    Object.assign(this, { history: new History(), script: null, known: "" });
     this.numbers = new Rows(this.gutter, ROW,
       () => element("button", { type: "button", tabIndex: -1, className: "number" }));
     this.answers = new Rows(this.told, ROW, () => element("span", { className: "answer" }));
     this.longLines = new Rows(this.rows, ROW, () => element("div", { className: "longrow" }));
     Object.assign(this, { mark: 0, bad: null, session: null, steps: 0, points: new Set(), count: 1 });
-    this.area.addEventListener("input", () => {
-      this.count = this.area.value.split("\n").length;
-      this.bad = null;
-      this.draw();
-      heard.changed(this.area.value);
+    this.area.addEventListener("input", () => this.typed());
+    this.area.addEventListener("beforeinput", event => {
+      const way = { historyUndo: "undo", historyRedo: "redo" }[event.inputType];
+      if (!way) return;
+      event.preventDefault();
+      this.turn(way);
     });
     this.boxes = [this.area, this.long].map(box => new Scroller(box, () => this.draw()));
     this.gutter.addEventListener("click", event => {
@@ -48,13 +54,59 @@ export class Editor {
     return this.area.value.slice(0, this.area.selectionStart).split("\n").length;
   }
 
-  load(text) {
+  /** Takes a text that was typed, pasted or dropped. */
+  typed() {
+    const old = this.known, { script } = this;
+    this.known = this.area.value;
+    // Some ways of writing tell of a change twice.
+    if (this.known === old) return;
+    const change = changeBetween(old, this.known, this.area.selectionStart);
+    this.countLines();
+    this.script = this.heard.typed(change, old);
+    this.history.note({ ...change, before: { script }, after: { script: this.script }, isWhole: false });
+  }
+
+  /** Undoes the last change, or does one again; whether there was one. */
+  turn(way) {
+    const old = this.text, change = this.history[way]();
+    if (!change) return false;
+    const { from, removed, added } = change;
+    if (this.isLong || change.isWhole) {
+      this.put(old.slice(0, from) + added + old.slice(from + removed.length));
+    } else {
+      this.area.setRangeText(added, from, from + removed.length, "end");
+      this.known = this.area.value;
+      this.countLines();
+      this.reveal(this.line);
+    }
+    this.script = change.after.script;
+    this.heard.switched(change, old);
+    return true;
+  }
+
+  countLines() {
+    this.count = this.area.value.split("\n").length;
+    this.bad = null;
+    this.draw();
+  }
+
+  /** Shows another script, a text and which script it is. The script before is there again by `turn`. */
+  load(text, script) {
+    const old = this.text, before = { script: this.script };
+    this.put(text);
+    this.script = script;
+    if (!before.script) return;
+    this.history.note({ from: 0, removed: old, added: this.text, before, after: { script }, isWhole: true });
+  }
+
+  put(text) {
     this.starts = text.length > MOST_EDITED ? lineStarts(text) : null;
     this.whole = this.isLong ? text : "";
     this.area.value = this.isLong ? "" : text;
     this.area.hidden = this.isLong;
     this.long.hidden = !this.isLong;
-    this.count = this.isLong ? this.starts.length : this.area.value.split("\n").length;
+    this.known = this.area.value;
+    this.count = this.isLong ? this.starts.length : this.known.split("\n").length;
     if (this.isLong) this.rows.style.height = this.height + "px";
     Object.assign(this, { mark: 0, bad: null });
     this.scrollTo(0);
@@ -174,8 +226,8 @@ export class Editor {
 
   /** The answer of a step beside its line, pale where the step is still to come. */
   answer(step, isLater) {
-    const { session } = this, { outline, answers } = session, entry = outline.entryOf(step);
-    const answer = answers.get(step), expected = outline.expectedOf(entry);
+    const { session } = this, { outline } = session, entry = outline.entryOf(step);
+    const answer = session.answerOf(step), expected = outline.expectedOf(entry);
     const words = outline.wordsOf(entry), [first, ...more] = shortAnswer(answer, words).split("\n");
     const isWrong = expected !== null && session.isWrong(step);
     const sign = expected === null ? "" : isWrong ? "✗ " : "✓ ";

@@ -59,9 +59,12 @@ export function isPlainAnswer(answer, words) {
   return answer === "ok" || answer.toLowerCase() === handedIn(words).join(" ");
 }
 
-/** An answer for a narrow column: of a call, the registers alone that have changed. */
+/** What a call answers that hands back AX to DX as they were given; it may have changed much else. */
+export const AS_GIVEN = "ax to dx as given";
+
+/** An answer for a narrow column: of a call, the registers alone that differ from those handed in. */
 export function shortAnswer(answer, words) {
   if (!answer.startsWith("ax=")) return answer;
   const given = handedIn(words), told = answer.split(" ").filter(word => !given.includes(word.toLowerCase()));
-  return told.join(" ") || "unchanged";
+  return told.join(" ") || AS_GIVEN;
 }

@@ -18,6 +18,7 @@ export const KEYS = [
   ["E, Esc", "into the script, and out of it", ["e"], "text"],
   ["A, X, D, B, Z", "4:3, pixelated, as drawn so far, beam, zoom", ["a"], "aspect"],
   ["", "", ["x"], "sharp"], ["", "", ["d"], "sofar"], ["", "", ["b"], "hairs"], ["", "", ["z"], "zoom"],
+  ["U", "back to the script that stood here before", ["u"], "takeback"],
   ["O, L, S", "open a file, make a link, save", ["o"], "openfile"],
   ["", "", ["l"], "share"], ["", "", ["s"], "savemenu"],
   ["?", "this help", ["?", "Shift+?"], "help"],
@@ -26,6 +27,7 @@ export const KEYS = [
 const IN_THE_SCRIPT = [
   ["Ctrl+Enter", "go to the line of the caret"],
   ["F9 or Ctrl+B", "set or remove a breakpoint at the line of the caret"],
+  ["Ctrl+Z, Ctrl+Y", "undo a change, also that another script was loaded; do it again"],
   ["F8, F10", "run, a step forward"],
 ];
 

@@ -50,7 +50,7 @@ export class Listing {
     const { session } = this, { outline } = session, isHere = step + 1 === this.steps;
     const isLater = step + 1 > this.steps;
     if (isWritten(made, session, step, isHere, isLater)) return;
-    const entry = outline.entryOf(step), answer = session.answers.get(step);
+    const entry = outline.entryOf(step), answer = session.answerOf(step);
     const lines = answer.split("\n"), words = outline.wordsOf(entry), expected = outline.expectedOf(entry);
     const verdict = expected === null ? "" : session.isWrong(step) ? "wrong" : "right";
     const texts = [String(step + 1), String(outline.lineOf(entry)), words.slice(0, 200),

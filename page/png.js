@@ -3,6 +3,7 @@ import { Trouble } from "./trouble.js";
 import { joinedBytes, throughStream } from "./bytes.js";
 
 const PNG_SIGNATURE = [0x89, 0x50, 0x4e, 0x47, 13, 10, 26, 10];
+const TO_BACKGROUND = 1;
 const MOST_FRACTION = 65535, SHORT_PART = 50000, LONG_PART = 100;
 const CRC_TABLE = Uint32Array.from({ length: 256 }, (_, byte) => {
   for (let bit = 0; bit < 8; bit++) byte = byte & 1 ? byte >>> 1 ^ 0xedb88320 : byte >>> 1;
@@ -55,19 +56,30 @@ export async function pngOf(picture) {
   return joinedBytes([...head(picture), chunk("IDAT", await packedRows(picture)), chunk("IEND")]);
 }
 
-/** Pictures of one size as a PNG that moves; each has `packed` rows and the seconds that it lasts. */
+/** A picture with black at its right and below, up to a size. */
+export function padded({ width, height, rgb }, wide, high) {
+  const dots = new Uint8Array(3 * wide * high);
+  for (let y = 0; y < height; y++) dots.set(rgb.subarray(3 * width * y, 3 * width * (y + 1)), 3 * wide * y);
+  return { width: wide, height: high, rgb: dots };
+}
+
+/**
+ * Pictures as a PNG that moves; each has `packed` rows and the seconds that it lasts. The first must be as wide
+ * and as high as any; what a smaller one leaves free is taken away after it is shown.
+ */
 export function apngOf(frames) {
-  const [{ width, height }] = frames, parts = [...head(frames[0]),
-    chunk("acTL", long(frames.length), long(0))];
+  const parts = [...head(frames[0]), chunk("acTL", long(frames.length), long(0))];
+  const isOneSize = frames.every(({ width, height }) => width === frames[0].width && height === frames[0].height);
   let sequence = 0;
   for (const [i, frame] of frames.entries()) {
-    if (frame.width !== width || frame.height !== height) {
-      throw new Trouble(`Frame ${i + 1} has another size than the first, and a PNG that moves has one size.`);
+    const { width, height } = frame;
+    if (width > frames[0].width || height > frames[0].height) {
+      throw new Trouble(`Frame ${i + 1} is larger than the first.`);
     }
     const part = frame.seconds < 1 ? SHORT_PART : LONG_PART;
     const time = Math.min(MOST_FRACTION, Math.round(frame.seconds * part));
     parts.push(chunk("fcTL", long(sequence++), long(width), long(height), long(0), long(0), short(time),
-      short(part), [0, 0]));
+      short(part), [isOneSize ? 0 : TO_BACKGROUND, 0]));
     parts.push(i ? chunk("fdAT", long(sequence++), frame.packed) : chunk("IDAT", frame.packed));
   }
   return joinedBytes([...parts, chunk("IEND")]);

@@ -1,7 +1,7 @@
 // What is saved: text, bytes, report, the picture, and all pictures as one that moves.
 import { Card } from "./adapter.js";
 import { Trouble } from "./trouble.js";
-import { apngOf, packedRows, pngOf } from "./png.js";
+import { apngOf, packedRows, padded, pngOf } from "./png.js";
 import { element } from "./dom.js";
 import { frameShape } from "./state.js";
 import { readReport } from "./report.js";
@@ -53,13 +53,16 @@ export function frameSeconds(registers) {
  */
 export async function apngOfRun(session, told) {
   const card = new Card(session.adapter, session.fonts), frames = [];
-  let size = 0;
+  let size = 0, first = null, widest = 0, highest = 0;
   try {
     for (let step = 0; step < session.length;) {
-      const pictures = [], { taken, first, report } = session.pieces.runOn(card, step, session.length, 8);
-      readReport(report, first, taken, (_, answer, picture) => picture &&
+      const pictures = [], { taken, first: number, report } = session.pieces.runOn(card, step, session.length, 8);
+      readReport(report, number, taken, (_, answer, picture) => picture &&
         pictures.push({ width: picture.width, height: picture.height, rgb: picture.rgb.slice() }));
       for (const picture of pictures) {
+        first ??= picture;
+        widest = Math.max(widest, picture.width);
+        highest = Math.max(highest, picture.height);
         const packed = await packedRows(picture);
         size += packed.length;
         frames.push({ width: picture.width, height: picture.height, packed,
@@ -75,5 +78,9 @@ export async function apngOfRun(session, told) {
     card.close();
   }
   if (!frames.length) throw new Trouble("The script has no `frame` that answers a picture.");
+  const whole = padded(first, widest, highest);
+  if (widest > first.width || highest > first.height) {
+    Object.assign(frames[0], { width: widest, height: highest, packed: await packedRows(whole) });
+  }
   return apngOf(frames);
 }

@@ -50,6 +50,7 @@ export class Session {
     Object.assign(this, { ran: 0, at: 0, time: 0, sinceKept: 0, apart: APART, sinceNear: 0 });
     Object.assign(this, { kept: new Kept(MOST_STATES), near: new Kept(MOST_NEAR) });
     Object.assign(this, { answers: new Answers(), expected: 0, differing: [], wrong: 0, refused: 0 });
+    this.sizes = new Map();
     Object.assign(this, { pictures: 0, sums: [], reported: 0, mostHeld: MOST_HELD });
     this.held = { steps: 0, reported: 0 };
     // Dots of a picture that is not seen any longer: the next one is written into them.
@@ -85,8 +86,9 @@ export class Session {
     return !this.isDone;
   }
 
-  notePicture(picture) {
+  notePicture(picture, step) {
     this.pictures++;
+    this.sizes.set(step, picture.size);
     this.sums.push(sumOfBytes(picture.ppm));
   }
 
@@ -97,7 +99,7 @@ export class Session {
     this.reported += report.length + digits(this.ran, taken) - digits(first - 1, taken);
     readReport(report, first, taken, (i, answer, picture) => {
       if (!this.answers.push(answer)) this.sums.push(sumOfText(answer));
-      if (picture) this.notePicture(picture);
+      if (picture) this.notePicture(picture, this.ran + i);
       if (answer.charCodeAt(0) === 69 && isRefusal(answer)) this.refused++;
       if (!this.outline.hasExpected) return;
       const step = this.ran + i, entry = this.outline.entryOf(step),
@@ -208,6 +210,12 @@ export class Session {
     this.card.restore([state.bytes]);
     this.at = at;
     return { isWhole: false, ...lines, drawn: state.drawn, isBegun: state.isBegun };
+  }
+
+  /** A step's answer as the page shows it: of a picture its size, where the report tells its bytes. */
+  answerOf(step) {
+    const size = this.sizes.get(step);
+    return size === undefined ? this.answers.get(step) : `picture ${size}`;
   }
 
   /** Whether a step is a `frame`. */

@@ -2,7 +2,7 @@
 import { FONTS_SIZE } from "./adapter.js";
 import { MOST_BYTES } from "./grammar.js";
 import { Trouble } from "./trouble.js";
-import { base64OfBytes, bytesOfBase64, grouped, hex, throughStream } from "./bytes.js";
+import { base64OfBytes, bytesOfBase64, counted, grouped, hex, throughStream } from "./bytes.js";
 import { encodingTrouble } from "./reasons.js";
 import { reasonOfBytes } from "./faults.js";
 import { textOfTrace, traceForm } from "./trace.js";
@@ -11,7 +11,7 @@ const MAGIC = [0x56, 0x47, 0x41, 0x53], GZIP = [0x1f, 0x8b];
 // Tab, newline, form feed, carriage return, and the mark that ends old text files.
 const TEXT_CONTROLS = [9, 10, 12, 13, 26];
 // A trace may be longer than a script.
-const MOST_FILE = 1 << 28;
+const MOST_FILE = 1 << 28, MOST_WORD = 40;
 const startsWith = (bytes, front) => front.every((byte, i) => bytes[i] === byte);
 
 /** Bytes as they stand in a fragment. */
@@ -20,12 +20,72 @@ export async function packed(bytes) {
 }
 
 /** The bytes that stand in a fragment, at most so many; a Trouble where the link is damaged. */
-export async function unpacked(text, most = MOST_BYTES) {
+export async function unpacked(text, what = "script", most = MOST_BYTES) {
   try {
     return await throughStream(bytesOfBase64(text), new DecompressionStream("deflate-raw"), most);
   } catch (error) {
     const why = error instanceof RangeError ? `: ${error.message}` : ", or is cut off";
-    throw new Trouble(`The script in this link is damaged${why}.`);
+    throw new Trouble(`The ${what} in this link is damaged${why}.`);
+  }
+}
+
+/** What each word of a fragment stands for; a Trouble where it stands for nothing. */
+const WORDS = {
+  step(text) {
+    if (!/^\d{1,15}$/.test(text)) throw new Trouble(`${saidWord("step", text)} names no step: a step is a whole number.`);
+    return Number(text);
+  },
+  tab(text, { tabs }) {
+    if (!tabs.includes(text)) throw new Trouble(`${saidWord("tab", text)} names none of ${tabs.join(", ")}.`);
+    return text;
+  },
+  example(text, { examples }) {
+    if (!examples.includes(text)) throw new Trouble(`${saidWord("example", text)} names no example of this page.`);
+    return text;
+  },
+  async fonts(text) {
+    const fonts = await unpacked(text, "font file", FONTS_SIZE);
+    if (fonts.length === FONTS_SIZE) return fonts;
+    throw new Trouble(`The font file in this link has ${counted(fonts.length, "byte")}, and needs ${grouped(FONTS_SIZE)}.`);
+  },
+  async script(text) {
+    const bytes = await unpacked(text);
+    try {
+      return new TextDecoder("utf-8", { fatal: true }).decode(bytes);
+    } catch {
+      throw new Trouble("The script in this link is damaged: it is no text in UTF-8.");
+    }
+  },
+};
+
+function saidWord(word, text) {
+  return `${word}=${text.length > MOST_WORD ? `${text.slice(0, MOST_WORD)} …` : text}`;
+}
+
+/** What a fragment asks for, by its words; `wrong` has a sentence for each word that stands for nothing. */
+export async function readFragment(fragment, names) {
+  const words = new URLSearchParams(fragment.replace(/^#/, "")), asked = { wrong: [] };
+  for (const [word, read] of Object.entries(WORDS)) {
+    if (!words.has(word)) continue;
+    try {
+      asked[word] = await read(words.get(word), names);
+    } catch (error) {
+      if (!(error instanceof Trouble)) throw error;
+      asked.wrong.push(error.message);
+    }
+  }
+  return asked;
+}
+
+/** The bytes of the one file of a list; a Trouble where there are more, or where it can't be read. */
+export async function bytesOfFiles(files) {
+  const [file] = files;
+  if (files.length > 1) throw new Trouble(`These are ${files.length} files: open one at a time.`);
+  if (file.size > MOST_FILE) throw new Trouble(`${file.name} has more than ${grouped(MOST_FILE)} bytes.`);
+  try {
+    return new Uint8Array(await file.arrayBuffer());
+  } catch {
+    throw new Trouble(`${file.name} is a folder, or a file that can't be read.`);
   }
 }
 

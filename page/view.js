@@ -5,24 +5,30 @@ import { Editor } from "./editor.js";
 import { KEYS, keyName, keyTables } from "./keys.js";
 import { Listing } from "./listing.js";
 import { MemoryPanel } from "./memorypanel.js";
+import { Menu } from "./menu.js";
 import { PointPanel } from "./pointpanel.js";
 import { Screen } from "./screen.js";
 import { Search, pointText } from "./points.js";
 import { Session, judgedText } from "./session.js";
 import { Trouble } from "./trouble.js";
-import { apngOfRun, pngOfSeen, reportOf, saveFile } from "./saving.js";
+import { apngOfRun, frameSeconds, pngOfSeen, reportOf, saveFile } from "./saving.js";
 import { bytesOfBase64, counted, grouped } from "./bytes.js";
 import { BiosPanel } from "./biospanel.js";
 import { byId, element, pageLink, setText } from "./dom.js";
 import { CellPanel } from "./cellpanel.js";
 import { changesOf } from "./changes.js";
 import { ColourPanel } from "./colourpanel.js";
-import { contentsOf, packed, printedText, unpacked } from "./share.js";
+import { Drafts } from "./drafts.js";
+import { Scripts } from "./scripts.js";
+import { bytesOfFiles, contentsOf, packed, printedText, readFragment } from "./share.js";
+import { isNewText, linesAfter } from "./history.js";
 import { isRefusal } from "./expecting.js";
 import { RegisterPanel } from "./registerpanel.js";
 import { whyRefused } from "./refusals.js";
 
 const SLICE_TIME = 14, SHOWN_EVERY = 250, TYPED = 250, TYPED_MUCH = 1000, MUCH_TEXT = 100000;
+// Play may be so many milliseconds behind, and looks so soon whether a frame is due.
+const MOST_LATE = 200, SOON = 4, MOST_PASSED = 5;
 const MOST_LINK = 200000, MOST_WORDS = 160;
 const NOT_HELD = "The answers of this run are not held to those of zak_run";
 /** What the page shows first. */
@@ -30,16 +36,22 @@ const FIRST_EXAMPLE = "text-by-services";
 const SAVED = ["text", "bytes", "report", "png", "apng"];
 const TABS = ["registers", "memory", "cells", "colours", "BIOS data", "breakpoints"];
 
+/** Whether keys that are pressed at an element are letters of a text. */
+function takesText({ tagName, type }) {
+  return tagName === "TEXTAREA" || (tagName === "INPUT" && !["checkbox", "button", "range"].includes(type));
+}
+
 /** The page over a module, with the data that it was built with. */
 export class View {
   constructor(adapter, module, data) {
     const fonts = bytesOfBase64(data.fonts);
-    Object.assign(this, { adapter, module, data, fonts, ownFonts: fonts, name: "script", tab: TABS[0],
-      points: [] });
+    Object.assign(this, { adapter, module, data, fonts, ownFonts: fonts, tab: TABS[0], points: [] });
     Object.assign(this, { session: null, seen: null, steps: 0, coming: null, search: null });
-    Object.assign(this, { isPlaying: false, isHalted: false });
+    Object.assign(this, { isPlaying: false, isHalted: false, isNew: false, openings: 0 });
+    this.scripts = new Scripts(data.examples, new Drafts(), text => this.tell(text, true));
     this.last = { place: new Text(), step: element("code"), told: element("code") };
-    this.editor = new Editor({ changed: () => this.typed(),
+    this.editor = new Editor({ typed: (change, old) => this.typed(change, old),
+      switched: (change, old) => this.changed(change.after.script, change, old),
       pointed: line => this.pointPanel.toggleLine(line) });
     this.listing = new Listing(steps => this.go(steps));
     this.screen = new Screen({ clicked: (line, dot) => this.toDot(line, dot) });
@@ -55,7 +67,7 @@ export class View {
   /** What makes the panel of each tab for what is seen. */
   makePanels(pages) {
     const panels = { registers: new RegisterPanel(pages), memory: new MemoryPanel(), cells: new CellPanel(),
-      colours: new ColourPanel(), "BIOS data": new BiosPanel(pages) };
+      colours: new ColourPanel(pages), "BIOS data": new BiosPanel(pages) };
     this.panels = { breakpoints: () => this.pointPanel.box };
     for (const [tab, panel] of Object.entries(panels)) this.panels[tab] = () => panel.made(this.seen);
   }
@@ -63,9 +75,8 @@ export class View {
   // What the controls do.
 
   makeControls() {
-    const { examples, pages } = this.data;
-    byId("examples").append(new Option("your own script", ""),
-      ...examples.map(one => new Option(one.name, one.name)));
+    const { pages } = this.data;
+    byId("version").textContent = `Zaklimot ${this.data.version}.`;
     byId("pagedoc").href = `${pages}PAGE.md#what-is-proved`;
     byId("tabs").append(...TABS.map((tab, i) =>
       element("button", { type: "button", role: "tab", id: `tab${i + 1}`,
@@ -76,21 +87,24 @@ export class View {
       first: () => this.go(0),
       runback: () => this.find(this.active, true),
       framebefore: () => this.find(frames, true),
-      back: () => this.go(this.steps - 1),
-      next: () => this.go(this.steps + 1),
+      back: () => this.go(this.goal - 1),
+      next: () => this.go(this.goal + 1),
       frameafter: () => this.find(frames, false),
       run: () => this.run(),
       last: () => this.toEnd(),
       play: () => this.play(!this.isPlaying),
       openfile: () => byId("file").click(),
       share: () => this.share(),
+      copylink: () => this.copyLink(),
       help: () => byId("helpbox").showModal(),
       ownfonts: () => this.useFonts(this.ownFonts),
+      takeback: () => this.load(this.before.text, this.before.script),
     };
     for (const what of SAVED) clicks[`save${what}`] = () => this.save(what);
     for (const [name, does] of Object.entries(clicks)) {
       byId(name).addEventListener("click", () => this.guarded(does));
     }
+    this.saveMenu = new Menu(byId("savemenu"));
     this.makeChoices();
     this.makeFiles();
     document.addEventListener("keydown", event => this.pressed(event));
@@ -98,10 +112,17 @@ export class View {
   }
 
   makeChoices() {
-    byId("examples").addEventListener("change",
-      ({ target }) => this.guarded(() => this.loadExample(target.value)));
+    const list = byId("examples");
+    let key = "";
+    list.addEventListener("pointerdown", () => { key = ""; });
+    list.addEventListener("keydown", event => { ({ key } = event); });
+    list.addEventListener("change", () => {
+      this.guarded(() => this.choose(list.value));
+      // Whoever goes through the list by arrows goes on; once something is chosen, the page has the keys.
+      if (!/^Arrow(Up|Down)$/.test(key)) list.blur();
+    });
     byId("slider").addEventListener("input", event => this.go(Number(event.target.value)));
-    byId("notice").lastElementChild.addEventListener("click", () => this.tell(""));
+    byId("notice").lastElementChild.addEventListener("click", () => this.tell("", true));
     byId("goto").addEventListener("submit", event => {
       event.preventDefault();
       this.guarded(() => this.goTo(byId("gotokind").value, byId("gotonumber").value));
@@ -111,25 +132,30 @@ export class View {
   makeFiles() {
     const box = byId("drop");
     byId("file").addEventListener("change", event => {
-      this.openFile(event.target.files[0]);
+      this.openFiles([...event.target.files]);
       event.target.value = "";
     });
+    // Text that is dragged is the editor's.
+    const hasFiles = event => event.dataTransfer?.types.includes("Files");
     document.addEventListener("dragover", event => {
+      if (!hasFiles(event)) return;
       event.preventDefault();
       box.hidden = false;
     });
     document.addEventListener("dragleave", event => { box.hidden = event.relatedTarget === null; });
     document.addEventListener("drop", event => {
-      event.preventDefault();
       box.hidden = true;
-      this.openFile(event.dataTransfer.files[0]);
+      if (!hasFiles(event)) return;
+      event.preventDefault();
+      this.openFiles([...event.dataTransfer.files]);
     });
   }
 
   pressed(event) {
-    if (event.altKey || event.metaKey || document.querySelector("dialog[open]")) return;
-    const { tagName, type } = event.target, inText = event.target === this.editor.area;
-    const isTyping = /^(INPUT|SELECT|TEXTAREA)$/.test(tagName) && !["checkbox", "button"].includes(type);
+    if (document.querySelector("dialog[open]")) return;
+    const inText = event.target === this.editor.area, isTyping = takesText(event.target);
+    if ((inText || !isTyping) && this.pressedUndo(event)) return event.preventDefault();
+    if (event.altKey || event.metaKey) return;
     if (inText && this.pressedInText(event)) return event.preventDefault();
     if (event.key === "Escape") return document.activeElement?.blur();
     const isFunction = /^F\d+$/.test(event.key);
@@ -140,10 +166,20 @@ export class View {
     this.press(found[3], event.key);
   }
 
+  /** Whether a key undoes a change of the script, or does one again. */
+  pressedUndo({ key, ctrlKey, metaKey, altKey, shiftKey }) {
+    const way = { z: shiftKey ? "redo" : "undo", y: "redo" }[key.toLowerCase()];
+    if (!way || altKey || ctrlKey === metaKey) return false;
+    this.editor.turn(way);
+    return true;
+  }
+
   /** Whether the element of a key's event goes on by this key itself, as tabs and lists do by arrows. */
   hasOwnKeys(event) {
     const isTab = event.target.getAttribute?.("role") === "tab" && event.key.startsWith("Arrow");
-    return isTab && this.nextTab(event);
+    // A list of choices goes up and down, and to letters.
+    const isChoice = event.target.tagName === "SELECT" && !/^(Arrow(Left|Right)|Home|End|F\d+)$/.test(event.key);
+    return isChoice || (isTab && this.nextTab(event));
   }
 
   nextTab(event) {
@@ -158,11 +194,8 @@ export class View {
     if (control === "tab") return this.open(TABS[Number(key) - 1]);
     const made = byId(control);
     if (control === "gotonumber" || control === "text") return made.focus();
-    if (control === "savemenu") {
-      made.open = !made.open;
-      return made.querySelector("button, summary").focus();
-    }
-    return made.click();
+    if (control === "savemenu") return this.saveMenu.toggle();
+    return made.hidden || made.click();
   }
 
   /** Whether a key means something in the text alone. */
@@ -174,96 +207,173 @@ export class View {
     return true;
   }
 
-  /** Does something, and tells what is wrong where it can't be done. */
+  /** Does something for a control, and tells what is wrong where it can't be done. A run goes on meanwhile. */
   async guarded(does) {
     try {
       this.tell("");
       await does();
     } catch (error) {
-      await this.failed(error);
+      if (error instanceof Trouble) this.tell(error.message);
+      else await this.failed(error);
     }
   }
 
+  /** Ends what is under way, since it can't go on, and tells why. */
   async failed(error) {
-    Object.assign(this, { search: null, coming: null, isHalted: true });
+    Object.assign(this, { search: null, coming: null, asked: null, isHalted: true });
     this.play(false);
+    if (error instanceof WebAssembly.RuntimeError) return this.openAnew(error);
+    this.sayStopped();
     if (error instanceof Trouble) return this.tell(error.message);
     if (error instanceof RangeError) return this.tell(`There is no memory left for this: ${error.message}.`);
-    if (!(error instanceof WebAssembly.RuntimeError)) throw error;
-    this.session = null;
-    this.forget();
-    this.adapter = await Adapter.opened(this.module);
-    return this.tell(
-      `The module has stopped (${error.message}). It is opened anew: change the script, and it runs again.`);
+    this.tell(`The page has a fault: ${error.message}. Please report it.`);
+    throw error;
   }
 
-  /** Says something in the line above the page; an empty text takes the line away. */
-  tell(text) {
+  async openAnew({ message }) {
+    this.session = null;
+    this.forget();
+    this.sayStopped();
+    this.adapter = await Adapter.opened(this.module);
+    this.tell(
+      `The module has stopped (${message}). It is opened anew: change the script, and it runs again.`);
+  }
+
+  /** Says how far the run came, which does not go on. */
+  sayStopped() {
+    const { session } = this;
+    if (!session) return this.say("no run");
+    this.buttons();
+    if (session.isDone) return this.saySummary();
+    return this.say(`stopped: step ${grouped(session.ran)} of ${grouped(session.length)}`);
+  }
+
+  /**
+   * Says something in the line above the page; an empty text takes the line away. What `isKept` stays until
+   * the user closes it.
+   */
+  tell(text, isKept = false) {
+    if (!text && this.isToldKept && !isKept) return;
+    this.isToldKept = isKept && text !== "";
     byId("notice").hidden = !text;
     byId("notice").firstElementChild.textContent = text;
   }
 
   // Scripts.
 
-  loadExample(name) {
-    const found = this.data.examples.find(one => one.name === name);
-    if (found) this.load(found.name, found.text);
+  /** Loads what was chosen in the list of scripts. */
+  choose(value) {
+    const found = this.scripts.chosen(value);
+    if (found) return this.load(found.text, found.script);
+    this.scripts.fill();
+    if (value) throw new Trouble("This script is gone from the browser's storage.");
+    return null;
   }
 
-  load(name, text, asked = Infinity) {
-    const example = this.data.examples.find(one => one.name === name && one.text === text);
-    this.name = name.replace(/\.\w{1,6}$/, "");
-    byId("examples").value = example ? name : "";
-    byId("about").textContent = example ? example.about : name;
-    document.title = `${this.name}: Zaklimot`;
-    this.pointPanel.change(this.points.filter(point => point.kind !== "line"));
-    this.editor.load(text);
-    if (this.editor.isLong) byId("about").textContent = `${name}. ${this.editor.note}`;
+  /** Shows a script in place of the one that stands there, to which `takeback` leads. */
+  load(text, script, { asked = Infinity, isAsked = false } = {}) {
+    const { editor } = this, old = { text: editor.text, script: editor.script };
+    editor.load(text, script);
+    if (old.script && old.script !== script) this.offerBack(old);
+    this.swapLines(old.script, script);
+    this.scripts.show(script, editor.text, isAsked);
+    if (editor.isLong) byId("about").textContent = `${script.name}. ${editor.note}`;
     this.begin(asked);
   }
 
-  /** What the link or the tool that made the page asks for. */
+  /** Offers the way back to a script. */
+  offerBack({ text, script }) {
+    this.before = { text, script };
+    byId("takeback").hidden = !text.trim();
+    byId("takeback").textContent = `↶ ${this.scripts.title(script, text)}`;
+  }
+
+  /** Sets the breakpoints of another script's lines. */
+  swapLines(old, script) {
+    const isLine = point => point.kind === "line";
+    if (old) old.points = this.points.filter(isLine);
+    this.pointPanel.change([...this.points.filter(point => !isLine(point)), ...script.points ?? []]);
+  }
+
+  /** What the browser's history, the link or the tool that made the page asks for. */
   async follow() {
-    const words = new URLSearchParams(location.hash.slice(1)), { open } = this.data;
-    const asked = words.has("step") ? Number(words.get("step")) : Infinity;
-    if (TABS.includes(words.get("tab"))) this.tab = words.get("tab");
+    const opening = ++this.openings;
     await this.guarded(async () => {
-      if (words.has("fonts")) this.fonts = await unpacked(words.get("fonts"));
-      if (words.has("script")) {
-        const text = new TextDecoder().decode(await unpacked(words.get("script")));
-        return this.load("your own script", text, asked);
-      }
-      const { examples } = this.data, named = name => examples.find(one => one.name === name);
-      const example = named(words.get("example")) ?? (open ? null : named(FIRST_EXAMPLE) ?? examples[0]);
-      if (example) return this.load(example.name, example.text, asked);
-      if (open.fonts) this.fonts = bytesOfBase64(open.fonts);
-      return this.load(open.name, open.text ?? printedText(bytesOfBase64(open.bytes), this.adapter), asked);
+      const examples = this.data.examples.map(({ name }) => name);
+      const asked = await readFragment(location.hash, { tabs: TABS, examples });
+      if (opening !== this.openings) return;
+      if (asked.fonts) this.setFonts(asked.fonts);
+      if (asked.tab) this.open(asked.tab);
+      const found = this.wanted(asked);
+      if (found) this.load(found.text, found.script, { asked: asked.step, ...found });
+      else if (asked.step !== undefined) this.go(asked.step);
+      if (asked.wrong.length) throw new Trouble(asked.wrong.join(" "));
     });
   }
 
-  async openFile(file) {
-    if (!file) return;
+  /** The script that is asked for, as { text, script }; null where the one that stands there stays. */
+  wanted({ script, example }) {
+    const { scripts, data: { open, examples } } = this, { noted } = scripts;
+    if (noted) return { ...noted, asked: undefined };
+    if (script !== undefined) return { text: script, script: scripts.made("", "a script from a link"), isAsked: true };
+    if (example) return { ...scripts.example(example), isAsked: true };
+    if (this.session || this.editor.script) return null;
+    if (!open) return scripts.last ?? { ...scripts.example(FIRST_EXAMPLE) ?? scripts.example(examples[0].name),
+      isAsked: true };
+    if (open.fonts) this.setFonts(bytesOfBase64(open.fonts));
+    const text = open.text ?? printedText(bytesOfBase64(open.bytes), this.adapter);
+    return { text, script: scripts.made(open.name, open.name), isAsked: true };
+  }
+
+  async openFiles(files) {
+    if (!files.length) return;
+    const opening = ++this.openings, [{ name }] = files;
     await this.guarded(async () => {
-      const found = await contentsOf(new Uint8Array(await file.arrayBuffer()), this.adapter);
-      if (found.fonts) return this.useFonts(found.fonts, file.name);
-      return this.load(file.name, found.text);
+      const found = await contentsOf(await bytesOfFiles(files), this.adapter);
+      // Of several that are opened at a time, the last one stands there.
+      if (opening !== this.openings) return null;
+      if (found.fonts) return this.useFonts(found.fonts, name);
+      return this.load(found.text, this.scripts.made(name, name, true));
     });
+  }
+
+  setFonts(fonts) {
+    this.fonts = fonts;
+    byId("ownfonts").hidden = fonts === this.ownFonts;
   }
 
   useFonts(fonts, name = "") {
-    this.fonts = fonts;
-    byId("ownfonts").hidden = fonts === this.ownFonts;
+    this.setFonts(fonts);
     this.begin();
     if (name) this.tell(`Mode sets load the glyphs of ${name} now.`);
   }
 
-  typed() {
-    byId("examples").value = "";
-    byId("about").textContent = "";
+  /** Takes what was typed; which script the text is now. */
+  typed(change, old) {
+    const script = this.scripts.afterChange(this.editor.text, change, old);
+    this.changed(script, change, old);
+    return script;
+  }
+
+  /** Takes a change of the text, by which it is a script that may be another one. */
+  changed(script, change, old) {
+    const isNew = change.isWhole || isNewText(old, change);
+    this.isNew ||= isNew;
+    if (isNew) this.swapLines(this.scripts.now, script);
+    else this.moveLines(old, change);
+    this.scripts.show(script, this.editor.text);
     this.forget();
     clearTimeout(this.timer);
     const wait = this.editor.text.length > MUCH_TEXT ? TYPED_MUCH : TYPED;
-    this.timer = setTimeout(() => this.guarded(() => this.begin()), wait);
+    this.timer = setTimeout(() => this.guarded(() => this.begin(this.isNew ? Infinity : undefined)), wait);
+  }
+
+  /** Breakpoints go where their lines go. */
+  moveLines(old, change) {
+    if (!this.points.some(point => point.kind === "line")) return;
+    const lineAfter = linesAfter(old, change);
+    this.pointPanel.change(this.points.map(point => (point.kind === "line"
+      ? { ...point, line: lineAfter(point.line) } : point)).filter(point => point.line !== null));
   }
 
   /** Runs the text, and shows what is asked for: so many steps, or as many as before, or all. */
@@ -271,7 +381,7 @@ export class View {
     clearTimeout(this.timer);
     this.forget();
     Object.assign(this, { search: null, coming: null, isHalted: false, asked, begun: performance.now(),
-      shownAt: performance.now() });
+      shownAt: performance.now(), isNew: false });
     this.play(false);
     try {
       const { text } = this.editor, judged = judgedText(this.adapter, text);
@@ -279,8 +389,9 @@ export class View {
       this.session = null;
       this.session = new Session(this.adapter, this.fonts, text, judged);
     } catch (error) {
-      if (!(error instanceof Trouble) || !error.line) throw error;
-      return this.blame(error);
+      if (error instanceof Trouble && error.line) return this.blame(error);
+      this.sayStopped();
+      throw error;
     }
     this.editor.blame(null);
     this.editor.isStale = false;
@@ -404,8 +515,14 @@ export class View {
     this.come(Math.max(0, Math.min(steps, this.session.length)));
   }
 
+  /** The step that is shown, or will be: keys may come faster than pictures. */
+  get goal() {
+    return this.coming ?? this.steps;
+  }
+
   come(steps) {
     this.coming = steps;
+    this.buttons();
     this.wake();
   }
 
@@ -470,7 +587,12 @@ export class View {
       this.say(`looking at step ${grouped(search.looked + 1)} of ${grouped(this.session.length)}`);
       return;
     }
-    this.search = null;
+    if (found.steps && this.isLate && found.steps < this.session.length && this.passed++ < MOST_PASSED) {
+      this.due += this.frameTime();
+      this.search = { search: new Search(this.session, points, found.steps, false), points, isBack };
+      return;
+    }
+    Object.assign(this, { search: null, passed: 0 });
     const steps = found.steps ?? (isBack ? 0 : this.session.length);
     this.come(steps);
     if (found.ended) this.play(false);
@@ -512,13 +634,29 @@ export class View {
     setText(byId("play"), isOn ? "pause" : "play");
     if (!isOn || !this.session) return;
     if (this.steps >= this.session.length) this.come(0);
+    Object.assign(this, { due: performance.now(), passed: 0 });
     this.playOn();
   }
 
+  /** Shows the next frame when its time has come, by the clock that the registers select. */
   playOn() {
     if (!this.isPlaying) return;
-    if (this.coming === null && !this.search) this.find([{ kind: "frame" }], false);
-    setTimeout(() => this.playOn(), 15);
+    const now = performance.now();
+    if (this.coming === null && !this.search && now >= this.due) {
+      this.find([{ kind: "frame" }], false);
+      this.due = Math.max(now - MOST_LATE, this.due + this.frameTime());
+    }
+    setTimeout(() => this.playOn(), Math.min(SOON, Math.max(0, this.due - now)));
+  }
+
+  /** How long the frame under way lasts, in milliseconds. */
+  frameTime() {
+    return this.seen ? 1000 * frameSeconds(this.seen.after.registers) : SOON;
+  }
+
+  /** Whether a frame that was found is passed over, since the next one is due. */
+  get isLate() {
+    return this.isPlaying && performance.now() > this.due + this.frameTime();
   }
 
   pointsChanged(points) {
@@ -550,7 +688,7 @@ export class View {
       return;
     }
     const entry = outline.entryOf(steps - 1), words = outline.wordsOf(entry);
-    const answer = session.answers.get(steps - 1), { place, step, told } = this.last;
+    const answer = session.answerOf(steps - 1), { place, step, told } = this.last;
     place.data =
       `After step ${grouped(steps)} of ${grouped(session.length)}, line ${grouped(outline.lineOf(entry))}: `;
     setText(step, words.slice(0, MOST_WORDS));
@@ -590,8 +728,8 @@ export class View {
 
   buttons() {
     setText(byId("run"), this.isBusy && !this.isPlaying ? "stop ■" : "run ▶▶");
-    const isAtEnd = this.session.isDone && this.steps >= this.session.length;
-    for (const name of ["first", "back", "framebefore", "runback"]) byId(name).disabled = this.steps === 0;
+    const { goal } = this, isAtEnd = this.session.isDone && goal >= this.session.length;
+    for (const name of ["first", "back", "framebefore", "runback"]) byId(name).disabled = goal === 0;
     for (const name of ["next", "frameafter", "last"]) byId(name).disabled = isAtEnd;
   }
 
@@ -608,13 +746,33 @@ export class View {
       (isTooLong ? ", more than many programs take: save the script as a file."
         : ", and holds the whole script.");
     byId("link").value = link;
+    byId("copied").textContent = "";
     byId("linkbox").showModal();
     byId("link").select();
   }
 
+  /** Puts the link into the clipboard, where the browser lets the page. */
+  async copyLink() {
+    byId("link").select();
+    let isDone = document.execCommand("copy");
+    if (!isDone) isDone = await navigator.clipboard?.writeText(byId("link").value).then(() => true, () => false);
+    byId("copied").textContent = isDone ? "Copied." : "This browser does not let the page: press Ctrl+C.";
+  }
+
+  /** Saves, one thing at a time. */
   async save(what) {
-    byId("savemenu").open = false;
-    const { session, name, seen } = this;
+    this.saveMenu.close();
+    if (this.isSaving) throw new Trouble("Something is being saved: wait until it is done.");
+    this.isSaving = true;
+    try {
+      await this.saveNow(what);
+    } finally {
+      this.isSaving = false;
+    }
+  }
+
+  async saveNow(what) {
+    const { session, seen, scripts: { now: { name } } } = this;
     if (what === "text") return saveFile(`${name}.vga`, new TextEncoder().encode(this.editor.text),
       "text/plain");
     if (!session || !seen || this.editor.isStale) {

@@ -653,6 +653,15 @@ await check("a module that traps is opened anew", async () => {
   await browser.value("window.traps = true");
   await browser.click("#back");
   await says("#notice", "The module has stopped (unreachable). It is opened anew");
+  assert.equal(await text("state"), "no run");
+  await set("text", "int ax=3\nframe\n", "input");
+  await browser.until(IDLE);
+  await stepIs(2);
+  // Amid a run, too.
+  await set("text", "version 2\nint ax=3\nrepeat 65535\nint ax=E41\nframe\nend\n", "input");
+  await browser.until("document.getElementById('state').textContent.startsWith('running: step')");
+  await browser.value("window.traps = true");
+  await browser.until("document.getElementById('state').textContent === 'no run'");
   await set("text", "int ax=3\nframe\n", "input");
   await browser.until(IDLE);
   await stepIs(2);

@@ -176,11 +176,21 @@ export class Browser {
     }
   }
 
+  /** Moves the pointer from a place to another with its button held. */
+  async drag([left, top], [x, y]) {
+    const steps = [["mouseMoved", left, top], ["mousePressed", left, top], ["mouseMoved", (left + x) / 2, y],
+      ["mouseMoved", x, y], ["mouseReleased", x, y]];
+    for (const [type, across, down] of steps) {
+      await this.send("Input.dispatchMouseEvent", { type, x: across, y: down, button: "left", clickCount: 1 });
+    }
+  }
+
   /** Presses a key: { key, code, text, shift, control }. */
   async press(key, { shift = false, control = false } = {}) {
     const text = key.length === 1 && !control ? key : key === "Enter" ? "\r" : undefined,
       modifiers = (shift ? 8 : 0) + (control ? 2 : 0);
-    const codes = { ArrowLeft: 37, ArrowRight: 39, Home: 36, End: 35, Enter: 13, Escape: 27, Tab: 9, F8: 119,
+    const codes = { ArrowLeft: 37, ArrowRight: 39, Home: 36, End: 35, Enter: 13, Escape: 27, Tab: 9, Backspace: 8,
+      ArrowUp: 38, ArrowDown: 40, F8: 119,
       F9: 120, F10: 121 };
     const windowsVirtualKeyCode = codes[key] ?? key.toUpperCase().charCodeAt(0);
     await this.send("Input.dispatchKeyEvent", { type: text ? "keyDown" : "rawKeyDown", key, text, modifiers,

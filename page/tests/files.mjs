@@ -5,9 +5,11 @@ import { execFileSync } from "node:child_process";
 import { deflateRawSync, gzipSync, inflateSync } from "node:zlib";
 import { mkdtempSync, readFileSync, rmSync, writeFileSync } from "node:fs";
 import { tmpdir } from "node:os";
-import { apngOf, packedRows, pngOf } from "../png.js";
+import { Session } from "../session.js";
+import { apngOf, packedRows, padded, pngOf } from "../png.js";
+import { apngOfRun } from "../saving.js";
 import { base64OfBytes, bytesOfBase64, counted, grouped } from "../bytes.js";
-import { contentsOf, packed, unpacked } from "../share.js";
+import { bytesOfFiles, contentsOf, packed, readFragment, unpacked } from "../share.js";
 import { textOfTrace, traceForm } from "../trace.js";
 import { FONTS, TOP, examples, loadAdapter } from "./loading.mjs";
 
@@ -38,6 +40,40 @@ test("links that are damaged are told, and those that unpack without an end", as
   await assert.rejects(unpacked("AAAA"), /damaged/);
   await assert.rejects(unpacked(base64OfBytes(deflateRawSync(Buffer.alloc(1 << 25)))),
     /more than 16,777,216 bytes/);
+});
+
+test("what a fragment asks for, and what is wrong in a hostile one", async () => {
+  const names = { tabs: ["registers", "BIOS data"], examples: ["hunt"] };
+  const asked = fragment => readFragment(fragment, names), fonts = await packed(FONTS);
+  const script = await packed(bytesOf("frame ; é\n"));
+  assert.deepEqual(await asked(""), { wrong: [] });
+  assert.deepEqual(await asked(`#step=7&tab=BIOS+data&example=hunt&script=${script}&fonts=${fonts}&other=5`),
+    { wrong: [], step: 7, tab: "BIOS data", example: "hunt", fonts: FONTS, script: "frame ; é\n" });
+  const short = await packed(FONTS.subarray(1)), long = await packed(new Uint8Array(1 << 24));
+  for (const [fragment, said] of [
+    ["step=abc", /^step=abc names no step/], ["step=-5", /names no step/], ["step=0.5", /names no step/],
+    ["step=", /names no step/], ["step=1e3", /names no step/], [`step=${"9".repeat(99)}`, /^step=9{40} … names no/],
+    ["tab=none", /names none of registers, BIOS data/], ["example=<b>", /^example=<b> names no example/],
+    ["fonts=AAAA", /The font file in this link is damaged/], ["fonts=", /The font file in this link is damaged/],
+    [`fonts=${short}`, /has 9,727 bytes, and needs 9,728/], [`fonts=${long}`, /more than 9,728 bytes/],
+    ["script=%%%", /script in this link is damaged/], ["script=AAAA", /damaged/], ["script=", /damaged/],
+    [`script=${script.slice(0, -3)}`, /damaged/],
+    [`script=${await packed(Uint8Array.of(0x66, 0xff, 0xfe))}`, /no text in UTF-8/],
+  ]) {
+    const { wrong, ...others } = await asked(`#${fragment}&unknown`);
+    assert.deepEqual([wrong.length, others], [1, {}], fragment);
+    assert.match(wrong[0], said, fragment);
+  }
+  assert.equal((await asked("#step=x&tab=x&script=x")).wrong.length, 3);
+});
+
+test("a file that is opened: one, which can be read", async () => {
+  const file = (name, more) => ({ name, size: 3, arrayBuffer: async () => new Uint8Array([1, 2, 3]).buffer, ...more });
+  assert.deepEqual(await bytesOfFiles([file("a")]), Uint8Array.of(1, 2, 3));
+  await assert.rejects(bytesOfFiles([file("a"), file("b")]), /^Error: These are 2 files: open one at a time\.$/);
+  await assert.rejects(bytesOfFiles([file("a", { size: 2 ** 28 + 1 })]), /a has more than 268,435,456 bytes/);
+  const arrayBuffer = async () => { throw new DOMException("not found", "NotFoundError"); };
+  await assert.rejects(bytesOfFiles([file("folder", { arrayBuffer })]), /folder is a folder, or a file that/);
 });
 
 test("base64 of any length, and counts", () => {
@@ -149,7 +185,20 @@ for seconds in (0.0142, 1.5):
 animation.write(sys.stdout.buffer)`;
   const theirs = execFileSync("python3", ["-c", source], { cwd: TOP });
   assert.deepEqual(animated(apngOf(frames)), animated(theirs));
-  assert.throws(() => apngOf([frames[0], { ...frames[1], width: 8 }]), /another size/);
+  assert.throws(() => apngOf([frames[0], { ...frames[1], width: 8 }]), /Frame 2 is larger/);
+});
+
+test("pictures of several sizes move in one PNG, and none shows through another", async () => {
+  const session = new Session(adapter, FONTS, "int ax=3\nframe\nint ax=13\nframe\nint ax=12\nframe\n");
+  const png = Buffer.from(await apngOfRun(session, () => true)), sizes = [];
+  for (let at = 8; at < png.length; at += 12 + png.readUInt32BE(at)) {
+    if (png.toString("latin1", at + 4, at + 8) !== "fcTL") continue;
+    sizes.push([png.readUInt32BE(at + 12), png.readUInt32BE(at + 16), png[at + 32]]);
+  }
+  assert.deepEqual([png.readUInt32BE(16), png.readUInt32BE(20)], [720, 480]);
+  assert.deepEqual(sizes, [[720, 480, 1], [640, 400, 1], [640, 480, 1]]);
+  const black = padded({ width: 1, height: 1, rgb: Uint8Array.of(1, 2, 3) }, 2, 2);
+  assert.deepEqual([...black.rgb], [1, 2, 3, 0, 0, 0, 0, 0, 0, 0, 0, 0]);
 });
 
 /** The chunks of an APNG, with what they pack unpacked. */

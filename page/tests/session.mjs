@@ -230,3 +230,11 @@ test("where the module has no memory, it is told", async () => {
   assert.throws(() => judgedText(small, "frame\n".repeat(2700000)), /no memory left/);
   assert.equal(judgedText(small, "frame").outline.length, 1);
 });
+
+test("a picture's answer is shown by its size, and any other as it is", async () => {
+  const session = runWhole(new Session(await loadAdapter(), FONTS, "int ax=3\nframe\nin 3DA\nint ax=13\nframe\n"));
+  assert.deepEqual([0, 1, 2, 3, 4].map(step => session.answerOf(step)),
+    ["ax=0003 bx=0000 cx=0000 dx=0000", "picture 720x400", "00", "ax=0013 bx=0000 cx=0000 dx=0000",
+      "picture 640x400"]);
+  assert.equal(session.answers.get(1), "picture 864014");
+});

@@ -5,8 +5,8 @@ import { PATIENCE } from "./driving.mjs";
 
 const PAUSE = 20;
 // WebDriver's numbers of keys.
-const KEY_CODES = { Shift: 0xe008, Control: 0xe009, Escape: 0xe00c, End: 0xe010, Home: 0xe011,
-  ArrowLeft: 0xe012, ArrowRight: 0xe014 };
+const KEY_CODES = { Backspace: 0xe003, Enter: 0xe007, Shift: 0xe008, Control: 0xe009, Escape: 0xe00c,
+  End: 0xe010, Home: 0xe011, ArrowLeft: 0xe012, ArrowUp: 0xe013, ArrowRight: 0xe014, ArrowDown: 0xe015 };
 const ELEMENT = "element-6066-11e4-a52e-4f735466cecf";
 /** In the page: keeps what it says in the console, and the errors that it doesn't catch. */
 const HEAR = `(() => {
@@ -89,6 +89,13 @@ export class Driven {
   async clickAt(x, y) {
     await this.moveTo(x, y);
     await this.act(pointer([{ type: "pointerDown", button: 0 }, { type: "pointerUp", button: 0 }]));
+  }
+
+  /** Moves the pointer from a place to another with its button held. */
+  async drag([left, top], [x, y]) {
+    const move = (across, down) => ({ type: "pointerMove", duration: 50, origin: "viewport", x: across, y: down });
+    await this.act(pointer([move(left, top), { type: "pointerDown", button: 0 }, move(x, y),
+      { type: "pointerUp", button: 0 }]));
   }
 
   async click(selector) {

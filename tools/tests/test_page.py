@@ -87,7 +87,7 @@ class Pages(unittest.TestCase):
         fits = "x" * (page.MOST_BYTES - length)
         self.assertEqual(len(make_page(b"", small_sources(f"{fits}\n"))), page.MOST_BYTES)
         told = refused(make_page, b"", small_sources(f"{fits}x\n"))
-        self.assertEqual(told, "zaklimot.html: it would have 400,001 bytes, and 400,000 are the most")
+        self.assertEqual(told, "zaklimot.html: it would have 800,001 bytes, and 800,000 are the most")
 
     def test_what_an_example_is_about(self) -> None:
         hold(self, about, (

@@ -26,7 +26,7 @@ SOURCES = PAGE.parent
 EXAMPLES = TOP / "examples"
 SCRIPT, STYLE, DATA = (f"<!-- zaklimot:{name} -->" for name in ("script", "style", "data"))
 # The page as built has at most so many bytes.
-MOST_BYTES = 400_000
+MOST_BYTES = 800_000
 # From the page as built, where the documentation's pages lie.
 PAGES = "../docs/"
 LEVEL = 9

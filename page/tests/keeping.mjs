@@ -1,0 +1,490 @@
+// The page in a browser, as a person uses it with keys and pointer: nothing that was typed is lost, and no
+// control keeps the keyboard.
+// node page/tests/keeping.mjs [ENGINE [WORDS]]: ENGINE is chromium or firefox. With WORDS only the checks are done
+// whose names have them. ZAKLIMOT_PAGE names another page.
+import assert from "node:assert/strict";
+import { mkdtempSync, rmSync, writeFileSync } from "node:fs";
+import { tmpdir } from "node:os";
+import { resolve } from "node:path";
+import { pathToFileURL } from "node:url";
+import { begun } from "./engines.mjs";
+import { IDLE, fragmentOf } from "./jumps.mjs";
+import { PAGE } from "./loading.mjs";
+
+const ADDRESS = pathToFileURL(resolve(PAGE)).href, WINDOW = { width: 1280, height: 860 };
+const { browser } = await begun(), seen = [], folder = mkdtempSync(`${tmpdir()}/zaklimot-keeping-`);
+const OWN = "; my own bars\nint ax=3\nin 3DA\nframe\n", OTHER = "; another one\nin 3CC\nin 3DA\n";
+
+const until = condition => browser.until(condition, 40000);
+const value = id => browser.value(`document.getElementById("${id}").value`);
+const text = id => browser.value(`document.getElementById("${id}").textContent`);
+const pause = () => browser.value("new Promise(done => setTimeout(done, 60))");
+
+async function check(name, does) {
+  try {
+    await does();
+    assert.deepEqual(await browser.heard(), [], "the console");
+    seen.push(name);
+  } catch (error) {
+    error.message = `${name}: ${error.message}`;
+    throw error;
+  }
+}
+
+async function open(hash = "", address = ADDRESS) {
+  await browser.open(address + hash);
+  await until(IDLE);
+  await pause();
+}
+
+/** Does something by which the page goes elsewhere, and waits for the page that is there then. */
+async function leaving(does) {
+  await browser.value(`(() => { window.isOld = true; setTimeout(() => { ${does}; }, 0); })()`);
+  await new Promise(done => setTimeout(done, 200));
+  await until(`!window.isOld && document.readyState === "complete" && ${IDLE}`);
+}
+
+const reload = () => leaving("location.reload()");
+
+/** Puts the caret at a place of the text; at its end if none is told. */
+async function caretAt(place) {
+  await browser.value(`(() => { const area = document.getElementById("text"), at = ${place ?? "area.value.length"};
+    area.focus(); area.setSelectionRange(at, at); })()`);
+}
+
+async function textIs(wanted) {
+  await until(`document.getElementById("text")?.value === ${JSON.stringify(wanted)}`);
+  await until(IDLE);
+}
+
+async function stepIs(step) {
+  const told = step ? `After step ${step} of` : "Power-on: no step";
+  await until(`document.getElementById("laststep").textContent.startsWith("${told}")`);
+}
+
+/** Pastes a text over the one in the page. */
+async function paste(script) {
+  await browser.click("#text");
+  await browser.selectAll();
+  await browser.paste(script);
+  await textIs(script);
+}
+
+/** Chooses an entry of the list of scripts, as by its list that opens: the pointer, and then the entry. */
+async function choose(entry) {
+  await browser.value(`(() => {
+    const list = document.getElementById("examples");
+    list.dispatchEvent(new PointerEvent("pointerdown", { bubbles: true }));
+    list.focus();
+    const found = [...list.options].find(({ text, value }) => value === ${JSON.stringify(entry)} ||
+      text.startsWith(${JSON.stringify(entry)}));
+    list.value = found.value;
+    list.dispatchEvent(new Event("input", { bubbles: true }));
+    list.dispatchEvent(new Event("change", { bubbles: true }));
+  })()`);
+  await pause();
+  await until(IDLE);
+}
+
+/** Drags the knob of a slider half its way, by the pointer. */
+async function drag(selector) {
+  const [x, y, width] = await browser.value(`(() => {
+    const box = document.querySelector("${selector}").getBoundingClientRect();
+    return [Math.round(box.left) + 8, Math.round(box.top + box.height / 2), Math.round(box.width)]; })()`);
+  await browser.drag([x, y], [x + Math.round(width / 2), y]);
+}
+
+/** Drops files, which an expression makes, onto the page. */
+async function drop(files) {
+  await browser.value(`(() => {
+    const data = new DataTransfer();
+    for (const file of ${files}) data.items.add(file);
+    for (const kind of ["dragover", "drop"]) {
+      document.body.dispatchEvent(new DragEvent(kind, { bubbles: true, cancelable: true, dataTransfer: data }));
+    }
+  })()`);
+}
+
+const listed = () => browser.value(`(() => {
+  const list = document.getElementById("examples");
+  list.dispatchEvent(new PointerEvent("pointerdown", { bubbles: true }));
+  return [...list.querySelectorAll("optgroup:not(:last-child) option")].map(one => one.text);
+})()`);
+
+/** Takes away what earlier checks have kept. */
+async function forget() {
+  await open();
+  await browser.value("(() => { localStorage.clear(); history.replaceState(null, ''); })()");
+}
+
+const CHECKS = {
+  async "what was typed stands there after a reload"() {
+    await forget();
+    await open("#example=copper-bars");
+    await paste(OWN);
+    await reload();
+    await textIs(OWN);
+    assert.equal(await text("about"), "");
+    await caretAt();
+    await browser.type(";");
+    // Before the page has run it, too.
+    await reload();
+    await until(`document.getElementById("text").value === ${JSON.stringify(`${OWN};`)}`);
+    await caretAt();
+    await browser.press("Backspace");
+    await textIs(OWN);
+  },
+
+  async "it stands there after Back, and after another page"() {
+    await browser.value(`void setTimeout(() => { location.href = "about:blank"; }, 0)`);
+    await until("location.href === 'about:blank'");
+    await browser.value("void setTimeout(() => history.back(), 0)");
+    await until(IDLE);
+    await textIs(OWN);
+  },
+
+  async "a fragment that changes loads its script, and Back, or a press, gives back the own one"() {
+    await browser.value("void (location.hash = '#example=hunt')");
+    await until("document.title.startsWith('hunt')");
+    await browser.value("void setTimeout(() => history.back(), 0)");
+    await textIs(OWN);
+    await browser.value("void (location.hash = '#example=hunt&step=3')");
+    await until("document.title.startsWith('hunt')");
+    await stepIs(3);
+    await browser.click("#takeback");
+    await textIs(OWN);
+    await browser.press("u");
+    await until("document.title.startsWith('hunt')");
+    await browser.press("u");
+    await textIs(OWN);
+  },
+
+  async "a fragment that names no script leaves the one that stands there"() {
+    await browser.value("void (location.hash = '#step=2')");
+    await stepIs(2);
+    assert.equal(await value("text"), OWN);
+    await browser.value("void (location.hash = '#tab=memory')");
+    await until(`document.getElementById("tab2").getAttribute("aria-selected") === "true"`);
+    assert.equal(await value("text"), OWN);
+  },
+
+  async "it stands there in a page that is opened anew, as after a crash"() {
+    await open();
+    await textIs(OWN);
+  },
+
+  async "Ctrl+Z after loading gives back the own script, and mixes none"() {
+    await forget();
+    await open();
+    const first = await value("text");
+    await paste(OWN);
+    await choose("hunt");
+    const hunt = await value("text");
+    assert.ok(hunt !== OWN && hunt.length > 100);
+    await browser.click("#text");
+    await browser.press("z", { control: true });
+    await textIs(OWN);
+    await browser.press("z", { control: true });
+    await textIs(first);
+    await browser.press("y", { control: true });
+    await textIs(OWN);
+    await browser.press("y", { control: true });
+    await textIs(hunt);
+    assert.equal(await value("examples"), "hunt");
+    await browser.press("Escape");
+    await browser.press("z", { control: true });
+    await textIs(OWN);
+  },
+
+  async "the list has the last scripts by their first comment, with a way back to each"() {
+    await paste(OTHER);
+    await choose("raster-bands");
+    const names = await listed();
+    assert.equal(names.length, 2);
+    assert.match(names[0], /^another one · .*\d/);
+    assert.match(names[1], /^my own bars · .*\d/);
+    await choose("my own bars");
+    await textIs(OWN);
+    await choose("another one");
+    await textIs(OTHER);
+    await reload();
+    assert.deepEqual((await listed()).length, 2);
+    await textIs(OTHER);
+  },
+
+  async "a script that is pasted over an example is no longer that example"() {
+    await choose("hunt");
+    assert.match(await browser.value("document.title"), /^hunt:/);
+    await paste(OWN);
+    assert.match(await browser.value("document.title"), /^script:/);
+    assert.ok(!/hunt/.test(await value("examples")) && await text("about") === "");
+    await paste(await browser.value("document.title") && OTHER);
+    await browser.press("z", { control: true });
+    await browser.press("z", { control: true });
+    await until("document.title.startsWith('hunt:')");
+    assert.equal(await value("examples"), "hunt");
+  },
+
+  async "a new text starts at its end, and a changed one at the same step"() {
+    await paste(OWN);
+    await browser.press("Escape");
+    await browser.press("Home");
+    await browser.press("ArrowRight");
+    await stepIs(1);
+    await caretAt();
+    await browser.type("f");
+    await browser.type("rame");
+    await textIs(`${OWN}frame`);
+    await stepIs(1);
+    await paste(OTHER);
+    await stepIs(2);
+  },
+
+  async "breakpoints follow their lines"() {
+    await paste(OWN);
+    await browser.click(".number[data-line='3']");
+    await caretAt(0);
+    await browser.press("Enter");
+    await textIs(`\n${OWN}`);
+    const points = () => browser.value(
+      "[...document.querySelectorAll('.number.point')].map(one => one.dataset.line).join()");
+    assert.equal(await points(), "4");
+    await browser.press("z", { control: true });
+    await textIs(OWN);
+    assert.equal(await points(), "3");
+    // Those of another script are its own.
+    await choose("hunt");
+    assert.equal(await points(), "");
+    await browser.press("u");
+    await textIs(OWN);
+    assert.equal(await points(), "3");
+    await browser.click(".number[data-line='3']");
+  },
+
+  async "a file that was opened is kept under its name"() {
+    writeFileSync(`${folder}/mine.vga`, OTHER);
+    await browser.choose("#file", `${folder}/mine.vga`);
+    await textIs(OTHER);
+    await reload();
+    await textIs(OTHER);
+    assert.match(await browser.value("document.title"), /^mine:/);
+  },
+
+  async "a storage that is full is told once, and the page goes on"() {
+    await forget();
+    await open("#example=hunt");
+    await browser.value(`(() => {
+      for (let size = 1 << 23; size; size >>= 1) {
+        try { localStorage.setItem("other" + size, "x".repeat(size)); } catch { }
+      }
+    })()`);
+    await paste(OWN);
+    await until("document.getElementById('notice').textContent.includes('storage is full')");
+    await pause();
+    assert.equal(await browser.value("document.getElementById('notice').hidden"), false);
+    await browser.click("#notice button");
+    await paste(OTHER);
+    assert.equal(await browser.value("document.getElementById('notice').hidden"), true);
+    await forget();
+  },
+
+  async "after an example was chosen, keys are the page's"() {
+    await choose("copper-bars");
+    assert.equal(await browser.value("document.activeElement.tagName"), "BODY");
+    await browser.press("Home");
+    await stepIs(0);
+    for (let step = 1; step < 4; step++) await browser.press("ArrowRight");
+    await stepIs(3);
+    assert.equal(await value("examples"), "copper-bars");
+    // By keys alone: the list goes up and down, and the other keys are the page's.
+    await browser.value("document.getElementById('examples').focus()");
+    await browser.press("Home");
+    await stepIs(0);
+    await browser.press("ArrowRight");
+    await stepIs(1);
+    await browser.press("End");
+    await until("document.getElementById('next').disabled");
+    assert.equal(await value("examples"), "copper-bars");
+    await browser.press("Escape");
+  },
+
+  async "after the slider was dragged, keys are the page's"() {
+    await browser.press("Home");
+    await stepIs(0);
+    await drag("#slider");
+    await until("!document.getElementById('laststep').textContent.startsWith('Power-on')");
+    assert.equal(await browser.value("document.activeElement.id"), "slider");
+    await browser.press("Home");
+    await stepIs(0);
+    await browser.press("p");
+    await until("document.getElementById('play').textContent === 'pause'");
+    await browser.press("p");
+    await until("document.getElementById('play').textContent === 'play'");
+    await browser.press("3");
+    await until(`document.getElementById("tab3").getAttribute("aria-selected") === "true"`);
+    await browser.press("1");
+  },
+
+  async "a hostile fragment is told in a sentence, and the page stays usable"() {
+    await forget();
+    const cut = (await fragmentOf(OWN)).slice(0, -4);
+    for (const [hash, said, count] of [["#step=abc", "step=abc names no step", 0], ["#step=-5", "names no step", 0],
+      ["#example=hunt&step=0.5", "names no step", 0], ["#fonts=AAAA", "font file in this link is damaged", 0],
+      ["#fonts=Y2AYBSMFAAA", "needs 9,728", 0], [cut, "script in this link is damaged", 0],
+      ["#script=%%%&fonts=x", "damaged", 0], ["#tab=none", "names none of", 0], ["#%E0%A4", "", 0]]) {
+      await open(hash);
+      const notice = await text("notice");
+      assert.ok(notice.includes(said), `${hash}: ${notice}`);
+      assert.ok((await value("text")).length > 50 && /^\d+ steps/.test(await text("state")), hash);
+      await browser.press("Home");
+      await stepIs(count);
+      await browser.press("ArrowRight");
+      await stepIs(1);
+    }
+    await paste(OWN);
+    await stepIs(3);
+    await browser.value("void (location.hash = '#script=AAAA')");
+    await until("document.getElementById('notice').textContent.includes('damaged')");
+    assert.equal(await value("text"), OWN);
+  },
+
+  async "several files, a folder, and junk amid a run"() {
+    await open();
+    await paste(OWN);
+    await drop('[new File(["frame"], "a.vga"), new File(["frame"], "b.vga")]');
+    await until("document.getElementById('notice').textContent.includes('These are 2 files')");
+    if (browser.send) {
+      for (const type of ["dragEnter", "dragOver", "drop"]) {
+        await browser.send("Input.dispatchDragEvent", { type, x: 300, y: 300,
+          data: { items: [], files: [folder], dragOperationsMask: 1 } });
+      }
+      await until("document.getElementById('notice').textContent.includes('is a folder')");
+      assert.equal(await browser.value("document.getElementById('drop').hidden"), true);
+    }
+    assert.equal(await value("text"), OWN);
+    await browser.open(ADDRESS + await fragmentOf("version 2\nint ax=3\nrepeat 1000\nint ax=E41\nframe\nend\n"));
+    await until("document.getElementById('state').textContent.startsWith('running: step')");
+    await drop('[new File([Uint8Array.from({ length: 99 }, (_, i) => i)], "junk")]');
+    await until("document.getElementById('notice').textContent.includes('no script, no trace')");
+    // The run goes on to its end.
+    await browser.until("document.getElementById('state').textContent.startsWith('2,001 steps')");
+    await browser.open(ADDRESS + await fragmentOf("version 2\nint ax=3\nrepeat 60000\nint ax=E41\nframe\nend\n"));
+    await until("document.getElementById('state').textContent.startsWith('running: step')");
+    await drop('[new File(["in 3CC\\nframe\\n"], "b.vga")]');
+    await textIs("in 3CC\nframe\n");
+    await stepIs(2);
+  },
+
+  async "text that is dragged into the script is not taken for a file"() {
+    const isTaken = await browser.value(`(() => {
+      const data = new DataTransfer();
+      data.setData("text/plain", "frame");
+      const event = new DragEvent("dragover", { bubbles: true, cancelable: true, dataTransfer: data });
+      document.getElementById("text").dispatchEvent(event);
+      return event.defaultPrevented || !document.getElementById("drop").hidden;
+    })()`);
+    assert.equal(isTaken, false);
+  },
+
+  async "words: what a call hands back, a picture's size, whose palette mode 13 has, the version"() {
+    await open();
+    await paste(OWN);
+    const answers = await browser.value("[...document.querySelectorAll('.answer')].map(one => one.textContent).join()");
+    assert.match(answers, /ax to dx as given,00,picture 720x400/);
+    assert.equal(await text("laststep"), "After step 3 of 3, line 4: frame answers picture 720x400");
+    await browser.press("Escape");
+    await browser.press("4");
+    const isTold = "!document.querySelector('.colours .hint').hidden";
+    assert.equal(await browser.value(isTold), false);
+    await paste("int ax=13\nframe\n");
+    await until(isTold);
+    assert.match(await browser.value("document.querySelector('.colours .hint').textContent"), /not IBM's/);
+    assert.match(await text("version"), /^Zaklimot \d+\.\d+/);
+    await browser.press("Escape");
+    await browser.press("1");
+  },
+
+  async "the Save menu by keys, and what closes it"() {
+    const isOpen = () => browser.value("document.getElementById('savemenu').open");
+    const here = () => browser.value("document.activeElement.id || document.activeElement.tagName");
+    await open();
+    await browser.press("s");
+    assert.deepEqual([await isOpen(), await here()], [true, "savetext"]);
+    for (const [key, wanted] of [["ArrowDown", "savebytes"], ["ArrowUp", "savetext"], ["ArrowUp", "saveapng"],
+      ["ArrowDown", "savetext"], ["End", "saveapng"], ["Home", "savetext"]]) {
+      await browser.press(key);
+      assert.equal(await here(), wanted, key);
+    }
+    // While it is open, keys are its own.
+    await browser.press("p");
+    assert.equal(await text("play"), "play");
+    await browser.press("Escape");
+    assert.deepEqual([await isOpen(), await here()], [false, "SUMMARY"]);
+    await browser.press("Enter");
+    assert.equal(await isOpen(), true);
+    await browser.click("#laststep");
+    assert.equal(await isOpen(), false);
+    await browser.click("#savemenu summary");
+    assert.equal(await isOpen(), true);
+    await browser.press("ArrowDown");
+    assert.equal(await here(), "savetext");
+    await browser.press("Enter");
+    assert.equal(await isOpen(), false);
+  },
+
+  async "one thing is saved at a time"() {
+    await open();
+    await paste("version 2\nint ax=3\nrepeat 60\nframe\nend\n");
+    // Counts what is handed to the browser.
+    await browser.value(`(() => { window.saved = 0; HTMLAnchorElement.prototype.click = () => { window.saved++; }; })()`);
+    for (let time = 0; time < 3; time++) {
+      await browser.click("#savemenu summary");
+      await browser.click("#saveapng");
+    }
+    assert.match(await text("notice"), /Something is being saved/);
+    await until("window.saved === 1");
+    await new Promise(done => setTimeout(done, 1500));
+    assert.equal(await browser.value("window.saved"), 1);
+    await browser.click("#savemenu summary");
+    await browser.click("#savetext");
+    await until("window.saved === 2");
+  },
+
+  async "a link is copied at a press"() {
+    await open();
+    await browser.press("l");
+    await until("document.getElementById('linkbox').open");
+    await browser.value("document.addEventListener('copy', () => { window.copied = getSelection().toString() || " +
+      "document.getElementById('link').value.slice(document.getElementById('link').selectionStart); })");
+    await browser.click("#copylink");
+    await until("document.getElementById('copied').textContent === 'Copied.'");
+    assert.equal(await browser.value("window.copied === document.getElementById('link').value"), true);
+    await browser.press("Escape");
+  },
+
+  async "play shows frames at the mode's rate"() {
+    await open();
+    // 280 frames of mode 3, of which 70.09 come in a second.
+    await paste("version 2\nint ax=3\nrepeat 280\nframe\nend\n");
+    await browser.press("Escape");
+    await browser.press("Home");
+    await stepIs(0);
+    const seconds = await browser.value(`(async () => {
+      const begun = performance.now(), isAt = word => document.getElementById("play").textContent === word;
+      document.getElementById("play").click();
+      do await new Promise(done => setTimeout(done, 5)); while (isAt("pause"));
+      return (performance.now() - begun) / 1000;
+    })()`);
+    assert.ok(seconds > 3.7 && seconds < 5.5, `${seconds} seconds for 4.0`);
+  },
+};
+
+try {
+  await browser.look(WINDOW);
+  const only = process.argv[3] ?? "";
+  for (const [name, does] of Object.entries(CHECKS)) if (name.includes(only)) await check(name, does);
+  console.log(`${seen.length} checks in ${browser.name}: ${seen.join("; ")}; the console is empty`);
+} finally {
+  await browser.stop();
+  rmSync(folder, { recursive: true });
+}
