@@ -127,7 +127,7 @@ COUNTED: dict[str, tuple[Sequence[str], Sequence[str], str]] = {
 
 def expect(name: str, written: str) -> None:
     """What a program writes is to be the text beside its source."""
-    wanted = (SOURCES / f"{name}.txt").read_text("ascii")
+    wanted, written = (SOURCES / f"{name}.txt").read_text("ascii"), written.replace("\r\n", "\n")
     if written != wanted:
         lines = difflib.unified_diff(wanted.splitlines(), written.splitlines(), "expected", "written", lineterm="", n=0)
         raise Wrong(f"{name} writes something else:\n" + "\n".join(lines))

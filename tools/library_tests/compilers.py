@@ -129,5 +129,8 @@ def build(
 ) -> list[str | Path]:
     """Builds a program with the static library, and answers the words that run it."""
     words = [f"-std={standard}", *STRICT, *flags, "-I", built.folder / "include"]
+    if built.target == WINDOWS:
+        # Wine finds neither a program without this ending nor the compiler's own libraries.
+        words, made = [*words, "-static"], made.with_suffix(".exe")
     run([compiler, *words, *sources, built.static, "-o", made])
     return [*RUNNERS[built.target], made]

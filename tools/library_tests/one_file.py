@@ -91,7 +91,7 @@ def check_file(module: bytes) -> str:
 
 def _misuse(built: Built, *flags: str) -> None:
     words = build(built.own[0].c, built, [SOURCES / "misuse.c"], built.folder / "misuse.exe", *flags)
-    expect("misuse", run([*words, FONTS]).replace("\r\n", "\n"))
+    expect("misuse", run([*words, FONTS]))
 
 
 def check_compilers(maker: Maker) -> str:

@@ -181,7 +181,7 @@ static void transfers_out_of_range(void)
     SHOW(zak_put_bytes(&card, 0xFFFFFFFD, bytes, 3, false, &decoded));
     SHOW(zak_put_bytes(&card, 0xFFFFFFFF, bytes, 1, true, &decoded));
     SHOW(zak_fill_bytes(&card, 0xA0000, 1, 0xFFF60000, false, &decoded));
-    SHOW(zak_fill_bytes(&card, 0, 1, (size_t)-1, true, &decoded));
+    SHOW(zak_fill_bytes(&card, 1, 1, (size_t)-1, true, &decoded));
     SHOW(zak_get_bytes(&card, 1, bytes, 0xFFFFFFFF, false, &decoded));
     SHOW(zak_move_bytes(&card, 0xA0000, 0xFFFFFFFE, 2, false, &decoded));
     SHOW(zak_move_bytes(&card, 0xFFFFFFFE, 0xA0000, 2, true, &decoded));
