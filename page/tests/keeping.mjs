@@ -309,6 +309,9 @@ const CHECKS = {
   },
 
   async "after the slider was dragged, keys are the page's"() {
+    await open();
+    await paste("version 2\nint ax=3\nrepeat 500\nframe\nend\n");
+    await browser.press("Escape");
     await browser.press("Home");
     await stepIs(0);
     await drag("#slider");
@@ -376,6 +379,7 @@ const CHECKS = {
   },
 
   async "text that is dragged into the script is not taken for a file"() {
+    await open();
     const isTaken = await browser.value(`(() => {
       const data = new DataTransfer();
       data.setData("text/plain", "frame");
