@@ -288,6 +288,20 @@ const CHECKS = {
     await forget();
   },
 
+  async "a storage that is forbidden is told once, and the page goes on"() {
+    await open("#example=hunt");
+    await browser.value(`void Object.defineProperty(window, "localStorage", {
+      get() { throw new DOMException("no", "SecurityError"); } })`);
+    await paste(OWN);
+    await until("document.getElementById('notice').textContent.includes('keeps nothing for the page')");
+    await browser.click("#notice button");
+    await paste(OTHER);
+    assert.equal(await browser.value("document.getElementById('notice').hidden"), true);
+    await choose("hunt");
+    await browser.press("u");
+    await textIs(OTHER);
+  },
+
   async "after an example was chosen, keys are the page's"() {
     await choose("copper-bars");
     assert.equal(await browser.value("document.activeElement.tagName"), "BODY");
