@@ -303,6 +303,7 @@ const CHECKS = {
   },
 
   async "after an example was chosen, keys are the page's"() {
+    await open();
     await choose("copper-bars");
     assert.equal(await browser.value("document.activeElement.tagName"), "BODY");
     await browser.press("Home");
@@ -310,6 +311,21 @@ const CHECKS = {
     for (let step = 1; step < 4; step++) await browser.press("ArrowRight");
     await stepIs(3);
     assert.equal(await value("examples"), "copper-bars");
+    // In the list that opens at a click, too: tried in Chromium.
+    if (browser.send) {
+      await browser.click("#examples");
+      await pause();
+      await browser.press("ArrowDown");
+      await browser.press("Enter");
+      await until("document.title.startsWith('driver-test')");
+      await until(IDLE);
+      await browser.press("Home");
+      await stepIs(0);
+      await browser.press("ArrowRight");
+      await stepIs(1);
+      assert.equal(await value("examples"), "driver-test");
+      await choose("copper-bars");
+    }
     // By keys alone: the list goes up and down, and the other keys are the page's.
     await browser.value("document.getElementById('examples').focus()");
     await browser.press("Home");
