@@ -30,9 +30,10 @@ class Swatch {
 export class ColourPanel {
   constructor(base) {
     const link = pageLink(base, "DECISIONS.md", "the-dacs-palettes", "Why");
-    this.said = element("p", { className: "hint", hidden: true }, "A mode set of mode 13 gives this adapter's own " +
-      "palette, not IBM's: 00 to 0F are the text colours, 10 to 1F greys, and from 20 on bits 7 to 5 of the " +
-      "number are red, 4 to 2 green, 1 and 0 blue. ", link, ".");
+    this.said = element("p", { className: "hint", hidden: true },
+      "A mode set of mode 13 gives this adapter's own palette, not IBM's: 00 to 0F are the text colours, " +
+      "10 to 1F greys, and from 20 on bits 7 to 5 of the number are red, 4 to 2 green, 1 and 0 blue. ",
+      link, ".");
     const told = element("output", { className: "told" }),
       title = "Palette: four bits of a dot, and their entry of the DAC";
     const tell = event => { told.textContent = event.target.dataset?.told ?? ""; };

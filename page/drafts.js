@@ -1,5 +1,5 @@
-// The user's own scripts, which the browser's storage keeps: each under a key of its own, as a line of JSON
-// { time, name } and the text. Several pages may use one storage at a time.
+// The user's own scripts, which the browser's storage keeps: each under a key of its own, as a line of
+// JSON { time, name } and the text. Several pages may use one storage at a time.
 
 const PREFIX = "zaklimot-script-";
 // Browsers give an address two and a half million characters, or more.
@@ -27,7 +27,8 @@ function readValue(value) {
   if (end < 0) return null;
   try {
     const { time, name } = JSON.parse(value.slice(0, end));
-    return Number.isFinite(time) && typeof name === "string" ? { time, name, text: value.slice(end + 1) } : null;
+    const isOurs = Number.isFinite(time) && typeof name === "string";
+    return isOurs ? { time, name, text: value.slice(end + 1) } : null;
   } catch {
     return null;
   }
@@ -40,8 +41,8 @@ export class Drafts {
   }
 
   /**
-   * Keeps the text of a script { id, name, stored }. Where another page has changed what stands under its id,
-   * the script gets another id. What is wrong: "", "forbidden", "full" or "long".
+   * Keeps the text of a script { id, name, stored }. Where another page has changed what stands under its
+   * id, the script gets another id. What is wrong: "", "forbidden", "full" or "long".
    */
   keep(script, text) {
     if (text.length > LONGEST_KEPT) return "long";
@@ -58,7 +59,7 @@ export class Drafts {
     }
   }
 
-  /** Writes a value; where there is no room, in place of the oldest scripts. Whether it stands there now. */
+  /** Writes a value; where there is no room, in place of the oldest scripts. Whether it is written. */
   put(storage, id, value) {
     const write = () => {
       try {
@@ -90,7 +91,8 @@ export class Drafts {
     let size = 0;
     this.list().forEach(({ id: one, length }, i) => {
       size += length;
-      if (one !== id && (i >= MOST_DRAFTS || size > MOST_TOGETHER)) storage.removeItem(PREFIX + one);
+      const isTooMuch = i >= MOST_DRAFTS || size > MOST_TOGETHER;
+      if (isTooMuch && one !== id) storage.removeItem(PREFIX + one);
     });
   }
 
@@ -107,8 +109,10 @@ export class Drafts {
   /** The scripts, the newest first: { id, name, time, title, length }. A blank one comes last. */
   list() {
     try {
-      const storage = this.storage(), keys = Array.from({ length: storage.length }, (_, i) => storage.key(i));
-      const found = keys.filter(key => key.startsWith(PREFIX)).map(key => this.read(key.slice(PREFIX.length)));
+      const storage = this.storage();
+      const keys = Array.from({ length: storage.length }, (_, i) => storage.key(i));
+      const found = keys.filter(key => key.startsWith(PREFIX))
+        .map(key => this.read(key.slice(PREFIX.length)));
       return found.filter(one => one).map(({ id, name, time, text }) =>
         ({ id, name, time: text.trim() ? time : 0, title: titleOf(text), length: text.length }))
         .sort((one, other) => other.time - one.time);

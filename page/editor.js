@@ -13,8 +13,9 @@ const MOST_EDITED = 300000;
 const HIGHEST_TEXT = 8000000, WIDEST_LINE = 400;
 
 /**
- * The editor. `heard` has `typed(change, old)`, which answers which script the changed text is, `switched(change,
- * old)`, a change that was undone or done again, and `pointed(line)`, a breakpoint's mark that was clicked.
+ * The editor. `heard` has `typed(change, old)`, which answers which script the changed text is,
+ * `switched(change, old)`, a change that was undone or done again, and `pointed(line)`, a breakpoint's mark
+ * that was clicked.
  */
 export class Editor {
   constructor(heard) {
@@ -63,7 +64,8 @@ export class Editor {
     const change = changeBetween(old, this.known, this.area.selectionStart);
     this.countLines();
     this.script = this.heard.typed(change, old);
-    this.history.note({ ...change, before: { script }, after: { script: this.script }, isWhole: false });
+    const before = { script }, after = { script: this.script };
+    this.history.note({ ...change, before, after, isWhole: false });
   }
 
   /** Undoes the last change, or does one again; whether there was one. */
@@ -92,11 +94,11 @@ export class Editor {
 
   /** Shows another script, a text and which script it is. The script before is there again by `turn`. */
   load(text, script) {
-    const old = this.text, before = { script: this.script };
+    const removed = this.text, before = { script: this.script }, after = { script };
     this.put(text);
     this.script = script;
     if (!before.script) return;
-    this.history.note({ from: 0, removed: old, added: this.text, before, after: { script }, isWhole: true });
+    this.history.note({ from: 0, removed, added: this.text, before, after, isWhole: true });
   }
 
   put(text) {

@@ -1,21 +1,23 @@
-// The changes of the script's text, which are undone one by one: what was typed, and what was loaded.
+// The changes of the script's text, which are undone one by one: what was typed and what was loaded.
 
 /** The changes that are kept have so many characters at most, removed and added. */
 const MOST_CHANGED = 1 << 26;
 const NEWLINE = 10;
 
 /**
- * How a text became another: { from, removed, added }. The caret stands at the end of what was added, which
- * tells where a line was inserted among others like it.
+ * How a text became another: { from, removed, added }. The caret stands at the end of what was added,
+ * which tells where a line was inserted among others like it.
  */
 export function changeBetween(old, now, caret = now.length) {
   const shorter = Math.min(old.length, now.length);
-  const isSameEnd = after => old.charCodeAt(old.length - 1 - after) === now.charCodeAt(now.length - 1 - after);
+  const isSameEnd = after =>
+    old.charCodeAt(old.length - 1 - after) === now.charCodeAt(now.length - 1 - after);
   let after = 0, from = 0;
   while (after < Math.min(shorter, now.length - caret) && isSameEnd(after)) after++;
   while (from < shorter - after && old.charCodeAt(from) === now.charCodeAt(from)) from++;
   while (after < shorter - from && isSameEnd(after)) after++;
-  return { from, removed: old.slice(from, old.length - after), added: now.slice(from, now.length - after) };
+  const [removed, added] = [old, now].map(text => text.slice(from, text.length - after));
+  return { from, removed, added };
 }
 
 /** Whether a change leaves less than half of a text, so that another script stands there. */
@@ -31,8 +33,8 @@ function lineEnds(text, from = 0, to = text.length) {
 }
 
 /**
- * The numbers that lines of a text have after a change of it, by their numbers; of a line that is gone, none.
- * A line goes where its first word goes.
+ * The numbers that lines of a text have after a change of it, by their numbers; of a line that is gone,
+ * none. A line goes where its first word goes.
  */
 export function linesAfter(old, { from, removed, added }) {
   const to = from + removed.length, more = lineEnds(added) - lineEnds(removed);
@@ -58,18 +60,19 @@ export function linesAfter(old, { from, removed, added }) {
 
 /** Whether a change goes on with the one before it, as the letters of a word do. */
 function goesOn(last, next) {
-  if (!last || last.isWhole || next.isWhole || last.after.script !== next.before.script) return false;
-  if (last.before.script !== last.after.script || next.before.script !== next.after.script) return false;
+  if (!last || last.isWhole || next.isWhole) return false;
+  const scripts = [last, next].flatMap(({ before, after }) => [before.script, after.script]);
+  if (new Set(scripts).size > 1) return false;
   const isLetter = next.added.length === 1 && !next.removed && !/\s/.test(next.added);
-  if (isLetter) return last.added !== "" && !/\s$/.test(last.added) && next.from === last.from + last.added.length;
+  if (isLetter) return /\S$/.test(last.added) && next.from === last.from + last.added.length;
   const isBack = next.removed.length === 1 && !next.added && !/\s/.test(next.removed);
   return isBack && !last.added && next.from + 1 === last.from;
 }
 
 /**
- * The changes so far, and those that were undone. A change is { from, removed, added, before, after, isWhole
- * }: `before` and `after` are { script }, which script the text was, and `isWhole` tells that another one was
- * loaded.
+ * The changes so far, and those that were undone. A change is { from, removed, added, before, after,
+ * isWhole }: `before` and `after` are { script }, which script the text was, and `isWhole` tells that
+ * another one was loaded.
  */
 export class History {
   constructor(most = MOST_CHANGED) {

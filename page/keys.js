@@ -37,6 +37,17 @@ export function keyName(event) {
   return (event.shiftKey ? "Shift+" : "") + key;
 }
 
+/** Whether keys that are pressed at an element are letters of a text. */
+export function takesText({ tagName, type }) {
+  const isText = tagName === "INPUT" && !["checkbox", "button", "range"].includes(type);
+  return tagName === "TEXTAREA" || isText;
+}
+
+/** Whether a key is that of a list of choices, which goes up and down and to letters. */
+export function isOfList({ target: { tagName }, key }) {
+  return tagName === "SELECT" && !/^(Arrow(Left|Right)|Home|End|F\d+)$/.test(key);
+}
+
 /** What the help shows. */
 export function keyTables() {
   const table = (title, rows) => element("table", {}, element("caption", {}, title),

@@ -1,4 +1,4 @@
-// A menu that a button opens: arrows go through its entries, and Escape, Tab or a press elsewhere closes it.
+// A menu that a button opens: arrows go through its entries; Escape, Tab or a press elsewhere closes it.
 
 /** The menu of a `details` element with a `summary`. */
 export class Menu {
@@ -8,8 +8,12 @@ export class Menu {
     for (const entry of this.entries) entry.tabIndex = -1;
     this.button.setAttribute("aria-haspopup", "menu");
     box.addEventListener("keydown", event => this.pressed(event));
-    box.addEventListener("toggle", () => this.button.setAttribute("aria-expanded", String(box.open)));
-    document.addEventListener("pointerdown", event => { if (!box.contains(event.target)) this.close(); });
+    box.addEventListener("toggle", () => {
+      this.button.setAttribute("aria-expanded", String(box.open));
+    });
+    document.addEventListener("pointerdown", event => {
+      if (!box.contains(event.target)) this.close();
+    });
     box.addEventListener("focusout", ({ relatedTarget }) => {
       if (relatedTarget && !box.contains(relatedTarget)) this.close();
     });
@@ -31,8 +35,8 @@ export class Menu {
 
   pressed(event) {
     const { entries } = this, at = entries.indexOf(document.activeElement), count = entries.length;
-    const to = { ArrowDown: (at + 1) % count, ArrowUp: at < 0 ? count - 1 : (at + count - 1) % count,
-      Home: 0, End: count - 1 }[event.key];
+    const before = at < 0 ? count - 1 : (at + count - 1) % count;
+    const to = { ArrowDown: (at + 1) % count, ArrowUp: before, Home: 0, End: count - 1 }[event.key];
     if (event.key === "Escape" && this.box.open) {
       this.close();
       this.button.focus();

@@ -59,21 +59,24 @@ export async function pngOf(picture) {
 /** A picture with black at its right and below, up to a size. */
 export function padded({ width, height, rgb }, wide, high) {
   const dots = new Uint8Array(3 * wide * high);
-  for (let y = 0; y < height; y++) dots.set(rgb.subarray(3 * width * y, 3 * width * (y + 1)), 3 * wide * y);
+  for (let y = 0; y < height; y++) {
+    dots.set(rgb.subarray(3 * width * y, 3 * width * (y + 1)), 3 * wide * y);
+  }
   return { width: wide, height: high, rgb: dots };
 }
 
 /**
- * Pictures as a PNG that moves; each has `packed` rows and the seconds that it lasts. The first must be as wide
- * and as high as any; what a smaller one leaves free is taken away after it is shown.
+ * Pictures as a PNG that moves; each has `packed` rows and the seconds that it lasts. The first must be as
+ * wide and as high as any. Where sizes differ, each picture is taken away before the next one comes.
  */
 export function apngOf(frames) {
   const parts = [...head(frames[0]), chunk("acTL", long(frames.length), long(0))];
-  const isOneSize = frames.every(({ width, height }) => width === frames[0].width && height === frames[0].height);
+  const [first] = frames;
+  const isOneSize = frames.every(one => one.width === first.width && one.height === first.height);
   let sequence = 0;
   for (const [i, frame] of frames.entries()) {
     const { width, height } = frame;
-    if (width > frames[0].width || height > frames[0].height) {
+    if (width > first.width || height > first.height) {
       throw new Trouble(`Frame ${i + 1} is larger than the first.`);
     }
     const part = frame.seconds < 1 ? SHORT_PART : LONG_PART;

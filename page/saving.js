@@ -56,7 +56,8 @@ export async function apngOfRun(session, told) {
   let size = 0, first = null, widest = 0, highest = 0;
   try {
     for (let step = 0; step < session.length;) {
-      const pictures = [], { taken, first: number, report } = session.pieces.runOn(card, step, session.length, 8);
+      const pictures = [];
+      const { taken, first: number, report } = session.pieces.runOn(card, step, session.length, 8);
       readReport(report, number, taken, (_, answer, picture) => picture &&
         pictures.push({ width: picture.width, height: picture.height, rgb: picture.rgb.slice() }));
       for (const picture of pictures) {

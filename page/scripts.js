@@ -10,22 +10,27 @@ const KEPT = "kept ", SHORT_TITLE = 30;
 const WHY_LOST = {
   forbidden: "This browser keeps nothing for the page, so your script is gone after a reload: " +
     "save it as a file, or make a link.",
-  full: "The browser's storage is full, so your script is gone after a reload: save it as a file, or make a link.",
+  full: "The browser's storage is full, so your script is gone after a reload: " +
+    "save it as a file, or make a link.",
   long: `A script of more than ${grouped(LONGEST_KEPT)} characters is not kept: save it as a file.`,
 };
 
 function timeText(time) {
-  return new Date(time).toLocaleString([], { day: "numeric", month: "short", hour: "2-digit", minute: "2-digit" });
+  const parts = { day: "numeric", month: "short", hour: "2-digit", minute: "2-digit" };
+  return new Date(time).toLocaleString([], parts);
 }
 
 /**
- * The scripts. Each is { name, about, isExample, id }: under its id the user's own is kept, and other scripts
- * have none. `tell` says something that stays.
+ * The scripts. Each is { name, about, isExample, id }: under its id the user's own is kept, and other
+ * scripts have none. `tell` says something that stays.
  */
 export class Scripts {
   constructor(examples, drafts, tell) {
-    Object.assign(this, { examples, drafts, tell, told: new Set(), list: byId("examples"), now: null });
-    for (const event of ["pointerdown", "focus"]) this.list.addEventListener(event, () => this.fill());
+    Object.assign(this, { examples, drafts, tell, told: new Set(), now: null });
+    this.list = byId("examples");
+    for (const event of ["pointerdown", "focus"]) {
+      this.list.addEventListener(event, () => this.fill());
+    }
     this.fill();
   }
 
@@ -33,7 +38,8 @@ export class Scripts {
   fill() {
     const { list } = this;
     const last = this.drafts.list().filter(({ time }) => time);
-    const kept = last.map(({ id, title, time }) => new Option(`${title} · ${timeText(time)}`, KEPT + id));
+    const kept = last.map(({ id, title, time }) =>
+      new Option(`${title} · ${timeText(time)}`, KEPT + id));
     const group = (label, options) => element("optgroup", { label }, ...options);
     list.replaceChildren(new Option("your own script", ""),
       ...kept.length ? [group("Your last scripts", kept)] : [],
@@ -79,7 +85,8 @@ export class Scripts {
 
   /** A script that came from a file, a link or a tool; an own one is kept. */
   made(name, about, isOwn) {
-    return { name: name.replace(/\.\w{1,6}$/, "") || NAMELESS, about, isExample: false, id: isOwn ? newId() : "" };
+    const short = name.replace(/\.\w{1,6}$/, "") || NAMELESS;
+    return { name: short, about, isExample: false, id: isOwn ? newId() : "" };
   }
 
   /** Which script a text is after it was typed over. */
@@ -88,12 +95,13 @@ export class Scripts {
     if (example) return now.isExample && now.name === example.name ? now : this.scriptOf(example);
     const isNew = isNewText(old, change);
     if (now.id && !isNew) return now;
-    return { name: now.isExample || isNew ? NAMELESS : now.name, about: "", isExample: false, id: newId() };
+    const name = now.isExample || isNew ? NAMELESS : now.name;
+    return { name, about: "", isExample: false, id: newId() };
   }
 
   /**
-   * Shows which script stands there now; its text is kept if it is the user's own. `isAsked` tells that the
-   * address asks for it.
+   * Shows which script stands there now; its text is kept if it is the user's own. `isAsked` tells that
+   * the address asks for it.
    */
   show(script, text, isAsked = false) {
     const isOther = this.now !== script;
@@ -104,7 +112,8 @@ export class Scripts {
     }
     if (script.id) this.keep(script, text);
     if (isOther) this.choose();
-    if (isOther && !script.id) this.note(script.isExample && !isAsked ? { example: script.name } : null);
+    if (!isOther || script.id) return;
+    this.note(script.isExample && !isAsked ? { example: script.name } : null);
   }
 
   keep(script, text) {
@@ -125,7 +134,7 @@ export class Scripts {
     }
   }
 
-  /** What the browser's history says that stood here, as { text, script }; null where it says nothing. */
+  /** What the browser's history says stood here, as { text, script }; null where it says nothing. */
   get noted() {
     const { state } = history;
     if (typeof state?.kept === "string") return this.kept(state.kept);

@@ -32,21 +32,21 @@ export async function unpacked(text, what = "script", most = MOST_BYTES) {
 /** What each word of a fragment stands for; a Trouble where it stands for nothing. */
 const WORDS = {
   step(text) {
-    if (!/^\d{1,15}$/.test(text)) throw new Trouble(`${saidWord("step", text)} names no step: a step is a whole number.`);
-    return Number(text);
+    if (/^\d{1,15}$/.test(text)) return Number(text);
+    throw new Trouble(`${saidWord("step", text)} names no step: a step is a whole number.`);
   },
   tab(text, { tabs }) {
-    if (!tabs.includes(text)) throw new Trouble(`${saidWord("tab", text)} names none of ${tabs.join(", ")}.`);
-    return text;
+    if (tabs.includes(text)) return text;
+    throw new Trouble(`${saidWord("tab", text)} names none of ${tabs.join(", ")}.`);
   },
   example(text, { examples }) {
-    if (!examples.includes(text)) throw new Trouble(`${saidWord("example", text)} names no example of this page.`);
-    return text;
+    if (examples.includes(text)) return text;
+    throw new Trouble(`${saidWord("example", text)} names no example of this page.`);
   },
   async fonts(text) {
-    const fonts = await unpacked(text, "font file", FONTS_SIZE);
+    const fonts = await unpacked(text, "font file", FONTS_SIZE), size = counted(fonts.length, "byte");
     if (fonts.length === FONTS_SIZE) return fonts;
-    throw new Trouble(`The font file in this link has ${counted(fonts.length, "byte")}, and needs ${grouped(FONTS_SIZE)}.`);
+    throw new Trouble(`The font file in this link has ${size}, and needs ${grouped(FONTS_SIZE)}.`);
   },
   async script(text) {
     const bytes = await unpacked(text);
@@ -62,7 +62,7 @@ function saidWord(word, text) {
   return `${word}=${text.length > MOST_WORD ? `${text.slice(0, MOST_WORD)} …` : text}`;
 }
 
-/** What a fragment asks for, by its words; `wrong` has a sentence for each word that stands for nothing. */
+/** What a fragment asks for, by its words; `wrong` has a sentence for each that stands for nothing. */
 export async function readFragment(fragment, names) {
   const words = new URLSearchParams(fragment.replace(/^#/, "")), asked = { wrong: [] };
   for (const [word, read] of Object.entries(WORDS)) {
@@ -81,7 +81,9 @@ export async function readFragment(fragment, names) {
 export async function bytesOfFiles(files) {
   const [file] = files;
   if (files.length > 1) throw new Trouble(`These are ${files.length} files: open one at a time.`);
-  if (file.size > MOST_FILE) throw new Trouble(`${file.name} has more than ${grouped(MOST_FILE)} bytes.`);
+  if (file.size > MOST_FILE) {
+    throw new Trouble(`${file.name} has more than ${grouped(MOST_FILE)} bytes.`);
+  }
   try {
     return new Uint8Array(await file.arrayBuffer());
   } catch {

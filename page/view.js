@@ -2,7 +2,7 @@
 import { Adapter } from "./adapter.js";
 import { Comparer, MOST_HELD } from "./comparing.js";
 import { Editor } from "./editor.js";
-import { KEYS, keyName, keyTables } from "./keys.js";
+import { KEYS, isOfList, keyName, keyTables, takesText } from "./keys.js";
 import { Listing } from "./listing.js";
 import { MemoryPanel } from "./memorypanel.js";
 import { Menu } from "./menu.js";
@@ -35,11 +35,6 @@ const NOT_HELD = "The answers of this run are not held to those of zak_run";
 const FIRST_EXAMPLE = "text-by-services";
 const SAVED = ["text", "bytes", "report", "png", "apng"];
 const TABS = ["registers", "memory", "cells", "colours", "BIOS data", "breakpoints"];
-
-/** Whether keys that are pressed at an element are letters of a text. */
-function takesText({ tagName, type }) {
-  return tagName === "TEXTAREA" || (tagName === "INPUT" && !["checkbox", "button", "range"].includes(type));
-}
 
 /** The page over a module, with the data that it was built with. */
 export class View {
@@ -118,7 +113,7 @@ export class View {
     list.addEventListener("keydown", event => { ({ key } = event); });
     list.addEventListener("change", () => {
       this.guarded(() => this.choose(list.value));
-      // Whoever goes through the list by arrows goes on; once something is chosen, the page has the keys.
+      // Whoever goes through the list by arrows goes on; else the page has the keys then.
       if (!/^Arrow(Up|Down)$/.test(key)) list.blur();
     });
     byId("slider").addEventListener("input", event => this.go(Number(event.target.value)));
@@ -177,9 +172,7 @@ export class View {
   /** Whether the element of a key's event goes on by this key itself, as tabs and lists do by arrows. */
   hasOwnKeys(event) {
     const isTab = event.target.getAttribute?.("role") === "tab" && event.key.startsWith("Arrow");
-    // A list of choices goes up and down, and to letters.
-    const isChoice = event.target.tagName === "SELECT" && !/^(Arrow(Left|Right)|Home|End|F\d+)$/.test(event.key);
-    return isChoice || (isTab && this.nextTab(event));
+    return isOfList(event) || (isTab && this.nextTab(event));
   }
 
   nextTab(event) {
@@ -207,7 +200,7 @@ export class View {
     return true;
   }
 
-  /** Does something for a control, and tells what is wrong where it can't be done. A run goes on meanwhile. */
+  /** Does something for a control, and tells what is wrong where it can't be done. A run goes on. */
   async guarded(does) {
     try {
       this.tell("");
@@ -315,11 +308,13 @@ export class View {
   wanted({ script, example }) {
     const { scripts, data: { open, examples } } = this, { noted } = scripts;
     if (noted) return { ...noted, asked: undefined };
-    if (script !== undefined) return { text: script, script: scripts.made("", "a script from a link"), isAsked: true };
+    if (script !== undefined) {
+      return { text: script, script: scripts.made("", "a script from a link"), isAsked: true };
+    }
     if (example) return { ...scripts.example(example), isAsked: true };
     if (this.session || this.editor.script) return null;
-    if (!open) return scripts.last ?? { ...scripts.example(FIRST_EXAMPLE) ?? scripts.example(examples[0].name),
-      isAsked: true };
+    const named = name => scripts.example(name);
+    if (!open) return scripts.last ?? { ...named(FIRST_EXAMPLE) ?? named(examples[0].name), isAsked: true };
     if (open.fonts) this.setFonts(bytesOfBase64(open.fonts));
     const text = open.text ?? printedText(bytesOfBase64(open.bytes), this.adapter);
     return { text, script: scripts.made(open.name, open.name), isAsked: true };
@@ -755,8 +750,8 @@ export class View {
   async copyLink() {
     byId("link").select();
     let isDone = document.execCommand("copy");
-    if (!isDone) isDone = await navigator.clipboard?.writeText(byId("link").value).then(() => true, () => false);
-    byId("copied").textContent = isDone ? "Copied." : "This browser does not let the page: press Ctrl+C.";
+    isDone ||= await navigator.clipboard?.writeText(byId("link").value).then(() => true, () => false);
+    byId("copied").textContent = isDone ? "Copied." : "This browser forbids it: press Ctrl+C.";
   }
 
   /** Saves, one thing at a time. */

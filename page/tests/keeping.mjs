@@ -288,7 +288,22 @@ const CHECKS = {
     await forget();
   },
 
+  async "a storage that is forbidden is told once, and the page goes on"() {
+    await open("#example=hunt");
+    await browser.value(`void Object.defineProperty(window, "localStorage", {
+      get() { throw new DOMException("no", "SecurityError"); } })`);
+    await paste(OWN);
+    await until("document.getElementById('notice').textContent.includes('keeps nothing for the page')");
+    await browser.click("#notice button");
+    await paste(OTHER);
+    assert.equal(await browser.value("document.getElementById('notice').hidden"), true);
+    await choose("hunt");
+    await browser.press("u");
+    await textIs(OTHER);
+  },
+
   async "after an example was chosen, keys are the page's"() {
+    await open();
     await choose("copper-bars");
     assert.equal(await browser.value("document.activeElement.tagName"), "BODY");
     await browser.press("Home");
@@ -296,6 +311,21 @@ const CHECKS = {
     for (let step = 1; step < 4; step++) await browser.press("ArrowRight");
     await stepIs(3);
     assert.equal(await value("examples"), "copper-bars");
+    // In the list that opens at a click, too: tried in Chromium.
+    if (browser.send) {
+      await browser.click("#examples");
+      await pause();
+      await browser.press("ArrowDown");
+      await browser.press("Enter");
+      await until("document.title.startsWith('driver-test')");
+      await until(IDLE);
+      await browser.press("Home");
+      await stepIs(0);
+      await browser.press("ArrowRight");
+      await stepIs(1);
+      assert.equal(await value("examples"), "driver-test");
+      await choose("copper-bars");
+    }
     // By keys alone: the list goes up and down, and the other keys are the page's.
     await browser.value("document.getElementById('examples').focus()");
     await browser.press("Home");
@@ -309,6 +339,9 @@ const CHECKS = {
   },
 
   async "after the slider was dragged, keys are the page's"() {
+    await open();
+    await paste("version 2\nint ax=3\nrepeat 500\nframe\nend\n");
+    await browser.press("Escape");
     await browser.press("Home");
     await stepIs(0);
     await drag("#slider");
@@ -376,6 +409,7 @@ const CHECKS = {
   },
 
   async "text that is dragged into the script is not taken for a file"() {
+    await open();
     const isTaken = await browser.value(`(() => {
       const data = new DataTransfer();
       data.setData("text/plain", "frame");

@@ -137,7 +137,9 @@ export class Driven {
   }
 
   /** What the page has said since it was asked last; not what it said while it loaded. */
-  heard() {
+  async heard() {
+    // A page that was loaded anew says nothing here yet.
+    await this.value(HEAR);
     return this.value("window.saidInConsole.splice(0)");
   }
 }
