@@ -559,6 +559,7 @@ export class View {
   stop() {
     const looked = this.search?.search.looked;
     this.isHalted = !this.session.isDone;
+    if (this.isHalted) this.sayStopped();
     this.go(looked ?? (this.session.isDone ? this.steps : this.session.ran));
   }
 

@@ -462,9 +462,10 @@ await check("an advance in a block of 65,535", async () => {
   await browser.until("document.getElementById('run').textContent.startsWith('stop')");
   await browser.value("new Promise(done => setTimeout(done, 1500))");
   await browser.click("#run");
-  await browser.until("document.getElementById('run').textContent.startsWith('run')");
-  const stopped = await step();
+  await browser.until("document.getElementById('state').textContent.startsWith('stopped: step')");
+  const stopped = Number((await text("state")).match(/step ([\d,]+) of/)[1].replaceAll(",", ""));
   assert.ok(stopped > 1 && stopped < 60000, String(stopped));
+  await stepIs(stopped);
   await browser.click("#back");
   await stepIs(stopped - 1);
 });
