@@ -1,12 +1,12 @@
 // The text, with line numbers, breakpoints and marks at its left, and the answers of its steps at its right.
 import { Scroller } from "./scroller.js";
-import { Rows, isWritten } from "./rows.js";
+import { ROW, Rows, isWritten } from "./rows.js";
 import { byId, classesOf, element, rowsInSight, setAll, setText } from "./dom.js";
 import { grouped } from "./bytes.js";
 import { History, changeBetween } from "./history.js";
 import { isPlainAnswer, isRefusal, shortAnswer } from "./expecting.js";
 
-const ROW = 18, TOP = 6, TAB = 8;
+const TOP = 6, TAB = 8;
 // A longer text is shown, and not edited: a browser's own editor takes seconds for each change of it.
 const MOST_EDITED = 300000;
 // Browsers have no elements that are much higher.
@@ -23,10 +23,10 @@ export class Editor {
       why: byId("why") });
     Object.assign(this, { long: byId("long"), rows: byId("longrows"), starts: null, whole: "" });
     Object.assign(this, { history: new History(), script: null, known: "" });
-    this.numbers = new Rows(this.gutter, ROW,
+    this.numbers = new Rows(this.gutter,
       () => element("button", { type: "button", tabIndex: -1, className: "number" }));
-    this.answers = new Rows(this.told, ROW, () => element("span", { className: "answer" }));
-    this.longLines = new Rows(this.rows, ROW, () => element("div", { className: "longrow" }));
+    this.answers = new Rows(this.told, () => element("span", { className: "answer" }));
+    this.longLines = new Rows(this.rows, () => element("div", { className: "longrow" }));
     Object.assign(this, { mark: 0, bad: null, session: null, steps: 0, points: new Set(), count: 1 });
     this.area.addEventListener("input", () => this.typed());
     this.area.addEventListener("beforeinput", event => {
@@ -127,14 +127,14 @@ export class Editor {
 
   /** How high the text is, as far as the browser shows it. */
   get height() {
-    const high = 2 * TOP + ROW * this.count;
+    const high = 2 * TOP + ROW.height * this.count;
     return this.isLong ? Math.min(HIGHEST_TEXT, high) : high;
   }
 
   /** How much a pixel of the scroll bar is, in pixels of lines. */
   get scale() {
     const seen = this.box.height;
-    return this.isLong ? Math.max(1, (ROW * this.count - seen) / Math.max(1, this.height - seen)) : 1;
+    return this.isLong ? Math.max(1, (ROW.height * this.count - seen) / Math.max(1, this.height - seen)) : 1;
   }
 
   get scrolled() {
@@ -163,8 +163,8 @@ export class Editor {
 
   /** Scrolls to a line that is not in sight. */
   reveal(line) {
-    const top = TOP + ROW * (line - 1), { scrolled, box: { height } } = this;
-    if (line && (top < scrolled || top > scrolled + height - 2 * ROW)) this.scrollTo(top - height / 2);
+    const top = TOP + ROW.height * (line - 1), { scrolled, box: { height } } = this;
+    if (line && (top < scrolled || top > scrolled + height - 2 * ROW.height)) this.scrollTo(top - height / 2);
   }
 
   /** Marks a bad line: { line, at, width, message }; null where there is none. */
@@ -174,16 +174,22 @@ export class Editor {
     this.draw();
   }
 
+  /** Draws anew where rows have another height. */
+  resized() {
+    if (this.isLong) this.rows.style.height = this.height + "px";
+    this.draw();
+  }
+
   draw() {
-    const { box, scrolled } = this, { first, last } = rowsInSight(scrolled, box.height, ROW, this.count);
-    const count = Math.max(0, last - first), top = TOP + ROW * first - scrolled;
+    const { box, scrolled } = this, { first, last } = rowsInSight(scrolled, box.height, ROW.height, this.count);
+    const count = Math.max(0, last - first), top = TOP + ROW.height * first - scrolled;
     this.numbers.show(count, top, (made, i) => this.fillNumber(made, first + i + 1));
     this.answers.show(count, top, (made, i) => this.fillAnswer(made, first + i + 1));
     this.longLines.show(this.isLong ? count : 0, top + box.top,
       (made, i) => this.fillLongLine(made, first + i + 1));
     const marked = this.bad?.line ?? this.mark, ribbon = byId("mark");
     setAll(ribbon, { hidden: !marked || this.isLong, className: this.bad ? "bad" : "" });
-    ribbon.style.top = TOP + ROW * (marked - 1) - scrolled + "px";
+    ribbon.style.top = TOP + ROW.height * (marked - 1) - scrolled + "px";
     this.drawWhy();
   }
 
@@ -250,7 +256,7 @@ export class Editor {
     const columns = text => [...text].reduce((at, letter) => (letter === "\t" ? at + TAB - at % TAB
       : at + 1), 0);
     const at = columns(line.slice(0, bad.at ?? 0)), width = Math.max(1, Math.min(bad.width ?? 1, 60));
-    why.style.top = TOP + ROW * bad.line - 3 - this.scrolled + "px";
+    why.style.top = TOP + ROW.height * bad.line - 3 - this.scrolled + "px";
     why.style.left = `calc(${Math.min(at, 60)}ch + 6px - ${box.left}px)`;
     why.firstElementChild.style.width = `${width}ch`;
     why.lastElementChild.textContent = bad.message;

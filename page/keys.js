@@ -31,6 +31,13 @@ const IN_THE_SCRIPT = [
   ["F8, F10", "run, a step forward"],
 ];
 
+/** What keys do in the list of steps; the others do there what they do in the page. */
+const IN_THE_STEPS = [
+  ["↑, ↓", "a step back, a step forward"],
+  ["Page Up, Page Down", "as many steps as are in sight"],
+  ["Home, End", "to power-on, to the end"],
+];
+
 /** A key event in the words of the table. */
 export function keyName(event) {
   const key = event.key.length === 1 && !event.shiftKey ? event.key.toLowerCase() : event.key;
@@ -57,5 +64,6 @@ export function keyTables() {
   const hints =
     ["Click a line's number to set a breakpoint. Click a dot of the picture to go to the step that draws it.",
     "Drop a script, a font or a trace anywhere."].map(text => element("p", {}, text));
-  return [table("Keys", KEYS), table("Keys in the script", IN_THE_SCRIPT), ...hints];
+  return [table("Keys", KEYS), table("Keys in the script", IN_THE_SCRIPT),
+    table("Keys in the list of steps", IN_THE_STEPS), ...hints];
 }

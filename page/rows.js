@@ -12,17 +12,34 @@ export function isWritten(row, ...values) {
   return old !== undefined && values.every((value, i) => value === old[i]);
 }
 
-/** The rows in a box, each so many pixels high. `make` makes a row with nothing in it. */
+/** Where lines are higher, since they are touched: the style's condition. */
+export const TOUCHED = "(max-width: 860px), (pointer: coarse)";
+/** How high a line of the script is, and a row of the list of steps, in pixels: the style's `--row`. */
+export const ROW = { height: 18 };
+
+/** Takes the height of rows from the style, now and when it changes, which is heard. */
+export function followRowHeight(heard) {
+  const read = () => {
+    ROW.height = parseInt(getComputedStyle(document.documentElement).getPropertyValue("--row"), 10);
+    heard();
+  };
+  matchMedia(TOUCHED).addEventListener("change", read);
+  read();
+}
+
+/** The rows in a box. `make` makes a row with nothing in it. */
 export class Rows {
-  constructor(box, height, make) {
-    Object.assign(this, { height, make, rows: [], top: 0 });
+  constructor(box, make) {
+    Object.assign(this, { height: ROW.height, make, rows: [], top: 0 });
     this.inner = element("div", { className: "inner", role: "presentation" });
     box.append(this.inner);
   }
 
   /** Shows so many rows, the first at a place in the box; `fill(row, i)` writes the i-th of them. */
   show(count, top, fill) {
-    const { rows, inner, height } = this, place = Math.round(top);
+    const { rows, inner } = this, { height } = ROW, place = Math.round(top);
+    if (height !== this.height) rows.forEach((made, i) => { made.style.top = height * i + "px"; });
+    this.height = height;
     for (; rows.length > count; rows.pop()) inner.lastChild.remove();
     while (rows.length < count) {
       const made = this.make();

@@ -3,12 +3,11 @@ import { Card } from "./adapter.js";
 import { Trouble } from "./trouble.js";
 import { apngOf, packedRows, padded, pngOf } from "./png.js";
 import { element } from "./dom.js";
-import { frameShape } from "./state.js";
+import { frameSpeed } from "./state.js";
 import { readReport } from "./report.js";
 
-// The clocks that bits 3 and 2 of miscellaneous output select, in dots a second; of others, 70 frames a
-// second.
-const CLOCKS = { 0: 25175000, 1: 28322000 }, USUAL_FRAME = 1 / 70;
+// Of a clock that isn't known, 70 frames a second.
+const USUAL_FRAME = 1 / 70;
 const MOST_FRAMES = 2000, MOST_PACKED = 1 << 28, MOST_SAVED = 1 << 28;
 
 /** Hands a file to the browser to be saved. */
@@ -43,8 +42,8 @@ export function pngOfSeen(seen) {
 
 /** How long a frame lasts by the clock that the registers select, in seconds. */
 export function frameSeconds(registers) {
-  const clock = CLOCKS[registers.misc >> 2 & 3], { dots, lines } = frameShape(registers);
-  return clock ? dots * lines * (registers.seq[1] & 8 ? 2 : 1) / clock : USUAL_FRAME;
+  const speed = frameSpeed(registers);
+  return speed ? speed.dots / speed.rate : USUAL_FRAME;
 }
 
 /**

@@ -4,6 +4,8 @@ import { FIRST_STATE, HIGHEST } from "./adapter.js";
 
 const AT = { bda: 9, misc: 40, crtc: 41, attr: 78, dac: 101, host: 874, lengths: 263038 };
 const PLANE = 65536;
+// The clocks that bits 3 and 2 of miscellaneous output select, in dots a second.
+const CLOCKS = { 0: 25175000, 1: 28322000 };
 
 /** A saved state, by name. */
 export class State {
@@ -89,6 +91,12 @@ export function frameShape(registers) {
   const { crtc } = registers;
   const lines = crtc[6] + ((crtc[7] & 1) << 8) + ((crtc[7] >> 5 & 1) << 9) + 2;
   return { dots: (crtc[0] + 5) * characterWidth(registers), lines };
+}
+
+/** The dots of a frame and the dots that pass in a second; null where no clock is selected that is known. */
+export function frameSpeed(registers) {
+  const clock = CLOCKS[registers.misc >> 2 & 3], { dots, lines } = frameShape(registers);
+  return clock ? { dots: dots * lines, rate: clock / (registers.seq[1] & 8 ? 2 : 1) } : null;
 }
 
 /** The dots and the lines that are displayed, line compare, and how lines make rows of characters. */

@@ -1,37 +1,43 @@
 // A trace of software (docs/TRACES.md) as a script: each cycle is a step, and what was read is what is
-// expected. tools/vga-trace does the same and more; page/tests/trace.mjs holds both to the same text.
+// expected. Where it tells the time, the clock is advanced between the steps. tools/vga-trace does the same and
+// more; page/tests/traces.mjs holds both to the same text.
 import { Trouble } from "./trouble.js";
 import { hex } from "./bytes.js";
+import { withPauses } from "./pauses.js";
 
 const PLAIN_CYCLE =
-  /^\s*(?:-|\d{1,18})\s+([rw])\s+([pm])\s+([0-9A-Fa-f]{1,8})\s+([0-9A-Fa-f]{1,16})\s+(\d)\s*(?:;.*)?$/;
+  /^\s*(?:-|(\d{1,18}))\s+([rw])\s+([pm])\s+([0-9A-Fa-f]{1,8})\s+([0-9A-Fa-f]{1,16})\s+(\d)\s*(?:;.*)?$/;
 const NO_CYCLE = /^\s*(?:;.*)?$/;
 const QEMU_EVENT = "memory_region_ops_";
-const QEMU_CYCLE = new RegExp("^(?:\\d+@\\d+\\.\\d{6}:)?" +
+const QEMU_CYCLE = new RegExp("^(?:\\d+@(\\d+\\.\\d{6}):)?" +
   "memory_region_ops_(read|write) cpu -?\\d+ mr (?:0x[0-9a-f]+|\\(nil\\)) " +
   "addr 0x([0-9a-f]+) value 0x([0-9a-f]+) size (\\d) name '([^']*)'\\s*$");
 const PORTS_OF_QEMU = ["vga", "cirrus-io"], MEMORY_OF_QEMU = ["vga-lowmem", "cirrus-low-memory",
   "vga-chain4"];
 const STATUS_PORTS = [0x3ba, 0x3da];
 
-/** The cycle of a line: { isWrite, isPort, address, value, size }; null where it has none of a VGA. */
+/**
+ * The cycle of a line: { isWrite, isPort, address, value, size, time }; null where it has none of a VGA.
+ * The time is in microseconds, a BigInt, and null where the line tells none.
+ */
 function cycleOf(line, isPlain, number) {
   if (isPlain) {
     const found = line.match(PLAIN_CYCLE);
-    if (found) return judged(found[1] === "w", found[2] === "p", found[3], found[4],
-      Number(found[5]), number);
+    if (found) return judged(found[2] === "w", found[3] === "p", found.slice(4), found[1], number);
     if (NO_CYCLE.test(line)) return null;
     throw new Trouble(`Line ${number} of the trace is no cycle: \`TIME r|w p|m ADDRESS VALUE SIZE\` is one.`);
   }
   const found = line.includes(QEMU_EVENT) && line.match(QEMU_CYCLE);
   if (!found) return null;
-  const isPort = PORTS_OF_QEMU.includes(found[5]);
-  if (!isPort && !MEMORY_OF_QEMU.includes(found[5])) return null;
-  return judged(found[1] === "write", isPort, found[2], found[3], Number(found[4]), number);
+  const isPort = PORTS_OF_QEMU.includes(found[6]);
+  if (!isPort && !MEMORY_OF_QEMU.includes(found[6])) return null;
+  // A log has seconds with six digits behind the point.
+  return judged(found[2] === "write", isPort, found.slice(3), found[1]?.replace(".", ""), number);
 }
 
-function judged(isWrite, isPort, address, value, size, number) {
-  const cycle = { isWrite, isPort, address: parseInt(address, 16), value: BigInt("0x" + value), size };
+function judged(isWrite, isPort, [address, value, width], micros, number) {
+  const size = Number(width), time = micros === undefined ? null : BigInt(micros);
+  const cycle = { isWrite, isPort, address: parseInt(address, 16), value: BigInt("0x" + value), size, time };
   const most = isPort ? 0xffff : 0xffffffff;
   if (![1, 2, 4, 8].includes(size) || cycle.value >> BigInt(8 * size) || cycle.address + size - 1 > most) {
     throw new Trouble(
@@ -41,12 +47,12 @@ function judged(isWrite, isPort, address, value, size, number) {
 }
 
 /** The steps of a cycle: one of four or eight bytes becomes words, the lowest first. */
-function* narrowed({ isWrite, isPort, address, value, size }) {
+function* narrowed({ isWrite, isPort, address, value, size, time }) {
   const name = isPort ? (isWrite ? "out" : "in") : isWrite ? "put" : "get";
-  if (size === 1) return yield { name, isPort, isWord: false, address, value: Number(value) };
+  if (size === 1) return yield { name, isPort, isWord: false, address, value: Number(value), time };
   for (let at = 0; at < size; at += 2) {
     yield { name, isPort, isWord: true, address: address + at,
-      value: Number(value >> BigInt(8 * at) & 65535n) };
+      value: Number(value >> BigInt(8 * at) & 65535n), time };
   }
 }
 
@@ -66,7 +72,8 @@ function* joinedSteps(steps) {
   if (held) yield held;
 }
 
-function lineOfStep({ name, isPort, isWord, address, value }) {
+function lineOfStep({ name, isPort, isWord, address, value, dots }) {
+  if (name === "advance") return `advance ${dots}\n`;
   const step = `${name}${isWord ? "w" : ""} ${hex(address, isPort ? 3 : 5)}`,
     told = hex(value, isWord ? 4 : 2);
   if (name === "out" || name === "put") return `${step} ${told}\n`;
@@ -81,7 +88,18 @@ export function traceForm(text) {
   return PLAIN_CYCLE.test(line) ? "plain" : null;
 }
 
-/** The text of the script that a trace is. */
+/** Where time passes, two frames stand at the end: the first began amid the cycles, the second is whole. */
+function* timedLines(steps) {
+  for (const step of withPauses(steps)) yield lineOfStep(step);
+  yield* ["frame\n", "frame\n"];
+}
+
+function* untimedLines(steps) {
+  for (const step of steps) yield lineOfStep(step);
+  yield "frame\n";
+}
+
+/** The text of the script that a trace is. Time passes in it if the first step has a time. */
 export function textOfTrace(text) {
   const isPlain = traceForm(text) === "plain", lines = text.split("\n");
   function* steps() {
@@ -90,5 +108,7 @@ export function textOfTrace(text) {
       if (cycle) yield* narrowed(cycle);
     }
   }
-  return Array.from(joinedSteps(steps()), lineOfStep).join("") + "frame\n";
+  const joined = () => joinedSteps(steps()), { value: first } = joined().next();
+  const isTimed = first !== undefined && first.time !== null;
+  return [...(isTimed ? timedLines : untimedLines)(joined())].join("");
 }

@@ -24,6 +24,7 @@ import { bytesOfFiles, contentsOf, packed, printedText, readFragment } from "./s
 import { isNewText, linesAfter } from "./history.js";
 import { isRefusal } from "./expecting.js";
 import { RegisterPanel } from "./registerpanel.js";
+import { followRowHeight } from "./rows.js";
 import { whyRefused } from "./refusals.js";
 
 const SLICE_TIME = 14, SHOWN_EVERY = 250, TYPED = 250, TYPED_MUCH = 1000, MUCH_TEXT = 100000;
@@ -48,7 +49,7 @@ export class View {
     this.editor = new Editor({ typed: (change, old) => this.typed(change, old),
       switched: (change, old) => this.changed(change.after.script, change, old),
       pointed: line => this.pointPanel.toggleLine(line) });
-    this.listing = new Listing(steps => this.go(steps));
+    this.listing = new Listing(steps => this.go(steps), () => this.goal);
     this.screen = new Screen({ clicked: (line, dot) => this.toDot(line, dot) });
     this.pointPanel = new PointPanel({ changed: points => this.pointsChanged(points) });
     this.makePanels(data.pages);
@@ -56,7 +57,14 @@ export class View {
     this.channel = new MessageChannel();
     this.channel.port1.onmessage = () => this.turn();
     this.makeControls();
+    followRowHeight(() => this.resized());
     this.follow();
+  }
+
+  /** Shows lines and steps where their rows have another height. */
+  resized() {
+    this.editor.resized();
+    if (this.listing.session) this.listing.show(this.listing.session, this.listing.steps);
   }
 
   /** What makes the panel of each tab for what is seen. */

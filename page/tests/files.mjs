@@ -1,31 +1,18 @@
-// Files that are dropped on the page, links, pictures that are saved, and traces.
+// Files that are dropped on the page, links, and pictures that are saved.
 import assert from "node:assert/strict";
 import test from "node:test";
 import { execFileSync } from "node:child_process";
 import { deflateRawSync, gzipSync, inflateSync } from "node:zlib";
-import { mkdtempSync, readFileSync, rmSync, writeFileSync } from "node:fs";
-import { tmpdir } from "node:os";
+import { readFileSync, writeFileSync } from "node:fs";
 import { Session } from "../session.js";
 import { apngOf, packedRows, padded, pngOf } from "../png.js";
 import { apngOfRun } from "../saving.js";
 import { base64OfBytes, bytesOfBase64, counted, grouped } from "../bytes.js";
 import { bytesOfFiles, contentsOf, packed, readFragment, unpacked } from "../share.js";
-import { textOfTrace, traceForm } from "../trace.js";
-import { FONTS, TOP, examples, loadAdapter } from "./loading.mjs";
+import { FONTS, TOP, examples, loadAdapter, written } from "./loading.mjs";
 
 const adapter = await loadAdapter();
 const bytesOf = text => new TextEncoder().encode(text);
-
-/** What a command of the tools writes into a file. */
-function written(make) {
-  const folder = mkdtempSync(tmpdir() + "/zaklimot-");
-  try {
-    make(folder);
-    return readFileSync(folder + "/out");
-  } finally {
-    rmSync(folder, { recursive: true });
-  }
-}
 
 test("a link gives back its script", async () => {
   for (const { text } of examples()) {
@@ -107,36 +94,6 @@ test("junk is told, and why", async () => {
     [Uint8Array.of(0xff, 0xfe, 65, 0), /UTF-16/],
     [new Uint8Array((1 << 24) + 1).fill(59), /more than 16,777,216 bytes/],
   ]) await assert.rejects(contentsOf(bytes, adapter), said);
-});
-
-test("a trace is the text that vga-trace makes of it", () => {
-  const text = readFileSync(TOP + "examples/typed-line.trace", "utf-8");
-  const made = written(folder => execFileSync("tools/vga-trace",
-    ["convert", "examples/typed-line.trace", folder + "/out", "--text", "--no-repeat"],
-      { cwd: TOP, stdio: "ignore" }));
-  assert.equal(traceForm(text), "plain");
-  assert.equal(textOfTrace(text), made.toString());
-});
-
-test("a log of qemu is the text that vga-trace makes of it", () => {
-  const event = (kind, address, value, size, region) =>
-    `7@1.000001:memory_region_ops_${kind} cpu 0 mr 0x55 ` +
-    `addr 0x${address} value 0x${value} size ${size} name '${region}'`;
-  const log = [event("write", "3c2", "67", 1, "vga"), "other", event("read", "3cc", "67", 1, "vga"),
-    event("read", "1", "2", 1, "ide"),
-    event("write", "b8000", "41", 1, "vga-lowmem"), event("write", "b8001", "7", 1, "vga-lowmem"),
-    event("write", "a0000", "1122334455667788", 8, "vga-chain4"), event("read", "3da", "9", 1, "vga"),
-      event("read", "b8003", "9", 1, "vga-lowmem"),
-    event("write", "1ce", "9", 2, "vbe"), "memory_region_ops_read cpu 0 mr"].join("\n") + "\n";
-  const made = written(folder => {
-    writeFileSync(folder + "/log", log);
-    execFileSync("tools/vga-trace", ["convert", folder + "/log", folder + "/out", "--text", "--no-repeat"],
-      { cwd: TOP, stdio: "ignore" });
-  });
-  assert.equal(traceForm(log), "qemu");
-  assert.equal(textOfTrace(log), made.toString());
-  assert.equal(traceForm("frame\nin 3DA\n"), null);
-  assert.throws(() => textOfTrace("1 w p 3C2 67 1\nfoo\n"), /Line 2 of the trace/);
 });
 
 const PICTURE = { width: 7, height: 5, rgb: Uint8Array.from({ length: 105 }, (_, i) => (11 * i) % 64) };

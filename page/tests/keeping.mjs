@@ -496,6 +496,54 @@ const CHECKS = {
     await browser.press("Escape");
   },
 
+  async "the list of steps has keys, and tells which step is shown"() {
+    await open();
+    await paste(`version 2\nint ax=3\nrepeat 100\nin 3DA\nend\nframe\n`);
+    await browser.press("Escape");
+    await browser.press("Home");
+    await stepIs(0);
+    const list = `document.getElementById("listing")`, told = () => browser.value(`(() => {
+      const row = document.getElementById(${list}.getAttribute("aria-activedescendant"));
+      return row && [row.role ?? row.getAttribute("role"), row.getAttribute("aria-selected"), row.dataset.step,
+        row.getAttribute("aria-setsize"), row.getBoundingClientRect().bottom <=
+          ${list}.getBoundingClientRect().bottom + 1]; })()`);
+    await browser.value(`${list}.focus()`);
+    assert.equal(await told(), null);
+    const page = await browser.value(`Math.floor(${list}.clientHeight / 18) - 1`);
+    for (const [key, step] of [["ArrowDown", 1], ["ArrowDown", 2], ["PageDown", 2 + page], ["ArrowUp", 1 + page],
+      ["PageUp", 1], ["ArrowRight", 2], ["End", 102], ["ArrowDown", 102], ["Home", 0], ["PageUp", 0],
+      ["PageDown", page]]) {
+      await browser.press(key);
+      await stepIs(step);
+      await pause();
+      assert.deepEqual(await told(), step ? ["option", "true", String(step), "102", true] : null, key);
+    }
+    assert.equal(await browser.value(`document.activeElement === ${list}`), true);
+  },
+
+  async "lines on a phone are high enough to be touched, and stay beside the text"() {
+    await open();
+    await paste(OWN);
+    const high = () => browser.value(`[".number", ".row", ".answer"].map(one =>
+      document.querySelector(one).getBoundingClientRect().height)`);
+    // From the first line's number to the third's, and from the first line of the text to the third.
+    const between = () => browser.value(`(() => {
+      const [first, , third] = document.querySelectorAll(".number");
+      const line = parseFloat(getComputedStyle(document.getElementById("text")).lineHeight);
+      return [third.getBoundingClientRect().top - first.getBoundingClientRect().top, 2 * line]; })()`);
+    assert.deepEqual([await high(), await between()], [[18, 18, 18], [36, 36]]);
+    await browser.look({ width: 500, height: 860 });
+    await until(`document.querySelector(".number").getBoundingClientRect().height > 18`);
+    await pause();
+    assert.deepEqual([await high(), await between()], [[24, 24, 24], [48, 48]]);
+    await browser.value(`document.querySelectorAll(".number")[2].click()`);
+    await until(`document.querySelectorAll(".number")[2].classList.contains("point")`);
+    await browser.look(WINDOW);
+    await until(`document.querySelector(".number").getBoundingClientRect().height === 18`);
+    await pause();
+    assert.deepEqual([await high(), await between()], [[18, 18, 18], [36, 36]]);
+  },
+
   async "play shows frames at the mode's rate"() {
     await open();
     // 280 frames of mode 3, of which 70.09 come in a second.

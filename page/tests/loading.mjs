@@ -1,7 +1,8 @@
 // What the tests stand on: the module, the fonts and the examples. The module is that of ZAKLIMOT_MODULE, a
 // file of wasm, or else that of the page as built.
 import { createDeflateRaw, createInflateRaw, gunzipSync } from "node:zlib";
-import { readFileSync, readdirSync } from "node:fs";
+import { mkdtempSync, readFileSync, readdirSync, rmSync } from "node:fs";
+import { tmpdir } from "node:os";
 import { Duplex } from "node:stream";
 import { fileURLToPath } from "node:url";
 import { Adapter } from "../adapter.js";
@@ -82,4 +83,15 @@ export function examples() {
 export function runWhole(session) {
   while (session.runFor(1000));
   return session;
+}
+
+/** What a command of the tools writes into the file `out` of a folder. */
+export function written(make) {
+  const folder = mkdtempSync(tmpdir() + "/zaklimot-");
+  try {
+    make(folder);
+    return readFileSync(folder + "/out");
+  } finally {
+    rmSync(folder, { recursive: true });
+  }
 }
