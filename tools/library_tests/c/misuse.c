@@ -255,6 +255,22 @@ static void little_pixels(void)
     free(pixels);
 }
 
+/* Rows may lie further apart than any picture is wide. */
+static void distant_rows(void)
+{
+    zak_size size = {7, 7};
+    size_t pitch = ZAK_WIDEST + 1u, room = pitch * 400;
+    uint32_t *pixels = malloc(4 * room);
+    if (!pixels)
+        exit(2);
+    memset(pixels, UNTOUCHED, 4 * room);
+    SHOW(zak_frame_xrgb(&card, &size, pixels, room, pitch));
+    SHOW(pixels[639] == 0 && pixels[640] == 0xEEEEEEEE && pixels[pitch - 1] == 0xEEEEEEEE);
+    SHOW(pixels[pitch] == 0 && pixels[399 * pitch + 639] == 0 &&
+         pixels[399 * pitch - 1] == 0xEEEEEEEE);
+    free(pixels);
+}
+
 /* The struct has a byte that no call writes. */
 static bool are_alike(const zak_beam *one, const zak_beam *other)
 {
@@ -723,6 +739,7 @@ int main(int argc, char **argv)
     refused_services();
     little_pictures();
     little_pixels();
+    distant_rows();
     pixels_once();
     little_lines();
     little_texts();
