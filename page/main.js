@@ -1,13 +1,13 @@
 // The page begins: it opens the module that stands in it, and shows a script. `#check` runs all examples
 // instead. In a worker, which has no document, the same script holds answers to those of zak_run.
-import { Adapter } from "./adapter.js";
-import { Trouble } from "./trouble.js";
-import { View } from "./view.js";
-import { byId, element } from "./dom.js";
-import { bytesOfBase64 } from "./bytes.js";
-import { checkedExamples } from "./checking.js";
-import { examplesOf, unzipped } from "./packed.js";
-import { serveComparison } from "./comparing.js";
+import { Adapter } from "./module/adapter.js";
+import { Trouble } from "./common/trouble.js";
+import { View } from "./view/view.js";
+import { byId, element } from "./common/dom.js";
+import { bytesOfBase64 } from "./common/bytes.js";
+import { checkedExamples } from "./run/checking.js";
+import { examplesOf, unzipped } from "./module/packed.js";
+import { serveComparison } from "./run/comparing.js";
 
 /** What some browsers lack, or have switched off, and what the page does with it. */
 const NEEDED = { WebAssembly: "runs the adapter", DecompressionStream: "unpacks the adapter" };

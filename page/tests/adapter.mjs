@@ -1,7 +1,7 @@
 // The module's memory as the page has it: addresses of 32 bits without a sign, lengths of 8 bytes.
 import assert from "node:assert/strict";
 import test from "node:test";
-import { checkedExamples } from "../checking.js";
+import { checkedExamples } from "../run/checking.js";
 import { FONTS, examples, loadAdapter } from "./loading.mjs";
 
 test("memory above two GiB is used as that below", async () => {

@@ -9,7 +9,7 @@ import { tmpdir } from "node:os";
 import { dirname, resolve } from "node:path";
 import { pathToFileURL } from "node:url";
 import { gunzipSync, gzipSync } from "node:zlib";
-import { KEYS } from "../keys.js";
+import { KEYS } from "../view/keys.js";
 import { Browser } from "./driving.mjs";
 import { IDLE, LONG, figuresOf, figuresText, fragmentOf, isIdle, jumpsIn } from "./jumps.mjs";
 import { FONTS, PAGE, TOP, pageData, withMemory } from "./loading.mjs";

@@ -2,7 +2,7 @@
 // differs.
 import assert from "node:assert/strict";
 import test from "node:test";
-import { checkedExamples } from "../checking.js";
+import { checkedExamples } from "../run/checking.js";
 import { FONTS, examples, loadAdapter } from "./loading.mjs";
 
 test("all examples agree", async () => {

@@ -3,7 +3,7 @@
 import assert from "node:assert/strict";
 import test from "node:test";
 import { readFileSync } from "node:fs";
-import { TOUCHED } from "../rows.js";
+import { TOUCHED } from "../common/rows.js";
 import { TOP } from "./loading.mjs";
 
 const STYLE = readFileSync(TOP + "page/style.css", "utf-8");

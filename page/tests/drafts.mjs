@@ -1,8 +1,8 @@
 // The user's own scripts in the browser's storage, and the changes that are undone.
 import assert from "node:assert/strict";
 import test from "node:test";
-import { Drafts, LONGEST_KEPT, newId, titleOf } from "../drafts.js";
-import { History, changeBetween, isNewText, linesAfter } from "../history.js";
+import { Drafts, LONGEST_KEPT, newId, titleOf } from "../editor/drafts.js";
+import { History, changeBetween, isNewText, linesAfter } from "../editor/history.js";
 
 /** A storage as a browser's, of so many characters in all. */
 class Storage {

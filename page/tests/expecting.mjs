@@ -3,9 +3,9 @@ import assert from "node:assert/strict";
 import test from "node:test";
 import { createHash } from "node:crypto";
 import { execFileSync } from "node:child_process";
-import { expectedIn, isAsExpected, isPlainAnswer, isRefusal, shortAnswer, toldAnswer } from "../expecting.js";
-import { md5 } from "../md5.js";
-import { readReport } from "../report.js";
+import { expectedIn, isAsExpected, isPlainAnswer, isRefusal, shortAnswer, toldAnswer } from "../script/expecting.js";
+import { md5 } from "../files/md5.js";
+import { readReport } from "../run/report.js";
 import { TOP } from "./loading.mjs";
 
 const REPORT =

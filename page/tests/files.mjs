@@ -4,11 +4,11 @@ import test from "node:test";
 import { execFileSync } from "node:child_process";
 import { deflateRawSync, gzipSync, inflateSync } from "node:zlib";
 import { readFileSync, writeFileSync } from "node:fs";
-import { Session } from "../session.js";
-import { apngOf, packedRows, padded, pngOf } from "../png.js";
-import { apngOfRun } from "../saving.js";
-import { base64OfBytes, bytesOfBase64, counted, grouped } from "../bytes.js";
-import { bytesOfFiles, contentsOf, packed, readFragment, unpacked } from "../share.js";
+import { Session } from "../run/session.js";
+import { apngOf, packedRows, padded, pngOf } from "../picture/png.js";
+import { apngOfRun } from "../files/saving.js";
+import { base64OfBytes, bytesOfBase64, counted, grouped } from "../common/bytes.js";
+import { bytesOfFiles, contentsOf, packed, readFragment, unpacked } from "../files/share.js";
 import { FONTS, TOP, examples, loadAdapter, written } from "./loading.mjs";
 
 const adapter = await loadAdapter();

@@ -10,7 +10,7 @@
 import { cpus } from "node:os";
 import { resolve } from "node:path";
 import { fileURLToPath, pathToFileURL } from "node:url";
-import { packed } from "../share.js";
+import { packed } from "../files/share.js";
 import { Browser } from "./driving.mjs";
 import { PAGE, examples } from "./loading.mjs";
 

@@ -1,8 +1,8 @@
 // States are kept in parts, which those that are alike share, and come out as they went in.
 import assert from "node:assert/strict";
 import test from "node:test";
-import { joinedBytes } from "../bytes.js";
-import { Kept } from "../kept.js";
+import { joinedBytes } from "../common/bytes.js";
+import { Kept } from "../run/kept.js";
 
 const LENGTH = 300000;
 

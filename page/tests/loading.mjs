@@ -5,7 +5,7 @@ import { mkdtempSync, readFileSync, readdirSync, rmSync } from "node:fs";
 import { tmpdir } from "node:os";
 import { Duplex } from "node:stream";
 import { fileURLToPath } from "node:url";
-import { Adapter } from "../adapter.js";
+import { Adapter } from "../module/adapter.js";
 
 /** Streams as browsers have them: those of node 18 know no raw deflate, which its zlib knows. */
 function withRaw(Stream, create) {

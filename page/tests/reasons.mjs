@@ -4,9 +4,9 @@ import assert from "node:assert/strict";
 import test from "node:test";
 import { execFileSync } from "node:child_process";
 import { readFileSync } from "node:fs";
-import { BLOCK_LINES, CALL_REGISTERS, MOST_STEPS, READING, SHAPES, SHOWN } from "../grammar.js";
-import { FAULT_NAMES, reasonOfBytes } from "../faults.js";
-import { encodingTrouble, mistakeIn, reasonOfLine } from "../reasons.js";
+import { BLOCK_LINES, CALL_REGISTERS, MOST_STEPS, READING, SHAPES, SHOWN } from "../script/grammar.js";
+import { FAULT_NAMES, reasonOfBytes } from "../script/faults.js";
+import { encodingTrouble, mistakeIn, reasonOfLine } from "../script/reasons.js";
 import { TOP, loadAdapter } from "./loading.mjs";
 
 const TABLE = JSON.parse(readFileSync(TOP + "tools/tests/mistakes.json", "utf-8"));

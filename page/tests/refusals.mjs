@@ -2,10 +2,10 @@
 import assert from "node:assert/strict";
 import test from "node:test";
 import { readFileSync } from "node:fs";
-import { Search, pointText } from "../points.js";
-import { Session } from "../session.js";
-import { changesOf } from "../changes.js";
-import { whyRefused } from "../refusals.js";
+import { Search, pointText } from "../run/points.js";
+import { Session } from "../run/session.js";
+import { changesOf } from "../run/changes.js";
+import { whyRefused } from "../script/refusals.js";
 import { FONTS, TOP, loadAdapter, runWhole } from "./loading.mjs";
 
 const adapter = await loadAdapter();

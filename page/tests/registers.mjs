@@ -3,8 +3,8 @@ import assert from "node:assert/strict";
 import test from "node:test";
 import { execFileSync } from "node:child_process";
 import { readFileSync, readdirSync } from "node:fs";
-import { GROUPS, bitsOf, fieldValue } from "../registers.js";
-import { SERVICE_ANCHORS } from "../refusals.js";
+import { GROUPS, bitsOf, fieldValue } from "../module/registers.js";
+import { SERVICE_ANCHORS } from "../script/refusals.js";
 import { TOP } from "./loading.mjs";
 
 const page = name => readFileSync(`${TOP}docs/${name}`, "utf-8");

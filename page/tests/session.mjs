@@ -1,9 +1,9 @@
 // A session gives each step's answer as zak_run does, and gets to any step's state, forward and back.
 import assert from "node:assert/strict";
 import test from "node:test";
-import { Adapter } from "../adapter.js";
-import { Answers } from "../answers.js";
-import { Session, judgedText } from "../session.js";
+import { Adapter } from "../module/adapter.js";
+import { Answers } from "../run/answers.js";
+import { Session, judgedText } from "../run/session.js";
 import { FONTS, examples, loadAdapter, moduleBytes, runWhole, withMemory } from "./loading.mjs";
 
 const adapter = await loadAdapter();

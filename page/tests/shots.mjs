@@ -1,7 +1,7 @@
 // Pictures of a page in the browser, as small PNGs: a palette, and fewer levels of a component.
 import assert from "node:assert/strict";
 import { deflateSync } from "node:zlib";
-import { crcOf } from "../png.js";
+import { crcOf } from "../picture/png.js";
 
 // So many levels a component keeps, and so many colours a palette has at most.
 const LEVELS = 16, MOST_COLOURS = 256;

@@ -1,11 +1,11 @@
 // What the page reads in a saved state is what the module's own calls tell.
 import assert from "node:assert/strict";
 import test from "node:test";
-import { Session } from "../session.js";
-import { changedPlanes } from "../changes.js";
-import { statusOne } from "../registerpanel.js";
+import { Session } from "../run/session.js";
+import { changedPlanes } from "../run/changes.js";
+import { statusOne } from "../panels/registerpanel.js";
 import { State, characterWidth, dacEntry, fetchAddress, frameShape, shownBytes,
-  windowShape } from "../state.js";
+  windowShape } from "../module/state.js";
 import { FONTS, examples, loadAdapter, runWhole } from "./loading.mjs";
 
 const adapter = await loadAdapter();

@@ -3,7 +3,7 @@ import assert from "node:assert/strict";
 import test from "node:test";
 import { execFileSync } from "node:child_process";
 import { readFileSync, writeFileSync } from "node:fs";
-import { textOfTrace, traceForm } from "../trace.js";
+import { textOfTrace, traceForm } from "../files/trace.js";
 import { TOP, written } from "./loading.mjs";
 
 const EXAMPLE = readFileSync(TOP + "examples/typed-line.trace", "utf-8");

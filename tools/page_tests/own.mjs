@@ -1,9 +1,9 @@
 // The check that the page makes of its examples, without a browser: own.mjs MODULE PAGE
 import { readFileSync } from "node:fs";
-import { Adapter } from "../../page/adapter.js";
-import { bytesOfBase64 } from "../../page/bytes.js";
-import { checkedExamples } from "../../page/checking.js";
-import { examplesOf } from "../../page/packed.js";
+import { Adapter } from "../../page/module/adapter.js";
+import { bytesOfBase64 } from "../../page/common/bytes.js";
+import { checkedExamples } from "../../page/run/checking.js";
+import { examplesOf } from "../../page/module/packed.js";
 
 const [module, page] = process.argv.slice(2);
 const DATA = /<script type="application\/json" id="zaklimot-data">([^]*?)<\/script>/;

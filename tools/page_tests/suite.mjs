@@ -3,8 +3,8 @@
 // What differs is told, and how many cases each way has run.
 import { createHash } from "node:crypto";
 import { readFileSync } from "node:fs";
-import { Adapter, CARD_SIZE } from "../../page/adapter.js";
-import { FAULT_NAMES } from "../../page/faults.js";
+import { Adapter, CARD_SIZE } from "../../page/module/adapter.js";
+import { FAULT_NAMES } from "../../page/script/faults.js";
 
 const OK = 0, FONT_SIZE = 22, BAD_LINE = 107;
 const WITH_PLACE = [104, 105, 107, 111];

@@ -7,11 +7,12 @@ import json
 import re
 import shutil
 import sys
+import tempfile
 import unittest
 from functools import partial
 from html.parser import HTMLParser
 from pathlib import Path
-from typing import Any, Optional
+from typing import Any, Mapping, Optional
 from unittest import mock
 from urllib.parse import unquote
 
@@ -29,6 +30,7 @@ from .test_run import Fake
 from .tools import BLACK, RED, Folder, call, hold, hold_refused, hold_undone, png_rows, ppm, refused
 
 FRAME = f"<!DOCTYPE html>\n{STYLE}\n{DATA}\n{SCRIPT}\n"
+needs_esbuild = unittest.skipIf(shutil.which(page.ESBUILD) is None, "esbuild is lacking")
 TEXT = "; A script.\nint ax=3 ; = ax=0003\nframe ; <!-- </script> \u00e9\n"
 OTHER_FONTS = bytes(9728)
 # Elements that have no end.
@@ -37,35 +39,44 @@ VOID = {"meta", "input", "img", "br"}
 LOADING = re.compile(r"https?:|//[a-z]|\burl\(|@import|\bimport\b|\bfetch\(|XMLHttpRequest|WebSocket|EventSource|\bsrc\s*=")
 
 
-class Bundling(unittest.TestCase):
-    def test_what_is_not_as_a_module_is_to_be(self) -> None:
-        others = {"a.js": "export const a = 1;\n"}
-        hold_refused(self, joined, (({"main.js": f"\n{line}\n", **others}, f"^main.js:2: .*{told}") for line, told in (
-            ('import * as a from "./a.js";', "an import is a line"),
-            ('import { a as b } from "./a.js";', "an import is a line"), ("import {", "an import is a line"),
-            ("export { a };", "`export` stands before"), ("export const [a] = b;", "`export` stands before"),
-            ('  await import("./a.js");', "by a line at the top alone"),
-            ('const a = "</script>";', "the end of a script"), ("// <!-- a", "the end of a script"),
-        )))
+def small_sources(script: str = "start();\n", style: str = "p {}\n") -> Sources:
+    return Sources(FRAME, style, script)
+
+
+@needs_esbuild
+class Joining(Folder):
+    def joined(self, sources: Mapping[str, str]) -> str:
+        """The script of modules, which are given by their places."""
+        with tempfile.TemporaryDirectory(dir=self.folder) as name:
+            for place, text in sources.items():
+                path = Path(name, place)
+                path.parent.mkdir(exist_ok=True)
+                path.write_text(text, "utf-8")
+            return joined(Path(name))
+
+    def test_one_script_of_all_modules(self) -> None:
+        script = self.joined({
+            "main.js": 'import { é } from "./one/a.js";\nstart(é);\n',
+            "one/a.js": 'import { b } from "../b.js";\nexport const é = b + "</script>";\n',
+            "b.js": "export const b = 1;\n", "tests/one.js": "",
+        })
+        self.assertLess(script.index("var b = 1;"), script.index('var é = b + "<\\/script>";'))
+        self.assertTrue(script.endswith("start(é);\n"))
 
     def test_what_does_not_fit_together(self) -> None:
-        one = 'import { a } from "./a.js";\n'
-        hold(self, partial(refused, joined), (
-            ({"main.js": one}, "a.js: there is no such module, and main.js imports it"),
-            ({"main.js": one, "a.js": "const a = 1;\n"}, "main.js: it imports a, which a.js doesn't export"),
-            ({"main.js": one, "a.js": 'import { b } from "./b.js";\nexport const a = b;\n',
-              "b.js": 'import { a } from "./a.js";\nexport const b = a;\n'},
-             "a.js: it is imported in a circle: a.js imports b.js imports a.js"),
-            ({"main.js": "", "a.js": ""}, "a.js: no module that main.js leads to imports it"),
-            ({"a.js": ""}, "main.js: there is no such module, and the page imports it"),
+        one = 'import { a } from "./a.js";\na();\n'
+        hold_refused(self, self.joined, (
+            ({"main.js": one}, '(?s)Could not resolve "./a.js".*main.js:1:18'),
+            ({"main.js": one, "a.js": "const a = 1;\n"}, 'Import "a" will always be undefined'),
+            ({"main.js": one, "a.js": "export const b = 1;\n"}, 'No matching export in "a.js" for import "a"'),
+            ({"main.js": "const a = 1;\nconst a = 2;\n"}, 'The symbol "a" has already been declared'),
+            ({"main.js": "", "one/a.js": ""}, "^one/a.js: no module that main.js leads to imports it"),
+            ({"a.js": ""}, 'Could not resolve "main.js"'),
         ))
 
 
-def small_sources(script: str = "start();\n", style: str = "p {}\n") -> Sources:
-    return Sources(FRAME, style, {"main.js": script})
-
-
 class Pages(unittest.TestCase):
+    @needs_esbuild
     def test_the_page_as_built(self) -> None:
         # It holds the order of modules, the place of each part, and what the page is given.
         built = tests_command.built_page()
@@ -78,15 +89,16 @@ class Pages(unittest.TestCase):
     def test_a_frame_that_lacks_a_place(self) -> None:
         frames = (FRAME.replace(STYLE, ""), FRAME + DATA, FRAME.replace(SCRIPT, ""))
         hold_refused(self, lambda sources: page_text(sources, {}), (
-            *((Sources(frame, "", {"main.js": ""}), "index.html: <!-- zaklimot:") for frame in frames),
+            *((Sources(frame, "", ""), "index.html: <!-- zaklimot:") for frame in frames),
             (small_sources(style="a::after { content: '</Style>' }"), "style.css: "),
+            (small_sources(script="a = '<!--';\n"), "main.js: a page would take <!-- for the end of a script"),
         ))
 
     def test_a_page_that_is_too_large(self) -> None:
         length = len(make_page(b"", small_sources("")))
         fits = "x" * (page.MOST_BYTES - length)
-        self.assertEqual(len(make_page(b"", small_sources(f"{fits}\n"))), page.MOST_BYTES)
-        told = refused(make_page, b"", small_sources(f"{fits}x\n"))
+        self.assertEqual(len(make_page(b"", small_sources(fits))), page.MOST_BYTES)
+        told = refused(make_page, b"", small_sources(f"{fits}x"))
         self.assertEqual(told, "zaklimot.html: it would have 800,001 bytes, and 800,000 are the most")
 
     def test_what_an_example_is_about(self) -> None:
@@ -208,7 +220,7 @@ class Tests(Folder):
         data, empty = page_data(made.decode("utf-8")), base64.b64encode(packed(b"[]")).decode("ascii")
         hold_refused(self, tests_command.check_built, (
             (with_kit(module_of(Modules.right, (1, b"\0")), "one"), made, "is not the one that the crate makes"),
-            (module, make_page(module, small_sources("end();\n")), "is not the page that its sources make, from line 8 on"),
+            (module, make_page(module, small_sources("end();\n")), "is not the page that its sources make, from line 7 on"),
             *((module, page_text(small_sources(), {**data, "examples": examples}).encode("utf-8"), told)
               for examples, told in ((empty, "other data .* examples;"), ("AAAA", "is not packed as it"))),
         ))

@@ -1,6 +1,6 @@
 """Answers that a script expects, held against those that came; what differs in a dump is told by name.
 
-The names of registers are those of page/registers.js; page/tests/registers.mjs holds the two together.
+The names of registers are those of page/module/registers.js; page/tests/registers.mjs holds the two together.
 """
 
 from __future__ import annotations

@@ -37,7 +37,7 @@ PACKAGES = {
     f"{CROSS}-gcc": f"gcc-{CROSS}", f"{CROSS}-g++": f"g++-{CROSS}",
     "s390x-linux-gnu-gcc": "gcc-s390x-linux-gnu", "x86_64-w64-mingw32-gcc": "gcc-mingw-w64-x86-64",
     "i686-linux-gnu-gcc": "gcc-i686-linux-gnu", "wine": "wine", "qemu-s390x": "qemu-user", "node": "nodejs", "qemu-system-x86_64": "qemu-system-x86", "qemu-aarch64": "qemu-user",
-    "xwininfo": "x11-utils", "wasm-opt": "binaryen", "wasm2c": "wabt",
+    "xwininfo": "x11-utils", "wasm-opt": "binaryen", "wasm2c": "wabt", "esbuild": "esbuild",
     "python3": "python3", "cargo": "cargo", "rustc": "rustc", "rustdoc": "rustc", "cargo-clippy": "rust-clippy",
 }
 SOURCES = {

@@ -1,6 +1,6 @@
 """The registers on which the time of frames and refusals hang, as far as a script tells them; why steps are refused.
 
-The words of refusals are those of page/refusals.js; page/tests/refusals.mjs and tests/test_refusals.py hold both to the
+The words of refusals are those of page/script/refusals.js; page/tests/refusals.mjs and tests/test_refusals.py hold both to the
 same cases.
 """
 

@@ -1,0 +1,149 @@
+// Which script stands in the page, the list of scripts, and what is kept of the user's own.
+import { LONGEST_KEPT, newId, titleOf } from "./drafts.js";
+import { byId, element } from "../common/dom.js";
+import { grouped } from "../common/bytes.js";
+import { isNewText } from "./history.js";
+
+/** The name of a script that has none. */
+export const NAMELESS = "script";
+const KEPT = "kept ", SHORT_TITLE = 30;
+const WHY_LOST = {
+  forbidden: "This browser keeps nothing for the page, so your script is gone after a reload: " +
+    "save it as a file, or make a link.",
+  full: "The browser's storage is full, so your script is gone after a reload: " +
+    "save it as a file, or make a link.",
+  long: `A script of more than ${grouped(LONGEST_KEPT)} characters is not kept: save it as a file.`,
+};
+
+function timeText(time) {
+  const parts = { day: "numeric", month: "short", hour: "2-digit", minute: "2-digit" };
+  return new Date(time).toLocaleString([], parts);
+}
+
+/**
+ * The scripts. Each is { name, about, isExample, id }: under its id the user's own is kept, and other
+ * scripts have none. `tell` says something that stays.
+ */
+export class Scripts {
+  constructor(examples, drafts, tell) {
+    Object.assign(this, { examples, drafts, tell, told: new Set(), now: null });
+    this.list = byId("examples");
+    for (const event of ["pointerdown", "focus"]) {
+      this.list.addEventListener(event, () => this.fill());
+    }
+    this.fill();
+  }
+
+  /** Fills the list: the user's last scripts, and the examples. */
+  fill() {
+    const { list } = this;
+    const last = this.drafts.list().filter(({ time }) => time);
+    const kept = last.map(({ id, title, time }) =>
+      new Option(`${title} · ${timeText(time)}`, KEPT + id));
+    const group = (label, options) => element("optgroup", { label }, ...options);
+    list.replaceChildren(new Option("your own script", ""),
+      ...kept.length ? [group("Your last scripts", kept)] : [],
+      group("Examples", this.examples.map(({ name }) => new Option(name, name))));
+    this.choose();
+  }
+
+  /** Chooses the entry of the script that stands there. */
+  choose() {
+    const { list, now } = this;
+    list.value = now?.isExample ? now.name : KEPT + now?.id;
+    if (list.selectedIndex < 0) list.value = "";
+  }
+
+  /** What an entry of the list stands for, as { text, script }; null where it is gone. */
+  chosen(value) {
+    if (value.startsWith(KEPT)) return this.kept(value.slice(KEPT.length));
+    return this.example(value);
+  }
+
+  example(name) {
+    const found = this.examples.find(one => one.name === name);
+    return found ? { text: found.text, script: this.scriptOf(found) } : null;
+  }
+
+  scriptOf({ name, about }) {
+    return { name, about, isExample: true, id: "" };
+  }
+
+  /** A script that is kept, as { text, script }; null where it is gone. */
+  kept(id) {
+    const found = this.drafts.read(id);
+    if (!found) return null;
+    const { name, text, stored } = found;
+    return { text, script: { name, about: "", isExample: false, id, stored } };
+  }
+
+  /** The script that was changed last, as { text, script }; null where none is kept. */
+  get last() {
+    const [first] = this.drafts.list();
+    return first?.time ? this.kept(first.id) : null;
+  }
+
+  /** A script that came from a file, a link or a tool; an own one is kept. */
+  made(name, about, isOwn) {
+    const short = name.replace(/\.\w{1,6}$/, "") || NAMELESS;
+    return { name: short, about, isExample: false, id: isOwn ? newId() : "" };
+  }
+
+  /** Which script a text is after it was typed over. */
+  afterChange(text, change, old) {
+    const { now } = this, example = this.examples.find(one => one.text === text);
+    if (example) return now.isExample && now.name === example.name ? now : this.scriptOf(example);
+    const isNew = isNewText(old, change);
+    if (now.id && !isNew) return now;
+    const name = now.isExample || isNew ? NAMELESS : now.name;
+    return { name, about: "", isExample: false, id: newId() };
+  }
+
+  /**
+   * Shows which script stands there now; its text is kept if it is the user's own. `isAsked` tells that
+   * the address asks for it.
+   */
+  show(script, text, isAsked = false) {
+    const isOther = this.now !== script;
+    this.now = script;
+    if (isOther) {
+      byId("about").textContent = script.about;
+      document.title = `${script.name}: Zaklimot`;
+    }
+    if (script.id) this.keep(script, text);
+    if (isOther) this.choose();
+    if (!isOther || script.id) return;
+    this.note(script.isExample && !isAsked ? { example: script.name } : null);
+  }
+
+  keep(script, text) {
+    const wrong = this.drafts.keep(script, text);
+    if (!wrong) return this.note({ kept: script.id });
+    if (!this.told.has(wrong)) this.tell(WHY_LOST[wrong]);
+    return this.told.add(wrong);
+  }
+
+  /** Notes in the browser's history which script stands there, for a reload and for Back. */
+  note(words) {
+    const said = JSON.stringify(words);
+    if (JSON.stringify(history.state) === said) return;
+    try {
+      history.replaceState(words, "");
+    } catch {
+      // A page that may not have a history of its own begins anew after a reload.
+    }
+  }
+
+  /** What the browser's history says stood here, as { text, script }; null where it says nothing. */
+  get noted() {
+    const { state } = history;
+    if (typeof state?.kept === "string") return this.kept(state.kept);
+    return typeof state?.example === "string" ? this.example(state.example) : null;
+  }
+
+  /** A few words for a script. */
+  title(script, text) {
+    const whole = script.isExample ? script.name : titleOf(text);
+    return whole.length > SHORT_TITLE ? `${whole.slice(0, SHORT_TITLE)} …` : whole;
+  }
+}

@@ -1,0 +1,160 @@
+// The cells of text that the adapter shows, with their characters' glyphs in plane 2.
+import { LETTERS_437 } from "../module/codepage.js";
+import { characterWidth, dacEntry, displayedLines, fetchAddress, windowShape } from "../module/state.js";
+import { element, setAll, setText } from "../common/dom.js";
+import { hex, sameWords, wordsOfBytes } from "../common/bytes.js";
+import { widened } from "../picture/png.js";
+
+const GLYPH_WIDTH = 8;
+/** Of more rows the first are shown. */
+const MOST_ROWS = 128;
+/** Bits of what a cell shows: the cursor, and a change by the last step. */
+const CURSOR = 1 << 16, CHANGED = 1 << 17;
+// The colours of a cell whose own are alike, so that its character can be read.
+const ALIKE = [0xff909090, 0xff303030];
+
+/** The rows of text of a frame: the counter of the first cell of each, and how many scan lines it has. */
+function textRows(registers) {
+  const rows = [];
+  let last = null;
+  for (const { base, scan } of displayedLines(registers)) {
+    if (!last || base !== last.base || scan < last.lines - 1) rows.push(last = { base, lines: 0 });
+    last.lines = Math.max(last.lines, scan + 1);
+  }
+  return rows;
+}
+
+/** The cells of a state: rows of { character, attribute, address, isCursor }. */
+export function cellsOf(state) {
+  const { registers } = state, { characters } = windowShape(registers), { crtc } = registers;
+  const cursor = crtc[10] & 32 ? -1 : 256 * crtc[14] + crtc[15],
+    [codes, attributes] = [state.plane(0), state.plane(1)];
+  return textRows(registers).map(({ base, lines }) =>
+    ({ lines, cells: Array.from({ length: characters }, (_, column) => {
+    const counter = (base + column) & 65535, address = fetchAddress(registers, counter);
+    return { character: codes[address], attribute: attributes[address], address,
+      isCursor: counter === cursor };
+  }) }));
+}
+
+/** Where the glyphs of a map begin in plane 2. */
+function mapStart(map) {
+  return 0x4000 * (map & 3) + (map & 4 ? 0x2000 : 0);
+}
+
+function drawCell(words, width, left, top, lines, { character, attribute },
+  { glyphs, colours, hasBlink, maps }) {
+  const glyph = mapStart(maps[attribute >> 3 & 1]) + 32 * character;
+  const [own, ground] = [colours[attribute & 15], colours[attribute >> 4 & (hasBlink ? 7 : 15)]];
+  const [ink, paper] = own === ground ? ALIKE : [own, ground];
+  for (let y = 0; y < lines; y++) {
+    const byte = glyphs[glyph + y], at = (top + y) * width + left;
+    for (let x = 0; x < GLYPH_WIDTH; x++) words[at + x] = byte >> 7 - x & 1 ? ink : paper;
+  }
+}
+
+/** What the drawing of cells takes from the registers. */
+function cellColours(state) {
+  const { registers } = state, select = registers.seq[3];
+  const word = four => {
+    const [red, green, blue] = state.colour(dacEntry(registers, four)).map(widened);
+    return 0xff000000 | blue << 16 | green << 8 | red;
+  };
+  return { glyphs: state.plane(2), colours: Array.from({ length: 16 }, (_, four) => word(four)),
+    hasBlink: Boolean(registers.attr[16] & 8),
+    maps: [select & 3 | select >> 2 & 4, select >> 2 & 3 | select >> 3 & 4] };
+}
+
+/** The panel of cells, whose canvas is painted where a cell differs from what it shows. */
+export class CellPanel {
+  constructor() {
+    this.canvas = element("canvas", { className: "cells sharp", role: "img" });
+    this.told = element("output", { className: "told" });
+    this.hint = element("p", { className: "hint" },
+      "The adapter shows graphics: bit 0 of miscellaneous, graphics controller 6, is 1.");
+    this.brush = this.canvas.getContext("2d", { alpha: false });
+    this.canvas.addEventListener("pointermove", event => this.tell(event));
+    this.root = element("div", { className: "cellbox" }, this.canvas, this.told);
+  }
+
+  made({ before, after }) {
+    if (after.registers.gfx[6] & 1) return this.hint;
+    const rows = cellsOf(after).slice(0, MOST_ROWS);
+    let high = 0;
+    for (const row of rows) [row.top, high] = [high, high + row.lines];
+    this.rows = rows;
+    this.shape(Math.max(1, GLYPH_WIDTH * (rows[0]?.cells.length ?? 0)), Math.max(1, high));
+    const drawing = cellColours(after), old = this.isOther(drawing) ? [] : this.keys;
+    const last = before === after ? null : { codes: before.plane(0), attributes: before.plane(1) };
+    this.keys = rows.map(row => keysOf(row, last));
+    rows.forEach((row, i) => this.drawRow(row, drawing, this.keys[i], old[i]));
+    this.describe(after.registers);
+    return this.root;
+  }
+
+  shape(width, height) {
+    const { canvas } = this;
+    if (canvas.width === width && canvas.height === height && this.image) return;
+    Object.assign(canvas, { width, height });
+    this.image = new ImageData(width, height);
+    this.words = new Uint32Array(this.image.data.buffer);
+  }
+
+  /** Whether all cells are to be painted: rows, colours or glyphs are not those of what is painted. */
+  isOther(drawing) {
+    const { colours, hasBlink, maps } = drawing, { width, height } = this.canvas;
+    const look = [width, height, ...this.rows.map(row => row.lines), ...colours, hasBlink, ...maps].join();
+    const glyphs = wordsOfBytes(drawing.glyphs);
+    const isSame = look === this.look && sameWords(glyphs, this.glyphs);
+    Object.assign(this, { look, glyphs });
+    return !isSame;
+  }
+
+  /** Paints a row in which a cell differs from what stands on the canvas. */
+  drawRow({ cells, top, lines }, drawing, keys, old) {
+    if (old && cells.every((_, column) => keys[column] === old[column])) return;
+    const { image, brush } = this;
+    cells.forEach((cell, column) =>
+      drawCell(this.words, image.width, GLYPH_WIDTH * column, top, lines, cell, drawing));
+    brush.putImageData(image, 0, 0, 0, top, image.width, lines);
+    keys.forEach((key, column) => {
+      if (key < CURSOR) return;
+      brush.strokeStyle = key & CHANGED ? "#f6c344" : "#4a90d9";
+      brush.lineWidth = 2;
+      brush.strokeRect(GLYPH_WIDTH * column + 1, top + 1, GLYPH_WIDTH - 2, Math.max(2, lines - 2));
+    });
+  }
+
+  /** Tells what the panel shows, for who does not see it too. */
+  describe(registers) {
+    const { rows } = this, size = `${rows.length} rows of ${rows[0]?.cells.length ?? 0} cells`;
+    const lines = rows.map(row => row.cells.map(cell => LETTERS_437[cell.character]).join("").trimEnd());
+    const ariaLabel = `${size}: ${lines.filter(line => line).join(" / ").slice(0, 2000)}`;
+    setAll(this.canvas, { ariaLabel });
+    setText(this.told, `${size}, ${characterWidth(registers)} dots wide. ` +
+      "Yellow: changed by the last step; blue: the cursor; grey: both colours are alike.");
+  }
+
+  /** Tells the cell under the pointer. */
+  tell(event) {
+    const { canvas, rows } = this, box = canvas.getBoundingClientRect();
+    const y = (event.clientY - box.top) * canvas.height / box.height;
+    const row = rows.findLastIndex(({ top }) => top <= y);
+    const column = Math.floor((event.clientX - box.left) * canvas.width / box.width / GLYPH_WIDTH);
+    const cell = rows[row]?.cells[column];
+    if (!cell) return;
+    const { character, attribute, address } = cell;
+    setText(this.told,
+      `row ${row}, column ${column}: character ${hex(character, 2)} ${LETTERS_437[character]}, ` +
+      `attribute ${hex(attribute, 2)}, at ${hex(address, 4)} of planes 0 and 1`);
+  }
+}
+
+/** What a row's cells show, but for colours and glyphs: a number each. */
+function keysOf({ cells }, before) {
+  return cells.map(({ character, attribute, address, isCursor }) => {
+    const isChanged = before !== null &&
+      (before.codes[address] !== character || before.attributes[address] !== attribute);
+    return character | attribute << 8 | (isCursor ? CURSOR : 0) | (isChanged ? CHANGED : 0);
+  });
+}

@@ -1,0 +1,243 @@
+// The four planes, as bitmaps at the pitch of the offset register and as hexadecimal.
+import { classesOf, element, selectOf, setAll, setText } from "../common/dom.js";
+import { counted, grouped, hex, wordsOfBytes } from "../common/bytes.js";
+import { changedPlanes } from "../run/changes.js";
+import { rowBytes, shownBytes } from "../module/state.js";
+
+const PLANE_LENGTH = 65536, WIDEST_PITCH = 2040, HEX_ROWS = 16, HEX_COLUMNS = 16, USUAL_PITCH = 80;
+const COLOURS = { on: 0xffffffff, off: 0xff000000, shownOff: 0xff4a2a14, hiddenOn: 0xff8a8a8a,
+  changedOn: 0xff44c3f6, changedOff: 0xff104a6a };
+/** Of each byte, the words of its eight dots, the highest bit first, where its ones and zeros look so. */
+const wordsOfDots = (one, zero) =>
+  Uint32Array.from({ length: 8 * 256 }, (_, at) => (at >> 3 >> 7 - (at & 7) & 1 ? one : zero));
+const SHOWN_DOTS = wordsOfDots(COLOURS.on, COLOURS.shownOff),
+  HIDDEN_DOTS = wordsOfDots(COLOURS.hiddenOn, COLOURS.off),
+  CHANGED_DOTS = wordsOfDots(COLOURS.changedOn, COLOURS.changedOff);
+/** So many rows of dots that stand as they are part what is put on a canvas at once. */
+const APART_ROWS = 8;
+const ZOOMS = [["fit", "four planes, to fit"], ["1", "one plane, × 1"], ["2", "one plane, × 2"],
+  ["4", "one plane, × 4"]];
+
+/** A plane as a bitmap, of which only what has changed is painted anew. */
+class PlaneBitmap {
+  constructor(plane, heard) {
+    const label = `plane ${plane} as a bitmap`;
+    this.canvas = element("canvas", { className: "sharp", role: "img", "aria-label": label });
+    this.canvas.addEventListener("click", event => {
+      const { canvas, pitch } = this, box = canvas.getBoundingClientRect();
+      const x = (event.clientX - box.left) * canvas.width / box.width;
+      const y = (event.clientY - box.top) * canvas.height / box.height;
+      heard(plane, Math.floor(y) * pitch + Math.floor(x / 8));
+    });
+    this.brush = this.canvas.getContext("2d", { alpha: false });
+    const nothing = new Uint8Array(PLANE_LENGTH);
+    Object.assign(this, { bytes: nothing, shown: nothing, isNew: true, used: 0 });
+    // The dots of byte after byte stand the same way at each pitch; a last row may go on behind them.
+    this.words = new Uint32Array(8 * (PLANE_LENGTH + WIDEST_PITCH));
+    // Marks of the bytes that have changed, and those which stand on the canvas: they take turns.
+    this.marks = [new Marks(), new Marks()];
+  }
+
+  /** Paints bytes; `shown` has a 1 for each byte that is so, and `found` the numbers of those changed. */
+  paint(bytes, shown, found, pitch) {
+    const [old, marks] = this.marks = [...this.marks].reverse();
+    marks.set(found);
+    const isBlack = pitch !== this.pitch;
+    if (isBlack) this.shape(pitch);
+    this.put(this.paintWords(bytes, shown, marks.bytes, old.bytes, isBlack));
+    Object.assign(this, { bytes, shown, isNew: false });
+  }
+
+  /**
+   * Paints the words, four bytes each, that differ from what is painted. The rows that have some; of a black
+   * canvas those that are not black.
+   */
+  paintWords(bytes, shown, marks, oldMarks, isBlack) {
+    const [now, old] = [bytes, this.bytes].map(wordsOfBytes), { isNew, pitch } = this;
+    const [grounds, oldGrounds, marked, oldMarked] = [shown, this.shown, marks, oldMarks].map(wordsOfBytes);
+    const isShownSame = shown === this.shown, rows = [];
+    for (let word = 0; word < now.length; word++) {
+      const isSame = now[word] === old[word] && marked[word] === oldMarked[word] && !isNew &&
+        (isShownSame || grounds[word] === oldGrounds[word]);
+      if (!isSame) this.paintWord(4 * word, bytes, shown, marks);
+      if (isBlack ? !(now[word] | grounds[word] | marked[word]) : isSame) continue;
+      const row = Math.floor(4 * word / pitch), last = Math.floor((4 * word + 3) / pitch);
+      if (rows.at(-1)?.last >= row - APART_ROWS) rows.at(-1).last = last;
+      else rows.push({ row, last });
+    }
+    return rows;
+  }
+
+  paintWord(from, bytes, shown, marks) {
+    const { words, bytes: old } = this;
+    for (let at = from; at < from + 4; at++) {
+      const byte = bytes[at], dots = marks[at] ? CHANGED_DOTS : shown[at] ? SHOWN_DOTS : HIDDEN_DOTS;
+      this.used += (byte ? 1 : 0) - (old[at] ? 1 : 0);
+      for (let bit = 0; bit < 8; bit++) words[8 * at + bit] = dots[8 * byte + bit];
+    }
+  }
+
+  /** Puts rows of dots on the canvas. */
+  put(rows) {
+    for (const { row, last } of rows) {
+      this.brush.putImageData(this.image, 0, 0, 0, row, this.image.width, last + 1 - row);
+    }
+  }
+
+  shape(pitch) {
+    const width = 8 * pitch, height = Math.ceil(PLANE_LENGTH / pitch);
+    Object.assign(this.canvas, { width, height });
+    this.pitch = pitch;
+    this.image = new ImageData(new Uint8ClampedArray(this.words.buffer, 0, 4 * width * height), width, height);
+  }
+}
+
+/** Of each byte of a plane, whether it has a mark. */
+class Marks {
+  constructor() {
+    Object.assign(this, { bytes: new Uint8Array(PLANE_LENGTH), found: [] });
+  }
+
+  /** Marks these bytes, and no others. */
+  set(found) {
+    for (const at of this.found) this.bytes[at] = 0;
+    for (const at of found) this.bytes[at] = 1;
+    this.found = found;
+  }
+}
+
+/** A plane's bitmap below what is said of it. */
+class PlaneFigure {
+  constructor(plane, heard) {
+    Object.assign(this, { plane, bitmap: new PlaneBitmap(plane, heard), said: element("figcaption") });
+    this.made = element("figure", {}, this.said,
+      element("div", { className: "scroll" }, this.bitmap.canvas));
+  }
+
+  show(bytes, shown, found, pitch) {
+    this.bitmap.paint(bytes, shown, found, pitch);
+    const used = counted(this.bitmap.used, "byte");
+    const said = `plane ${this.plane}: ${used} not 0, ${grouped(found.length)} changed`;
+    setText(this.said, said);
+    setAll(this.said, { title: said });
+  }
+}
+
+/** The table of bytes as hexadecimal. */
+class HexTable {
+  constructor() {
+    this.caption = element("caption");
+    this.rows = Array.from({ length: HEX_ROWS }, () => {
+      const head = element("th", { scope: "row" });
+      return { head, cells: Array.from({ length: HEX_COLUMNS }, () => ({ key: -1, made: element("td") })) };
+    });
+    const rows = this.rows.map(({ head, cells }) => element("tr", {}, head,
+      ...cells.map(cell => cell.made)));
+    this.made = element("table", { className: "hex" }, this.caption, element("tbody", {}, ...rows));
+  }
+
+  show(plane, offset, bytes, before, shown) {
+    setText(this.caption, `Plane ${plane} from ${hex(offset, 4)}: bytes on blue are shown`);
+    this.rows.forEach(({ head, cells }, row) => {
+      const from = offset + HEX_COLUMNS * row;
+      setText(head, hex(from, 4));
+      cells.forEach((cell, i) => {
+        const byte = bytes[from + i], old = before[from + i], isShown = shown[from + i];
+        const key = byte | old << 8 | isShown << 16, { made } = cell, isChanged = byte !== old;
+        if (cell.key === key) return;
+        cell.key = key;
+        setText(made, hex(byte, 2));
+        setAll(made, { className: classesOf(!byte && "zero", isShown && "shown", isChanged && "changed"),
+          title: isChanged ? `${hex(old, 2)} before the last step` : "" });
+      });
+    });
+  }
+}
+
+/** The panel of memory, which keeps the plane, the offset and the zoom that are looked at. */
+export class MemoryPanel {
+  constructor() {
+    Object.assign(this, { plane: 0, offset: 0, zoom: "fit" });
+    this.figures = [0, 1, 2, 3].map(plane => new PlaneFigure(plane, (chosen, offset) => {
+      this.plane = chosen;
+      this.look(offset);
+    }));
+    this.hint = element("p", { className: "hint" });
+    this.box = element("div", {}, ...this.figures.map(figure => figure.made));
+    this.table = new HexTable();
+    this.root = element("div", { className: "memory" }, this.controls(), this.hint, this.box,
+      element("div", { className: "scroll" }, this.table.made));
+  }
+
+  /** The panel for what is seen. */
+  made(seen) {
+    const { registers } = seen.after, own = rowBytes(registers);
+    this.seen = seen;
+    this.pitch = own || USUAL_PITCH;
+    // Where they don't change, they stay the same list: then bitmaps need not look through them.
+    const key = registers.crtc.join();
+    if (key !== this.shownBy) Object.assign(this, { shownBy: key, shown: shownBytes(registers) });
+    this.changed = changedPlanes(seen.before, seen.after);
+    const pitch = own ? `${own} bytes a row, as the offset register says`
+      : `${USUAL_PITCH} bytes a row, since the offset register is 0`;
+    setText(this.hint, `A dot for each bit, ${pitch}. Blue ground: shown by a frame with these ` +
+      "registers; yellow: changed by the last step. Click to see the bytes.");
+    this.fill();
+    return this.root;
+  }
+
+  fill() {
+    this.jump.disabled = this.changed.every(found => !found.length);
+    setAll(this.planes, { value: String(this.plane) });
+    setAll(this.place, { value: hex(this.offset, 4) });
+    this.fillFigures();
+    const { before, after } = this.seen, { plane, offset, shown } = this;
+    this.table.show(plane, offset, after.plane(plane), before.plane(plane), shown);
+  }
+
+  controls() {
+    const planes = [0, 1, 2, 3].map(plane => [plane, `plane ${plane}`]),
+      zooms = selectOf("zoom of the bitmaps", ZOOMS);
+    this.planes = selectOf("plane", planes, { id: "plane" });
+    this.planes.addEventListener("change", () => {
+      this.plane = Number(this.planes.value);
+      this.fill();
+    });
+    zooms.id = "planezoom";
+    zooms.addEventListener("change", () => {
+      this.zoom = zooms.value;
+      this.fill();
+    });
+    const label = "offset, hexadecimal";
+    this.place = element("input", { id: "offset", size: 5, maxLength: 4, "aria-label": label });
+    this.place.addEventListener("change", () => this.look(parseInt(this.place.value, 16) || 0));
+    const by = (title, says, rows) => element("button", { type: "button", title: says, "aria-label": says,
+      onclick: () => this.look(this.offset + HEX_COLUMNS * rows) }, title);
+    this.jump = element("button", { type: "button", onclick: () => this.lookAtChange() }, "to the change");
+    return element("div", { className: "bar" }, this.planes, zooms,
+      element("label", {}, "offset ", this.place),
+      by("▲", "16 rows up", -HEX_ROWS), by("▼", "16 rows down", HEX_ROWS), this.jump);
+  }
+
+  lookAtChange() {
+    this.plane = this.changed.findIndex(found => found.length > 0);
+    this.look(this.changed[this.plane][0]);
+  }
+
+  look(offset) {
+    this.offset = Math.max(0, Math.min(PLANE_LENGTH - HEX_ROWS * HEX_COLUMNS, offset & ~15));
+    this.fill();
+  }
+
+  fillFigures() {
+    const isOne = this.zoom !== "fit", zoom = Number(this.zoom);
+    setAll(this.box, { className: classesOf("planes", isOne && "one") });
+    this.figures.forEach((figure, plane) => {
+      const { made, bitmap: { canvas } } = figure, isPicked = plane === this.plane;
+      setAll(made, { hidden: isOne && !isPicked, className: isPicked ? "picked" : "" });
+      if (made.hidden) return;
+      figure.show(this.seen.after.plane(plane), this.shown, this.changed[plane], this.pitch);
+      setAll(canvas.style, { width: isOne ? canvas.width * zoom + "px" : "" });
+    });
+  }
+}

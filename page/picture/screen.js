@@ -1,0 +1,234 @@
+// The picture as it is drawn so far. What is not drawn yet is dark, cross-hairs show the beam, a glass dots.
+import { byId, cssColour, element, setAll } from "../common/dom.js";
+import { characterWidth, displayedLines, fetchAddress } from "../module/state.js";
+import { hex, wordsOfBytes } from "../common/bytes.js";
+import { widened } from "./png.js";
+
+const DARK = 0.32, GLASS_DOTS = 15, GLASS_SCALE = 10;
+
+/** The lines of a picture that have dots: { line, width, drawn, from }, and the widest. */
+function linesOf(picture) {
+  if (picture.isWhole) {
+    const { width, height } = picture;
+    const rows = Array.from({ length: height },
+      (_, line) => ({ line, width, drawn: width, from: 3 * line * width }));
+    return { rows, width, height };
+  }
+  const rows = [];
+  let from = 0, widest = 1;
+  picture.widths.forEach((width, line) => {
+    if (width) rows.push({ line, width, drawn: picture.drawn[line], from });
+    from += 3 * width;
+    widest = Math.max(widest, width);
+  });
+  return { rows, width: widest, height: Math.max(1, rows.length) };
+}
+
+/** The words of colours of six bits, shifted to their place, and the same of dots that are not drawn yet. */
+const wordsOf = share => [0, 8, 16].map(shift =>
+  Uint32Array.from({ length: 64 }, (_, six) => Math.round(widened(six) * share) << shift));
+const LIGHT = wordsOf(1), DIMMED = wordsOf(DARK);
+
+function paintDots(words, to, rgb, from, count, [reds, greens, blues]) {
+  for (let at = 0; at < count; at++, from += 3) {
+    words[to + at] = 0xff000000 | blues[rgb[from + 2]] | greens[rgb[from + 1]] | reds[rgb[from]];
+  }
+}
+
+/** Colours of dots as bytes, and as words, four bytes each, so that many are held to others quickly. */
+function dotsOf(rgb) {
+  const isEven = rgb.byteOffset % 4 === 0;
+  return { rgb, words: isEven ? wordsOfBytes(rgb) : null };
+}
+
+/** Whether dots have the same `length` bytes from a place on in each. */
+function sameDots(one, from, other, otherFrom, length) {
+  const isEven = one.words && other.words && (from | otherFrom | length) % 4 === 0;
+  const [now, old] = isEven ? [one.words, other.words] : [one.rgb, other.rgb], share = isEven ? 4 : 1;
+  const end = (from + length) / share, ahead = (otherFrom - from) / share;
+  for (let at = from / share; at < end; at++) if (now[at] !== old[at + ahead]) return false;
+  return true;
+}
+
+/** Whether a row of dots looks as another one that was painted in its place. */
+function isSameRow(row, dots, old, oldDots) {
+  return old.width === row.width && old.light === row.light &&
+    sameDots(dots, row.from, oldDots, old.from, 3 * row.width);
+}
+
+/** The picture on its stage. `heard` has `clicked(line, dot)`. */
+export class Screen {
+  constructor(heard) {
+    Object.assign(this, { heard, stage: byId("stage"), canvas: byId("picture"), glass: byId("glass"),
+      seen: null });
+    this.glass.width = this.glass.height = GLASS_DOTS * GLASS_SCALE;
+    for (const name of ["aspect", "sharp", "sofar", "hairs", "zoom"]) {
+      byId(name).addEventListener("change", () => this.draw());
+    }
+    this.brush = this.canvas.getContext("2d", { alpha: false });
+    this.canvas.addEventListener("pointermove", event => this.point(this.placeOf(event)));
+    this.canvas.addEventListener("pointerleave", () => this.point(null));
+    this.canvas.addEventListener("click", event => {
+      // A click's place is rounded to a pixel, and the dot that is told was that of the pointer's own place.
+      const { pointer } = this, { clientX, clientY } = event;
+      const isNear = pointer && Math.hypot(pointer.clientX - clientX, pointer.clientY - clientY) < 2;
+      const found = this.dotAt(isNear ? pointer : this.placeOf(event));
+      if (found) heard.clicked(found.row.line, found.x);
+    });
+    this.room = { width: 0, height: 0 };
+    new ResizeObserver(([{ contentRect: { width, height } }]) => {
+      this.room = { width, height };
+      this.shape();
+    }).observe(this.stage);
+  }
+
+  /** Shows what is seen. Answers the dots of the picture before, which nothing needs any longer; or null. */
+  show(seen) {
+    const old = this.painted?.dots?.rgb ?? null;
+    this.seen = seen;
+    this.draw();
+    return old === seen.picture.rgb ? null : old;
+  }
+
+  draw() {
+    if (!this.seen) return;
+    const { picture } = this.seen, shape = linesOf(picture);
+    this.isSoFar = byId("sofar").checked && !picture.isWhole && picture.isBegun;
+    for (const row of shape.rows) row.light = this.isSoFar ? Math.min(row.drawn, row.width) : row.width;
+    this.rows = shape.rows;
+    this.paint(shape, picture.rgb);
+    setAll(this.canvas, { ariaLabel: this.description() });
+    this.shape();
+    this.drawHairs();
+    this.point(this.pointer);
+  }
+
+  /** Paints the rows that do not stand on the canvas yet. */
+  paint({ rows, width, height }, rgb) {
+    const { canvas } = this;
+    if (canvas.width !== width || canvas.height !== height || !this.image) {
+      Object.assign(canvas, { width, height });
+      this.image = new ImageData(width, height);
+      this.words = new Uint32Array(this.image.data.buffer);
+      this.painted = { rows: [], dots: null };
+    }
+    const { painted: old, words } = this, dots = dotsOf(rgb);
+    let first = height, last = -1;
+    for (let y = 0; y < rows.length; y++) {
+      if (old.rows[y] && isSameRow(rows[y], dots, old.rows[y], old.dots)) continue;
+      this.paintRow(words.subarray(y * width, (y + 1) * width), rows[y], rgb);
+      first = Math.min(first, y);
+      last = y;
+    }
+    this.painted = { rows, dots };
+    if (last >= 0) this.brush.putImageData(this.image, 0, 0, 0, first, width, last + 1 - first);
+  }
+
+  paintRow(words, { from, light, width }, rgb) {
+    paintDots(words, 0, rgb, from, light, LIGHT);
+    paintDots(words, light, rgb, from + 3 * light, width - light, DIMMED);
+    words.fill(0xff000000, width);
+  }
+
+  /** The picture in words, for who does not see it. */
+  description() {
+    const { canvas, seen } = this, { beam } = seen.after;
+    const size = `picture of ${canvas.width} by ${canvas.height} dots`;
+    return this.isSoFar ? `${size}, drawn to line ${beam.line}, dot ${this.beamPlace().x}` : size;
+  }
+
+  /** How large the picture stands on its stage, as a monitor of 4:3 shows it or with square dots, and how. */
+  shape() {
+    const { canvas, room } = this, ratio = byId("aspect").checked ? 4 / 3 : canvas.width / canvas.height;
+    const wide = Math.min(room.width, room.height * ratio);
+    const width = Math.floor(wide) + "px", height = Math.floor(wide / ratio) + "px";
+    setAll(byId("frame").style, { width, height });
+    // Hard edges would drop dots of a picture that stands smaller than it is.
+    const isRoom = wide * devicePixelRatio >= canvas.width && wide / ratio * devicePixelRatio >= canvas.height;
+    canvas.classList.toggle("sharp", isRoom && byId("sharp").checked);
+  }
+
+  beamPlace() {
+    const { after } = this.seen, { beam, registers } = after;
+    return { line: beam.line, x: beam.character * characterWidth(registers) + beam.dot };
+  }
+
+  drawHairs() {
+    const { canvas, rows, seen } = this, { line, x } = this.beamPlace();
+    const y = rows.findIndex(row => row.line >= line), isOn = byId("hairs").checked &&
+      !seen.picture.isWhole && rows.length > 0;
+    const hairs = [byId("hair-x"), byId("hair-y"), byId("ring")];
+    for (const hair of hairs) hair.hidden = !isOn;
+    if (!isOn) return;
+    const top = `${100 * ((y < 0 ? rows.length : y) + 0.5) / canvas.height}%`,
+      left = `${100 * (Math.min(x, canvas.width) + 0.5) / canvas.width}%`;
+    hairs[0].style.left = left;
+    hairs[1].style.top = top;
+    Object.assign(hairs[2].style, { left, top });
+    hairs[2].classList.toggle("outside", x >= canvas.width || y < 0);
+  }
+
+  /** Where a pointer is on the canvas: { clientX, clientY, right, down }, the last two as parts of it. */
+  placeOf({ clientX, clientY }) {
+    const box = this.canvas.getBoundingClientRect();
+    return { clientX, clientY, right: (clientX - box.left) / box.width,
+      down: (clientY - box.top) / box.height };
+  }
+
+  /** The dot under a pointer: { row, x, y, colour }; null outside. */
+  dotAt({ right, down }) {
+    const x = Math.floor(right * this.canvas.width), y = Math.floor(down * this.canvas.height);
+    const row = this.rows?.[y];
+    if (!row || x < 0 || x >= row.width) return null;
+    const at = row.from + 3 * x;
+    return { row, x, y, colour: Array.from(this.seen.picture.rgb.subarray(at, at + 3)) };
+  }
+
+  /** Tells the dot under the pointer, and shows it in the glass. */
+  point(pointer) {
+    this.pointer = pointer;
+    const found = pointer && this.seen && this.dotAt(pointer), isOn = Boolean(found) && byId("zoom").checked;
+    this.glass.hidden = !isOn;
+    if (isOn) this.drawGlass(found);
+    const told = byId("dot");
+    if (!found) {
+      told.replaceChildren();
+      return;
+    }
+    const swatch = element("span", { className: "swatch" });
+    swatch.style.background = cssColour(found.colour);
+    const isDark = this.isSoFar && found.x >= found.row.drawn ? ", not drawn yet" : "";
+    told.replaceChildren(swatch,
+      ` dot ${found.x} of line ${found.row.line}: ${found.colour.map(six => hex(six, 2)).join(" ")}` +
+      `${isDark}${this.cellAt(found)}`);
+  }
+
+  /** In text, the cell that a dot belongs to by the registers as they are. */
+  cellAt({ row, x }) {
+    const { after } = this.seen, { registers } = after;
+    if (registers.gfx[6] & 1) return "";
+    let number = -1, last = -1;
+    for (const { line, base, scan } of displayedLines(registers)) {
+      if (scan === 0 && base !== last) [number, last] = [number + 1, base];
+      if (line < row.line) continue;
+      const column = Math.floor(x / characterWidth(registers)),
+        at = fetchAddress(registers, (base + column) & 65535);
+      const [character, attribute] = [0, 1].map(plane => hex(after.plane(plane)[at], 2));
+      const cell = `cell of row ${Math.max(0, number)}, column ${column}`;
+      return ` · ${cell}: character ${character}, attribute ${attribute}`;
+    }
+    return "";
+  }
+
+  /** The dots round the pointer, large. */
+  drawGlass({ x, y }) {
+    const brush = this.glass.getContext("2d"), half = GLASS_DOTS >> 1, side = GLASS_DOTS * GLASS_SCALE;
+    brush.imageSmoothingEnabled = false;
+    brush.fillStyle = "#000";
+    brush.fillRect(0, 0, side, side);
+    brush.drawImage(this.canvas, x - half, y - half, GLASS_DOTS, GLASS_DOTS, 0, 0, side, side);
+    brush.strokeStyle = "#f0f";
+    brush.strokeRect(half * GLASS_SCALE + 0.5, half * GLASS_SCALE + 0.5, GLASS_SCALE - 1, GLASS_SCALE - 1);
+    this.glass.classList.toggle("left", x > this.canvas.width / 2);
+  }
+}

@@ -1,0 +1,79 @@
+// The answers in a report (docs/REPORT.md).
+import { Trouble } from "../common/trouble.js";
+import { codesOfBytes } from "../common/bytes.js";
+import { md5 } from "../files/md5.js";
+
+const ZERO = 48, NINE = 57, LINE_END = 10, LETTER_O = 111, LETTER_K = 107;
+
+/** A picture of a report: a PPM's bytes, its size, and where its dots begin. */
+export class ReportPicture {
+  constructor(ppm) {
+    const [, width, height] = codesOfBytes(ppm.subarray(0, 24)).split(/\s/);
+    Object.assign(this, { ppm, width: Number(width), height: Number(height) });
+  }
+
+  get size() {
+    return `${this.width}x${this.height}`;
+  }
+
+  /** Red, green and blue of each dot, 0 to 63 each. */
+  get rgb() {
+    return this.ppm.subarray(this.ppm.length - 3 * this.width * this.height);
+  }
+
+  digest() {
+    return md5(this.ppm);
+  }
+}
+
+/**
+ * Reads `count` answers of a report whose first line has the number `first`; takes each with (index, answer,
+ * picture).
+ */
+export function readReport(report, first, count, take) {
+  let at = 0;
+  for (let i = 0; i < count; i++) {
+    let number = 0;
+    while (report[at] >= ZERO && report[at] <= NINE) number = 10 * number + report[at++] - ZERO;
+    if (number !== first + i) throw new Trouble(`The report has no answer of step ${first + i}.`);
+    at++;
+    if (report[at] === LETTER_O && report[at + 1] === LETTER_K && report[at + 2] === LINE_END) {
+      take(i, "ok", null);
+      at += 3;
+    } else {
+      at = readAnswer(report, at, i, take);
+    }
+  }
+  if (at !== report.length) throw new Trouble("The report goes on after its last answer.");
+}
+
+/** The texts of answers of two and of four letters, by their letters: in long runs most answers are such. */
+const SHORT_TEXTS = new Map();
+
+function shortText(report, at, end) {
+  let letters = 0;
+  for (let place = at; place < end; place++) letters = letters << 8 | report[place];
+  const known = SHORT_TEXTS.get(letters);
+  if (known !== undefined) return known;
+  const text = codesOfBytes(report.subarray(at, end));
+  SHORT_TEXTS.set(letters, text);
+  return text;
+}
+
+/** Reads an answer, and tells where the next line begins. */
+function readAnswer(report, at, i, take) {
+  let end = at;
+  while (report[end] !== LINE_END && end < report.length) end++;
+  const answer = end - at <= 4 ? shortText(report, at, end) : codesOfBytes(report.subarray(at, end));
+  if (answer.startsWith("picture ")) {
+    const length = Number(answer.slice(8));
+    take(i, answer, new ReportPicture(report.subarray(end + 1, end + 1 + length)));
+    return end + length + 2;
+  }
+  const first = end;
+  while (end + 1 < report.length && !(report[end + 1] >= ZERO && report[end + 1] <= NINE)) {
+    end = report.indexOf(LINE_END, end + 1);
+  }
+  take(i, end === first ? answer : codesOfBytes(report.subarray(at, end)), null);
+  return end + 1;
+}

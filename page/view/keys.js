@@ -1,0 +1,69 @@
+// What keys do. The help shows this table.
+import { element } from "../common/dom.js";
+
+/** [keys as they are told, what they do, the key event, the control that is clicked]. */
+export const KEYS = [
+  ["→ or F10", "a step forward", ["ArrowRight", "F10"], "next"],
+  ["← or Shift+F10", "a step back", ["ArrowLeft", "Shift+F10"], "back"],
+  ["Shift+→", "to the end of the next frame", ["Shift+ArrowRight"], "frameafter"],
+  ["Shift+←", "to the frame before", ["Shift+ArrowLeft"], "framebefore"],
+  ["R or F8", "run to the next breakpoint, or stop", ["r", "F8"], "run"],
+  ["Shift+R", "back to the last breakpoint", ["Shift+R"], "runback"],
+  ["Home, End", "to power-on, to the end", ["Home"], "first"],
+  ["", "", ["End"], "last"],
+  ["P", "show frame after frame, or stop", ["p"], "play"],
+  ["G", "type a step or a line to go to", ["g"], "gotonumber"],
+  ["1 to 6", "registers, memory, cells, colours, BIOS data, breakpoints",
+    ["1", "2", "3", "4", "5", "6"], "tab"],
+  ["E, Esc", "into the script, and out of it", ["e"], "text"],
+  ["A, X, D, B, Z", "4:3, pixelated, as drawn so far, beam, zoom", ["a"], "aspect"],
+  ["", "", ["x"], "sharp"], ["", "", ["d"], "sofar"], ["", "", ["b"], "hairs"], ["", "", ["z"], "zoom"],
+  ["U", "back to the script that stood here before", ["u"], "takeback"],
+  ["O, L, S", "open a file, make a link, save", ["o"], "openfile"],
+  ["", "", ["l"], "share"], ["", "", ["s"], "savemenu"],
+  ["?", "this help", ["?", "Shift+?"], "help"],
+];
+/** What keys do in the script. */
+const IN_THE_SCRIPT = [
+  ["Ctrl+Enter", "go to the line of the caret"],
+  ["F9 or Ctrl+B", "set or remove a breakpoint at the line of the caret"],
+  ["Ctrl+Z, Ctrl+Y", "undo a change, also that another script was loaded; do it again"],
+  ["F8, F10", "run, a step forward"],
+];
+
+/** What keys do in the list of steps; the others do there what they do in the page. */
+const IN_THE_STEPS = [
+  ["↑, ↓", "a step back, a step forward"],
+  ["Page Up, Page Down", "as many steps as are in sight"],
+  ["Home, End", "to power-on, to the end"],
+];
+
+/** A key event in the words of the table. */
+export function keyName(event) {
+  const key = event.key.length === 1 && !event.shiftKey ? event.key.toLowerCase() : event.key;
+  return (event.shiftKey ? "Shift+" : "") + key;
+}
+
+/** Whether keys that are pressed at an element are letters of a text. */
+export function takesText({ tagName, type }) {
+  const isText = tagName === "INPUT" && !["checkbox", "button", "range"].includes(type);
+  return tagName === "TEXTAREA" || isText;
+}
+
+/** Whether a key is that of a list of choices, which goes up and down and to letters. */
+export function isOfList({ target: { tagName }, key }) {
+  return tagName === "SELECT" && !/^(Arrow(Left|Right)|Home|End|F\d+)$/.test(key);
+}
+
+/** What the help shows. */
+export function keyTables() {
+  const table = (title, rows) => element("table", {}, element("caption", {}, title),
+    element("tbody", {}, ...rows
+    .filter(([keys]) => keys).map(([keys, does]) => element("tr", {}, element("th", { scope: "row" }, keys),
+      element("td", {}, does)))));
+  const hints =
+    ["Click a line's number to set a breakpoint. Click a dot of the picture to go to the step that draws it.",
+    "Drop a script, a font or a trace anywhere."].map(text => element("p", {}, text));
+  return [table("Keys", KEYS), table("Keys in the script", IN_THE_SCRIPT),
+    table("Keys in the list of steps", IN_THE_STEPS), ...hints];
+}
