@@ -90,7 +90,7 @@ test("links lead to places that are there", () => {
 });
 
 test("links in the page's sources lead to places that are there", () => {
-  const sources = readdirSync(TOP + "page").filter(name => /\.(js|html)$/.test(name) &&
+  const sources = readdirSync(TOP + "page", { recursive: true }).filter(name => /\.(js|html)$/.test(name) &&
     name !== "zaklimot.html")
     .map(name => readFileSync(`${TOP}page/${name}`, "utf-8")).join("\n");
   const links = [...sources.matchAll(/"([A-Z-]+\.md)", "([a-z0-9-]*)"/g),
