@@ -1,0 +1,222 @@
+/* Compares libx86emu, patched as the page has it, with what another processor does: processor < CASES
+ *
+ * cases.py writes the cases, and tells what they are. It is told how many differ, by opcode, and the first of each.
+ * The exit status is 1 where one differs, or where an instruction is lacking.
+ */
+#include <stdio.h>
+#include <stdlib.h>
+#include <string.h>
+#include "x86emu_int.h"
+
+enum { MEMORY = 0x100000, OFFSET = 0x100, CODE = 0x10100, MOST_WRITTEN = 512, MOST_PORTS = 64, OPCODES = 512 };
+enum { INVALID_OPCODE = 6, GENERAL_PROTECTION = 13, DIVIDE = 0, MOST_TURNS = 100 };
+
+struct before {
+    u32 is_protected, registers[8], flags;
+    u8 code[16];
+};
+struct after {
+    u32 registers[8], flags, compared, place;
+    u16 segments[6], written, ports;
+};
+#pragma pack(push, 1)
+struct written {
+    u32 place;
+    u8 value;
+};
+struct port {
+    u16 port;
+    u8 size;
+    u32 value;
+};
+#pragma pack(pop)
+
+static u8 memory[MEMORY];
+static u8 is_touched[MEMORY];
+static u32 touched[65536];
+static unsigned touched_count, port_count;
+static struct port ports[MOST_PORTS];
+static unsigned all[OPCODES], differing[OPCODES], lacking[OPCODES];
+
+static u8 pattern(u32 place)
+{
+    return (u8)(place * 167 + (place >> 8) * 13);
+}
+
+static u32 answer(u32 port, u32 size)
+{
+    u32 word = port * 0x9E3779B1u ^ size * 0x85EBCA6Bu;
+    return size == 4 ? word : word & ((1u << 8 * size) - 1);
+}
+
+static void write_byte(u32 place, u8 value)
+{
+    memory[place] = value;
+    if (is_touched[place] || touched_count == 65536) return;
+    is_touched[place] = 1;
+    touched[touched_count++] = place;
+}
+
+static unsigned reach(x86emu_t *emu, u32 place, u32 *value, unsigned type)
+{
+    unsigned size = 1u << (type & 3), i;
+    (void)emu;
+    switch (type & ~0xFFu) {
+    case X86EMU_MEMIO_I:
+        *value = answer(place & 0xFFFF, size);
+        return 0;
+    case X86EMU_MEMIO_O:
+        if (port_count < MOST_PORTS) ports[port_count++] = (struct port){(u16)place, (u8)size, *value};
+        return 0;
+    case X86EMU_MEMIO_W:
+        for (i = 0; i < size; i++) if (place + i < MEMORY) write_byte(place + i, (u8)(*value >> 8 * i));
+        return 0;
+    }
+    *value = 0;
+    for (i = 0; i < size; i++) *value |= (u32)(place + i < MEMORY ? memory[place + i] : 0xFF) << 8 * i;
+    return 0;
+}
+
+static void begin(x86emu_t *emu, const struct before *given)
+{
+    static const u16 SEGMENTS[] = {0x3000, 0x1000, 0x4000, 0x2000, 0x5000, 0x6000};
+    static u64 registers[X86EMU_MSRS];
+    memset(emu, 0, sizeof *emu);
+    emu->x86.msr = registers;
+    emu->memio = reach;
+    emu->x86.disasm_ptr = emu->x86.disasm_buf;
+    for (int i = 0; i < 6; i++) {
+        sel_t *segment = emu->x86.seg + i;
+        segment->sel = given->is_protected ? 0 : SEGMENTS[i];
+        segment->base = given->is_protected ? 0 : SEGMENTS[i] * 16u;
+        segment->limit = given->is_protected ? 0xFFFFFFFF : 0xFFFF;
+        segment->acc = (i == R_CS_INDEX ? 0x9B : 0x93) | (given->is_protected ? 0xC00 : 0);
+    }
+    if (given->is_protected) emu->x86.R_CR0 |= 1;
+    u32 *all_of[] = {&emu->x86.R_EAX, &emu->x86.R_ECX, &emu->x86.R_EDX, &emu->x86.R_EBX,
+                     &emu->x86.R_ESP, &emu->x86.R_EBP, &emu->x86.R_ESI, &emu->x86.R_EDI};
+    for (int i = 0; i < 8; i++) *all_of[i] = given->registers[i];
+    emu->x86.R_EFLG = given->flags;
+    emu->x86.R_EIP = given->is_protected ? CODE : OFFSET;
+    memcpy(memory + CODE, given->code, sizeof given->code);
+    touched_count = port_count = 0;
+}
+
+/* An instruction; of one that is repeated, all of its turns. */
+static void take(x86emu_t *emu)
+{
+    u32 place = emu->x86.R_EIP;
+    for (int turn = 0; turn < MOST_TURNS; turn++) {
+        emu->max_instr = emu->x86.R_TSC + 1;
+        x86emu_run(emu, X86EMU_RUN_MAX_INSTR);
+        if (emu->x86.R_EIP != place || !(emu->x86.mode & (_MODE_REPE | _MODE_REPNE))) return;
+    }
+}
+
+static int opcode_of(const u8 *code)
+{
+    int i = 0;
+    while (i < 12 && code[i] && strchr("\x26\x2E\x36\x3E\x64\x65\x66\x67\xF0\xF2\xF3", code[i])) i++;
+    return code[i] == 0x0F ? 256 + code[i + 1] : code[i];
+}
+
+static int by_place(const void *one, const void *other)
+{
+    u32 a = *(const u32 *)one, b = *(const u32 *)other;
+    return (a > b) - (a < b);
+}
+
+/* The bytes that aren't those of the pattern any longer, but for the instruction's own. */
+static int is_same_memory(const struct after *wanted, const struct written *written)
+{
+    unsigned changed = 0;
+    qsort(touched, touched_count, sizeof *touched, by_place);
+    for (unsigned i = 0; i < touched_count; i++) {
+        u32 place = touched[i];
+        if (memory[place] == pattern(place) || place - CODE < 16) continue;
+        if (changed == wanted->written || place != written[changed].place) return 0;
+        if (memory[place] != written[changed++].value) return 0;
+    }
+    return changed == wanted->written;
+}
+
+static int is_same(x86emu_t *emu, const struct before *given, const struct after *wanted,
+                   const struct written *written, const struct port *wanted_ports)
+{
+    u32 found[] = {emu->x86.R_EAX, emu->x86.R_ECX, emu->x86.R_EDX, emu->x86.R_EBX,
+                   emu->x86.R_ESP, emu->x86.R_EBP, emu->x86.R_ESI, emu->x86.R_EDI};
+    u32 place = given->is_protected ? emu->x86.R_EIP : emu->x86.R_IP;
+    u32 wanted_place = given->is_protected ? wanted->place : wanted->place & 0xFFFF;
+    if (memcmp(found, wanted->registers, sizeof found) || place != wanted_place) return 0;
+    for (int i = 0; i < 6; i++) if (emu->x86.seg[i].sel != wanted->segments[i]) return 0;
+    if ((emu->x86.R_FLG ^ wanted->flags) & wanted->compared) return 0;
+    if (port_count != wanted->ports || memcmp(ports, wanted_ports, port_count * sizeof *ports)) return 0;
+    return is_same_memory(wanted, written);
+}
+
+static void tell(x86emu_t *emu, const struct before *given, const struct after *wanted)
+{
+    static const char *const NAMES[] = {"eax", "ecx", "edx", "ebx", "esp", "ebp", "esi", "edi"};
+    u32 found[] = {emu->x86.R_EAX, emu->x86.R_ECX, emu->x86.R_EDX, emu->x86.R_EBX,
+                   emu->x86.R_ESP, emu->x86.R_EBP, emu->x86.R_ESI, emu->x86.R_EDI};
+    printf("  %s", given->is_protected ? "protected:" : "real:");
+    for (int i = 0; i < 10; i++) printf(" %02X", given->code[i]);
+    for (int i = 0; i < 8; i++) {
+        if (found[i] != wanted->registers[i]) {
+            printf(", %s %X -> %X, not %X", NAMES[i], given->registers[i], wanted->registers[i], found[i]);
+        }
+    }
+    printf(", flags %X -> %X, not %X (of %X), eip %X, not %X, %u bytes, not %u, %u ports, not %u\n", given->flags,
+           wanted->flags, emu->x86.R_FLG, wanted->compared, wanted->place, emu->x86.R_EIP, wanted->written,
+           touched_count, wanted->ports, port_count);
+}
+
+static void restore(void)
+{
+    for (unsigned i = 0; i < touched_count; i++) {
+        memory[touched[i]] = pattern(touched[i]);
+        is_touched[touched[i]] = 0;
+    }
+    for (u32 i = CODE; i < CODE + 32; i++) memory[i] = pattern(i);
+}
+
+int main(void)
+{
+    static x86emu_t emu;
+    static struct written written[MOST_WRITTEN];
+    static struct port wanted_ports[MOST_PORTS];
+    struct before given;
+    struct after wanted;
+    unsigned total = 0, wrong = 0, illegal = 0, beyond = 0;
+    for (u32 i = 0; i < MEMORY; i++) memory[i] = pattern(i);
+    while (fread(&given, sizeof given, 1, stdin) == 1 && fread(&wanted, sizeof wanted, 1, stdin) == 1) {
+        if (wanted.written > MOST_WRITTEN || wanted.ports > MOST_PORTS) return 2;
+        if (fread(written, sizeof *written, wanted.written, stdin) != wanted.written) break;
+        if (fread(wanted_ports, sizeof *wanted_ports, wanted.ports, stdin) != wanted.ports) break;
+        begin(&emu, &given);
+        take(&emu);
+        int opcode = opcode_of(given.code);
+        if (emu.x86.intr_stats[INVALID_OPCODE]) {
+            illegal++;
+            lacking[opcode]++;
+        } else if (emu.x86.intr_stats[GENERAL_PROTECTION]) {
+            /* A word beyond a segment's end: QEMU lets it pass. */
+            beyond++;
+        } else {
+            total++;
+            all[opcode]++;
+            if (!is_same(&emu, &given, &wanted, written, wanted_ports)) {
+                wrong++;
+                if (!differing[opcode]++) tell(&emu, &given, &wanted);
+            }
+        }
+        restore();
+    }
+    for (int i = 0; i < OPCODES; i++) {
+        const char *front = i > 255 ? "0F " : "";
+        if (differing[i]) printf("  %s%02X: %u of %u differ\n", front, i & 255, differing[i], all[i]);
+        if (lacking[i]) printf("  %s%02X: lacking, %u times\n", front, i & 255, lacking[i]);
+    }
+    printf("%u cases: %u differ, %u lacking, %u beyond a segment's end\n", total, wrong, illegal, beyond);
+    return wrong || illegal;
+}
