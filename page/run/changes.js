@@ -55,12 +55,12 @@ function changedRegisters(before, after) {
 
 function changedPointers(before, after) {
   const [old, now] = [before.registers, after.registers];
-  const told = Object.keys(POINTERS).filter(name => old[name] !== now[name])
+  const changes = Object.keys(POINTERS).filter(name => old[name] !== now[name])
     .map(name => `${POINTERS[name]} ${hex(old[name], 2)} → ${hex(now[name], 2)}`);
-  if (old.attrIsData !== now.attrIsData) told.push(`3C0 takes ${now.attrIsData ? "data" : "an index"} next`);
-  if (old.dacComponent !== now.dacComponent) told.push(
+  if (old.attrIsData !== now.attrIsData) changes.push(`3C0 takes ${now.attrIsData ? "data" : "an index"} next`);
+  if (old.dacComponent !== now.dacComponent) changes.push(
     `${["red", "green", "blue"][now.dacComponent]} is next of the DAC`);
-  return told;
+  return changes;
 }
 
 function changedMemory(before, after) {
@@ -79,18 +79,18 @@ function changedMemory(before, after) {
  * are.
  */
 export function changesOf(before, after, most = 6) {
-  const told = [...changedRegisters(before, after), ...changedPointers(before, after)];
+  const changes = [...changedRegisters(before, after), ...changedPointers(before, after)];
   const colours = differingColours(before, after);
   if (colours.length) {
-    told.push(colours.length === 1 ? `DAC entry ${hex(colours[0], 2)}`
+    changes.push(colours.length === 1 ? `DAC entry ${hex(colours[0], 2)}`
       : `${colours.length} entries of the DAC`);
   }
   if (differingBytes(before.latches, after.latches).length) {
-    told.push(`latches ${Array.from(after.latches, byte => hex(byte, 2)).join(" ")}`);
+    changes.push(`latches ${Array.from(after.latches, byte => hex(byte, 2)).join(" ")}`);
   }
-  told.push(...changedMemory(before, after));
+  changes.push(...changedMemory(before, after));
   const [old, now] = [before.beam, after.beam];
-  if (["frame", "line", "character", "dot"].some(name => old[name] !== now[name])) told.push(`the beam`);
-  if (JSON.stringify(before.bda) !== JSON.stringify(after.bda)) told.push("BIOS data");
-  return told.length > most ? [...told.slice(0, most), `${told.length - most} more`] : told;
+  if (["frame", "line", "character", "dot"].some(name => old[name] !== now[name])) changes.push(`the beam`);
+  if (JSON.stringify(before.bda) !== JSON.stringify(after.bda)) changes.push("BIOS data");
+  return changes.length > most ? [...changes.slice(0, most), `${changes.length - most} more`] : changes;
 }

@@ -21,7 +21,7 @@ for (const { text, answer, told, anchor } of REFUSED) {
   test(`${text.split("\n").at(-1)} is refused`, () => {
     const session = sessionOf(text), last = session.length - 1;
     assert.equal(session.answers.get(last), answer);
-    session.approach(last);
+    session.seek(last);
     const found = whyRefused(session.outline.wordsOf(session.outline.entryOf(last)), answer, session.state());
     assert.equal(found.text, told);
     assert.equal(found.link.anchor, anchor);
@@ -113,9 +113,9 @@ test("what a step has changed is told", () => {
     [15, ["latches 41 07 00 00"]],
     [22, ["red is next of the DAC", "DAC entry 01"]],
   ]) {
-    session.approach(steps - 1);
+    session.seek(steps - 1);
     const before = session.state();
-    session.approach(steps);
+    session.seek(steps);
     const found = changesOf(before, session.state());
     for (const one of told) assert.ok(found.includes(one), `${steps}: ${JSON.stringify(found)}`);
   }
