@@ -43,9 +43,9 @@ export class Opener {
 
   /**
    * `data`: what the page was built with; `tabs`: the names of the tabs. `heard` has `adapter()`,
-   * the module that prints bytes; `isEmpty()`, whether no script stands there; `script(text, script, asked)`;
-   * `fonts(fonts, name)`, fonts of a file, or without a name those that come with the script that
-   * follows; `tab(name)`; and `step(number)`.
+   * the module that prints bytes; `isEmpty()`, whether no script stands there; `script(text,
+   * script, asked)`; `fonts(fonts, name)`, fonts of a file, or without a name those that come with
+   * the script that follows; `tab(name)`; and `step(number)`.
    */
   constructor(data, scripts, tabs, heard) {
     this.#data = data;

@@ -1,9 +1,9 @@
-// Names, kept bits and fields of the registers, as docs/REGISTERS.md has them; page/tests/registers.mjs
-// holds them to it.
+// Names, kept bits and fields of the registers, as docs/REGISTERS.md has them;
+// page/tests/registers.mjs holds them to it.
 
 /**
- * A register: its name, the bits that it keeps, and its fields: [bits, name], and true where they have no
- * effect.
+ * A register: its name, the bits that it keeps, and its fields: [bits, name], and true where they
+ * have no effect.
  */
 function register(name, kept, ...fields) {
   return { name, kept, fields: fields.map(([bits, field, isStored = false]) =>

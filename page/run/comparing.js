@@ -41,8 +41,8 @@ export function digitsTo(number) {
  * Compares a run with one by zak_run: what differs, in words; an empty text if nothing does.
  *
  * A run is { script, fonts, steps, reported, numbers, texts, cut, sums }: `reported` is the length
- * of its report, texts[numbers[i]] is the answer of step i, and `sums` has a number for each picture
- * and for each answer whose text is cut off; `cut` has the numbers of these texts.
+ * of its report, texts[numbers[i]] is the answer of step i, and `sums` has a number for each
+ * picture and for each answer whose text is cut off; `cut` has the numbers of these texts.
  */
 export function comparedToRun(adapter, run) {
   const { status, length, report } = adapter.runWithin(run.script, run.fonts, run.reported);
@@ -51,7 +51,9 @@ export function comparedToRun(adapter, run) {
   return `its report has ${grouped(length)} bytes, and this run's ${grouped(run.reported)}`;
 }
 
-/** The first step whose answers in a report and in a run differ, in words; an empty text for none. */
+/**
+ * The first step whose answers in a report and in a run differ, in words; an empty text for none.
+ */
 function firstDifference(report, { steps, numbers, texts, cut, sums }) {
   let difference = "", place = 0;
   try {
@@ -68,7 +70,9 @@ function firstDifference(report, { steps, numbers, texts, cut, sums }) {
   return difference;
 }
 
-/** In a worker: compares the run that the page sends, and posts the result, or why there is none. */
+/**
+ * In a worker: compares the run that the page sends, and posts the result, or why there is none.
+ */
 export function serveComparison() {
   self.onmessage = async ({ data: { module, run } }) => {
     try {
@@ -91,8 +95,9 @@ export class Comparer {
   }
 
   /**
-   * Compares a run. `done` hears { difference }, or { trouble }, a text each, or null if the browser
-   * gives the page no worker. Another run, or `stop`, ends this one, and then nothing is heard.
+   * Compares a run. `done` hears { difference }, or { trouble }, a text each, or null if the
+   * browser gives the page no worker. Another run, or `stop`, ends this one, and then nothing is
+   * heard.
    */
   start(run, done) {
     this.stop();

@@ -40,7 +40,8 @@ export class Pieces {
       return { bytes, first: turn, most: Math.min(left, turns * run.size - turn) };
     }
     const chunk = Math.floor(turn / PIECE_STEPS), from = chunk * PIECE_STEPS;
-    const count = Math.min(PIECE_STEPS, run.size - from), bytes = this.bytes(run.from + from, count, 1);
+    const count = Math.min(PIECE_STEPS, run.size - from);
+    const bytes = this.bytes(run.from + from, count, 1);
     return { bytes, first: turn - from, most: count - (turn - from) };
   }
 

@@ -1,6 +1,6 @@
-// The scheduler of a run. It takes the steps of a session, brings its card to the step that is to be
-// shown, and searches for breakpoints, a slice of time after the other, so that the page can draw
-// and hear keys in between.
+// The scheduler of a run. It takes the steps of a session, brings its card to the step that is to
+// be shown, and searches for breakpoints, a slice of time after the other, so that the page can
+// draw and hear keys in between.
 import { Pacer } from "./pacer.js";
 import { Search } from "./points.js";
 import { Trouble } from "../common/trouble.js";

@@ -51,7 +51,9 @@ export class Session {
   /** The card that shows steps stands after so many; -1 while it goes on. */
   at = 0;
   answers = new Answers();
-  /** How many answers are expected, how many of them are wrong, and the steps of the first of these. */
+  /**
+   * How many answers are expected, how many of them are wrong, and the steps of the first of these.
+   */
   expected = 0;
   wrong = 0;
   differing = [];
@@ -251,7 +253,9 @@ export class Session {
     return { isWhole: false, ...lines, drawn: state.drawn, isBegun: state.isBegun };
   }
 
-  /** A step's answer as the page shows it. For a picture it has the size, not the length in bytes. */
+  /**
+   * A step's answer as the page shows it. For a picture it has the size, not the length in bytes.
+   */
   answerOf(step) {
     const size = this.sizes.get(step);
     return size === undefined ? this.answers.get(step) : `picture ${size}`;
@@ -282,7 +286,9 @@ export class Session {
     return null;
   }
 
-  /** The run as comparedToRun takes it: only its first steps if the whole report would be too long. */
+  /**
+   * The run as comparedToRun takes it: only its first steps if the whole report would be too long.
+   */
   get whole() {
     const { fonts, outline, length, answers, sums, comparable: { steps, reported } } = this;
     const script = steps === length ? this.script
@@ -291,7 +297,9 @@ export class Session {
       texts: answers.texts, cut: answers.cut, sums: Int32Array.from(sums) };
   }
 
-  /** Compares the answers, pictures too, with one run by zak_run: what differs, or an empty text. */
+  /**
+   * Compares the answers, pictures too, with one run by zak_run: what differs, or an empty text.
+   */
   compared() {
     return comparedToRun(this.adapter, this.whole);
   }
@@ -302,7 +310,8 @@ export class Session {
     if (this.pictures) parts.push(counted(this.pictures, "picture"));
     if (this.refused) parts.push(`${grouped(this.refused)} refused`);
     if (this.expected) {
-      parts.push(`${grouped(this.expected - this.wrong)} of ${grouped(this.expected)} answers as expected`);
+      const right = this.expected - this.wrong;
+      parts.push(`${grouped(right)} of ${grouped(this.expected)} answers as expected`);
     }
     return parts.join(", ");
   }

@@ -14,7 +14,8 @@ function sessionOf(text) {
   return runWhole(new Session(adapter, FONTS, text));
 }
 
-// The refusals with their words, which the tests of tools/vga_report read too: so both tell the same.
+// The refusals with their words, which the tests of tools/vga_report read too: so both tell the
+// same.
 const REFUSED = JSON.parse(readFileSync(TOP + "tools/tests/refusals.json", "utf-8"));
 
 for (const { text, answer, told, anchor } of REFUSED) {
@@ -60,8 +61,8 @@ repeat 3
 out 3C9 3F
 end
 `;
-// Steps: 1 int; 2..5, 6..9, 10..13 the block; 14 out 3B4, 15 get, 16 outw, 17 frame, 18 advance, 19 out,
-// 20..22 out 3C9
+// Steps: 1 int; 2..5, 6..9, 10..13 the block; 14 out 3B4, 15 get, 16 outw, 17 frame, 18 advance, 19
+// out, 20..22 out 3C9
 const POINTS = [
   [{ kind: "line", line: 5 }, [3, 7, 11]],
   [{ kind: "port", place: 0x3da, way: "read" }, [5, 9, 13]],

@@ -1,4 +1,5 @@
-// A session gives each step's answer as zak_run does, and gets to any step's state, forward and back.
+// A session gives each step's answer as zak_run does, and gets to any step's state, forward and
+// back.
 import assert from "node:assert/strict";
 import test from "node:test";
 import { Adapter } from "../module/adapter.js";
@@ -123,7 +124,9 @@ test("what is seen of a step leaves the card after it", () => {
 /** A way to a state takes less, in milliseconds. */
 const MOST_WAY = 25;
 
-/** How long it takes to see a step from elsewhere: the least of some times, since others work too. */
+/**
+ * How long it takes to see a step from elsewhere: the least of some times, since others work too.
+ */
 function quickest(session, step) {
   let least = Infinity;
   for (let time = 0; time < 3 || (time < 10 && least >= MOST_WAY); time++) {
@@ -147,7 +150,8 @@ test("long scripts: any step of three million within 25 milliseconds, back as qu
   };
   for (const [shape, text] of Object.entries(shapes)) {
     let times = [Infinity];
-    // A machine may become slower behind the run, by whose time checkpoints stand apart: then it runs again.
+    // A machine may become slower behind the run, by whose time checkpoints stand apart: then it
+    // runs again.
     for (let run = 0; run < 3 && Math.max(...times) >= MOST_WAY; run++) {
       const session = sessionOf(text);
       assert.ok(session.length >= 1200001, shape);
