@@ -1,0 +1,146 @@
+/* Time, and the dots that the display draws meanwhile.
+ *
+ * The adapter's clock tells when its frame ends and how many dots pass in a second. Dots are handed over before each
+ * cycle that a picture or an answer hangs on.
+ */
+#include "machine.h"
+
+FROM("adapter", "zak_advance") u32 zak_advance(u32 card, u32 dots);
+FROM("adapter", "zak_clock") u32 zak_clock(u32 card, u32 room);
+FROM("reads", "word") u32 room_word(u32 place);
+FROM("reads", "in") u32 adapter_in(u32 card, u32 room, u32 port);
+FROM("host", "frame") void host_frame(u32 dots); /* lets these dots pass, to the end of the frame */
+
+extern u32 card, room;
+#define SECOND 1000000000ull
+/* Where a zak_timing has its parts. */
+enum { TO_FRAME = 0, TO_DISPLAY = 4, TO_RETRACE = 8, RATE = 24, RATE_DIVISOR = 28 };
+/* Before a cycle of memory, dots are handed over once there are so many: reads of ports and writes of registers see
+ * the beam, and a write of memory so few dots late is not seen. */
+enum { GRAIN = 32 };
+
+static u32 instruction_time = 160;
+static u64 passed; /* beside the instructions' time */
+static u64 settled_at, owed, dot_time; /* owed is in dots times dot_time */
+static u32 rate, to_frame, frames;
+static int is_clock_known;
+/* What input status 1 answers for so many dots more: the adapter's clock tells when it changes. */
+static u32 status_dots, status, status_port;
+
+u64 now(void)
+{
+    return processor.x86.R_TSC * instruction_time + passed;
+}
+
+void pass(u64 nanoseconds)
+{
+    passed += nanoseconds;
+}
+
+/* The instructions that fill so many nanoseconds, and a part of one. */
+u64 instructions_in(u64 nanoseconds)
+{
+    return nanoseconds / instruction_time + 1;
+}
+
+/* A cycle of the display takes as long as an instruction. */
+void pass_cycle(void)
+{
+    passed += instruction_time;
+}
+
+SHOWN("set_instruction_time") void set_instruction_time(u32 nanoseconds)
+{
+    passed = now() - processor.x86.R_TSC * nanoseconds;
+    instruction_time = nanoseconds;
+}
+
+SHOWN("frames") u32 frames_ended(void)
+{
+    return frames;
+}
+
+void begin_time(void)
+{
+    passed = settled_at = owed = 0;
+    frames = 0;
+    is_clock_known = 0;
+    status_dots = 0;
+}
+
+/* What was known of the adapter's clock may be so no longer. */
+void forget_clock(void)
+{
+    is_clock_known = 0;
+    status_dots = 0;
+}
+
+/* Input status 1 is asked of the adapter once more: the read also turns the attribute controller to its index. */
+void forget_status(void)
+{
+    status_dots = 0;
+}
+
+static void look_at_clock(void)
+{
+    zak_clock(card, room);
+    to_frame = room_word(room + TO_FRAME);
+    rate = room_word(room + RATE);
+    dot_time = SECOND * room_word(room + RATE_DIVISOR);
+    is_clock_known = 1;
+}
+
+static void end_frame(void)
+{
+    owed -= to_frame * dot_time;
+    record_dots(to_frame);
+    record(RECORD_FRAME, 0, 0);
+    frames++;
+    status_dots = 0;
+    host_frame(to_frame);
+    look_at_clock();
+}
+
+static void draw(u32 dots)
+{
+    zak_advance(card, dots);
+    status_dots = status_dots > dots ? status_dots - dots : 0;
+    owed -= dots * dot_time;
+    to_frame -= dots;
+    record_dots(dots);
+}
+
+/* Hands over the dots of the time since. */
+void settle(void)
+{
+    u64 time = now();
+    if (!is_clock_known) look_at_clock();
+    owed += (time - settled_at) * rate;
+    settled_at = time;
+    while (owed >= to_frame * dot_time) end_frame();
+    if (owed >= dot_time) draw((u32)(owed / dot_time));
+}
+
+void settle_memory(void)
+{
+    if (is_clock_known && (now() - settled_at) * rate < GRAIN * dot_time) return;
+    settle();
+}
+
+static u32 smaller(u32 one, u32 other)
+{
+    return one < other ? one : other;
+}
+
+/* Input status 1, asked of the adapter where it may have changed. */
+u32 read_status(u32 port)
+{
+    if (status_dots && status_port == port) return status;
+    status = adapter_in(card, room, port);
+    status_port = port;
+    zak_clock(card, room);
+    status_dots = smaller(room_word(room + TO_DISPLAY), room_word(room + TO_RETRACE));
+    rate = room_word(room + RATE);
+    to_frame = room_word(room + TO_FRAME);
+    return status;
+}

@@ -1,0 +1,172 @@
+/* The keyboard: its controller, whose bytes the host gives, the BIOS' buffer of keys, and interrupt 16. */
+#include "machine.h"
+
+enum { MOST_SCANS = 128, OUTPUT_FULL = 1, SYSTEM = 4, KEYBOARD_ENABLED = 0x10, ACKNOWLEDGED = 0xFA, PASSED_TEST = 0x55 };
+enum commands { READ_BYTE = 0x20, WRITE_BYTE = 0x60, TEST = 0xAA, TEST_LINES = 0xAB, DISABLE = 0xAD, ENABLE = 0xAE,
+                READ_OUTPUT = 0xD0, WRITE_OUTPUT = 0xD1, RESET = 0xFE };
+/* In the BIOS' data: shift keys, where keys are taken and put, and their room. */
+enum { SHIFTS = BIOS_DATA + 0x17, TAKEN = BIOS_DATA + 0x1A, PUT = BIOS_DATA + 0x1C, FIRST = 0x1E, END = 0x3E };
+enum { BYTE_TIME = 1000000 }; /* a byte of the keyboard takes a millisecond */
+enum { EXTENDED = 0xE0 };
+
+/* A byte of the keyboard, and the word that the BIOS makes of it: scan code and letter; 0 for none. */
+struct scan {
+    u8 byte;
+    u16 word;
+};
+static struct scan scans[MOST_SCANS];
+static u32 scans_put, scans_taken;
+static struct scan output;
+static u64 next_byte;
+static u8 is_full, command, is_disabled;
+
+void begin_keyboard(void)
+{
+    scans_put = scans_taken = 0;
+    output = (struct scan){0, 0};
+    next_byte = 0;
+    is_full = command = is_disabled = 0;
+    write_word(TAKEN, FIRST);
+    write_word(PUT, FIRST);
+    write_word(BIOS_DATA + 0x80, FIRST);
+    write_word(BIOS_DATA + 0x82, END);
+    write_byte(BIOS_DATA + 0x96, 0x10);
+}
+
+/* A byte of the keyboard comes; whether there is room for it. */
+SHOWN("key") u32 key(u32 byte, u32 word)
+{
+    if (scans_put - scans_taken == MOST_SCANS) return 0;
+    scans[scans_put++ % MOST_SCANS] = (struct scan){(u8)byte, (u16)word};
+    return 1;
+}
+
+/* The controller takes the keyboard's next byte, when its last one was read. */
+void send_scan(void)
+{
+    if (is_full || is_disabled || scans_taken == scans_put || now() < next_byte) return;
+    output = scans[scans_taken++ % MOST_SCANS];
+    is_full = 1;
+    next_byte = now() + BYTE_TIME;
+    raise_line(1);
+}
+
+static void answer(u32 byte)
+{
+    output = (struct scan){(u8)byte, 0};
+    is_full = 1;
+}
+
+u32 keyboard_in(u32 port)
+{
+    if (port == 0x64) return SYSTEM | KEYBOARD_ENABLED | (is_full ? OUTPUT_FULL : 0);
+    is_full = 0;
+    return output.byte;
+}
+
+static void take_command(u32 value)
+{
+    command = 0;
+    switch (value) {
+    case READ_BYTE: answer(0x45); break;
+    case TEST: answer(PASSED_TEST); break;
+    case TEST_LINES: answer(0); break;
+    case DISABLE: is_disabled = 1; break;
+    case ENABLE: is_disabled = 0; break;
+    case READ_OUTPUT: answer(0xDF); break;
+    case WRITE_BYTE: case WRITE_OUTPUT: command = (u8)value; break;
+    case RESET: stop(RESTARTED); break;
+    }
+}
+
+void keyboard_out(u32 port, u32 value)
+{
+    if (port == 0x64) {
+        take_command(value);
+    } else if (command) {
+        command = 0;
+    } else {
+        answer(ACKNOWLEDGED);
+        raise_line(1);
+    }
+}
+
+static u32 after(u32 place)
+{
+    return place + 2 == END ? FIRST : place + 2;
+}
+
+int has_key(void)
+{
+    return read_word(TAKEN) != read_word(PUT);
+}
+
+static u32 next_key(void)
+{
+    return read_word(BIOS_DATA + read_word(TAKEN));
+}
+
+u32 take_key(void)
+{
+    u32 word = next_key();
+    write_word(TAKEN, after(read_word(TAKEN)));
+    return word;
+}
+
+static void put_key(u32 word)
+{
+    u32 place = read_word(PUT);
+    if (after(place) == read_word(TAKEN)) return;
+    write_word(BIOS_DATA + place, word);
+    write_word(PUT, after(place));
+}
+
+/* The bit of the shift keys that a scan code sets and clears. */
+static u32 shift_bit(u32 scan)
+{
+    switch (scan) {
+    case 0x36: return 0x01;
+    case 0x2A: return 0x02;
+    case 0x1D: return 0x04;
+    case 0x38: return 0x08;
+    }
+    return 0;
+}
+
+/* What the BIOS does with the byte that was read. */
+void keyboard_interrupt(void)
+{
+    u32 bit = shift_bit(output.byte & 0x7F), shifts = read_byte(SHIFTS);
+    if (output.byte == 0x3A) write_byte(SHIFTS, shifts ^ 0x40);
+    else if (bit) write_byte(SHIFTS, output.byte & 0x80 ? shifts & ~bit : shifts | bit);
+    if (output.word) put_key(output.word);
+}
+
+/* A key as the old functions tell it: keys that an old keyboard lacks look like those that it has. */
+static u32 told(u32 word, int is_new)
+{
+    return !is_new && (word & 0xFF) == EXTENDED && word >> 8 ? word & 0xFF00 : word;
+}
+
+void keyboard_service(void)
+{
+    int is_new = AH >> 4 == 1;
+    switch (AH) {
+    case 0x00: case 0x10:
+        if (!has_key()) {
+            wait_here();
+            return;
+        }
+        AX = (u16)told(take_key(), is_new);
+        break;
+    case 0x01: case 0x11:
+        give_flag(ZERO, !has_key());
+        if (has_key()) AX = (u16)told(next_key(), is_new);
+        break;
+    case 0x02: case 0x12: AL = (u8)read_byte(SHIFTS); break;
+    case 0x05:
+        put_key(CX);
+        AL = 0;
+        break;
+    }
+}

@@ -1,0 +1,371 @@
+// A small PC whose display is the adapter's module: three modules of WebAssembly (machine/ has the sources).
+//
+// The processor's module calls the adapter's exports itself; JavaScript appears at the end of a frame and at an
+// interrupt 10. The same snapshot and the same keys give the same cycles.
+import { CARD_SIZE, HIGHEST, MOST_STATE, WIDEST } from "../module/adapter.js";
+import { Snapshot } from "./snapshot.js";
+import { Trouble } from "../common/trouble.js";
+
+/** What the processor's module tells of why it stopped, by the number that it answers. */
+export const STOPPED = ["runs", "ended", "cycle", "watch", "place", "mode", "refusal", "restarted"];
+/** The bytes of a record, and how many records there is room for: of more the last are kept. */
+export const RECORD_BYTES = 16, MOST_RECORDS = 1 << 20;
+/** Nanoseconds of an instruction: of an 8088, a 286 and a 386 as they were sold, and of a fast 486. */
+export const SPEEDS = { 8088: 3000, 286: 700, 386: 160, fastest: 60 };
+const WASM_PAGE = 65536, ROOM_BYTES = 64, MOST_BLOCK = 0x20000, TABLE_BYTES = 1024;
+const WITH_ALPHA = 1, BOOT = 1, PROGRAM = 0;
+const BIOS_DATA = 0x400;
+const decoder = new TextDecoder("latin1");
+
+/** The modules, compiled from their bytes. */
+export async function compiledModules({ adapter, reads, cpu }) {
+  const [one, two, three] = await Promise.all([adapter, reads, cpu]
+    .map(bytes => WebAssembly.compile(bytes)));
+  return { adapter: one, reads: two, cpu: three };
+}
+
+/** The machine. `heard` may have `frame()` and `missing(number, value)`. */
+export class Machine {
+  #heard;
+  #isOpen = false;
+  #inputs = [];
+  /** Whether frames are drawn as they end. */
+  isShowing = true;
+  /** The last frame that was drawn: its width and height, and how many there were. */
+  width = 0;
+  height = 0;
+  shown = 0;
+  /** What the software asked for that is missing: { number, value }. */
+  missing = [];
+
+  constructor(modules, fonts, heard = {}) {
+    this.#heard = heard;
+    const adapter = new WebAssembly.Instance(modules.adapter, {}).exports;
+    const env = { memory: adapter.memory };
+    const reads = new WebAssembly.Instance(modules.reads, { adapter, env }).exports;
+    const host = {
+      frame: dots => this.#frame(dots), video: () => this.#video(),
+      told: (segment, place, text, length) => this.#instruction(segment, place, text, length),
+      tell: (number, value) => this.#missing(number, value >>> 0),
+    };
+    this.calls = adapter;
+    this.cpu = new WebAssembly.Instance(modules.cpu, { adapter, reads, host }).exports;
+    this.base = this.cpu.__heap_base.value;
+    const [card, room, state, pixels, block, table, font] = [CARD_SIZE, ROOM_BYTES, MOST_STATE,
+      4 * WIDEST * HIGHEST, MOST_BLOCK, TABLE_BYTES, fonts.length].map(size => this.#taken(size));
+    Object.assign(this, { card, room, state, pixels, block, table, font });
+    this.fontBytes = fonts.length;
+    this.adapterBytes.set(fonts, font);
+    this.instructions = new Map();
+    this.blocks = [];
+  }
+
+  #taken(size) {
+    const at = this.calls.page_take(size) >>> 0;
+    if (!at) throw new Trouble("There is no memory left for the machine.");
+    return at;
+  }
+
+  /** The adapter's memory. */
+  get adapterBytes() {
+    return new Uint8Array(this.calls.memory.buffer);
+  }
+
+  get adapterView() {
+    return new DataView(this.calls.memory.buffer);
+  }
+
+  /** The processor's memory: the machine's own state, and in it the PC's memory. */
+  get bytes() {
+    return new Uint8Array(this.cpu.memory.buffer);
+  }
+
+  /** The PC's memory. */
+  get ram() {
+    return this.bytes.subarray(this.cpu.ram(), this.cpu.ram() + this.cpu.ram_bytes());
+  }
+
+  // What is started.
+
+  /** Puts bytes into the store; the place there. */
+  #stored(bytes) {
+    const place = this.cpu.store_take(Math.max(1, bytes.length));
+    if (place === -1) throw new Trouble("There is no memory left for this disk.");
+    this.bytes.set(bytes, this.cpu.store_at(place));
+    return place;
+  }
+
+  /** Writes a text of latin letters at a place of the processor's memory, with a zero behind it. */
+  #writeText(at, text, most) {
+    const bytes = Uint8Array.from(text.slice(0, most - 1), letter => letter.charCodeAt(0));
+    this.bytes.fill(0, at, at + most);
+    this.bytes.set(bytes, at);
+  }
+
+  /**
+   * Begins anew. `software` has `program` (bytes of a .COM or .EXE), or disks: `a`, `b` and `c`, bytes
+   * each; and may have `rom` (a video BIOS), `files` ({ name, bytes } of drive C), `words` behind
+   * the program's name.
+   */
+  boot(software) {
+    const { cpu } = this;
+    this.#open();
+    this.software = software;
+    this.recordsAt = Math.ceil(this.base / WASM_PAGE) * WASM_PAGE;
+    const store = this.recordsAt + RECORD_BYTES * MOST_RECORDS;
+    const lacking = store - cpu.memory.buffer.byteLength;
+    if (lacking > 0) cpu.memory.grow(Math.ceil(lacking / WASM_PAGE));
+    cpu.begin_store(store);
+    cpu.remove_disks();
+    cpu.begin_files();
+    for (const { name, bytes } of software.files ?? []) this.#addFile(name, bytes);
+    const disks = ["a", "b", "c"].map(name => software[name] ?? null);
+    const places = disks.map((bytes, slot) => this.#insert(slot, bytes));
+    cpu.set_rom(software.rom ? this.#stored(software.rom) : 0, software.rom?.length ?? 0);
+    this.#writeText(cpu.arguments(), software.words ? ` ${software.words}` : "", 127);
+    this.#inputs = [];
+    this.missing = [];
+    this.latest = null;
+    const slot = disks.findIndex(bytes => bytes);
+    if (software.program) this.#start(PROGRAM, 0, this.#stored(software.program), software.program);
+    else this.#start(BOOT, slot === 2 ? 0x80 : slot, places[slot], disks[slot]);
+  }
+
+  #start(kind, drive, place, bytes) {
+    this.cpu.boot(this.card, this.room, kind, drive, place, bytes.length);
+  }
+
+  #open() {
+    if (this.#isOpen) this.calls.zak_close(this.card);
+    this.adapterBytes.fill(0, this.card, this.card + CARD_SIZE);
+    const status = this.calls.zak_open(this.card, this.font, this.fontBytes);
+    if (status) throw new Trouble(`The card does not open: the module answers ${status}.`);
+    this.#isOpen = true;
+  }
+
+  #insert(slot, bytes) {
+    if (!bytes) return null;
+    const place = this.#stored(bytes);
+    this.cpu.insert(slot, place, bytes.length);
+    return place;
+  }
+
+  #addFile(name, bytes) {
+    this.#writeText(this.cpu.file_name(), name.toUpperCase().replaceAll("/", "\\"), 80);
+    if (this.cpu.add_file(this.#stored(bytes), bytes.length) < 0) {
+      throw new Trouble("A folder may have 512 files.");
+    }
+  }
+
+  /** The files of drive C that the software has changed: { name, bytes }. */
+  changedFiles() {
+    const { cpu } = this, found = [];
+    for (let at = 0; at < cpu.file_total(); at++) {
+      if (cpu.file_state(at) !== 3) continue;
+      const name = decoder.decode(this.bytes.subarray(cpu.file_name(), cpu.file_name() + 80));
+      const place = cpu.store_at(cpu.file_place(at));
+      const bytes = this.bytes.slice(place, place + cpu.file_bytes(at));
+      found.push({ name: name.split("\0")[0], bytes });
+    }
+    return found;
+  }
+
+  // What comes from outside, and how it goes on.
+
+  /** A byte of the keyboard with the BIOS' word for it; kept with its time. */
+  key(byte, word) {
+    this.#take({ time: this.cpu.now(), does: "key", values: [byte, word] });
+  }
+
+  /** The mouse at a place of 640 by 200, with bits of its buttons. */
+  mouse(x, y, buttons) {
+    this.#take({ time: this.cpu.now(), does: "mouse", values: [x, y, buttons] });
+  }
+
+  #take(input) {
+    this.#inputs.push(input);
+    this.#give(input);
+  }
+
+  #give({ does, values }) {
+    this.cpu[does](...values);
+  }
+
+  /** What came from outside, each with its time. */
+  get inputs() {
+    return this.#inputs;
+  }
+
+  /** Takes inputs of a saved session, which come when their time has come. */
+  set inputs(inputs) {
+    this.#inputs = inputs;
+  }
+
+  /** Runs until a time, in nanoseconds of the machine; whether it goes on. */
+  run(until) {
+    return this.cpu.run(until) !== 0;
+  }
+
+  /** Runs as it ran before: what came from outside comes again. */
+  runAgain(until) {
+    const from = this.cpu.now();
+    for (const input of this.#inputs) {
+      if (input.time < from || input.time > until) continue;
+      this.cpu.run(input.time);
+      this.#give(input);
+    }
+    return this.cpu.run(until) !== 0;
+  }
+
+  /** Forgets what came after now: the machine goes on from here another way. */
+  forgetLater() {
+    const now = this.cpu.now();
+    this.#inputs = this.#inputs.filter(({ time }) => time <= now);
+  }
+
+  get stopped() {
+    return STOPPED[this.cpu.stopped()];
+  }
+
+  #missing(number, value) {
+    this.missing.push({ number, value });
+    this.#heard.missing?.(number, value);
+  }
+
+  // The display.
+
+  #frame(dots) {
+    this.#heard.frame?.();
+    if (!this.isShowing) {
+      this.calls.zak_advance(this.card, dots);
+      return;
+    }
+    const status = this.calls.zak_frame_words(this.card, WITH_ALPHA, this.room, this.pixels,
+      WIDEST * HIGHEST, WIDEST);
+    // Lines of different widths make no picture.
+    if (status) return;
+    this.width = this.adapterView.getUint32(this.room, true);
+    this.height = this.adapterView.getUint32(this.room + 4, true);
+    this.shown++;
+  }
+
+  /** The bytes of a call's block, as the registers name it; none where it has none. */
+  #blockOf(given) {
+    const { calls, adapterView: view, room } = this;
+    given.slice(0, 4).forEach((word, i) => view.setUint16(room + 2 * i, word, true));
+    calls.zak_block(this.card, room, room + 16);
+    const length = view.getUint32(room + 16, true), isAtDx = view.getUint8(room + 24) !== 0;
+    if (!length || length > MOST_BLOCK) return new Uint8Array();
+    const [, , , dx, es, bp] = given, from = 16 * es + (isAtDx ? dx : bp);
+    return this.ram.slice(from, from + length);
+  }
+
+  /** Interrupt 10, by the proved BIOS. */
+  #video() {
+    const { calls, room } = this, at = this.cpu.call_registers();
+    const registers = new Uint16Array(this.cpu.memory.buffer, at, 8), given = Array.from(registers);
+    const block = this.#blockOf(given);
+    this.adapterBytes.set(block, this.block);
+    const status = calls.zak_int10(this.card, room, this.block, block.length, this.table, 768,
+      room + 16);
+    this.blocks.push(block);
+    if (status) {
+      this.#missing(0x10, given[0]);
+      return;
+    }
+    const view = this.adapterView;
+    for (let i = 0; i < 4; i++) registers[i] = view.getUint16(room + 2 * i, true);
+    const made = view.getUint32(room + 16, true);
+    if (made) this.#write(16 * given[4] + given[3], this.adapterBytes.subarray(this.table, this.table + made));
+    this.#writeBiosData();
+  }
+
+  #write(place, bytes) {
+    const marks = this.cpu.ram_marks();
+    this.ram.set(bytes, place);
+    this.bytes.fill(1, marks + (place >> 12), marks + (place + bytes.length - 1 >> 12) + 1);
+  }
+
+  /** The BIOS' data of the display, where programs look for it. */
+  #writeBiosData() {
+    this.calls.zak_read_bda(this.card, this.room);
+    const { ram } = this, data = this.adapterBytes.subarray(this.room, this.room + 31);
+    const copied = (to, from, length) => ram.set(data.subarray(from, from + length), BIOS_DATA + to);
+    // A zak_bda: columns, size, start, eight positions, type, controller, height; mode, page, last row.
+    copied(0x49, 28, 1);
+    copied(0x4a, 0, 6);
+    copied(0x50, 6, 16);
+    copied(0x60, 22, 2);
+    copied(0x62, 29, 1);
+    copied(0x63, 24, 2);
+    copied(0x84, 30, 1);
+    copied(0x85, 26, 2);
+    ram[BIOS_DATA + 0x87] = 0x60;
+    ram[BIOS_DATA + 0x89] = 0x11;
+    this.bytes[this.cpu.ram_marks()] = 1;
+  }
+
+  // What was done.
+
+  #instruction(segment, place, text, length) {
+    const told = decoder.decode(this.bytes.subarray(text, text + length));
+    this.instructions.set(placeKey(segment, place >>> 0), told);
+  }
+
+  /** The text of an instruction that was recorded; where code changes itself, of the last one. */
+  instructionAt(segment, place) {
+    return this.instructions.get(placeKey(segment, place)) ?? "";
+  }
+
+  /** Records from here on, or no longer. */
+  record(isOn) {
+    this.blocks = [];
+    this.instructions = new Map();
+    this.cpu.set_recording(isOn ? 2 : 0, this.recordsAt);
+  }
+
+  /** The records: four words each, a copy. */
+  get records() {
+    const { cpu } = this, words = MOST_RECORDS * 4, count = cpu.record_count();
+    const all = new Uint32Array(cpu.memory.buffer, this.recordsAt, words);
+    if (!cpu.has_wrapped()) return all.slice(0, 4 * count);
+    const found = new Uint32Array(words);
+    found.set(all.subarray(4 * count));
+    found.set(all.subarray(0, 4 * count), words - 4 * count);
+    return found;
+  }
+
+  /** The adapter's state as it is saved. */
+  savedState() {
+    const status = this.calls.zak_save(this.card, this.state, MOST_STATE, this.room);
+    if (status) throw new Trouble(`The card is not saved: the module answers ${status}.`);
+    const length = this.adapterView.getUint32(this.room, true);
+    return this.adapterBytes.subarray(this.state, this.state + length);
+  }
+
+  /** Restores a state of the adapter, which is given in parts. */
+  restoreState(parts, length) {
+    const bytes = this.adapterBytes;
+    let at = this.state;
+    for (const part of parts) {
+      bytes.set(part, at);
+      at += part.length;
+    }
+    const status = this.calls.zak_restore(this.card, this.state, length);
+    if (status) throw new Trouble(`The card is not restored: the module answers ${status}.`);
+  }
+
+  /** A snapshot, which shares its parts with the one before where they are the same. */
+  snapshot(before = this.latest) {
+    this.latest = new Snapshot(this, before);
+    return this.latest;
+  }
+
+  /** Goes back, or forward, to a snapshot of this run. */
+  restore(snapshot) {
+    snapshot.restore(this, this.latest);
+    this.latest = snapshot;
+  }
+}
+
+const placeKey = (segment, place) => segment * 2 ** 32 + place;
