@@ -12,9 +12,11 @@ import struct
 import sys
 from typing import Any, Iterator, NamedTuple
 
-from unicorn import (
-    UC_ARCH_X86, UC_HOOK_INSN, UC_MODE_16, UC_MODE_32, Uc, UcError, x86_const as x86,
-)
+try:
+    from unicorn import UC_ARCH_X86, UC_HOOK_INSN, UC_MODE_16, UC_MODE_32, Uc, UcError, x86_const as x86
+except ImportError:
+    # The cases of manual.py need none of it.
+    x86 = None
 
 MEMORY, CODE_SEGMENT, OFFSET = 0x100000, 0x1000, 0x100
 CODE, CODE_BYTES = 16 * CODE_SEGMENT + OFFSET, 16
@@ -31,8 +33,10 @@ LOADING_TWO = {0xA1, 0xA9, 0xB2, 0xB4, 0xB5}
 TWO = (*range(0x80, 0xA2), *range(0xA3, 0xA6), *range(0xA8, 0xAA), *range(0xAB, 0xAE), *range(0xAF, 0xB8),
        *range(0xBA, 0xC2), *range(0xC8, 0xD0))
 CPUID = 0xA2
-REGISTERS = tuple(getattr(x86, f"UC_X86_REG_{name}") for name in "EAX ECX EDX EBX ESP EBP ESI EDI".split())
-SEGMENTS = tuple(getattr(x86, f"UC_X86_REG_{name}") for name in "ES CS SS DS FS GS".split())
+REGISTERS, SEGMENTS = (
+    tuple(getattr(x86, f"UC_X86_REG_{name}", 0) for name in names.split())
+    for names in ("EAX ECX EDX EBX ESP EBP ESI EDI", "ES CS SS DS FS GS")
+)
 REAL = (0x3000, CODE_SEGMENT, 0x4000, 0x2000, 0x5000, 0x6000)
 CARRY, PARITY, ADJUST, ZERO, SIGN, OVERFLOW = 0x001, 0x004, 0x010, 0x040, 0x080, 0x800
 ALL = CARRY | PARITY | ADJUST | ZERO | SIGN | OVERFLOW

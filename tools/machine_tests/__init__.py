@@ -1,0 +1,1 @@
+"""Tests of the machine that runs software in the page."""
