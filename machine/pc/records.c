@@ -3,10 +3,11 @@
 
 FROM("host", "told") void host_told(u32 segment, u32 place, u32 text, u32 length); /* an instruction's text */
 
-enum { MOST_RECORDS = 1 << 20, MOST_WATCHES = 16, TOLD = 4096 };
+enum { MOST_RECORDS = 1 << 20, MOST_WATCHES = 16, TOLD = 4096, REFUSED = 1 << 27 };
 
-/* Dots before it; kind in bits 28 to 31, and address; value in bits 0 to 15, and the code's segment; its offset. Of a
- * call there are two: AX and BX, CX and DX, and the place as segment and offset in one. */
+/* Dots before it; kind in bits 28 to 31, whether it was refused in bit 27, and address; value in bits 0 to 15, and the
+ * code's segment; its offset. Of a call there are two: AX and BX, CX and DX, and the place as segment and offset in
+ * one. page/machine/recording.js reads them. */
 struct record {
     u32 dots, what, value, place;
 };
@@ -21,7 +22,7 @@ static u64 cycles;
 static u64 stop_cycle = ~0ull;
 static u32 watches[MOST_WATCHES], watch_count, stops_on_mode, stops_on_refusal;
 static u64 watched_from;
-static u32 refusals;
+static u32 refusals, is_refused; /* the cycle that is recorded next */
 
 SHOWN("cycles") double cycles_done(void)
 {
@@ -93,6 +94,7 @@ SHOWN("stop_on") void stop_on(u32 mode, u32 refusal)
 void note_refusal(void)
 {
     refusals++;
+    is_refused = 1;
     if (stops_on_refusal) stop(AT_REFUSAL);
 }
 
@@ -134,6 +136,8 @@ static int is_watched(enum record_kind kind, u32 address)
 
 void record(enum record_kind kind, u32 address, u32 value)
 {
+    u32 was_refused = is_refused;
+    is_refused = 0;
     cycles++;
     if (__builtin_expect(cycles >= stop_cycle, 0)) stop(AT_CYCLE);
     if (__builtin_expect(watch_count != 0, 0) && kind < RECORD_CALL && cycles > watched_from &&
@@ -141,7 +145,8 @@ void record(enum record_kind kind, u32 address, u32 value)
     if (!is_recording) return;
     u32 place = processor.x86.saved_eip, segment = processor.x86.saved_cs;
     if (is_told) tell_instruction(segment, place);
-    add((struct record){dots_before, (u32)kind << 28 | address, (value & 0xFFFF) | segment << 16, place});
+    u32 what = (u32)kind << 28 | (was_refused ? REFUSED : 0) | address;
+    add((struct record){dots_before, what, (value & 0xFFFF) | segment << 16, place});
 }
 
 /* A call of interrupt 10: the place is that of the instruction that called. */

@@ -14,7 +14,7 @@ export const RECORD_BYTES = 16, MOST_RECORDS = 1 << 20;
 export const SPEEDS = { 8088: 3000, 286: 700, 386: 160, fastest: 60 };
 const WASM_PAGE = 65536, ROOM_BYTES = 64, MOST_BLOCK = 0x20000, TABLE_BYTES = 1024;
 const WITH_ALPHA = 1, BOOT = 1, PROGRAM = 0;
-const BIOS_DATA = 0x400;
+const BIOS_DATA = 0x400, MOST_FRAMES = 4096;
 const decoder = new TextDecoder("latin1");
 
 /** The modules, compiled from their bytes. */
@@ -28,6 +28,7 @@ export async function compiledModules({ adapter, reads, cpu }) {
 export class Machine {
   #heard;
   #isOpen = false;
+  #window = null;
   #inputs = [];
   /** Whether frames are drawn as they end. */
   isShowing = true;
@@ -37,6 +38,8 @@ export class Machine {
   shown = 0;
   /** What the software asked for that is missing: { number, value }. */
   missing = [];
+  /** How many cycles of the display there were at the end of each of the last frames, by its number. */
+  #frameCycles = new Map();
 
   constructor(modules, fonts, heard = {}) {
     this.#heard = heard;
@@ -125,7 +128,9 @@ export class Machine {
     this.#writeText(cpu.arguments(), software.words ? ` ${software.words}` : "", 127);
     this.#inputs = [];
     this.missing = [];
+    this.#frameCycles.clear();
     this.latest = null;
+    this.#window = null;
     const slot = disks.findIndex(bytes => bytes);
     if (software.program) this.#start(PROGRAM, 0, this.#stored(software.program), software.program);
     else this.#start(BOOT, slot === 2 ? 0x80 : slot, places[slot], disks[slot]);
@@ -232,10 +237,57 @@ export class Machine {
     this.#heard.missing?.(number, value);
   }
 
+  /**
+   * The first frame after which there were at most so many cycles of the display until now, and so many
+   * frames; null where even the last frame had more.
+   */
+  frameBefore(mostCycles, mostFrames) {
+    const now = this.cpu.cycles(), last = this.cpu.frames();
+    let found = null;
+    for (let frame = last; frame > last - mostFrames && this.#frameCycles.has(frame); frame--) {
+      if (now - this.#frameCycles.get(frame) > mostCycles) break;
+      found = frame;
+    }
+    return found;
+  }
+
+  /**
+   * Runs again from a snapshot to a time, or to a number of cycles, and records from the end of a frame
+   * on: `frame` is the number of frames until then. The state of the display at that moment is kept.
+   */
+  runWindow(snapshot, frame, until, cycle = Infinity) {
+    const wasShowing = this.isShowing;
+    this.restore(snapshot);
+    this.record(false);
+    this.isShowing = false;
+    this.#window = { frame, state: null };
+    if (this.cpu.frames() === frame) this.#beginWindow();
+    this.cpu.stop_at_cycle(cycle);
+    this.runAgain(until);
+    this.cpu.stop_at_cycle(Infinity);
+    this.cpu.go_on();
+    this.isShowing = wasShowing;
+    return this.#window.state;
+  }
+
+  #beginWindow() {
+    this.#window.state = this.savedState().slice();
+    this.record(true);
+  }
+
   // The display.
 
   #frame(dots) {
+    this.#passFrame(dots);
+    this.#frameCycles.set(this.cpu.frames(), this.cpu.cycles());
+    this.#frameCycles.delete(this.cpu.frames() - MOST_FRAMES);
     this.#heard.frame?.();
+    if (this.#window && !this.#window.state && this.cpu.frames() === this.#window.frame) {
+      this.#beginWindow();
+    }
+  }
+
+  #passFrame(dots) {
     if (!this.isShowing) {
       this.calls.zak_advance(this.card, dots);
       return;

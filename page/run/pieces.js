@@ -1,7 +1,7 @@
 // A script in pieces: the module takes some steps of it at a time, and each piece is a script of
 // its own that it has assembled from the script's text. A step therefore costs as much at the end
 // of a long script as at its beginning.
-import { KIND } from "../script/outline.js";
+import { KIND } from "../script/steplist.js";
 import { MOST_PICTURE } from "../module/adapter.js";
 
 /** The steps of a piece outside blocks, and the steps that a small block is repeated to. */

@@ -1,5 +1,5 @@
 // Breakpoints: what they watch, and the search for the next or the last step that meets one.
-import { KIND } from "../script/outline.js";
+import { KIND } from "../script/steplist.js";
 import { State, characterWidth, frameShape } from "../module/state.js";
 import { differingBytes, differingColours } from "./changes.js";
 import { hex } from "../common/bytes.js";

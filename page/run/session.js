@@ -4,7 +4,8 @@
 import { Answers } from "./answers.js";
 import { Card } from "../module/adapter.js";
 import { Checkpoints } from "./checkpoints.js";
-import { KIND, Outline } from "../script/outline.js";
+import { KIND } from "../script/steplist.js";
+import { Outline } from "../script/outline.js";
 import { MOST_BYTES } from "../script/grammar.js";
 import { MOST_COMPARED, comparedToRun, digitsTo, sumOfBytes, sumOfText } from "./comparing.js";
 import { Pieces } from "./pieces.js";
@@ -76,10 +77,11 @@ export class Session {
   #sinceCheckpoint = 0;
   #sinceNear = 0;
 
+  /** `judged` is the text as `judgedText` tells it: then no text is needed. */
   constructor(adapter, fonts, text, judged = judgedText(adapter, text)) {
     this.adapter = adapter;
     this.fonts = fonts;
-    this.script = judged.script;
+    this.judged = judged;
     this.outline = judged.outline;
     this.length = judged.outline.length;
     this.pieces = new Pieces(adapter, judged.outline);
@@ -92,6 +94,11 @@ export class Session {
       throw trouble;
     }
     this.#checkpoint();
+  }
+
+  /** The script's bytes. */
+  get script() {
+    return this.judged.script;
   }
 
   close() {

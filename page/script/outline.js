@@ -1,14 +1,10 @@
 // Where the steps of a text stand: which line a step's number belongs to, with blocks taken so many
 // times as they count. The text is one that the module has assembled, so its lines are known to be
 // good.
+import { KIND, StepList } from "./steplist.js";
 import { expectedIn } from "./expecting.js";
 
 const SEMICOLON = 59;
-/** The steps by number: those of docs/SCRIPT.md, in the order of their opcodes from 1. */
-export const STEP_NAMES = ["", "out", "outw", "in", "inw", "put", "putw", "get", "getw", "int",
-  "advance", "frame", "show"];
-/** The numbers of steps by name. */
-export const KIND = Object.fromEntries(STEP_NAMES.map((name, kind) => [name, kind]));
 const isBlank = code => code === 32 || code === 9 || code === 13;
 
 /** A list of numbers that grows. */
@@ -33,14 +29,11 @@ class Growing {
 }
 
 /** The steps of a text. */
-export class Outline {
-  /** Blocks and the steps between them: { first, count, from, size, isBlock }. */
-  runs = [];
-  /** How many steps are taken. */
-  length = 0;
+export class Outline extends StepList {
   hasExpected = false;
 
   constructor(text) {
+    super();
     this.text = text;
     const starts = new Growing(Uint32Array), lines = new Growing(Uint32Array),
       kinds = new Growing(Uint8Array);
@@ -103,38 +96,6 @@ export class Outline {
     this.plainFrom = this.steps.kinds.length;
   }
 
-  addRun(count, from, size, isBlock) {
-    if (!count || !size) return;
-    this.runs.push({ first: this.length, count, from, size, isBlock });
-    this.length += count * size;
-  }
-
-  /** The run that has a step; steps are counted from 0. */
-  runOf(step) {
-    let low = 0, high = this.runs.length - 1;
-    while (low < high) {
-      const middle = (low + high + 1) >> 1;
-      if (this.runs[middle].first <= step) low = middle;
-      else high = middle - 1;
-    }
-    return this.runs[low];
-  }
-
-  /** The entry of a step: its number among the steps as they stand in the text. */
-  entryOf(step) {
-    const run = this.runOf(step);
-    return run.from + (step - run.first) % run.size;
-  }
-
-  /** The number of an entry's line, from 1. */
-  lineOf(entry) {
-    return this.lines[entry] + 1;
-  }
-
-  nameOf(entry) {
-    return STEP_NAMES[this.kinds[entry]];
-  }
-
   /** A line as it stands, with its number from 1. */
   lineText(number) {
     const from = this.starts[number - 1], to = this.text.indexOf("\n", from);
@@ -157,60 +118,5 @@ export class Outline {
   textOf(from, count) {
     const begin = this.starts[this.lines[from]], last = this.lines[from + count - 1];
     return this.text.slice(begin, this.starts[last + 1] ?? this.text.length);
-  }
-
-  /** A text of the first steps, so many of them. */
-  firstSteps(steps) {
-    const parts = this.runs.some(run => run.isBlock) ? ["version 2"] : [];
-    for (const { first, count, from, size } of this.runs) {
-      const left = Math.min(count * size, steps - first);
-      if (left <= 0) break;
-      const turns = Math.floor(left / size), rest = left % size;
-      if (turns > 1) parts.push(`repeat ${turns}`);
-      if (turns) parts.push(this.textOf(from, size));
-      if (turns > 1) parts.push("end");
-      if (rest) parts.push(this.textOf(from, rest));
-    }
-    return parts.join("\n");
-  }
-
-  /** The first entry whose line is at or after this number; -1 where none is. */
-  entryAtLine(number) {
-    let low = 0, high = this.lines.length;
-    while (low < high) {
-      const middle = (low + high) >> 1;
-      if (this.lines[middle] + 1 < number) low = middle + 1;
-      else high = middle;
-    }
-    return low < this.lines.length ? low : -1;
-  }
-
-  /** The run that has an entry, or null. */
-  runOfEntry(entry) {
-    let low = 0, high = this.runs.length - 1;
-    while (low < high) {
-      const middle = (low + high + 1) >> 1;
-      if (this.runs[middle].from <= entry) low = middle;
-      else high = middle - 1;
-    }
-    const run = this.runs[low];
-    return run && entry >= run.from && entry < run.from + run.size ? run : null;
-  }
-
-  /** The first step of an entry that is not before `from`; -1 where none is. */
-  stepOfEntry(entry, from = 0) {
-    const run = this.runOfEntry(entry);
-    if (!run) return -1;
-    const first = run.first + entry - run.from;
-    const turns = Math.max(0, Math.ceil((from - first) / run.size));
-    return turns < run.count ? first + turns * run.size : -1;
-  }
-
-  /** The last step of an entry that is before `to`; -1 where none is. */
-  lastStepOfEntry(entry, to) {
-    const run = this.runOfEntry(entry);
-    if (!run) return -1;
-    const first = run.first + entry - run.from, turns = Math.floor((to - 1 - first) / run.size);
-    return turns < 0 ? -1 : first + Math.min(turns, run.count - 1) * run.size;
   }
 }

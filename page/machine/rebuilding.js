@@ -1,0 +1,174 @@
+// A saved state at a frame's first dot as the steps that lead there from power-on, so that a script can
+// begin in the middle of a run. tools/vga_trace/state.py does the same of a trace's dumps; here the
+// BIOS' data come first, by services.
+import { Card } from "../module/adapter.js";
+import { State } from "../module/state.js";
+import { hex } from "../common/bytes.js";
+
+// Before the first mode set a frame has so many dots.
+const POWER_ON_FRAME = 90;
+const PLANE_BYTES = 65536, ENTRIES = 256, WINDOW = 0xa0000;
+const PORTS = { misc: 0x3c2, sequencer: 0x3c4, graphics: 0x3ce, attributes: 0x3c0, mask: 0x3c6,
+  dacIndex: 0x3c8, dacData: 0x3c9, dacRead: "3C9" };
+const ENABLE_RAM = 2, PROTECTS = 0x80, PROTECTING = 0x11;
+const MAP_MASK = 2, MEMORY_MODE = 4, UNCHAINED = 6, MISCELLANEOUS = 6, WHOLE_WINDOW = 4, BIT_MASK = 8;
+/** The rows of a glyph that each mode begins with, and the call that loads glyphs of so many. */
+const USUAL_HEIGHT = { 3: 16, 7: 16, 0xd: 8, 0x10: 14, 0x12: 16, 0x13: 8 };
+const FONT_CALLS = { 8: 0x1112, 14: 0x1111, 16: 0x1114 };
+
+/** A list of steps, as lines. */
+class Steps {
+  lines = [];
+
+  out(port, value) {
+    this.lines.push(`out ${hex(port, 3)} ${hex(value, 2)}`);
+  }
+
+  /** A register by its index, in one word. */
+  register(port, index, value) {
+    this.lines.push(`outw ${hex(port, 3)} ${hex(value << 8 | index, 4)}`);
+  }
+
+  call(ax, bx = 0, cx = 0, dx = 0) {
+    const words = Object.entries({ ax, bx, cx, dx }).map(([name, value]) => `${name}=${hex(value, 4)}`);
+    this.lines.push(`int ${words.join(" ")}`);
+  }
+
+  step(line) {
+    this.lines.push(line);
+  }
+}
+
+/** The mode, the glyphs' height, the page, and the cursor of each page. */
+function setMode(steps, { bda, hasMode }) {
+  if (!hasMode) return;
+  steps.call(bda.mode);
+  const isUsual = bda.height === USUAL_HEIGHT[bda.mode];
+  if (!isUsual && FONT_CALLS[bda.height]) steps.call(FONT_CALLS[bda.height]);
+  if (bda.page) steps.call(0x500 | bda.page);
+  bda.places.forEach((place, page) => place && steps.call(0x200, page << 8, 0, place));
+  steps.call(0x100, 0, bda.type);
+}
+
+/** Lets words go to the planes of the map mask as they are. */
+function openMemory(steps, misc) {
+  steps.out(PORTS.misc, misc | ENABLE_RAM);
+  steps.register(PORTS.sequencer, MEMORY_MODE, UNCHAINED);
+  for (let index = 0; index < MISCELLANEOUS; index++) steps.register(PORTS.graphics, index, 0);
+  steps.register(PORTS.graphics, MISCELLANEOUS, WHOLE_WINDOW);
+  steps.register(PORTS.graphics, BIT_MASK, 0xff);
+}
+
+const wordAt = (plane, offset) => plane[offset] | plane[offset + 1] << 8;
+
+/** The words of a place that differ from what stands there, each with the planes that have it. */
+function* differingWords(planes, old, offset) {
+  const masks = new Map();
+  planes.forEach((plane, number) => {
+    const value = wordAt(plane, offset);
+    if (value !== wordAt(old[number], offset)) masks.set(value, masks.get(value) | 1 << number);
+  });
+  yield* masks;
+}
+
+/** The steps that write memory, by the map mask of each. */
+function memorySteps(planes, old) {
+  const groups = new Map();
+  for (let offset = 0; offset < PLANE_BYTES; offset += 2) {
+    for (const [value, mask] of differingWords(planes, old, offset)) {
+      if (!groups.has(mask)) groups.set(mask, []);
+      groups.get(mask).push(`putw ${hex(WINDOW + offset, 5)} ${hex(value, 4)}`);
+    }
+  }
+  return [...groups].sort(([one], [other]) => one - other);
+}
+
+function fillMemory(steps, planes, old) {
+  for (const [mask, lines] of memorySteps(planes, old)) {
+    steps.register(PORTS.sequencer, MAP_MASK, mask);
+    for (const line of lines) steps.step(line);
+  }
+}
+
+/** Latches are loaded from memory, which has them for as long. */
+function fillLatches(steps, latches, planes) {
+  if (!latches.some(latch => latch)) return;
+  const putEach = bytes => bytes.forEach((byte, plane) => {
+    steps.register(PORTS.sequencer, MAP_MASK, 1 << plane);
+    steps.step(`put A0000 ${hex(byte, 2)}`);
+  });
+  putEach([...latches]);
+  steps.step("get A0000");
+  putEach(planes.map(plane => plane[0]));
+}
+
+function setAttributes(steps, { attr, attrIndex, attrIsData }, status) {
+  steps.step(`in ${hex(status, 3)}`);
+  attr.forEach((value, index) => {
+    steps.out(PORTS.attributes, index);
+    steps.out(PORTS.attributes, value);
+  });
+  steps.out(PORTS.attributes, attrIndex);
+  if (!attrIsData) steps.step(`in ${hex(status, 3)}`);
+}
+
+/** The DAC: its entries, what is written of the next one, and where it stands. */
+function setColours(steps, state, registers) {
+  steps.out(PORTS.mask, registers.dacMask);
+  steps.out(PORTS.dacIndex, 0);
+  for (let entry = 0; entry < ENTRIES; entry++) {
+    for (const part of state.colour(entry)) steps.out(PORTS.dacData, part);
+  }
+  steps.out(PORTS.dacData, registers.dacRed);
+  steps.out(PORTS.dacData, registers.dacGreen);
+  steps.out(PORTS.dacIndex, registers.dacIndex);
+  for (let i = 0; i < registers.dacComponent; i++) steps.step(`in ${PORTS.dacRead}`);
+}
+
+function setController(steps, { crtc }, port) {
+  steps.register(port, PROTECTING, crtc[PROTECTING] & ~PROTECTS);
+  crtc.forEach((value, index) => {
+    if (index !== PROTECTING) steps.register(port, index, value);
+  });
+  steps.register(port, PROTECTING, crtc[PROTECTING]);
+}
+
+/**
+ * The lines of the steps from power-on to a saved state, whose beam is at a frame's first dot.
+ * `stateAfter(lines)` is the state after some lines: of memory only what differs from it is written.
+ */
+export function rebuilding(bytes, stateAfter) {
+  const state = new State(bytes), { registers, beam, latches } = state, steps = new Steps();
+  const controller = registers.misc & 1 ? 0x3d4 : 0x3b4;
+  if (beam.frame) steps.step(`advance ${POWER_ON_FRAME * beam.frame}`);
+  setMode(steps, state);
+  openMemory(steps, registers.misc);
+  const before = stateAfter(steps.lines), numbers = [0, 1, 2, 3];
+  const planes = numbers.map(plane => state.plane(plane));
+  fillMemory(steps, planes, numbers.map(plane => before.plane(plane)));
+  fillLatches(steps, latches, planes);
+  registers.gfx.forEach((value, index) => steps.register(PORTS.graphics, index, value));
+  registers.seq.forEach((value, index) => steps.register(PORTS.sequencer, index, value));
+  setAttributes(steps, registers, controller + 6);
+  setColours(steps, state, registers);
+  setController(steps, registers, controller);
+  steps.out(PORTS.graphics, registers.gfxIndex);
+  steps.out(PORTS.sequencer, registers.seqIndex);
+  steps.out(controller, registers.crtcIndex);
+  if (!(registers.misc & ENABLE_RAM)) steps.out(PORTS.misc, registers.misc);
+  return steps.lines;
+}
+
+/** What tells the state after some lines from power-on, by a card of the adapter. */
+export function statesOf(adapter, fonts) {
+  return lines => {
+    const { bytes } = adapter.assembled(new TextEncoder().encode(lines.join("\n")));
+    const card = new Card(adapter, fonts);
+    try {
+      card.runOn(bytes, 0, lines.length, 1 << 20);
+      return new State(card.save());
+    } finally {
+      card.close();
+    }
+  };
+}
