@@ -333,6 +333,10 @@ await check("every key that the help tells", async () => {
       if (control === "help") await browser.until("document.getElementById('helpbox').open");
       if (control === "help") await shot("help");
       if (control === "savemenu") await browser.until("document.getElementById('savemenu').open");
+      if (control === "full") {
+        await browser.until("document.fullscreenElement !== null");
+        await browser.value("document.exitFullscreen()");
+      }
       if (["share", "help"].includes(control)) await browser.value(
         "document.querySelector('dialog[open]').close()");
       if (control === "savemenu") await browser.value("document.getElementById('savemenu').open = false");

@@ -14,6 +14,8 @@ import { MemoryPanel } from "../panels/memorypanel.js";
 import { Notice } from "./notice.js";
 import { Opener, listenToFiles } from "../files/opening.js";
 import { PageClock } from "../run/clock.js";
+import { Panes } from "./panes.js";
+import { PictureSize } from "../picture/size.js";
 import { PointPanel } from "../panels/pointpanel.js";
 import { RegisterPanel } from "../panels/registerpanel.js";
 import { Runner, stateText } from "../run/runner.js";
@@ -21,6 +23,7 @@ import { Saver } from "../files/saver.js";
 import { Screen } from "../picture/screen.js";
 import { Scripts } from "../editor/scripts.js";
 import { Session, judgedText } from "../run/session.js";
+import { Settings } from "../common/settings.js";
 import { TABS, Tabs } from "./tabs.js";
 import { Transport } from "./transport.js";
 import { Trouble } from "../common/trouble.js";
@@ -72,7 +75,10 @@ export class View {
     this.transport = new Transport(this.runner, () => this.#activePoints, this.guarded);
     this.checkLine = new CheckLine(this.module);
     this.lastStep = new LastStep(this.data.pages);
+    const settings = new Settings();
+    this.panes = new Panes(settings);
     this.screen = new Screen({ clicked: (line, dot) => this.#toDot(line, dot) });
+    this.size = new PictureSize(this.screen, settings);
     this.listing = new Listing(steps => this.runner.go(steps), () => this.runner.goal);
   }
 
@@ -134,7 +140,9 @@ export class View {
     this.#makeList();
     this.keyboard = new Keyboard({ editor: this.editor, tabs: this.tabs, menu: this.saver.menu,
       goToLine: line => this.guarded(() => this.transport.goTo("line", String(line))),
-      togglePoint: line => this.pointPanel.toggleLine(line) });
+      togglePoint: line => this.pointPanel.toggleLine(line),
+      orders: { larger: () => this.size.step(1), smaller: () => this.size.step(-1),
+        fill: () => this.size.choose(0) } });
     byId("keys").append(...keyTables());
     byId("version").textContent = `Zaklimot ${this.data.version}.`;
     byId("pagedoc").href = `${this.data.pages}PAGE.md#what-is-proved`;
