@@ -76,6 +76,8 @@ export class Screen {
   pointer = null;
   /** How many pixels a dot has; 0: as many as there is room for. */
   scale = 0;
+  /** How many pictures stand side by side. */
+  pictures = 1;
 
   constructor(heard) {
     this.heard = heard;
@@ -166,11 +168,19 @@ export class Screen {
     if (this.seen) this.shape();
   }
 
+  /** Makes room for so many pictures, one beside the other. */
+  setPictures(count) {
+    if (count === this.pictures) return;
+    this.pictures = count;
+    if (this.seen) this.shape();
+  }
+
   /** How wide the picture stands, whose width is so many times its height. */
   widthFor(ratio) {
     const { canvas, room } = this;
     const isFilling = !this.scale || document.fullscreenElement === this.stage;
-    return isFilling ? Math.min(room.width, room.height * ratio) : this.scale * canvas.width;
+    return isFilling ? Math.min(room.width / this.pictures, room.height * ratio)
+      : this.scale * canvas.width;
   }
 
   /** Shapes the picture on its stage: as a monitor of 4:3 shows it, or with square dots. */
@@ -178,12 +188,12 @@ export class Screen {
     const { canvas } = this;
     const ratio = byId("aspect").checked ? 4 / 3 : canvas.width / canvas.height;
     const wide = this.widthFor(ratio);
-    const width = Math.floor(wide) + "px", height = Math.floor(wide / ratio) + "px";
+    const width = Math.floor(wide) * this.pictures + "px", height = Math.floor(wide / ratio) + "px";
     setAll(byId("frame").style, { width, height });
     // Hard edges would drop dots of a picture that stands smaller than it is.
     const isRoom = wide * devicePixelRatio >= canvas.width &&
       wide / ratio * devicePixelRatio >= canvas.height;
-    canvas.classList.toggle("sharp", isRoom && byId("sharp").checked);
+    byId("frame").classList.toggle("sharp", isRoom && byId("sharp").checked);
   }
 
   beamPlace() {

@@ -399,6 +399,8 @@ await check("files: bytes, fonts, a trace; and one that is dropped", async () =>
   await browser.click("#ownfonts");
   await browser.until("document.getElementById('ownfonts').hidden");
   await choose("typed-line.trace", readFileSync(`${TOP}examples/typed-line.trace`));
+  await browser.until("document.querySelector('dialog.ask')?.open");
+  await browser.press("Enter");
   await browser.until("document.getElementById('text').value.startsWith('out 3C2 67')");
   await browser.until("document.getElementById('state').textContent.includes('2 of 2 answers as expected')");
   await browser.value(

@@ -4,6 +4,7 @@ import { BiosPanel } from "../panels/biospanel.js";
 import { CellPanel } from "../panels/cellpanel.js";
 import { CheckLine } from "./checkline.js";
 import { ColourPanel } from "../panels/colourpanel.js";
+import { Comparison } from "../compare/comparison.js";
 import { Desk } from "./desk.js";
 import { Drafts } from "../editor/drafts.js";
 import { Editor } from "../editor/editor.js";
@@ -79,6 +80,7 @@ export class View {
     this.panes = new Panes(settings);
     this.screen = new Screen({ clicked: (line, dot) => this.#toDot(line, dot) });
     this.size = new PictureSize(this.screen, settings);
+    this.comparison = new Comparison(this.runner, this.screen, this.guarded);
     this.listing = new Listing(steps => this.runner.go(steps), () => this.runner.goal);
   }
 
@@ -112,6 +114,7 @@ export class View {
       adapter: () => this.adapter,
       isEmpty: () => !runner.session && !editor.script,
       script: (text, script, asked) => this.desk.load(text, script, asked),
+      other: (found, name) => this.comparison.open(found, name),
       fonts: (fonts, name) => (name ? this.#useFonts(fonts, name) : this.#setFonts(fonts)),
       tab: name => this.tabs.open(name),
       step: number => runner.go(number),
@@ -208,6 +211,7 @@ export class View {
     session.spare = this.screen.show(seen);
     this.lastStep.show(seen);
     this.tabs.show(seen);
+    this.comparison.shown();
   }
 
   /** Shows what the run does. It may tell so before the page is put together. */
@@ -220,6 +224,7 @@ export class View {
   #finished(session) {
     const { runner } = this;
     this.checkLine.start(session);
+    this.comparison.finished(session).catch(error => this.#failed(error));
     if (!runner.isShown) return;
     this.listing.show(session, runner.steps);
     this.editor.draw();
