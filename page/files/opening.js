@@ -1,5 +1,6 @@
 // What is opened: files that are chosen or dropped, and what the address, the browser's history, or
 // the tool that made the page asks for.
+import { ask } from "../compare/asking.js";
 import { byId } from "../common/dom.js";
 import { bytesOfBase64 } from "../common/bytes.js";
 import { Trouble } from "../common/trouble.js";
@@ -44,8 +45,9 @@ export class Opener {
   /**
    * `data`: what the page was built with; `tabs`: the names of the tabs. `heard` has `adapter()`,
    * the module that prints bytes; `isEmpty()`, whether no script stands there; `script(text,
-   * script, asked)`; `fonts(fonts, name)`, fonts of a file, or without a name those that come with
-   * the script that follows; `tab(name)`; and `step(number)`.
+   * script, asked)`; `other(found, name)`, what is to be compared with the run, as contentsOf tells
+   * it; `fonts(fonts, name)`, fonts of a file, or without a name those that come with the script
+   * that follows; `tab(name)`; and `step(number)`.
    */
   constructor(data, scripts, tabs, heard) {
     this.#data = data;
@@ -60,8 +62,19 @@ export class Opener {
     const number = ++this.#count, [{ name }] = files, bytes = await bytesOfFiles(files);
     const found = await contentsOf(bytes, this.#heard.adapter());
     if (number !== this.#count) return;
-    if (found.fonts) this.#heard.fonts(found.fonts, name);
-    else this.#heard.script(found.text, this.#scripts.made(name, name, true));
+    if (found.fonts) return this.#heard.fonts(found.fonts, name);
+    if (found.report || found.png) return this.#heard.other(found, name);
+    const use = found.trace ? await this.#useOfTrace(name) : "script";
+    if (number !== this.#count) return;
+    if (use === "other") return this.#heard.other(found, name);
+    if (use === "script") this.#heard.script(found.text, this.#scripts.made(name, name, true));
+  }
+
+  /** What the user wants of a trace: "script", "other" or "", nothing. */
+  async #useOfTrace(name) {
+    if (this.#heard.isEmpty()) return "script";
+    return ask(`${name} is a trace.`,
+      [["script", "Open it as the script"], ["other", "Compare it with the run"]]);
   }
 
   /** Opens what the history, the address or the tool asks for. */

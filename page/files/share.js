@@ -5,10 +5,12 @@ import { Trouble } from "../common/trouble.js";
 import { base64OfBytes, bytesOfBase64, counted, grouped, hex, throughStream }
   from "../common/bytes.js";
 import { encodingTrouble } from "../script/reasons.js";
+import { isReport } from "../run/report.js";
 import { reasonOfBytes } from "../script/faults.js";
 import { textOfTrace, traceForm } from "./trace.js";
 
-const MAGIC = [0x56, 0x47, 0x41, 0x53], GZIP = [0x1f, 0x8b];
+const MAGIC = [0x56, 0x47, 0x41, 0x53], GZIP = [0x1f, 0x8b],
+  PNG = [0x89, 0x50, 0x4e, 0x47];
 // Tab, newline, form feed, carriage return, and the mark that ends old text files.
 const TEXT_CONTROLS = [9, 10, 12, 13, 26];
 // A trace may be longer than a script.
@@ -97,14 +99,19 @@ export async function bytesOfFiles(files) {
   }
 }
 
-/** What a file is: { fonts }, or { text } of a script. `adapter` prints scripts of bytes. */
+/**
+ * What a file is: { fonts }; { png } or { report }, the bytes of one; or { text } of a script, which
+ * a trace is too, with the `trace` as it stands. `adapter` prints scripts of bytes.
+ */
 export async function contentsOf(bytes, adapter) {
   if (startsWith(bytes, GZIP)) bytes = await gunzipped(bytes);
+  if (startsWith(bytes, PNG)) return { png: bytes };
+  if (isReport(bytes)) return { report: bytes };
   if (startsWith(bytes, MAGIC)) return { text: printedText(bytes, adapter) };
   const isFonts = bytes.length === FONTS_SIZE && bytes.some(byte => byte === 0 || byte > 126);
   if (isFonts) return { fonts: bytes };
   const text = new TextDecoder().decode(bytes), form = traceForm(text);
-  if (form) return { text: textOfTrace(text) };
+  if (form) return { text: textOfTrace(text), trace: text };
   const begin = bytes.subarray(0, 4096);
   if (begin.some(byte => byte > 0 && byte < 32 && !TEXT_CONTROLS.includes(byte))) {
     throw new Trouble(noneOf(bytes));
@@ -140,6 +147,7 @@ export function printedText(bytes, adapter) {
 function noneOf(bytes) {
   const begins = Array.from(bytes.subarray(0, 8), byte => hex(byte, 2)).join(" ");
   return `This file of ${grouped(bytes.length)} bytes, which begins with ${begins}, ` +
-    `is no script, no trace and no font file: a script is a text, or begins with 56 47 41 53, ` +
+    `is no script, no trace and no font file, and no report or PNG: ` +
+    `a script is a text, or begins with 56 47 41 53, ` +
     `and a font file has ${grouped(FONTS_SIZE)} bytes.`;
 }

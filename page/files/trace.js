@@ -14,7 +14,8 @@ const QEMU_CYCLE = new RegExp("^(?:\\d+@(\\d+\\.\\d{6}):)?" +
   "addr 0x([0-9a-f]+) value 0x([0-9a-f]+) size (\\d) name '([^']*)'\\s*$");
 const PORTS_OF_QEMU = ["vga", "cirrus-io"], MEMORY_OF_QEMU = ["vga-lowmem", "cirrus-low-memory",
   "vga-chain4"];
-const STATUS_PORTS = [0x3ba, 0x3da];
+/** The ports of input status 1, whose answers hang on the moment of the read. */
+export const STATUS_PORTS = [0x3ba, 0x3da];
 
 /**
  * The cycle of a line: { isWrite, isPort, address, value, size, time }; null where it has none of a
@@ -45,6 +46,15 @@ function judged(isWrite, isPort, [address, value, width], micros, number) {
       `${address} ${value} of ${size} bytes.`);
   }
   return { isWrite, isPort, address: first, value: whole, size, time };
+}
+
+/** The cycles of a trace, as `cycleOf` tells them. */
+export function* cyclesOf(text) {
+  const isPlain = traceForm(text) === "plain";
+  for (const [i, line] of text.split("\n").entries()) {
+    const cycle = cycleOf(line, isPlain, i + 1);
+    if (cycle) yield cycle;
+  }
 }
 
 /** The steps of a cycle: one of four or eight bytes becomes words, the lowest first. */
@@ -108,12 +118,8 @@ function* untimedLines(steps) {
 
 /** The text of the script that a trace is. Time passes in it if the first step has a time. */
 export function textOfTrace(text) {
-  const isPlain = traceForm(text) === "plain", lines = text.split("\n");
   function* steps() {
-    for (const [i, line] of lines.entries()) {
-      const cycle = cycleOf(line, isPlain, i + 1);
-      if (cycle) yield* narrowed(cycle);
-    }
+    for (const cycle of cyclesOf(text)) yield* narrowed(cycle);
   }
   const joined = () => joinedSteps(steps()), { value: first } = joined().next();
   const isTimed = first !== undefined && first.time !== null;

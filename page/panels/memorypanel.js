@@ -134,9 +134,20 @@ class HexTable {
     const rows = this.rows.map(({ head, cells }) => element("tr", {}, head,
       ...cells.map(cell => cell.made)));
     this.made = element("table", { className: "hex" }, this.caption, element("tbody", {}, ...rows));
+    this.marked = null;
+  }
+
+  /** Marks the byte at a place of the table, and scrolls the panel so that it is in sight. */
+  mark(at) {
+    this.marked?.classList.remove("marked");
+    this.marked = this.rows[Math.floor(at / HEX_COLUMNS)].cells[at % HEX_COLUMNS].made;
+    this.marked.classList.add("marked");
+    this.marked.scrollIntoView({ block: "nearest", inline: "nearest" });
   }
 
   show(plane, offset, bytes, before, shown) {
+    this.marked?.classList.remove("marked");
+    this.marked = null;
     setText(this.caption, `Plane ${plane} from ${hex(offset, 4)}: bytes on blue are shown`);
     this.rows.forEach(({ head, cells }, row) => {
       const from = offset + HEX_COLUMNS * row;
@@ -160,7 +171,7 @@ export class MemoryPanel {
     Object.assign(this, { plane: 0, offset: 0, zoom: "fit" });
     this.figures = [0, 1, 2, 3].map(plane => new PlaneFigure(plane, (chosen, offset) => {
       this.plane = chosen;
-      this.look(offset);
+      this.lookAt(offset);
     }));
     this.hint = element("p", { className: "hint" });
     this.box = element("div", {}, ...this.figures.map(figure => figure.made));
@@ -210,7 +221,7 @@ export class MemoryPanel {
     });
     const label = "offset, hexadecimal";
     this.place = element("input", { id: "offset", size: 5, maxLength: 4, "aria-label": label });
-    this.place.addEventListener("change", () => this.look(parseInt(this.place.value, 16) || 0));
+    this.place.addEventListener("change", () => this.lookAt(parseInt(this.place.value, 16) || 0));
     const by = (title, says, rows) => element("button", { type: "button", title: says, "aria-label": says,
       onclick: () => this.look(this.offset + HEX_COLUMNS * rows) }, title);
     this.jump = element("button", { type: "button", onclick: () => this.lookAtChange() }, "to the change");
@@ -221,7 +232,14 @@ export class MemoryPanel {
 
   lookAtChange() {
     this.plane = this.changed.findIndex(found => found.length > 0);
-    this.look(this.changed[this.plane][0]);
+    this.lookAt(this.changed[this.plane][0]);
+  }
+
+  /** Shows a byte of the plane, and marks it. */
+  lookAt(offset) {
+    const at = Math.max(0, Math.min(PLANE_LENGTH - 1, offset));
+    this.look(at);
+    this.table.mark(at - this.offset);
   }
 
   look(offset) {

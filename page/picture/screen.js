@@ -74,6 +74,10 @@ export class Screen {
   /** The room of the stage, in pixels. */
   room = { width: 0, height: 0 };
   pointer = null;
+  /** How many pixels a dot has; 0: as many as there is room for. */
+  scale = 0;
+  /** How many pictures stand side by side. */
+  pictures = 1;
 
   constructor(heard) {
     this.heard = heard;
@@ -158,20 +162,38 @@ export class Screen {
     return this.isSoFar ? `${size}, drawn to line ${beam.line}, dot ${this.beamPlace().x}` : size;
   }
 
-  /**
-   * How large the picture stands on its stage, as a monitor of 4:3 shows it or with square dots,
-   * and how.
-   */
-  shape() {
+  /** Gives each dot so many pixels, or with 0 as many as there is room for. */
+  setScale(scale) {
+    this.scale = scale;
+    if (this.seen) this.shape();
+  }
+
+  /** Makes room for so many pictures, one beside the other. */
+  setPictures(count) {
+    if (count === this.pictures) return;
+    this.pictures = count;
+    if (this.seen) this.shape();
+  }
+
+  /** How wide the picture stands, whose width is so many times its height. */
+  widthFor(ratio) {
     const { canvas, room } = this;
+    const isFilling = !this.scale || document.fullscreenElement === this.stage;
+    return isFilling ? Math.min(room.width / this.pictures, room.height * ratio)
+      : this.scale * canvas.width;
+  }
+
+  /** Shapes the picture on its stage: as a monitor of 4:3 shows it, or with square dots. */
+  shape() {
+    const { canvas } = this;
     const ratio = byId("aspect").checked ? 4 / 3 : canvas.width / canvas.height;
-    const wide = Math.min(room.width, room.height * ratio);
-    const width = Math.floor(wide) + "px", height = Math.floor(wide / ratio) + "px";
+    const wide = this.widthFor(ratio);
+    const width = Math.floor(wide) * this.pictures + "px", height = Math.floor(wide / ratio) + "px";
     setAll(byId("frame").style, { width, height });
     // Hard edges would drop dots of a picture that stands smaller than it is.
     const isRoom = wide * devicePixelRatio >= canvas.width &&
       wide / ratio * devicePixelRatio >= canvas.height;
-    canvas.classList.toggle("sharp", isRoom && byId("sharp").checked);
+    byId("frame").classList.toggle("sharp", isRoom && byId("sharp").checked);
   }
 
   beamPlace() {

@@ -36,19 +36,35 @@ export class ReportPicture {
  */
 export function readReport(report, first, count, take) {
   let at = 0;
-  for (let i = 0; i < count; i++) {
-    let number = 0;
-    while (report[at] >= ZERO && report[at] <= NINE) number = 10 * number + report[at++] - ZERO;
-    if (number !== first + i) throw new Trouble(`The report has no answer of step ${first + i}.`);
-    at++;
-    if (report[at] === LETTER_O && report[at + 1] === LETTER_K && report[at + 2] === LINE_END) {
-      take(i, "ok", null);
-      at += 3;
-    } else {
-      at = readAnswer(report, at, i, take);
-    }
-  }
+  for (let i = 0; i < count; i++) at = readLine(report, at, first + i, i, take);
   if (at !== report.length) throw new Trouble("The report goes on after its last answer.");
+}
+
+/**
+ * Reads the answer at a place, which must be that of the step with a number; calls `take` with
+ * (index, answer, picture). Where the next answer begins.
+ */
+export function readLine(report, at, wanted, index, take) {
+  let number = 0;
+  while (report[at] >= ZERO && report[at] <= NINE) number = 10 * number + report[at++] - ZERO;
+  if (number !== wanted) throw new Trouble(`The report has no answer of step ${wanted}.`);
+  at++;
+  if (report[at] !== LETTER_O || report[at + 1] !== LETTER_K || report[at + 2] !== LINE_END) {
+    return readAnswer(report, at, index, take);
+  }
+  take(index, "ok", null);
+  return at + 3;
+}
+
+/** The line of a report's first step (docs/REPORT.md, "Lines"). */
+const FIRST_LINE = new RegExp("^1 (?:ok|ragged|picture \\d+|[0-9A-F]{2}|[0-9A-F]{4}|ax=[0-9A-F]{4} .*|" +
+  "E\\d+ [A-Za-z]+|(?:misc|beam|latches|bda|entry|plane|row) .*)$");
+const LONGEST_FIRST = 4096;
+
+/** Whether bytes begin as a report does. */
+export function isReport(bytes) {
+  const [line, ...more] = codesOfBytes(bytes.subarray(0, LONGEST_FIRST)).split("\n");
+  return more.length > 0 && FIRST_LINE.test(line);
 }
 
 /** The texts of answers of two to four letters, by their letters: in long runs most are such. */

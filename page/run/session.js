@@ -62,6 +62,8 @@ export class Session {
   /** How many pictures there are, and the size of each, as "720x400", by its step. */
   pictures = 0;
   sizes = new Map();
+  /** A sum of each picture, by its step. */
+  pictureSums = new Map();
   /** Of each picture, and of each answer whose text is cut off, a sum. */
   sums = [];
   /** The length of the whole report, and of the part that is short enough to be compared. */
@@ -133,8 +135,10 @@ export class Session {
 
   #notePicture(picture, step) {
     this.pictures++;
+    const sum = sumOfBytes(picture.ppm);
     this.sizes.set(step, picture.size);
-    this.sums.push(sumOfBytes(picture.ppm));
+    this.pictureSums.set(step, sum);
+    this.sums.push(sum);
   }
 
   /** Notes the answers of the steps that the card ahead has taken. */

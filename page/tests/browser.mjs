@@ -333,6 +333,10 @@ await check("every key that the help tells", async () => {
       if (control === "help") await browser.until("document.getElementById('helpbox').open");
       if (control === "help") await shot("help");
       if (control === "savemenu") await browser.until("document.getElementById('savemenu').open");
+      if (control === "full") {
+        await browser.until("document.fullscreenElement !== null");
+        await browser.value("document.exitFullscreen()");
+      }
       if (["share", "help"].includes(control)) await browser.value(
         "document.querySelector('dialog[open]').close()");
       if (control === "savemenu") await browser.value("document.getElementById('savemenu').open = false");
@@ -395,6 +399,8 @@ await check("files: bytes, fonts, a trace; and one that is dropped", async () =>
   await browser.click("#ownfonts");
   await browser.until("document.getElementById('ownfonts').hidden");
   await choose("typed-line.trace", readFileSync(`${TOP}examples/typed-line.trace`));
+  await browser.until("document.querySelector('dialog.ask')?.open");
+  await browser.press("Enter");
   await browser.until("document.getElementById('text').value.startsWith('out 3C2 67')");
   await browser.until("document.getElementById('state').textContent.includes('2 of 2 answers as expected')");
   await browser.value(

@@ -2,18 +2,17 @@
 // (https://www.w3.org/TR/WCAG22/#dfn-contrast-ratio), and how high what is touched on a phone is.
 import assert from "node:assert/strict";
 import test from "node:test";
-import { readFileSync } from "node:fs";
 import { TOUCHED } from "../common/rows.js";
-import { TOP } from "./loading.mjs";
+import { pageStyle } from "./loading.mjs";
 
-const STYLE = readFileSync(TOP + "page/style.css", "utf-8");
+const STYLE = pageStyle();
 const LEAST = 4.5, LEAST_TOUCHED = 24;
 const TEXTS = ["ink", "pale", "link", "bad", "good", "refused"];
 const GROUNDS = ["back", "soft", "mark", "changed", "shown"];
 // What is paler by opacity and is no text that must be read: controls that do nothing now, what a
 // mended line makes anew, dots and hairs.
 const NO_TEXT = ["button:disabled", ".number:hover::before, .number.point::before",
-  ".number.point::before", ".hair", "body.stale #right > *:not(#tabs), body.stale #listing"];
+  ".number.point::before", ".hair", "body.stale .shows-run"];
 
 /** The rules of a style, [selector, declarations by name]; those of `@media` by its condition. */
 function rulesOf(style, media = null) {

@@ -80,14 +80,25 @@ test("what a file is", async () => {
   assert.deepEqual(await contentsOf(FONTS, adapter), { fonts: FONTS });
   assert.deepEqual(await contentsOf(bytes, adapter),
     { text: "int ax=0003 bx=0000 cx=0000 dx=0000\nframe\n" });
-  const trace = readFileSync(TOP + "examples/typed-line.trace");
-  assert.match((await contentsOf(trace, adapter)).text, /^out 3C2 67\nin 3CC ; = 67\n/);
+  const trace = readFileSync(TOP + "examples/typed-line.trace"), found = await contentsOf(trace, adapter);
+  assert.match(found.text, /^out 3C2 67\nin 3CC ; = 67\n/);
+  assert.equal(found.trace, trace.toString());
+  const png = await pngOf(PICTURE);
+  assert.deepEqual(await contentsOf(png, adapter), { png });
+  for (const script of ["int ax=3\nframe\n", "in 3CC", "frame", "out 3C4 2", "show regs", "show cells\n"]) {
+    const { report } = adapter.run(adapter.assembled(bytesOf(script)).bytes, FONTS);
+    const whole = new Uint8Array(report);
+    assert.deepEqual(Object.keys(await contentsOf(whole, adapter)), ["report"], script);
+  }
+  for (const other of ["1 oks\n", "1 ok", "2 ok\n", "1 picture\n", "1 abc\n", "11 ok\n"]) {
+    assert.deepEqual(await contentsOf(bytesOf(other), adapter), { text: other });
+  }
 });
 
 test("junk is told, and why", async () => {
   const noise = Uint8Array.from({ length: 5000 }, (_, i) => Math.imul(i, 2654435761) >>> 13);
   for (const [bytes, said] of [
-    [noise, /no script, no trace and no font file/],
+    [noise, /no script, no trace and no font file, and no report or PNG/],
     [Uint8Array.of(0x1f, 0x8b, 1, 2, 3), /can't be unpacked/],
     [bytesOf("VGAS"), /the version is lacking/],
     [bytesOf("VGAS\x09"), /the version, byte 4, is 09/],

@@ -31,6 +31,13 @@ export function pageData(page = PAGE) {
   return JSON.parse(found[1]);
 }
 
+/** The style sheets of the page, joined as tools/vga_page/page.py joins them. */
+export function pageStyle() {
+  const names = readdirSync(`${TOP}page`, { recursive: true }).filter(name => name.endsWith(".css"));
+  const others = names.filter(name => name !== "style.css").sort();
+  return ["style.css", ...others].map(name => readFileSync(`${TOP}page/${name}`, "utf-8")).join("");
+}
+
 /** The module's bytes. */
 export function moduleBytes() {
   const file = process.env.ZAKLIMOT_MODULE;

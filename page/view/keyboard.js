@@ -11,12 +11,15 @@ export class Keyboard {
   #menu;
   #goToLine;
   #togglePoint;
+  #orders;
 
   /**
    * `editor`, `tabs` and `menu`, that of Save, hear keys of their own. `goToLine` goes to the step
-   * of a line, and `togglePoint` sets a breakpoint at one, or removes it.
+   * of a line, and `togglePoint` sets a breakpoint at one, or removes it. `orders` has functions by
+   * those names of the table that are no controls.
    */
-  constructor({ editor, tabs, menu, goToLine, togglePoint }) {
+  constructor({ editor, tabs, menu, goToLine, togglePoint, orders }) {
+    this.#orders = orders;
     this.#editor = editor;
     this.#tabs = tabs;
     this.#menu = menu;
@@ -68,6 +71,7 @@ export class Keyboard {
 
   #press(control, key) {
     if (control === "tab") return this.#tabs.openNumber(Number(key));
+    if (this.#orders[control]) return this.#orders[control]();
     const made = byId(control);
     if (control === "gotonumber" || control === "text") return made.focus();
     if (control === "savemenu") return this.#menu.toggle();

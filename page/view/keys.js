@@ -19,6 +19,13 @@ export const KEYS = [
   ["A, X, D, B, Z", "4:3, pixelated, as drawn so far, beam, zoom", ["a"], "aspect"],
   ["", "", ["x"], "sharp"], ["", "", ["d"], "sofar"],
   ["", "", ["b"], "hairs"], ["", "", ["z"], "zoom"],
+  ["F", "the picture on the full screen; Esc leaves it", ["f"], "full"],
+  ["+, −, 0", "the picture larger, smaller, or as large as its pane", ["+", "Shift++", "="], "larger"],
+  ["", "", ["-"], "smaller"], ["", "", ["0"], "fill"],
+  ["N, Shift+N", "the next difference from another run, the one before", ["n"], "nextdifference"],
+  ["", "", ["Shift+N"], "lastdifference"],
+  ["C, V", "the other run's picture and this one by turns, the next view", ["c"], "flip"],
+  ["", "", ["v"], "nextview"],
   ["U", "back to the script that stood here before", ["u"], "takeback"],
   ["O, L, S", "open a file, make a link, save", ["o"], "openfile"],
   ["", "", ["l"], "share"], ["", "", ["s"], "savemenu"],
@@ -64,7 +71,8 @@ export function keyTables() {
     element("tbody", {}, ...rows.filter(([keys]) => keys).map(row)));
   const hints = ["Click a line's number to set a breakpoint. " +
     "Click a dot of the picture to go to the step that draws it.",
-  "Drop a script, a font or a trace anywhere."].map(text => element("p", {}, text));
+  "Drop a script, a font or a trace anywhere. " +
+    "A report, a trace or a PNG of another adapter is compared with the run."].map(text => element("p", {}, text));
   return [table("Keys", KEYS), table("Keys in the script", IN_THE_SCRIPT),
     table("Keys in the list of steps", IN_THE_STEPS), ...hints];
 }

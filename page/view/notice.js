@@ -1,6 +1,6 @@
 import { byId } from "../common/dom.js";
 
-/** The line above the page that tells what can't be done. */
+/** The line at the foot of the window that tells what can't be done. */
 export class Notice {
   #isKept = false;
   #box = byId("notice");

@@ -13,6 +13,8 @@ export class Tabs {
   #panel = byId("panel");
   #opened = null;
   #seen = null;
+  /** How far each panel is scrolled. */
+  #scrolled = new Map();
 
   /** `panels` has for each name a function that makes the panel's element of what is seen. */
   constructor(panels) {
@@ -35,7 +37,9 @@ export class Tabs {
     this.selected = this.#opened = name;
     if (!this.#seen) return;
     const made = this.#panels[name](this.#seen);
-    if (this.#panel.firstChild !== made) this.#panel.replaceChildren(made);
+    if (this.#panel.firstChild === made) return;
+    this.#panel.replaceChildren(made);
+    this.#panel.scrollTop = this.#scrolled.get(name) ?? 0;
   }
 
   /** Opens the tab with a number from 1. */
@@ -56,6 +60,7 @@ export class Tabs {
   }
 
   #mark(name) {
+    this.#scrolled.set(this.#opened, this.#panel.scrollTop);
     TABS.forEach((one, i) => {
       this.#buttons[i].setAttribute("aria-selected", String(one === name));
       this.#buttons[i].tabIndex = one === name ? 0 : -1;

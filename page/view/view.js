@@ -4,6 +4,7 @@ import { BiosPanel } from "../panels/biospanel.js";
 import { CellPanel } from "../panels/cellpanel.js";
 import { CheckLine } from "./checkline.js";
 import { ColourPanel } from "../panels/colourpanel.js";
+import { Comparison } from "../compare/comparison.js";
 import { Desk } from "./desk.js";
 import { Drafts } from "../editor/drafts.js";
 import { Editor } from "../editor/editor.js";
@@ -14,6 +15,8 @@ import { MemoryPanel } from "../panels/memorypanel.js";
 import { Notice } from "./notice.js";
 import { Opener, listenToFiles } from "../files/opening.js";
 import { PageClock } from "../run/clock.js";
+import { Panes } from "./panes.js";
+import { PictureSize } from "../picture/size.js";
 import { PointPanel } from "../panels/pointpanel.js";
 import { RegisterPanel } from "../panels/registerpanel.js";
 import { Runner, stateText } from "../run/runner.js";
@@ -21,6 +24,7 @@ import { Saver } from "../files/saver.js";
 import { Screen } from "../picture/screen.js";
 import { Scripts } from "../editor/scripts.js";
 import { Session, judgedText } from "../run/session.js";
+import { Settings } from "../common/settings.js";
 import { TABS, Tabs } from "./tabs.js";
 import { Transport } from "./transport.js";
 import { Trouble } from "../common/trouble.js";
@@ -72,7 +76,11 @@ export class View {
     this.transport = new Transport(this.runner, () => this.#activePoints, this.guarded);
     this.checkLine = new CheckLine(this.module);
     this.lastStep = new LastStep(this.data.pages);
+    const settings = new Settings();
+    this.panes = new Panes(settings);
     this.screen = new Screen({ clicked: (line, dot) => this.#toDot(line, dot) });
+    this.size = new PictureSize(this.screen, settings);
+    this.comparison = new Comparison(this.runner, this.screen, this.guarded);
     this.listing = new Listing(steps => this.runner.go(steps), () => this.runner.goal);
   }
 
@@ -106,6 +114,7 @@ export class View {
       adapter: () => this.adapter,
       isEmpty: () => !runner.session && !editor.script,
       script: (text, script, asked) => this.desk.load(text, script, asked),
+      other: (found, name) => this.comparison.open(found, name),
       fonts: (fonts, name) => (name ? this.#useFonts(fonts, name) : this.#setFonts(fonts)),
       tab: name => this.tabs.open(name),
       step: number => runner.go(number),
@@ -134,7 +143,9 @@ export class View {
     this.#makeList();
     this.keyboard = new Keyboard({ editor: this.editor, tabs: this.tabs, menu: this.saver.menu,
       goToLine: line => this.guarded(() => this.transport.goTo("line", String(line))),
-      togglePoint: line => this.pointPanel.toggleLine(line) });
+      togglePoint: line => this.pointPanel.toggleLine(line),
+      orders: { larger: () => this.size.step(1), smaller: () => this.size.step(-1),
+        fill: () => this.size.choose(0) } });
     byId("keys").append(...keyTables());
     byId("version").textContent = `Zaklimot ${this.data.version}.`;
     byId("pagedoc").href = `${this.data.pages}PAGE.md#what-is-proved`;
@@ -200,6 +211,7 @@ export class View {
     session.spare = this.screen.show(seen);
     this.lastStep.show(seen);
     this.tabs.show(seen);
+    this.comparison.shown();
   }
 
   /** Shows what the run does. It may tell so before the page is put together. */
@@ -212,6 +224,7 @@ export class View {
   #finished(session) {
     const { runner } = this;
     this.checkLine.start(session);
+    this.comparison.finished(session).catch(error => this.#failed(error));
     if (!runner.isShown) return;
     this.listing.show(session, runner.steps);
     this.editor.draw();

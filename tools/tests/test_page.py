@@ -93,6 +93,14 @@ class Pages(Folder):
             (small_sources(script="a = '<!--';\n"), "main.js: a page would take <!-- for the end of a script"),
         ))
 
+    def test_style_sheets_one_after_the_other(self) -> None:
+        places = {"style.css": "a {}\n", "view/b.css": "b {}\n", "a/c.css": "c {}\n", "tests/d.css": "d {}\n"}
+        for place, text in places.items():
+            path = self.folder / place
+            path.parent.mkdir(exist_ok=True)
+            path.write_text(text, "utf-8")
+        self.assertEqual(page.styles(self.folder), "a {}\nc {}\nb {}\n")
+
     def test_a_page_that_is_too_large(self) -> None:
         length = len(make_page(b"", small_sources("")))
         fits = "x" * (page.MOST_BYTES - length)

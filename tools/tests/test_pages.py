@@ -262,9 +262,10 @@ class Tutorial(unittest.TestCase):
         self.assertEqual({path.stem for path in SCRIPTS.iterdir()} & listed, set())
 
     def test_the_check_in_a_browser_does_what_it_says(self) -> None:
-        told = {"chromium": "opening.mjs chromium; tutorial.mjs chromium; keeping.mjs chromium; browser.mjs",
-                "firefox": "opening.mjs firefox; tutorial.mjs firefox; keeping.mjs firefox",
-                "webkit": "opening.mjs webkit; tutorial.mjs webkit"}
+        first, by_hand = ("opening", "tutorial"), ("keeping", "panes")
+        told = {engine: "; ".join(f"{name}.mjs {engine}" for name in names)
+                for engine, names in (("chromium", first + by_hand), ("firefox", first + by_hand), ("webkit", first))}
+        told["chromium"] += "; browser.mjs"
         fake = mock.Mock(side_effect=lambda words, *_: " ".join([words[0].name, *words[1:]]) + "\n")
         with mock.patch.object(command, "run_node", fake):
             found = {engine: command.check_browser(engine) for engine in command.ENGINES}

@@ -33,7 +33,7 @@ MOST_BYTES = 800_000
 PAGES = "../docs/"
 LEVEL = 9
 SENTENCE = re.compile(r"(.+?[.!?])(?: |$)")
-ENTRY, TESTS = "main.js", "tests"
+ENTRY, STYLES, TESTS = "main.js", "style.css", "tests"
 ESBUILD = "esbuild"
 # The oldest browsers in which the page works: the script says nothing that they don't take.
 TARGETS = "chrome103,firefox113,safari16.4"
@@ -73,10 +73,17 @@ class Sources(NamedTuple):
     script: str
 
 
+def styles(folder: Path) -> str:
+    """The style sheets of a folder, one after the other: style.css first, and then the others by name."""
+    places = [path.relative_to(folder) for path in folder.rglob("*.css")]
+    others = sorted(place.as_posix() for place in places if TESTS not in place.parts and place != Path(STYLES))
+    return "".join(Path(to_read(str(folder / name))).read_text("utf-8") for name in (STYLES, *others))
+
+
 def read_sources(folder: Path = SOURCES) -> Sources:
     """The sources of a folder."""
-    frame, style = (Path(to_read(str(folder / name))).read_text("utf-8") for name in ("index.html", "style.css"))
-    return Sources(frame, style, joined(folder))
+    frame = Path(to_read(str(folder / "index.html"))).read_text("utf-8")
+    return Sources(frame, styles(folder), joined(folder))
 
 
 def wordings_module() -> str:
@@ -129,7 +136,7 @@ def _filled(frame: str, mark: str, content: str) -> str:
 def page_text(sources: Sources, data: dict[str, Any]) -> str:
     """The whole page."""
     if "</style" in sources.style.lower():
-        raise Trouble("a page would take </style for the end of the style", "style.css")
+        raise Trouble("a page would take </style for the end of the style", STYLES)
     ending = ENDING.search(sources.script)
     if ending:
         raise Trouble(f"a page would take {ending[0]} for the end of a script", ENTRY)
