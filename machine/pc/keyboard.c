@@ -36,6 +36,7 @@ void begin_keyboard(void)
 /* A byte of the keyboard comes; whether there is room for it. */
 SHOWN("key") u32 key(u32 byte, u32 word)
 {
+    note_input();
     if (scans_put - scans_taken == MOST_SCANS) return 0;
     scans[scans_put++ % MOST_SCANS] = (struct scan){(u8)byte, (u16)word};
     return 1;

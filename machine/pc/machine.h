@@ -162,6 +162,7 @@ u32 first_memory(u32 segment, u32 paragraphs);
 /* run.c */
 enum stopped { RUNS, ENDED, AT_CYCLE, AT_WATCH, AT_PLACE, AT_MODE, AT_REFUSAL, RESTARTED };
 void stop(enum stopped why);
+void note_input(void);
 void begin_machine(void);
 void tell_host(u32 number, u32 value);
 void load_segments(u32 segment, u32 code, u32 offset, u32 stack);

@@ -26,6 +26,7 @@ static u16 within(const struct axis *one, u32 place)
 /* The mouse is at a place of 640 by 200, with these buttons pressed: bit 0 the left one, 1 the right, 2 the middle. */
 SHOWN("mouse") void mouse(u32 x, u32 y, u32 now_pressed)
 {
+    note_input();
     moved_x += (s16)(x - across.place);
     moved_y += (s16)(y - down.place);
     across.place = within(&across, x);

@@ -27,6 +27,18 @@ SHOWN("stopped") u32 why_stopped(void)
     return stopped;
 }
 
+/* How many keys and places of the mouse have come. */
+static u32 inputs;
+SHOWN("inputs") u32 inputs_taken(void)
+{
+    return inputs;
+}
+
+void note_input(void)
+{
+    inputs++;
+}
+
 SHOWN("is_idle") u32 is_idle(void)
 {
     return is_waiting || is_halted;
@@ -232,6 +244,7 @@ void begin_machine(void)
     clear_places();
     stopped = RUNS;
     is_waiting = is_halted = 0;
+    inputs = 0;
 }
 
 /* A ROM of a video BIOS in the store, which serves interrupt 10 then; no bytes for none. */

@@ -45,7 +45,8 @@ export class Opener {
   /**
    * `data`: what the page was built with; `tabs`: the names of the tabs. `heard` has `adapter()`,
    * the module that prints bytes; `isEmpty()`, whether no script stands there; `script(text,
-   * script, asked)`; `other(found, name)`, what is to be compared with the run, as contentsOf tells
+   * script, asked)`; `software(bytes, name)`, which takes what a machine can run, and answers whether
+   * it is such; `other(found, name)`, what is to be compared with the run, as contentsOf tells
    * it; `fonts(fonts, name)`, fonts of a file, or without a name those that come with the script
    * that follows; `tab(name)`; and `step(number)`.
    */
@@ -60,6 +61,7 @@ export class Opener {
   async openFiles(files) {
     if (!files.length) return;
     const number = ++this.#count, [{ name }] = files, bytes = await bytesOfFiles(files);
+    if (await this.#heard.software(bytes, name)) return;
     const found = await contentsOf(bytes, this.#heard.adapter());
     if (number !== this.#count) return;
     if (found.fonts) return this.#heard.fonts(found.fonts, name);

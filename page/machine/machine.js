@@ -213,19 +213,18 @@ export class Machine {
 
   /** Runs as it ran before: what came from outside comes again. */
   runAgain(until) {
-    const from = this.cpu.now();
-    for (const input of this.#inputs) {
-      if (input.time < from || input.time > until) continue;
-      this.cpu.run(input.time);
-      this.#give(input);
+    for (;;) {
+      // The machine counts what has come, so a snapshot knows it too.
+      const next = this.#inputs[this.cpu.inputs()];
+      if (!next || next.time > until || !this.run(next.time)) break;
+      this.#give(next);
     }
-    return this.cpu.run(until) !== 0;
+    return this.run(until);
   }
 
-  /** Forgets what came after now: the machine goes on from here another way. */
+  /** Forgets what comes after now: the machine goes on from here another way. */
   forgetLater() {
-    const now = this.cpu.now();
-    this.#inputs = this.#inputs.filter(({ time }) => time <= now);
+    this.#inputs.length = this.cpu.inputs();
   }
 
   get stopped() {

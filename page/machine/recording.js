@@ -177,6 +177,17 @@ export class Recording extends StepList {
     return { segment, offset, text: this.instructionAt(segment, offset) };
   }
 
+  /** How many records there are until after so many steps. */
+  recordsBefore(steps) {
+    const step = steps - 1, { first, size, isBlock } = this.runOf(step), entry = this.entryOf(step);
+    const record = this.records[entry];
+    if (record === HEAD) return 0;
+    if (this.kinds[entry] === KIND.advance) return Math.min(record, this.words.length / WORDS);
+    // A call has two records.
+    const width = this.kinds[entry] === KIND.int ? 2 : 1;
+    return record + width + (isBlock ? Math.floor((step - first) / size) : 0);
+  }
+
   /** A step's line: its words, what is expected, and the place of its instruction. */
   lineOfEntry(entry) {
     const expected = this.expectedOf(entry), place = this.placeOf(entry);

@@ -6,6 +6,7 @@ import { tmpdir } from "node:os";
 import { Duplex } from "node:stream";
 import { fileURLToPath } from "node:url";
 import { Adapter } from "../module/adapter.js";
+import { compiledModules } from "../machine/machine.js";
 
 /** Streams as browsers have them: those of node 18 know no raw deflate, which its zlib knows. */
 function withRaw(Stream, create) {
@@ -47,6 +48,15 @@ export function moduleBytes() {
 /** A new instance of the module. */
 export async function loadAdapter() {
   return Adapter.opened(moduleBytes());
+}
+
+/** The machine's modules, compiled, and its programs: { name, bytes }. */
+export async function machineParts() {
+  const { cpu, reads, programs } = pageData().machine;
+  const [two, three] = [cpu, reads].map(text => gunzipSync(Buffer.from(text, "base64")));
+  const modules = await compiledModules({ adapter: moduleBytes(), cpu: two, reads: three });
+  return { modules, programs: programs.map(({ name, bytes }) =>
+    ({ name, bytes: new Uint8Array(Buffer.from(bytes, "base64")) })) };
 }
 
 /** The number that LEB128 writes, and where it ends. */

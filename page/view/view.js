@@ -11,6 +11,7 @@ import { Editor } from "../editor/editor.js";
 import { Keyboard } from "./keyboard.js";
 import { LastStep } from "./laststep.js";
 import { Listing } from "../editor/listing.js";
+import { MachineRoom } from "../machine/room.js";
 import { MemoryPanel } from "../panels/memorypanel.js";
 import { Notice } from "./notice.js";
 import { Opener, listenToFiles } from "../files/opening.js";
@@ -114,10 +115,21 @@ export class View {
       adapter: () => this.adapter,
       isEmpty: () => !runner.session && !editor.script,
       script: (text, script, asked) => this.desk.load(text, script, asked),
+      software: (bytes, name) => this.room.open(bytes, name),
       other: (found, name) => this.comparison.open(found, name),
       fonts: (fonts, name) => (name ? this.#useFonts(fonts, name) : this.#setFonts(fonts)),
       tab: name => this.tabs.open(name),
       step: number => runner.go(number),
+    });
+    this.room = new MachineRoom(this.data, this.module, {
+      adapter: () => this.adapter,
+      fonts: () => this.fonts,
+      show: session => this.#showSession(session),
+      steps: () => runner.steps,
+      script: (text, name) => this.desk.load(text, this.scripts.made(name, name, true)),
+      end: () => this.#run(0),
+      tell: text => this.notice.tell(text),
+      guarded: this.guarded,
     });
     listenToFiles(files => this.guarded(() => this.opener.openFiles(files)));
     this.saver = new Saver({
@@ -194,6 +206,14 @@ export class View {
     }
   }
 
+  /** Shows a session of the machine, whose steps have no text in the editor. */
+  #showSession(session) {
+    this.checkLine.clear();
+    this.runner.close();
+    this.runner.start(session);
+    this.#setStale(false, null);
+  }
+
   /** Tells whether what is shown is of another text than that in the editor, and its bad line. */
   #setStale(isStale, bad) {
     this.bad = bad;
@@ -206,7 +226,8 @@ export class View {
   #show(seen) {
     const { session, steps } = seen;
     this.transport.show(seen);
-    this.editor.show(session, steps);
+    if (this.room.isOn) this.room.shown(seen);
+    else this.editor.show(session, steps);
     this.listing.show(session, steps);
     session.spare = this.screen.show(seen);
     this.lastStep.show(seen);
@@ -227,7 +248,7 @@ export class View {
     this.comparison.finished(session).catch(error => this.#failed(error));
     if (!runner.isShown) return;
     this.listing.show(session, runner.steps);
-    this.editor.draw();
+    if (!this.room.isOn) this.editor.draw();
   }
 
   #tellNoneFound({ points, isBack }) {

@@ -3,16 +3,12 @@
 from __future__ import annotations
 
 import argparse
-import base64
-import gzip
 import hashlib
-import io
 import json
 import os
 import re
 import shutil
 import tempfile
-import zlib
 from functools import partial
 from pathlib import Path
 from threading import Event
@@ -21,6 +17,8 @@ from typing import Any, Callable, Iterator, Mapping, Optional, Sequence
 from library_tests.compilers import make_check, run
 from vga_library.making import kit_line
 from vga_page.making import MOST_MODULE, check_module, kit_of, made_modules
+from vga_page.machine import is_of_this_compiler, machine_in, made_machine
+from vga_page.packing import unzipped
 from vga_page.page import MOST_BYTES, data_of, page_text, read_sources
 from vga_report import cli
 from vga_report.cases import Case, read_cases
@@ -85,20 +83,28 @@ def built_page() -> bytes:
     return read_at_most(str(PAGE), MOST_PAGE)
 
 
-def _unzipped(text: str) -> bytes:
-    try:
-        with gzip.GzipFile(fileobj=io.BytesIO(base64.b64decode(text, validate=True))) as stream:
-            data = stream.read(MOST_MODULE + 1)
-    except (EOFError, OSError, ValueError, zlib.error) as error:
-        raise Wrong(f"a part of {NAME} is not packed as it should be: {error}; {ANEW}") from error
-    if len(data) > MOST_MODULE:
-        raise Trouble(f"a part of it unpacks to more than {MOST_MODULE:,} bytes", NAME)
-    return data
-
-
 def module_in(page: bytes) -> bytes:
     """The module that a page has in it."""
-    return _unzipped(page_data(page.decode("utf-8"))["module"])
+    return unzipped(page_data(page.decode("utf-8"))["module"])
+
+
+def _machine_parts(machine: Mapping[str, Any]) -> dict[str, Any]:
+    """The machine of a page's data, with its modules unpacked."""
+    return {**machine, **{name: unzipped(machine[name]) for name in ("cpu", "reads")}}
+
+
+def check_machine(page: bytes) -> str:
+    """Holds the machine's modules to their sources, as far as these can be had here."""
+    kept = machine_in(page)
+    try:
+        if not is_of_this_compiler(kept):
+            return f"the machine in {NAME} was made by another compiler, {kit_of(kept.cpu)}: its tests judge it"
+        made = made_machine()
+    except Trouble as trouble:
+        return f"the machine in {NAME} is taken as it is: {trouble}"
+    if made != kept:
+        raise Wrong(f"the machine in {NAME} is not the one that its sources make: {ANEW}")
+    return f"the machine in {NAME} is the one that its sources make, {len(kept.cpu):,} bytes"
 
 
 def check_built(module: bytes, page: bytes) -> str:
@@ -114,7 +120,10 @@ def check_built(module: bytes, page: bytes) -> str:
         line = page.count(b"\n", 0, len(os.path.commonprefix([page, wanted]))) + 1
         raise Wrong(f"{NAME} is not the page that its sources make, from line {line} on; {ANEW}")
     # Other versions of zlib pack otherwise.
-    parts, wanted_parts = ({**one, **{name: _unzipped(one[name]) for name in PACKED}} for one in (data, data_of(own)))
+    parts, wanted_parts = (
+        {**one, **{name: unzipped(one[name]) for name in PACKED}, "machine": _machine_parts(one["machine"])}
+        for one in (data, data_of(own, machine_in(page)))
+    )
     others = [name for name in wanted_parts if parts.get(name) != wanted_parts[name]]
     if others or list(parts) != list(wanted_parts):
         raise Wrong(f"{NAME} has other data than the repository: {', '.join(others or parts)}; {ANEW}")
@@ -325,7 +334,7 @@ def _checks(words: argparse.Namespace, progress: Progress, folder: Path) -> Iter
     for name, path in files.items():
         path.write_bytes(parts[name] or b"")
     if OF_PAGE in wanted and page is not None:
-        yield OF_PAGE, lambda: f"{check_built(same[0], page)}; {check_syntax(page, folder)}"
+        yield OF_PAGE, lambda: f"{check_built(same[0], page)}; {check_syntax(page, folder)}; {check_machine(page)}"
     if OF_SUITE in wanted:
         for name in ("module", "page")[:1 + (OF_PAGE in wanted and parts["page"] != same[0])]:
             yield OF_SUITE, partial(check_suite, files[name], folder / f"cases of {name}")

@@ -3,14 +3,17 @@
 from __future__ import annotations
 
 import argparse
+import sys
 
 from vga_report import cli
+from vga_report.debugging import PAGE
 from vga_report.processes import MEBIBYTE
 from vga_report.progress import Progress
 from vga_report.streams import STANDARD, check_file, read_at_most, to_read, write_file
 from vga_report.trouble import Trouble
 from vga_report.words import number_to
 
+from .machine import made_or_kept
 from .making import MOST_MODULE, check_module, made_modules
 from .page import MOST_BYTES, examples, make_page, read_sources, wordings_module
 
@@ -64,8 +67,9 @@ def _write(path: str, data: bytes, told: str) -> None:
 def _make(words: argparse.Namespace, progress: Progress) -> None:
     # What is wrong with the sources is told before the long work; none of them is written.
     sources, _ = read_sources(), examples()
+    machine = made_or_kept(PAGE, lambda told: print(told, file=sys.stderr))
     module = _made_module(words, progress)
-    page = make_page(module, sources)
+    page = make_page(module, sources, machine)
     _write(words.file, page, f"{len(page):,} bytes; its module has {check_module(module)}")
 
 

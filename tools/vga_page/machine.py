@@ -11,21 +11,23 @@ import os
 import tarfile
 import tempfile
 from pathlib import Path
-from typing import NamedTuple, Optional, Sequence
+from typing import Callable, NamedTuple, Sequence
 
 from vga_report import TOP
+from vga_report.debugging import MOST_PAGE, page_data
 from vga_report.processes import captured, check_program, run
 from vga_report.streams import read_at_most
 from vga_report.trouble import Trouble
 
 from .making import kit_of, with_kit
+from .packing import about, in_base64, packed, unzipped
 
 PACKAGE, ARCHIVE = "libx86emu", "libx86emu_3.5.orig.tar.gz"
 SHA256 = "91da55f5da55017d5a80e2364de30f9520aa8df2744ff587a09ba58d6e3536c8"
 # Where apt finds it, with lists of its own: nothing of the system's is changed.
 SUITE, KEYRING = "http://deb.debian.org/debian bookworm main", Path("/usr/share/keyrings/debian-archive-keyring.gpg")
-MACHINE = TOP / "machine"
-CLANG, LINKER, APT, PATCH = "clang", "wasm-ld", "apt-get", "patch"
+MACHINE, PROGRAMS = TOP / "machine", TOP / "examples" / "machine"
+CLANG, LINKER, APT, PATCH, ASSEMBLER = "clang", "wasm-ld", "apt-get", "patch", "nasm"
 # Seconds that a fetch may take, and a compilation.
 FETCHING, MAKING = 120, 300
 MOST_ARCHIVE = 1 << 20
@@ -48,6 +50,10 @@ class Machine(NamedTuple):
 
     cpu: bytes
     reads: bytes
+
+    def packed(self) -> dict[str, str]:
+        """Both as the page has them."""
+        return {name: in_base64(packed(data)) for name, data in self._asdict().items()}
 
 
 def _cache() -> Path:
@@ -158,8 +164,29 @@ def is_of_this_compiler(machine: Machine) -> bool:
     return {kit_of(machine.cpu), kit_of(machine.reads)} == {compiler_line()}
 
 
-def licence() -> Optional[str]:
-    """libx86emu's licence, as its source has it."""
+def machine_in(page: bytes) -> Machine:
+    """The modules that a page has in it."""
+    data = page_data(page.decode("utf-8"))["machine"]
+    return Machine(*(unzipped(data[name]) for name in Machine._fields))
+
+
+def made_or_kept(page: Path, tell: Callable[[str], object]) -> Machine:
+    """The machine's modules, made; where they can't be made here, those of the page as it was built before."""
+    try:
+        return made_machine()
+    except Trouble as trouble:
+        tell(f"the machine stays as it was built before: {trouble}")
+    return machine_in(read_at_most(str(page), MOST_PAGE))
+
+
+def programs(folder: Path = PROGRAMS) -> list[dict[str, str]]:
+    """The programs of a folder, each by its name, with what it is about and its bytes."""
+    check_program(ASSEMBLER)
+    found = []
     with tempfile.TemporaryDirectory(prefix="vga-page-") as name:
-        path = patched(Path(name)) / "LICENSE"
-        return path.read_text("latin-1") if path.exists() else None
+        for path in sorted(folder.glob("*.asm")):
+            made = Path(name, f"{path.stem}.com")
+            run([ASSEMBLER, "-f", "bin", "-o", made, path.name], folder, seconds=MAKING)
+            told = about(path.read_text("ascii"))
+            found.append({"name": made.name, "about": told, "bytes": in_base64(made.read_bytes())})
+    return found

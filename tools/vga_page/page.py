@@ -6,12 +6,9 @@ lies in the page.
 
 from __future__ import annotations
 
-import base64
-import gzip
 import json
 import re
 import tempfile
-from itertools import takewhile
 from pathlib import Path
 from typing import Any, NamedTuple
 
@@ -24,6 +21,9 @@ from vga_report.trouble import Trouble
 from vga_report.version import version
 from vga_report.wordings import WORDINGS
 
+from .machine import Machine, programs
+from .packing import about, in_base64, packed
+
 SOURCES = PAGE.parent
 EXAMPLES = TOP / "examples"
 SCRIPT, STYLE, DATA = (f"<!-- zaklimot:{name} -->" for name in ("script", "style", "data"))
@@ -31,8 +31,6 @@ SCRIPT, STYLE, DATA = (f"<!-- zaklimot:{name} -->" for name in ("script", "style
 MOST_BYTES = 800_000
 # From the page as built, where the documentation's pages lie.
 PAGES = "../docs/"
-LEVEL = 9
-SENTENCE = re.compile(r"(.+?[.!?])(?: |$)")
 ENTRY, STYLES, TESTS = "main.js", "style.css", "tests"
 ESBUILD = "esbuild"
 # The oldest browsers in which the page works: the script says nothing that they don't take.
@@ -92,38 +90,22 @@ def wordings_module() -> str:
     return f"{WORDINGS_HEAD}\nexport const WORDINGS = {table};\n"
 
 
-def about(text: str) -> str:
-    """The first sentence of the comment that an example begins with; nothing where it begins with a step."""
-    lines = takewhile(lambda line: line.startswith(";"), map(str.strip, text.lstrip().splitlines()))
-    whole = " ".join(line[1:].strip() for line in lines)
-    found = SENTENCE.match(whole)
-    return found[1] if found else whole
-
-
 def examples(folder: Path = EXAMPLES) -> list[dict[str, str]]:
     """The scripts of a folder, by their names."""
     texts = {path.stem: Path(to_read(str(path))).read_text("utf-8") for path in sorted(folder.glob("*.vga"))}
     return [{"name": name, "about": about(text), "text": text} for name, text in texts.items()]
 
 
-def _in_base64(data: bytes) -> str:
-    return base64.b64encode(data).decode("ascii")
-
-
-def packed(data: bytes) -> bytes:
-    """Bytes in gzip's form, with no time in it."""
-    return gzip.compress(data, LEVEL, mtime=0)
-
-
-def data_of(module: bytes) -> dict[str, Any]:
+def data_of(module: bytes, machine: Machine) -> dict[str, Any]:
     """What the page is given, beside its sources."""
     return {
         "version": str(version()),
         "pages": PAGES,
         "open": None,
-        "examples": _in_base64(packed(json.dumps(examples()).encode("ascii"))),
-        "fonts": _in_base64(FONTS.read_bytes()),
-        "module": _in_base64(packed(module)),
+        "examples": in_base64(packed(json.dumps(examples()).encode("ascii"))),
+        "fonts": in_base64(FONTS.read_bytes()),
+        "module": in_base64(packed(module)),
+        "machine": {**machine.packed(), "programs": programs()},
     }
 
 
@@ -146,9 +128,9 @@ def page_text(sources: Sources, data: dict[str, Any]) -> str:
     return _filled(text, DATA, data_element(data))
 
 
-def make_page(module: bytes, sources: Sources) -> bytes:
+def make_page(module: bytes, sources: Sources, machine: Machine) -> bytes:
     """The page's bytes, which are the same each time."""
-    page = page_text(sources, data_of(module)).encode("utf-8")
+    page = page_text(sources, data_of(module, machine)).encode("utf-8")
     if len(page) > MOST_BYTES:
         raise Trouble(f"it would have {len(page):,} bytes, and {MOST_BYTES:,} are the most", PAGE.name)
     return page

@@ -1,0 +1,206 @@
+// The machine in the page: what is dropped runs, a pause shows its last frames in the debugger, and it goes
+// on from any of their steps.
+import { Live } from "./live.js";
+import { Paused } from "./paused.js";
+import { ROWS, bytesOfKey } from "./pckeys.js";
+import { SPEEDS, compiledModules } from "./machine.js";
+import { byId, element, setText } from "../common/dom.js";
+import { hex } from "../common/bytes.js";
+import { softwareOf } from "./software.js";
+import { unzipped } from "../module/packed.js";
+
+/** How many lines of code stand around the instruction that is shown. */
+const AROUND = 40;
+/** So many milliseconds after a step is shown, the processor's registers are. */
+const REGISTERS_SOON = 250;
+const USUAL_SPEED = "386";
+const TO_RESTART = [0x1d, 0x38, 0x53, 0xd3, 0xb8, 0x9d];
+
+/** What stands between the page and a machine. `heard` is told in the constructor. */
+export class MachineRoom {
+  #data;
+  #module;
+  #heard;
+  #live = null;
+  #paused = null;
+  #rom = null;
+  #timer = 0;
+
+  /**
+   * `data` is what the page was built with, `module` the adapter's bytes. `heard` has `adapter()`,
+   * `fonts()`, `show(session)`, which shows a session in the debugger, `steps()`, how many are shown,
+   * `script(text, name)`, `end()`, after which the page has its own script again, `tell(text)` and
+   * `guarded(does)`.
+   */
+  constructor(data, module, heard) {
+    this.#data = data;
+    this.#module = module;
+    this.#heard = heard;
+    const clicks = {
+      livepause: () => this.#live.pause(),
+      liverestart: () => this.#live.restart(),
+      livekeyboard: () => this.#toggleKeyboard(),
+      livedelete: () => this.#sendRestart(),
+      liveclose: () => this.#close(),
+      pausedgo: () => this.#goOn(),
+      pausedstep: () => this.#goOnFromStep(),
+      pausedback: () => this.#back(1),
+      pausedfar: () => this.#back(10),
+      pausedstart: () => this.#toStart(),
+      pausedscript: () => this.#openScript(),
+      pausedclose: () => this.#close(),
+    };
+    for (const [name, does] of Object.entries(clicks)) {
+      byId(name).addEventListener("click", () => heard.guarded(does));
+    }
+    this.#makeSpeeds();
+    this.#makeKeyboard();
+  }
+
+  #makeSpeeds() {
+    const list = byId("livespeed");
+    list.append(...Object.keys(SPEEDS).map(name => element("option", { value: name }, name)));
+    list.value = USUAL_SPEED;
+    list.addEventListener("change", () => {
+      this.#live.speed = list.value;
+      byId("live").focus();
+    });
+  }
+
+  #makeKeyboard() {
+    const box = byId("livekeys");
+    for (const row of ROWS) {
+      box.append(element("div", {}, ...row.map(([code, label]) => this.#screenKey(code, label))));
+    }
+    box.hidden = !matchMedia("(pointer: coarse)").matches;
+  }
+
+  #screenKey(code, label) {
+    const made = element("button", { type: "button", title: code }, label);
+    const key = label.length === 1 && code !== "Space" ? label : code === "Space" ? " " : code;
+    const send = type => this.#live?.send(bytesOfKey({ type, code, key }));
+    made.addEventListener("pointerdown", event => {
+      event.preventDefault();
+      send("keydown");
+    });
+    for (const type of ["pointerup", "pointercancel"]) made.addEventListener(type, () => send("keyup"));
+    return made;
+  }
+
+  #toggleKeyboard() {
+    byId("livekeys").hidden = !byId("livekeys").hidden;
+    byId("live").focus();
+  }
+
+  /** Takes a file if it is software; whether it is. */
+  async open(bytes, name) {
+    const found = softwareOf(bytes, name);
+    if (!found) return false;
+    if (found.rom) {
+      this.#rom = found.rom;
+      this.#heard.tell(`${name} serves the video calls of what you run next.`);
+      return true;
+    }
+    await this.#prepare();
+    this.#end();
+    this.#live.start({ ...found, rom: this.#rom }, name);
+    this.#live.speed = byId("livespeed").value;
+    return true;
+  }
+
+  async #prepare() {
+    if (this.#live) return;
+    const { cpu, reads } = this.#data.machine;
+    const modules = await compiledModules({ adapter: this.#module, cpu: await unzipped(cpu),
+      reads: await unzipped(reads) });
+    this.#live = new Live(modules, this.#heard.fonts(), { changed: () => this.#changed(),
+      failed: error => this.#heard.guarded(() => { throw error; }) });
+  }
+
+  /** Whether the page shows a machine, running or paused. */
+  get isOn() {
+    return this.#live !== null && this.#live.state !== "off";
+  }
+
+  #changed() {
+    const { state } = this.#live;
+    byId("machine").hidden = state !== "running";
+    byId("pausedbar").hidden = state !== "paused";
+    document.body.classList.toggle("paused", state === "paused");
+    setText(byId("livename"), this.#live.name ?? "");
+    if (state === "paused") this.#heard.guarded(() => this.#showWindow());
+  }
+
+  #showWindow() {
+    this.#paused = new Paused(this.#live, this.#heard.adapter(), this.#heard.fonts());
+    const session = this.#paused.session(), { reason = "" } = this.#live;
+    const left = this.#paused.recording.leftOut;
+    const more = left ? ` Of the last frames ${left} cycles are left out: a script has no room for more.` : "";
+    setText(byId("pausedtime"), `${this.#live.name} is paused at ${this.#paused.time.toFixed(2)} s. ${reason}${more}`);
+    this.#live.reason = "";
+    this.#heard.show(session);
+  }
+
+  /** Shows the code around the step that is shown, and soon the processor's registers at it. */
+  shown({ session, steps }) {
+    const { outline } = session;
+    if (!outline.placeOf) return;
+    const first = Math.max(0, steps - 1 - AROUND), last = Math.min(session.length, steps + AROUND);
+    const lines = [];
+    let before = null;
+    for (let step = first; step < last; step++) {
+      const entry = outline.entryOf(step), place = outline.placeOf(entry);
+      if (!place || outline.nameOf(entry) === "advance") continue;
+      const text = `${hex(place.segment, 4)}:${hex(place.offset, 4)}  ${place.text}`;
+      const isNow = step === steps - 1;
+      if (text === before && !isNow) continue;
+      before = text;
+      lines.push(element("div", { className: isNow ? "now" : "" }, text.padEnd(44) + outline.wordsOf(entry)));
+    }
+    byId("code").replaceChildren(...lines);
+    byId("code").querySelector(".now")?.scrollIntoView({ block: "center" });
+  }
+
+  #goOn() {
+    this.#end();
+    this.#live.goOn();
+  }
+
+  #goOnFromStep() {
+    this.#paused.seekStep(this.#heard.steps());
+    this.#goOn();
+  }
+
+  #back(seconds) {
+    this.#paused.back(seconds);
+    this.#showWindow();
+  }
+
+  #toStart() {
+    this.#end();
+    this.#live.restart();
+  }
+
+  #openScript() {
+    const { text } = this.#paused.recording, name = this.#live.name;
+    this.#close();
+    this.#heard.script(text, `${name}, its last frames`);
+  }
+
+  #sendRestart() {
+    this.#live.send(TO_RESTART.map(byte => [byte, 0]));
+    this.#live.restart();
+  }
+
+  #end() {
+    clearTimeout(this.#timer);
+    if (this.#paused) this.#heard.end();
+    this.#paused = null;
+  }
+
+  #close() {
+    this.#end();
+    this.#live.close();
+    byId("machine").hidden = true;
+  }
+}

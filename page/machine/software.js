@@ -1,0 +1,46 @@
+// What a file is that the machine can run: a program of DOS, a disk, a ROM of a video BIOS.
+import { Trouble } from "../common/trouble.js";
+import { grouped } from "../common/bytes.js";
+
+const SECTOR = 512, SIGNATURE_AT = 510, MOST_FLOPPY = 2949120, MOST_DISK = 1 << 26;
+const MOST_PROGRAM = 0x90000, MOST_ROM = 0x10000;
+const FLOPPIES = [163840, 184320, 327680, 368640, 737280, 1228800, 1474560, 1720320, MOST_FLOPPY];
+const PROGRAM_NAME = /\.(com|exe)$/i, IMAGE_NAME = /\.(img|ima|dsk|flp|vfd|bin|hdd|raw)$/i;
+const startsWith = (bytes, ...front) => front.every((byte, i) => bytes[i] === byte);
+const isBootable = bytes => bytes.length >= SECTOR && bytes[SIGNATURE_AT] === 0x55 &&
+  bytes[SIGNATURE_AT + 1] === 0xaa;
+
+/** Whether some bytes are a ROM with a head: two bytes, and its length in units of 512. */
+function isRom(bytes) {
+  const length = bytes[2] * SECTOR;
+  return startsWith(bytes, 0x55, 0xaa) && length > 0 && length <= bytes.length;
+}
+
+function checkSize(bytes, most, name, what) {
+  if (bytes.length <= most) return;
+  throw new Trouble(`${name} has ${grouped(bytes.length)} bytes, and ${what} may have ${grouped(most)}.`);
+}
+
+/**
+ * What a file is as software: { program }, { a } (a floppy), { c } (a disk) or { rom }, each the file's
+ * bytes; null where it is none.
+ */
+export function softwareOf(bytes, name) {
+  if (isRom(bytes) && !PROGRAM_NAME.test(name)) {
+    checkSize(bytes, MOST_ROM, name, "a ROM");
+    return { rom: bytes };
+  }
+  if (startsWith(bytes, 0x4d, 0x5a) || (PROGRAM_NAME.test(name) && bytes.length)) {
+    checkSize(bytes, MOST_PROGRAM, name, "a program");
+    return { program: bytes };
+  }
+  if (isBootable(bytes)) {
+    if (bytes.length <= MOST_FLOPPY) return { a: bytes };
+    checkSize(bytes, MOST_DISK, name, "a disk");
+    return { c: bytes };
+  }
+  if (FLOPPIES.includes(bytes.length) || IMAGE_NAME.test(name)) {
+    throw new Trouble(`${name} does not start: a boot sector ends with 55 AA, and this one does not.`);
+  }
+  return null;
+}
