@@ -29,6 +29,7 @@ export class Machine {
   #heard;
   #isOpen = false;
   #window = null;
+  #listed = null;
   #inputs = [];
   /** Whether frames are drawn as they end. */
   isShowing = true;
@@ -360,12 +361,25 @@ export class Machine {
 
   #instruction(segment, place, text, length) {
     const told = decoder.decode(this.bytes.subarray(text, text + length));
+    if (this.#listed) {
+      this.#listed.push({ segment, offset: place >>> 0, text: told });
+      return;
+    }
     this.instructions.set(placeKey(segment, place >>> 0), told);
   }
 
   /** The text of an instruction that was recorded; where code changes itself, of the last one. */
   instructionAt(segment, place) {
     return this.instructions.get(placeKey(segment, place)) ?? "";
+  }
+
+  /** So many instructions from a place on, as memory is now: { segment, offset, text } each. */
+  disassembled(segment, offset, count) {
+    this.#listed = [];
+    this.cpu.disassemble(segment, offset, count);
+    const found = this.#listed;
+    this.#listed = null;
+    return found;
   }
 
   /** Records from here on, or no longer. */

@@ -9,12 +9,19 @@ import { hex } from "../common/bytes.js";
 import { softwareOf } from "./software.js";
 import { unzipped } from "../module/packed.js";
 
-/** How many lines of code stand around the instruction that is shown. */
-const AROUND = 40;
+/** How many instructions stand before the one that is shown, and after it. */
+const BEFORE = 12, AFTER = 24;
+const REGISTER_LINES = ["EAX EBX ECX EDX", "ESI EDI EBP ESP", "CS DS ES SS FS GS", "EIP FLAGS"];
 /** So many milliseconds after a step is shown, the processor's registers are. */
 const REGISTERS_SOON = 250;
 const USUAL_SPEED = "386";
 const TO_RESTART = [0x1d, 0x38, 0x53, 0xd3, 0xb8, 0x9d];
+
+const placeText = ({ segment, offset, text }) => `${hex(segment, 4)}:${hex(offset, 4)}  ${text}`;
+
+function codeLine(code, words, isNow) {
+  return element("div", { className: isNow ? "now" : "" }, code.padEnd(46), element("span", {}, words));
+}
 
 /** What stands between the page and a machine. `heard` is told in the constructor. */
 export class MachineRoom {
@@ -141,24 +148,42 @@ export class MachineRoom {
     this.#heard.show(session);
   }
 
-  /** Shows the code around the step that is shown, and soon the processor's registers at it. */
+  /** Shows the code that led to the step that is shown, and soon what the processor has then. */
   shown({ session, steps }) {
+    clearTimeout(this.#timer);
     const { outline } = session;
-    if (!outline.placeOf) return;
-    const first = Math.max(0, steps - 1 - AROUND), last = Math.min(session.length, steps + AROUND);
+    if (!this.#paused || !outline.placeOf) return;
+    byId("code").replaceChildren(...this.#linesBefore(outline, steps));
+    byId("code").lastElementChild?.scrollIntoView({ block: "nearest" });
+    byId("liveregisters").replaceChildren();
+    this.#timer = setTimeout(() => this.#heard.guarded(() => this.#showProcessor(steps)), REGISTERS_SOON);
+  }
+
+  /** The last instructions that reached the display until a step, the step's own last. */
+  #linesBefore(outline, steps) {
     const lines = [];
-    let before = null;
-    for (let step = first; step < last; step++) {
-      const entry = outline.entryOf(step), place = outline.placeOf(entry);
-      if (!place || outline.nameOf(entry) === "advance") continue;
-      const text = `${hex(place.segment, 4)}:${hex(place.offset, 4)}  ${place.text}`;
-      const isNow = step === steps - 1;
-      if (text === before && !isNow) continue;
-      before = text;
-      lines.push(element("div", { className: isNow ? "now" : "" }, text.padEnd(44) + outline.wordsOf(entry)));
+    let next = null;
+    for (let step = steps - 1; step >= 0 && lines.length < BEFORE; step--) {
+      const entry = outline.entryOf(step);
+      if (outline.nameOf(entry) === "advance") continue;
+      const place = outline.placeOf(entry);
+      if (!place) break;
+      const text = placeText(place);
+      if (text !== next) lines.unshift(codeLine(text, outline.wordsOf(entry), !lines.length));
+      next = text;
     }
-    byId("code").replaceChildren(...lines);
-    byId("code").querySelector(".now")?.scrollIntoView({ block: "center" });
+    return lines;
+  }
+
+  /** The processor after so many steps, and the instructions that come next. */
+  #showProcessor(steps) {
+    const paused = this.#paused;
+    paused.seekStep(steps);
+    const { registers } = paused, line = names => names.split(" ")
+      .map(name => `${name} ${hex(registers[name], name.length === 2 ? 4 : 8)}`).join("  ");
+    byId("liveregisters").replaceChildren(...REGISTER_LINES.map(names => element("div", {}, line(names))));
+    const next = this.#live.machine.disassembled(registers.CS, registers.EIP, AFTER);
+    byId("code").append(...next.map(place => codeLine(placeText(place), "", false)));
   }
 
   #goOn() {

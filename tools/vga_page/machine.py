@@ -39,7 +39,7 @@ TARGET = (
 )
 DEFINED = (
     "-DWITH_TSC=0", "-DWITH_IOPL=0", "-DX86EMU_OWN_SHIFTS", '-DX86EMU_MEMORY="memory.h"', "-DX86EMU_TELLS=is_told",
-    "-DX86EMU_LOGS=0",
+    "-DX86EMU_LOGS=is_told",
 )
 STRICT = ("-Wall", "-Wextra", "-Wno-parentheses", "-Werror")
 STACK = 65536
