@@ -20,6 +20,11 @@ const MISSING = { 0x00: "divides by zero", 0x06: "has an instruction that this p
   0x0d: "reaches past the end of a segment", 0x10: "asks for a video function that is refused",
   0x21: "asks for a function of DOS that is missing" };
 
+function isSameRow(row, all, at) {
+  for (let x = 0; x < row.length; x++) if (row[x] !== all[at + x]) return false;
+  return true;
+}
+
 /** What the software asked for in words. */
 function missingText({ number, value }) {
   const hexadecimal = value.toString(16).toUpperCase().padStart(4, "0");
@@ -172,12 +177,25 @@ export class Live {
       Object.assign(canvas, { width, height });
       this.#image = new ImageData(width, height);
     }
-    const from = new Uint32Array(machine.calls.memory.buffer, machine.pixels, PIXELS_A_LINE * height);
+    const { first, last } = this.#copyRows(machine, width, height);
+    if (last < 0) return;
+    const brush = canvas.getContext("2d", { alpha: false });
+    brush.putImageData(this.#image, 0, 0, 0, first, width, last + 1 - first);
+  }
+
+  /** Copies the rows that differ from those that stand there; the first and the last of them. */
+  #copyRows({ calls, pixels }, width, height) {
+    const from = new Uint32Array(calls.memory.buffer, pixels, PIXELS_A_LINE * height);
     const to = new Uint32Array(this.#image.data.buffer);
+    let first = height, last = -1;
     for (let y = 0; y < height; y++) {
-      to.set(from.subarray(y * PIXELS_A_LINE, y * PIXELS_A_LINE + width), y * width);
+      const row = from.subarray(y * PIXELS_A_LINE, y * PIXELS_A_LINE + width);
+      if (isSameRow(row, to, y * width)) continue;
+      to.set(row, y * width);
+      first = Math.min(first, y);
+      last = y;
     }
-    canvas.getContext("2d", { alpha: false }).putImageData(this.#image, 0, 0);
+    return { first, last };
   }
 
   #tell() {
