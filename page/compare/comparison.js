@@ -49,7 +49,6 @@ export class Comparison {
       button("nextdifference", "The next difference (N)", "difference ▶", () => this.#go(1)),
       button("flip", "This run's picture, and the other's, by turns (C)", "flip", () => this.#flip()),
       this.#views,
-      button("nextview", "The next view (V)", "view", () => this.#nextView()),
       button("endcompare", "End the comparison", "×", () => this.close())), this.#text);
     this.#views.addEventListener("change", () => {
       this.#show(this.#views.value);
@@ -223,7 +222,9 @@ export class Comparison {
     this.#show(this.#view === "other" ? "own" : "other");
   }
 
-  #nextView() {
+  /** Shows the next of the views. */
+  nextView() {
+    if (!this.#other) return;
     const at = VIEWS.findIndex(([view]) => view === this.#view);
     this.#show(VIEWS[(at + 1) % VIEWS.length][0]);
   }

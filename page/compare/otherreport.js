@@ -74,7 +74,7 @@ export class OtherReport {
   #differenceAt(session, step) {
     const own = session.answers.get(step), other = this.#answers.get(step);
     const sum = this.#pictures.get(step)?.sum, ownSum = session.pictureSums.get(step);
-    if (sum !== undefined && ownSum !== undefined) return sum === ownSum ? "" : "other pictures";
+    if (sum !== undefined && ownSum !== undefined) return sum === ownSum ? "" : "the pictures differ";
     return own === other ? ""
       : `${shortened(session.answerOf(step))} here, ${shortened(other)} there`;
   }

@@ -158,6 +158,17 @@ await check(use => {
       await use.openScript(SCRIPT);
       await dropped("same.png", await pngOfOther(PICTURE));
       await says("All 720 × 400 dots are the same.");
+      // The script is changed, and compared with the same picture.
+      await browser.click("#text");
+      await browser.selectAll();
+      await browser.paste(SCRIPT.replace("1F42", "2F42"));
+      await says("dots of 720 × 400 differ.");
+      await browser.selectAll();
+      await browser.paste(SCRIPT);
+      await browser.press("Escape");
+      await browser.press("End");
+      await use.stepIs(7);
+      await says("All 720 × 400 dots are the same.");
       await dropped("planted.png", await pngOfOther(PICTURE, 1, rgb => {
         rgb[3 * (9 * 720 + 11)] ^= 0x20;
         rgb[3 * (200 * 720 + 3) + 2] ^= 1;

@@ -145,7 +145,7 @@ export class View {
       goToLine: line => this.guarded(() => this.transport.goTo("line", String(line))),
       togglePoint: line => this.pointPanel.toggleLine(line),
       orders: { larger: () => this.size.step(1), smaller: () => this.size.step(-1),
-        fill: () => this.size.choose(0) } });
+        fill: () => this.size.choose(0), nextview: () => this.comparison.nextView() } });
     byId("keys").append(...keyTables());
     byId("version").textContent = `Zaklimot ${this.data.version}.`;
     byId("pagedoc").href = `${this.data.pages}PAGE.md#what-is-proved`;
