@@ -30,6 +30,12 @@ function cycleOfWords(words) {
     address: parseInt(place, 16), value: isWrite ? parseInt(given, 16) : null };
 }
 
+/** Why the comparison ends at a BIOS call. */
+function callNote(step) {
+  return `Step ${grouped(step + 1)} is a BIOS call, whose cycles stand in no script: the trace is ` +
+    "compared to there. Open it as the script to compare all.";
+}
+
 /** A trace of other hardware. */
 export class OtherTrace {
   differences = [];
@@ -58,8 +64,7 @@ export class OtherTrace {
       if (step % CHUNK === CHUNK - 1) yield;
       const entry = session.outline.entryOf(step), name = session.outline.nameOf(entry);
       if (NO_CYCLES.includes(name)) continue;
-      if (name === "int") return this.#end(`Step ${grouped(step + 1)} is a BIOS call, whose cycles ` +
-        "stand in no script: the trace is compared to there. Open it as the script to compare all.");
+      if (name === "int") return this.#end(callNote(step));
       if (!known.has(entry)) known.set(entry, cycleOfWords(session.outline.wordsOf(entry)));
       const why = this.#compareStep(known.get(entry), session.answers.get(step), cycles, step);
       if (why) return this.#end(why);

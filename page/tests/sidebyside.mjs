@@ -54,7 +54,9 @@ const fileOf = (name, bytes) => `[new File([Uint8Array.from(atob("${base64(bytes
   letter => letter.charCodeAt(0))], "${name}")]`;
 
 await check(use => {
-  const { browser } = use, text = () => use.text("comparetext"), title = () => use.text("comparetitle");
+  const { browser } = use, text = () => use.text("comparetext");
+  const title = () => use.text("comparetitle"), titleSays = words => use.until(
+    `document.getElementById("comparetitle").textContent.includes(${JSON.stringify(words)})`);
   const view = () => use.value("document.getElementById('compareview').value");
   const says = words => use.until(
     `document.getElementById("comparetext").textContent.includes(${JSON.stringify(words)})`);
@@ -141,14 +143,14 @@ await check(use => {
     async "a script that is changed is compared anew"() {
       await use.openScript(SCRIPT);
       await dropped("same.txt", REPORT);
-      await use.until("document.getElementById('comparetitle').textContent.includes('All answers')");
+      await titleSays("All answers");
       await use.value(`(() => { const area = document.getElementById("text");
         if (!area.setRangeText) return;
         area.focus(); area.setSelectionRange(area.value.length, area.value.length); })()`);
       await browser.click("#text");
       await browser.selectAll();
       await browser.paste(SCRIPT.replace("1F42", "1F43"));
-      await use.until("document.getElementById('comparetitle').textContent.includes('1 answer differs')");
+      await titleSays("1 answer differs");
       await use.stepIs(7);
       await says("dots of 720 × 400 differ.");
       await browser.press("Escape");
@@ -185,7 +187,7 @@ await check(use => {
       await says("Dot 11 of line 9: ");
       await shot("png");
       await dropped("double.png", await pngOfOther(PICTURE, 2));
-      await says("It is twice as wide and twice as high: each dot is compared with the nearest one.");
+      await says("It is twice as wide and twice as high: each dot is compared with the nearest");
       await says("All 720 × 400 dots are the same.");
       await dropped("small.png", await pngOfOther({ width: 700, height: 400,
         rgb: PICTURE.rgb.slice(0, 3 * 700 * 400) }));
@@ -231,7 +233,7 @@ await check(use => {
       await dropped("a.trace", trace);
       await use.until("document.querySelector('dialog.ask')?.open");
       await browser.click("dialog.ask button[value=other]");
-      await use.until("document.getElementById('comparetitle').textContent.includes('2 cycles differ')");
+      await titleSays("2 cycles differ");
       await use.stepIs(1);
       await says("read here, 67 there");
       await browser.press("n");
@@ -248,7 +250,7 @@ await check(use => {
         const { report } = ran(examples().find(one => one.name === `${name}.vga`).text, 1);
         await use.open(`#example=${name}`);
         await dropped(`${name}.txt`, report);
-        await use.until("document.getElementById('comparetitle').textContent.includes('All answers')");
+        await titleSays("All answers");
       }
     },
   };

@@ -47,8 +47,9 @@ export class CheckLine {
       const all = length === 1 ? "The one answer is that" : `All ${count} answers are those`;
       this.#say(`✓ ${all} of one run by zak_run, of the whole script.`, "right");
     } else {
-      this.#say(`✓ The first ${grouped(comparable.steps)} of ${count} answers are those of one run ` +
-        "by zak_run. The others are not compared: a report of more than " +
+      const steps = grouped(comparable.steps);
+      this.#say(`✓ The first ${steps} of ${count} answers are those of one run by zak_run. ` +
+        "The others are not compared: a report of more than " +
         `${MOST_COMPARED >> 20} MiB is too long for it.`, "right");
     }
   }

@@ -29,8 +29,19 @@ export class Desk {
     this.#heard = heard;
   }
 
-  /** Loads what was chosen in the list of scripts. */
-  choose(value) {
+  /** Loads what is chosen in the list of scripts. `guarded` tells what went wrong. */
+  listenTo(list, guarded) {
+    let key = "";
+    list.addEventListener("pointerdown", () => { key = ""; });
+    list.addEventListener("keydown", event => { ({ key } = event); });
+    list.addEventListener("change", () => {
+      guarded(() => this.#choose(list.value));
+      // Whoever goes through the list by arrows goes on; else the page has the keys then.
+      if (!/^Arrow(Up|Down)$/.test(key)) list.blur();
+    });
+  }
+
+  #choose(value) {
     const found = this.#scripts.chosen(value);
     if (found) return this.load(found.text, found.script);
     this.#scripts.fill();

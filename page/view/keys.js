@@ -20,7 +20,8 @@ export const KEYS = [
   ["", "", ["x"], "sharp"], ["", "", ["d"], "sofar"],
   ["", "", ["b"], "hairs"], ["", "", ["z"], "zoom"],
   ["F", "the picture on the full screen; Esc leaves it", ["f"], "full"],
-  ["+, −, 0", "the picture larger, smaller, or as large as its pane", ["+", "Shift++", "="], "larger"],
+  ["+, −, 0", "the picture larger, smaller, or as large as its pane",
+    ["+", "Shift++", "="], "larger"],
   ["", "", ["-"], "smaller"], ["", "", ["0"], "fill"],
   ["N, Shift+N", "the next difference from another run, the one before", ["n"], "nextdifference"],
   ["", "", ["Shift+N"], "lastdifference"],
@@ -72,7 +73,8 @@ export function keyTables() {
   const hints = ["Click a line's number to set a breakpoint. " +
     "Click a dot of the picture to go to the step that draws it.",
   "Drop a script, a font or a trace anywhere. " +
-    "A report, a trace or a PNG of another adapter is compared with the run."].map(text => element("p", {}, text));
+    "A report, a trace or a PNG of another adapter is compared with the run.",
+  ].map(text => element("p", {}, text));
   return [table("Keys", KEYS), table("Keys in the script", IN_THE_SCRIPT),
     table("Keys in the list of steps", IN_THE_STEPS), ...hints];
 }

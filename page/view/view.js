@@ -8,6 +8,7 @@ import { Comparison } from "../compare/comparison.js";
 import { Desk } from "./desk.js";
 import { Drafts } from "../editor/drafts.js";
 import { Editor } from "../editor/editor.js";
+import { Fonts } from "../files/fonts.js";
 import { Keyboard } from "./keyboard.js";
 import { LastStep } from "./laststep.js";
 import { Listing } from "../editor/listing.js";
@@ -50,8 +51,7 @@ export class View {
     this.adapter = adapter;
     this.module = module;
     this.data = data;
-    this.ownFonts = bytesOfBase64(data.fonts);
-    this.fonts = this.ownFonts;
+    this.fonts = new Fonts(bytesOfBase64(data.fonts));
     this.guarded = this.guarded.bind(this);
     this.#makeRun();
     this.#makeScript();
@@ -97,6 +97,7 @@ export class View {
       changed: () => this.checkLine.clear(),
       run: awaited => this.guarded(() => this.#run(awaited)),
     });
+    this.desk.listenTo(byId("examples"), this.guarded);
   }
 
   #makeState() {
@@ -115,7 +116,7 @@ export class View {
       isEmpty: () => !runner.session && !editor.script,
       script: (text, script, asked) => this.desk.load(text, script, asked),
       other: (found, name) => this.comparison.open(found, name),
-      fonts: (fonts, name) => (name ? this.#useFonts(fonts, name) : this.#setFonts(fonts)),
+      fonts: (fonts, name) => (name ? this.#useFonts(fonts, name) : this.fonts.use(fonts)),
       tab: name => this.tabs.open(name),
       step: number => runner.go(number),
     });
@@ -134,13 +135,12 @@ export class View {
       share: () => this.#showLink(),
       copylink: () => copyLink(),
       help: () => byId("helpbox").showModal(),
-      ownfonts: () => this.#useFonts(this.ownFonts),
+      ownfonts: () => this.#useFonts(null),
       takeback: () => this.desk.takeBack(),
     };
     for (const [name, does] of Object.entries(clicks)) {
       byId(name).addEventListener("click", () => this.guarded(does));
     }
-    this.#makeList();
     this.keyboard = new Keyboard({ editor: this.editor, tabs: this.tabs, menu: this.saver.menu,
       goToLine: line => this.guarded(() => this.transport.goTo("line", String(line))),
       togglePoint: line => this.pointPanel.toggleLine(line),
@@ -150,19 +150,6 @@ export class View {
     byId("version").textContent = `Zaklimot ${this.data.version}.`;
     byId("pagedoc").href = `${this.data.pages}PAGE.md#what-is-proved`;
     addEventListener("hashchange", () => this.#follow());
-  }
-
-  /** The list of scripts. */
-  #makeList() {
-    const list = byId("examples");
-    let key = "";
-    list.addEventListener("pointerdown", () => { key = ""; });
-    list.addEventListener("keydown", event => { ({ key } = event); });
-    list.addEventListener("change", () => {
-      this.guarded(() => this.desk.choose(list.value));
-      // Whoever goes through the list by arrows goes on; else the page has the keys then.
-      if (!/^Arrow(Up|Down)$/.test(key)) list.blur();
-    });
   }
 
   #follow() {
@@ -185,7 +172,7 @@ export class View {
     try {
       const judged = judgedText(this.adapter, text);
       runner.close();
-      runner.start(new Session(this.adapter, this.fonts, text, judged), awaited);
+      runner.start(new Session(this.adapter, this.fonts.bytes, text, judged), awaited);
       this.#setStale(false, null);
     } catch (error) {
       const bad = error instanceof Trouble && error.line ? error : null;
@@ -292,13 +279,8 @@ export class View {
 
   // Fonts and links.
 
-  #setFonts(fonts) {
-    this.fonts = fonts;
-    byId("ownfonts").hidden = fonts === this.ownFonts;
-  }
-
   #useFonts(fonts, name = "") {
-    this.#setFonts(fonts);
+    this.fonts.use(fonts);
     this.desk.run();
     if (name) this.notice.tell(`Mode sets load the glyphs of ${name} now.`);
   }
@@ -308,6 +290,6 @@ export class View {
     return showLink({ text: this.editor.text,
       step: session && steps < session.length ? steps : undefined,
       tab: selected === TABS[0] ? undefined : selected,
-      fonts: fonts === this.ownFonts ? undefined : fonts });
+      fonts: fonts.isOwn ? undefined : fonts.bytes });
   }
 }
