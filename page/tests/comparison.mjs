@@ -205,6 +205,12 @@ test("eight bits are compared with six, however the other adapter widens them", 
     assert.equal(difference.summary, "All 40 × 30 dots are the same.");
   }
   assert.equal(wideningNote("c<<2 | c>>4"), "");
+  for (const part of [0, 1, 2]) {
+    const changed = bytesOf(own, widened);
+    changed.rgb[3 * 77 + part] ^= 1;
+    const { count, places } = new DotDifference(own, changed);
+    assert.deepEqual([count, places], [1, [{ x: 37, y: 1 }]], `part ${part}`);
+  }
   assert.match(wideningNote("c<<2"), /by c<<2, and this page by c<<2 \| c>>4/);
 });
 
@@ -261,6 +267,6 @@ test("a PNG that is too large, or cut off, is refused before it is decoded", asy
     assert.throws(() => sizeOfPng(png.slice(0, length)), /cut off or damaged/);
   }
   const damaged = png.slice();
-  damaged[50] ^= 1;
+  damaged[damaged.length - 20] ^= 1;
   assert.throws(() => sizeOfPng(damaged), /cut off or damaged/);
 });
