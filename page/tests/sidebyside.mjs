@@ -136,6 +136,10 @@ await check(use => {
       await browser.press("ArrowRight");
       await use.until("!document.getElementById('other').hidden");
       await browser.click("#endcompare");
+      // Its keys do nothing then.
+      for (const key of ["c", "n"]) await browser.press(key);
+      await use.pause();
+      await use.stepIs(7);
       assert.equal(await use.value("document.getElementById('compare').hidden"), true);
       assert.equal(await use.value("document.getElementById('other').hidden"), true);
     },
@@ -223,13 +227,14 @@ await check(use => {
     async "a trace is opened as the script by Enter, compared by a click, and by Escape neither"() {
       const trace = Buffer.from("- r p 3CC 67 1\n- r p 3CC A5 1\n- w p 3C4 02 1\n");
       await use.openScript("in 3CC\nin 3CC\nout 3C4 02\nframe\n");
-      const own = await use.value("document.getElementById('laststep').textContent");
+      const own = await use.value("document.title");
       await dropped("a.trace", trace);
       await use.until("document.querySelector('dialog.ask')?.open");
       await shot("ask");
       await browser.press("Escape");
       await use.until("document.querySelector('dialog.ask') === null");
-      assert.equal(await use.value("document.getElementById('laststep').textContent"), own);
+      await use.pause();
+      assert.equal(await use.value("document.title"), own);
       await dropped("a.trace", trace);
       await use.until("document.querySelector('dialog.ask')?.open");
       await browser.click("dialog.ask button[value=other]");
