@@ -210,8 +210,9 @@ export class Comparison {
     this.#markDot(found);
     const [here, there] = this.#difference.coloursAt(found)
       .map(colour => colour.map(six => hex(six, 2)).join(" "));
-    this.#setText(`Dot ${found.x} of line ${found.y}: ${here} here, ${there} there. ` +
-      this.#difference.summary);
+    const { summary, note } = this.#difference;
+    this.#setText([`Dot ${found.x} of line ${found.y}: ${here} here, ${there} there.`, summary, note]
+      .filter(Boolean).join(" "));
   }
 
   #markDot({ x, y }) {

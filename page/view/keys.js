@@ -73,7 +73,8 @@ export function keyTables() {
   const hints = ["Click a line's number to set a breakpoint. " +
     "Click a dot of the picture to go to the step that draws it.",
   "Drop a script, a font or a trace anywhere. " +
-    "A report, a trace or a PNG of another adapter is compared with the run.",
+    "A report, a trace or a PNG of another adapter is compared with the run. " +
+    "Drag a line between two parts of the page, or go to it by Tab: arrows move it.",
   ].map(text => element("p", {}, text));
   return [table("Keys", KEYS), table("Keys in the script", IN_THE_SCRIPT),
     table("Keys in the list of steps", IN_THE_STEPS), ...hints];
