@@ -12,7 +12,7 @@ import { PAGE, TOP } from "./loading.mjs";
 import { smallShot } from "./shots.mjs";
 
 // The window of the pictures; and one in which each dot has more than a pixel, to be pointed at.
-const WINDOW = { width: 1060, height: 700 }, LARGE = { width: 1900, height: 1500 };
+const WINDOW = { width: 1060, height: 700 }, LARGE = { width: 1580, height: 1500 };
 const tutorial = readFileSync(`${TOP}docs/TUTORIAL.md`, "utf-8");
 // Its scripts; the program in it is told to be of Python.
 const blocks = [...tutorial.matchAll(/^```(\w*)\n([^]*?)^```$/gm)]
