@@ -28,8 +28,10 @@ export class Random {
     return list[this.below(list.length)];
   }
 
+  /** Fills bytes that begin anywhere. */
   fill(bytes) {
-    for (let at = 0; at < bytes.length; at++) bytes[at] = this.next() & 255;
+    const words = Uint32Array.from({ length: Math.ceil(bytes.length / 4) }, () => this.next());
+    bytes.set(new Uint8Array(words.buffer, 0, bytes.length));
     return bytes;
   }
 }
