@@ -6,6 +6,7 @@ import { KIND, Outline } from "../script/outline.js";
 import { Kept } from "./kept.js";
 import { MOST_BYTES } from "../script/grammar.js";
 import { Pieces } from "./pieces.js";
+import { Scout } from "./scout.js";
 import { State } from "../module/state.js";
 import { Trouble } from "../common/trouble.js";
 import { counted, grouped } from "../common/bytes.js";
@@ -53,6 +54,7 @@ export class Session {
     this.sizes = new Map();
     Object.assign(this, { pictures: 0, sums: [], reported: 0, mostHeld: MOST_HELD });
     this.held = { steps: 0, reported: 0 };
+    this.ownScout = null;
     // Dots of a picture that is not seen any longer: the next one is written into them.
     this.spare = null;
     this.keep();
@@ -61,11 +63,19 @@ export class Session {
   close() {
     this.runner.close();
     this.card.close();
+    this.ownScout?.close();
+    this.ownScout = null;
     this.adapter.giveBack();
   }
 
   get isDone() {
     return this.ran === this.length;
+  }
+
+  /** A card of its own by which searches go through the steps; it is there once one is asked for. */
+  get scout() {
+    this.ownScout ??= new Scout(this);
+    return this.ownScout;
   }
 
   /** Takes steps for about so many milliseconds; whether some are left. */
