@@ -1,0 +1,217 @@
+// The search for the last step that changed a dot of the picture: one of its own bits, a register that moves
+// it or changes its look, its palette register, its entry of the DAC.
+import { BytesWatch, ColourWatch, mayWrite } from "../run/watching.js";
+import { FrameWalk } from "./walk.js";
+import { KIND } from "../script/outline.js";
+import { Search } from "../run/points.js";
+import { State } from "../module/state.js";
+import { bytesOfDot, explainDot, sourcesOf } from "./dot.js";
+import { hex } from "../common/bytes.js";
+
+/** The registers that a dot depends on, as bits of zak_registers' fields; all others show in no dot. */
+const SHOWN = { seq: { 1: 0x21, 3: 0x3f }, gfx: { 5: 0x40, 6: 0x01 }, attrIndex: 0x20, dacMask: 0xff,
+  crtc: { 0: 255, 1: 255, 6: 255, 7: 0x73, 8: 0x7f, 9: 0xdf, 10: 0x3f, 11: 0x1f, 12: 255, 13: 255, 14: 255, 15: 255,
+    18: 255, 19: 255, 20: 0x5f, 23: 0x60, 24: 255 } };
+/** Those that the adapter takes at a frame's first dot. */
+const START_REGISTERS = [8, 12, 13];
+const PORTS = [0x3c0, 0x3c5, 0x3c6, 0x3c9, 0x3cf, 0x3b5, 0x3d5];
+
+/** What of some registers shows in dots, as a text. */
+function shownRegisters({ seq, gfx, crtc, attr, attrIndex, dacMask }) {
+  const of = (values, masks) => Object.entries(masks).map(([i, mask]) => values[i] & mask);
+  return [of(seq, SHOWN.seq), of(gfx, SHOWN.gfx), of(crtc, SHOWN.crtc), attr, attrIndex & SHOWN.attrIndex,
+    dacMask].join();
+}
+
+/** What a card's own calls read, as `explainDot` takes it. */
+export function sourcesOfCard(card) {
+  return { registers: card.registers(), byteAt: (plane, offset) => card.plane(plane, offset, 1)[0],
+    colourOf: entry => card.colour(entry) };
+}
+
+const TOLD_BY = { "screen off": "the screen is off", overscan: "overscan, since the palette is not shown",
+  palette: "the palette", byte: "the byte" };
+
+/** What a dot is made of, as { name: value in words }; two dots are the same if all of these are. */
+export function partsOfDot(sources, told) {
+  if (!told) return { shown: "no dot" };
+  const { kind, text, way, byte, offset, dot, by, entry, colour } = told, { registers } = sources;
+  const parts = { shown: kind, offset: hex(offset, 4), "dot of its character": String(dot), "colour by": TOLD_BY[by] };
+  if (text) Object.assign(parts, { character: hex(text.character, 2), attribute: hex(text.attribute, 2),
+    "glyph's offset": hex(text.glyphOffset, 4), "glyph's bit": String(text.isGlyph ? 1 : 0),
+    "dot is": text.isOn ? "ink" : "ground" });
+  if (kind === "16 colours") parts.bits = hex(way.four, 1);
+  if (byte !== null) parts.byte = hex(byte, 2);
+  if (way && by === "palette") Object.assign(parts, { "palette register": hex(way.enabled, 1), "its value": hex(registers.attr[way.enabled], 2),
+    "colour's number": hex(way.number, 2) });
+  if (entry !== null) parts["entry of the DAC"] = hex(entry, 2);
+  return { ...parts, colour: colour.map(six => hex(six, 2)).join(" ") };
+}
+
+/** What differs between the parts of two dots, a few words each. */
+export function differingParts(old, now) {
+  const names = [...new Set([...Object.keys(old), ...Object.keys(now)])];
+  return names.filter(name => old[name] !== now[name]).map(name =>
+    `${name} ${old[name] ?? "none"} → ${now[name] ?? "none"}`);
+}
+
+/** Watches what a dot is made of: the dot as a frame with the registers of each state draws it. */
+class DotWatch {
+  /**
+   * `told` is the dot as it is made at last. `start` has values of the registers that were taken at the first
+   * dot of its frame, for steps of that frame; null for the steps before.
+   */
+  constructor({ line, dot }, { sources, told }, start) {
+    Object.assign(this, { line, dot, start, frame: told.beam.frame });
+    this.bytes = bytesOfDot(sources, told).filter(({ bits }) => bits)
+      .map(({ plane, offset }) => new BytesWatch(1 << plane, offset));
+    this.colour = told.entry === null ? null : new ColourWatch(told.entry);
+  }
+
+  mayChange(operation) {
+    return mayWrite(PORTS, operation) || this.bytes.some(watch => watch.mayChange(operation));
+  }
+
+  /** The card's sources, with the registers as they were taken at the frame's start. */
+  sources({ card }) {
+    const sources = sourcesOfCard(card);
+    for (const i of START_REGISTERS) if (this.start) sources.registers.crtc[i] = this.start[i];
+    return sources;
+  }
+
+  begin(scout) {
+    for (const watch of this.bytes) watch.start(scout);
+    this.colour?.start(scout);
+  }
+
+  read(scout) {
+    const sources = this.sources(scout), beam = new FrameWalk(sources.registers).next(this.frame).place(this.line, this.dot);
+    return { shown: shownRegisters(sources.registers), parts: partsOfDot(sources, beam && explainDot(sources, beam)) };
+  }
+
+  /** Reads what is watched, before a step. */
+  start(scout) {
+    this.begin(scout);
+    this.old = this.read(scout);
+  }
+
+  /** Whether a step has changed something on which the dot may depend. */
+  isTouched(scout, operation) {
+    const { kind } = operation, touched = this.bytes.filter(watch => watch.mayChange(operation) &&
+      watch.isChanged(scout, operation)).length > 0;
+    const isColour = this.colour?.mayChange(operation) && this.colour.isChanged(scout, operation);
+    if (touched || isColour || kind === KIND.int) return true;
+    const isPort = kind === KIND.out || kind === KIND.outw;
+    return isPort && shownRegisters(this.sources(scout).registers) !== this.old.shown;
+  }
+
+  isChanged(scout, operation) {
+    if (!this.isTouched(scout, operation)) return false;
+    const { old } = this;
+    this.old = this.read(scout);
+    this.differing = differingParts(old.parts, this.old.parts);
+    return this.differing.length > 0;
+  }
+}
+
+/** A dot as the beam draws it from a state on: in the frame under way, or in the next where it is past. */
+export function dotAhead(state, { line, dot }) {
+  const sources = sourcesOf(state), walk = new FrameWalk(sources.registers, state.beam, state.drawn);
+  const here = walk.place(line, dot), beam = here ?? walk.next().place(line, dot);
+  return beam && { sources, told: explainDot(sources, beam), isThisFrame: here !== null };
+}
+
+/**
+ * A dot of what is seen, as cheaply as it is had: { sources, told, how }. `how` is "drawn" by the last step,
+ * "ahead" if it is still to be drawn, or "now": it was drawn before, and this is told by the registers as they
+ * stand. Null where no dot is.
+ */
+export function dotOfSeen({ before, after, picture, steps }, { line, dot }) {
+  const isDrawn = picture.isWhole || dot < picture.drawn[line];
+  const told = (state, how) => {
+    const found = dotAhead(state, { line, dot });
+    return found && { ...found, how };
+  };
+  if (!isDrawn) return told(after, "ahead");
+  const isByLast = steps > 0 && (picture.isWhole || before.beam.frame !== after.beam.frame ||
+    before.drawn[line] <= dot) && before.drawn[line] <= dot;
+  return isByLast ? told(before, "drawn") : told(after, "now");
+}
+
+/**
+ * The search for the step that draws a dot, and then for the last step that changed it. `take` goes on for
+ * some milliseconds: null while time is over, else { steps, differing }, or { ended: true }.
+ */
+export class DotSearch {
+  /**
+   * `place` is { line, dot }. `steps` are those after which the picture is seen. A dot that is drawn there was
+   * drawn by a step before; one that is not, or `isAhead`, is taken as it would be drawn from there on.
+   */
+  constructor(session, place, steps, { isDrawn, isAhead = false }) {
+    Object.assign(this, { session, place, steps, isDrawn: isDrawn && !isAhead, drawnBy: null, made: null, search: null });
+    this.turns = this.find();
+  }
+
+  get looked() {
+    return this.search?.looked ?? this.steps;
+  }
+
+  take(milliseconds) {
+    const until = performance.now() + milliseconds;
+    while (performance.now() < until) {
+      const { done, value } = this.turns.next();
+      if (done) return value ?? { ended: true };
+    }
+    return null;
+  }
+
+  /** Goes through a search back among steps from `first` to `to`; after how many steps it has found one. */
+  * back(point, to, first = 0) {
+    this.search = new Search(this.session, [point], to, true, true, first);
+    for (;;) {
+      const { done, value } = this.search.turns.next();
+      if (done) return value;
+      yield null;
+    }
+  }
+
+  /** The dot, and the number of steps before it was drawn. */
+  * make() {
+    const { session, place } = this;
+    let at = this.steps;
+    if (this.isDrawn) {
+      const drawn = yield* this.back({ kind: "drawn", ...place }, at);
+      if (drawn !== undefined) [this.drawnBy, at] = [drawn, drawn - 1];
+    }
+    while (session.scout.at !== at && !session.scout.approach(at, 8)) yield null;
+    const state = new State(session.scout.card.save());
+    return { at, state, made: dotAhead(state, place) };
+  }
+
+  * find() {
+    const { at, state, made } = yield* this.make(), { place } = this, { beam } = state;
+    this.made = made;
+    if (!made) return undefined;
+    const isWithin = made.isThisFrame && (beam.line || beam.character || beam.dot);
+    const first = isWithin ? (yield* this.back({ kind: "start" }, at)) ?? 0 : at;
+    if (isWithin) {
+      const found = yield* this.lastChange(made, at, first, state.registers.crtc.slice());
+      if (found) return found;
+    }
+    return yield* this.lastChange(made, first, 0, null);
+  }
+
+  * lastChange(made, to, first, start) {
+    const watch = new DotWatch(this.place, made, start);
+    let differing = [];
+    // The search meets steps forward from a kept state on, and the last of them counts.
+    const point = { kind: "watch", watch: { mayChange: operation => watch.mayChange(operation),
+      start: scout => watch.start(scout), isChanged: (scout, operation) => {
+        const isChanged = watch.isChanged(scout, operation);
+        if (isChanged) ({ differing } = watch);
+        return isChanged;
+      } } };
+    const steps = yield* this.back(point, to, first);
+    return steps === undefined ? undefined : { steps, differing };
+  }
+}
