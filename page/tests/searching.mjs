@@ -1,5 +1,6 @@
 // How long a search back over a million steps takes, of several kinds of scripts: a table.
 // node page/tests/searching.mjs; in a browser the page runs `timesOfSearches` itself (see searchtimes.mjs).
+import { DotSearch } from "../explain/dotsearch.js";
 import { Search } from "../run/points.js";
 
 /** Scripts of a million steps and more, in which what is searched for changes in the first steps alone. */
@@ -23,12 +24,18 @@ export const WATCHED = {
   "any entry": { kind: "register", group: "dac", index: null, title: "" },
 };
 
-/** The milliseconds of each search in a session, from its end back. */
-export function timesOfSearches(session, rounds = 3) {
-  return Object.fromEntries(Object.entries(WATCHED).map(([name, point]) => {
+/**
+ * The milliseconds of each search in a session, from its end back; the last one is for the picture's first dot.
+ * Each is the least of some rounds, which end once it is within `most`.
+ */
+export function timesOfSearches(session, rounds = 3, most = 0) {
+  const searches = Object.entries(WATCHED).map(([name, point]) =>
+    [name, () => new Search(session, [point], session.length + 1, true)]);
+  searches.push(["a dot", () => new DotSearch(session, { line: 0, dot: 0 }, session.length, { isDrawn: false })]);
+  return Object.fromEntries(searches.map(([name, made]) => {
     let least = Infinity, steps = null;
-    for (let round = 0; round < rounds; round++) {
-      const begun = performance.now(), search = new Search(session, [point], session.length + 1, true);
+    for (let round = 0; round < rounds && least > most; round++) {
+      const begun = performance.now(), search = made();
       let told = null;
       while (!told) told = search.take(14);
       least = Math.min(least, performance.now() - begun);
