@@ -1,5 +1,6 @@
-// The page begins: it opens the module that stands in it, and shows a script. `#check` runs all examples
-// instead. In a worker, which has no document, the same script holds answers to those of zak_run.
+// The page begins: it opens the module that stands in it, and shows a script. `#check` runs all
+// examples instead. In a worker, which has no document, the same script holds answers to those of
+// zak_run.
 import { Adapter } from "./module/adapter.js";
 import { Trouble } from "./common/trouble.js";
 import { View } from "./view/view.js";
@@ -18,8 +19,8 @@ const OLD_WEBASSEMBLY = "This browser's WebAssembly is too old for the adapter."
 /** Shows what the check of all examples tells. */
 async function showCheck(adapter, { examples, fonts }) {
   const { agree, differ, lines } = await checkedExamples(adapter, bytesOfBase64(fonts), examples);
-  const told = [...lines, `${agree} agree, ${differ} differ`].join("\n");
-  document.body.replaceChildren(element("pre", { id: "checked" }, told));
+  const text = [...lines, `${agree} agree, ${differ} differ`].join("\n");
+  document.body.replaceChildren(element("pre", { id: "checked" }, text));
 }
 
 /** What this browser lacks, in a sentence; nothing where it has all that the page needs. */

@@ -206,7 +206,7 @@ export class DotSearch {
       const drawn = yield* this.back({ kind: "drawn", ...place }, at);
       if (drawn !== undefined) [this.drawnBy, at] = [drawn, drawn - 1];
     }
-    while (session.scout.at !== at && !session.scout.approach(at, 8)) yield null;
+    while (session.scout.at !== at && !session.scout.seek(at, 8)) yield null;
     const state = new State(session.scout.card.save());
     return { at, state, made: dotAhead(state, place) };
   }
@@ -227,7 +227,7 @@ export class DotSearch {
   * lastChange(made, to, first, taken) {
     const watch = new DotWatch(this.place, made, taken);
     let differing = [];
-    // The search meets steps forward from a kept state on, and the last of them counts.
+    // The search meets steps forward from a checkpoint on, and the last of them counts.
     const point = { kind: "watch", watch: { mayChange: operation => watch.mayChange(operation),
       start: scout => watch.start(scout), isChanged: (scout, operation) => {
         const isChanged = watch.isChanged(scout, operation);

@@ -161,8 +161,8 @@ export class Search {
   * back(to) {
     const { first, session } = this;
     for (let end = to; end > first;) {
-      const kept = session.keptBefore(end - 1).at;
-      // A stretch that has to be walked begins at a kept state, however far that is.
+      const kept = session.checkpointBefore(end - 1).at;
+      // A stretch that has to be walked begins at a checkpoint, however far that is.
       const begin = Math.max(first, this.watch ? kept : Math.max(kept, end - CHUNK));
       let last = 0;
       for (const met of this.scan(begin, end)) {
@@ -200,7 +200,7 @@ export class Search {
   /** Takes a step on the scout; whether it changes what is watched. */
   * look(step, entry) {
     const { session: { scout }, watch } = this;
-    while (scout.at !== step && !scout.approach(step, 8)) yield null;
+    while (scout.at !== step && !scout.seek(step, 8)) yield null;
     if (!this.isStarted) watch.start(scout);
     this.isStarted = true;
     const operation = this.operation(entry);

@@ -117,10 +117,10 @@ export class Scout {
 
   /**
    * Goes to the state after so many steps, for about so many milliseconds; whether it is there. It goes on from
-   * where it is, or from the last kept state that is nearer.
+   * where it is, or from the last checkpoint that is nearer.
    */
-  approach(steps, milliseconds = Infinity) {
-    const from = this.session.keptBefore(steps);
+  seek(steps, milliseconds = Infinity) {
+    const from = this.session.checkpointBefore(steps);
     if (this.at < 0 || this.at > steps || this.at < from.at) this.restore(from);
     const until = performance.now() + milliseconds;
     for (let now = 0; this.at < steps && now < until; now = performance.now()) {

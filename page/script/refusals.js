@@ -1,13 +1,16 @@
 // Why a step was refused, in words: what its answer means in the state before it (docs/REPORT.md,
 // "Refusals").
-import { hex } from "../common/bytes.js";
+import { said } from "./said.js";
+import { WORDINGS } from "./wordings.js";
 
-const WINDOWS = [[0xa0000, 0xbffff], [0xa0000, 0xaffff], [0xb0000, 0xb7fff], [0xb8000, 0xbffff]];
-const READ_ALONE = [0x3c1, 0x3ca, 0x3cc];
-const READ_AND_WRITTEN = [0x3c0, 0x3c2, 0x3c3, 0x3c4, 0x3c5, 0x3c6, 0x3c7, 0x3c8, 0x3c9, 0x3ce, 0x3cf];
-const CRT_PORTS = [0x3b4, 0x3b5, 0x3ba, 0x3d4, 0x3d5, 0x3da];
-const LEFT_OUT = { 0x3c2: "input status 0", 0x3c3: "subsystem enable", 0x3c7: "the DAC state",
-  0x3ca: "feature control" };
+const portsOf = which => WORDINGS.ports[which].map(port => parseInt(port, 16));
+const WINDOWS = WORDINGS.ports.windows.map(ends => ends.map(end => parseInt(end, 16)));
+const [READ_ALONE, READ_AND_WRITTEN, CRT_PORTS] =
+  ["read alone", "read and written", "of the CRT controller"].map(portsOf);
+const LEFT_OUT = Object.fromEntries(Object.entries(WORDINGS.ports["left out"])
+  .map(([port, name]) => [parseInt(port, 16), name]));
+const MOST_ADVANCE = 1 << 24;
+const why = (which, values) => said("refusals", which, values);
 /** The sections of docs/SERVICES.md by AH. */
 export const SERVICE_ANCHORS = { 0: "00-set-a-mode", 1: "01-set-the-cursors-scan-lines",
   2: "02-set-the-cursor-position",
@@ -25,21 +28,18 @@ const ofRegisters = (text, anchor, title) => ({ text, link: link("REGISTERS.md",
 function portNotDecoded(port, isWrite, registers) {
   const base = registers.misc & 1 ? 0x3d4 : 0x3b4, bit = registers.misc & 1;
   if (CRT_PORTS.includes(port) && (port & 0xff0) !== (base & 0xff0)) {
-    return `The CRT controller is at ${hex(base, 3)} now, since bit 0 of miscellaneous output is ${bit}. ` +
-      `There, port ${hex(port, 3)} is ${hex(port ^ 0x60, 3)}.`;
+    return why("CRT controller elsewhere", { base, bit, port, other: port ^ 0x60 });
   }
   if (CRT_PORTS.includes(port)) return null;
-  if (READ_ALONE.includes(port)) return isWrite ? `Port ${hex(port, 3)} can be read, and not written.` : null;
-  return READ_AND_WRITTEN.includes(port) ? null : `No part of the adapter decodes port ${hex(port, 3)}.`;
+  if (READ_ALONE.includes(port)) return isWrite ? why("read alone", { port }) : null;
+  return READ_AND_WRITTEN.includes(port) ? null : why("no port", { port });
 }
 
 /** Why an address is not decoded; null where it is. */
 function addressNotDecoded(address, registers) {
-  if (!(registers.misc & 2)) return "Display memory is off: enable RAM, bit 1 of miscellaneous output, is 0.";
-  const map = registers.gfx[6] >> 2 & 3, [from, to] = WINDOWS[map];
-  if (address >= from && address <= to) return null;
-  return `Memory map is ${map} (graphics controller 6, bits 3-2), and it decodes ${hex(from, 5)} to ` +
-    `${hex(to, 5)}. ${hex(address, 5)} lies outside.`;
+  if (!(registers.misc & 2)) return why("memory off");
+  const map = registers.gfx[6] >> 2 & 3, [first, last] = WINDOWS[map];
+  return address >= first && address <= last ? null : why("outside", { map, first, last, address });
 }
 
 function notDecoded(name, numbers, registers) {
@@ -53,7 +53,10 @@ function notDecoded(name, numbers, registers) {
   return ofRegisters(text, "ports", "all ports");
 }
 
-/** The register that a data port is for: { group, index, anchor, count }; null where the port is none. */
+/**
+ * The register that a data port is for: { group, index, anchor, count }; null where the port is
+ * none.
+ */
 function dataPort(port, registers, index) {
   const base = registers.misc & 1 ? 0x3d4 : 0x3b4;
   const groups = {
@@ -70,35 +73,29 @@ function dataPort(port, registers, index) {
 
 function refusedValue({ group, index }, value) {
   if (group === "graphics controller" && index === 5 && value & 32) {
-    return "Bit 5 of graphics mode, shift register mode, is left out of the adapter, so it can't be 1.";
+    return why("bit 5", { name: "graphics mode, shift register mode" });
   }
   if (group === "CRT controller" && index === 0x14 && value & 32) {
-    return "Bit 5 of underline location, count by four, is left out of the adapter, so it can't be 1.";
+    return why("bit 5", { name: "underline location, count by four" });
   }
-  if (group === "CRT controller" && index === 0x17) {
-    return "In mode control of the CRT controller bits 0 and 1 must be 1, and bits 2 and 3 must be 0.";
-  }
-  return null;
+  return group === "CRT controller" && index === 0x17 ? why("mode control") : null;
 }
 
 /**
- * Why a cycle of a port is out of the profile; null where it is not. `index` is one that the cycle before has
- * picked.
+ * Why a cycle of a port is out of the profile; null where it is not. `index` is one that the cycle
+ * before has picked.
  */
 function portNotInProfile(port, value, registers, index) {
   const isWrite = value !== null, data = dataPort(port, registers, index);
   const isFeature = isWrite && (port & 0xf0f) === 0x30a && port !== 0x3ca;
-  if (isFeature) return ofRegisters("Feature control is left out of the adapter.", "ports", "all ports");
+  if (isFeature) return ofRegisters(why("feature control"), "ports", "all ports");
   if (LEFT_OUT[port] && (!isWrite || port === 0x3c3)) {
-    return ofRegisters(`Port ${hex(port, 3)} would be ${LEFT_OUT[port]}, which is left out of the adapter.`,
-      "ports", "all ports");
+    return ofRegisters(why("left out", { port, name: LEFT_OUT[port] }), "ports", "all ports");
   }
   if (!data) return null;
   if (data.index >= data.count) {
-    const last = hex(data.count - 1, 1);
-    return ofRegisters(
-      `The index of the ${data.group} is ${hex(data.index, 2)}, and its registers end at ${last}.`,
-      data.anchor, data.group);
+    const { group, index, count } = data;
+    return ofRegisters(why("index", { group, index, last: count - 1 }), data.anchor, group);
   }
   const text = isWrite ? refusedValue(data, value) : null;
   return text && ofRegisters(text, data.anchor, data.group);
@@ -115,21 +112,16 @@ function notInProfile(name, numbers, registers) {
 
 /** What the refusals of calls mean, E3 to E11 and E13. */
 const OF_CALLS = {
-  3: () => "No mode is set yet. `int ax=3` sets text of 80 by 25 cells, `int ax=13` 256 colours.",
-  4: ({ ax, bx }) => `The video BIOS has no function ${hex(ax >> 8, 2)}, ` +
-    `or not with AL ${hex(ax & 255, 2)} and BL ${hex(bx & 255, 2)}.`,
-  5: ({ ax }) => `There is no mode ${hex(ax & 127, 2)}. ` +
-    "The modes are 03, 07, 0D, 10, 12 and 13; bit 7 of AL keeps the memory.",
-  6: (_, { mode }) => `Mode ${hex(mode, 2)} is ` +
-    (mode === 3 || mode === 7 ? "text, and this wants graphics." : "graphics, and this wants text."),
-  7: ({ ax, bx }, { mode }) =>
-    `Mode ${hex(mode, 2)} has no page ${hex(ax >> 8 === 5 ? ax & 255 : bx >> 8, 2)}.`,
-  8: () => "A dot or a place of the cursor lies outside the screen.",
-  9: ({ cx }) => `A count of ${hex(cx, 4)} goes past the last cell of the page, or past the last character.`,
-  10: ({ bx, cx }) =>
-    `There is no such palette register or entry of the DAC: BX is ${hex(bx, 4)}, CX is ${hex(cx, 4)}.`,
-  11: () => "The block has another length than this function takes.",
-  13: ({ bx }) => `Glyphs have 8, 14 or 16 scan lines (08, 0E, 10), and BH is ${hex(bx >> 8, 2)}.`,
+  3: () => why("3"),
+  4: ({ ax, bx }) => why("4", { function: ax >> 8, al: ax & 255, bl: bx & 255 }),
+  5: ({ ax }) => why("5", { mode: ax & 127 }),
+  6: (_, { mode }) => why(mode === 3 || mode === 7 ? "6 in text" : "6 in graphics", { mode }),
+  7: ({ ax, bx }, { mode }) => why("7", { mode, page: ax >> 8 === 5 ? ax & 255 : bx >> 8 }),
+  8: () => why("8"),
+  9: ({ cx }) => why("9", { count: cx }),
+  10: ({ bx, cx }) => why("10", { bx, cx }),
+  11: () => why("11"),
+  13: ({ bx }) => why("13", { rows: bx >> 8 }),
 };
 
 function registersOfCall(words) {
@@ -142,18 +134,18 @@ function registersOfCall(words) {
 }
 
 /**
- * Why a step with these words was refused with this answer in a state: { text, link: { page, anchor, title }
- * }.
+ * Why a step with these words was refused with this answer in a state: { text, link: { page,
+ * anchor, title } }.
  */
 export function whyRefused(words, answer, state) {
   const [name, ...others] = words.toLowerCase().split(" "), number = Number(answer.slice(1).split(" ")[0]);
   const general = { text: "", link: link("REPORT.md", "refusals", "refusals") };
   const numbers = others.map(word => parseInt(word, 16)), { registers } = state;
-  if (number === 12) return { ...general, text: "An advance has at most 16,777,216 dots." };
+  if (number === 12) return { ...general, text: why("advance", { most: MOST_ADVANCE }) };
   if (number === 1) return notDecoded(name, numbers, registers);
   if (number === 2) return notInProfile(name, numbers, registers) ?? general;
   if (name === "show") return { ...general, text: number === 3 ? OF_CALLS[3]()
-    : "Cells are shown in text, and the mode is graphics." };
+    : why("cells") };
   const call = registersOfCall(others), anchor = SERVICE_ANCHORS[call.ax >> 8] ?? "refusals";
   return { text: OF_CALLS[number]?.(call, state.bda) ?? "",
     link: link("SERVICES.md", anchor, "the function") };

@@ -38,7 +38,7 @@ function randomScript(random, count) {
 /** The states after each step of a session. */
 function statesOf(session) {
   return Array.from({ length: session.length + 1 }, (_, steps) => {
-    session.approach(steps);
+    session.seek(steps);
     return session.state();
   });
 }
@@ -167,7 +167,7 @@ test("the last step that changed a dot", () => {
 test("what is seen of a dot: drawn by the last step, to be drawn, or told by the registers as they stand", () => {
   const session = runWhole(new Session(adapter, FONTS, "int ax=13\nadvance 8000\nout 3C6 0F\nadvance 8000\nframe"));
   const seenAt = steps => {
-    session.approach(steps - 1);
+    session.seek(steps - 1);
     return session.seen(steps);
   };
   const how = (steps, line) => dotOfSeen(seenAt(steps), { line, dot: 3 })?.how;

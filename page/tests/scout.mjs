@@ -12,8 +12,8 @@ function holdStates(text, parts) {
   const session = runWhole(new Session(adapter, FONTS, text)), { scout } = session;
   for (const part of parts) {
     const steps = Math.floor(session.length * part);
-    assert.ok(session.approach(steps));
-    assert.ok(scout.approach(steps));
+    assert.ok(session.seek(steps));
+    assert.ok(scout.seek(steps));
     assert.equal(scout.at, steps);
     assert.ok(Buffer.compare(session.card.save(), scout.card.save()) === 0, `after step ${steps}`);
   }

@@ -125,7 +125,7 @@ class Table(unittest.TestCase):
         self.assertEqual(int(defined["SCRIPT_MOST"].rstrip("u")), MOST_BYTES)
 
     def test_the_copy_of_the_page(self) -> None:
-        source = (TOP / "page" / "grammar.js").read_text("utf-8")
+        source = (TOP / "page" / "script" / "grammar.js").read_text("utf-8")
         for name in (*SHOWN, *BLOCK_LINES, *(name for name in FORMS if " " not in name and name != "int")):
             self.assertRegex(source, rf"\b{name}: \[", name)
         self.assertEqual(set(map(int, re.findall(r"MOST_\w+ = (\d+);", source))), {MOST_STEPS})

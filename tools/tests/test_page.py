@@ -9,7 +9,6 @@ import shutil
 import sys
 import tempfile
 import unittest
-from functools import partial
 from html.parser import HTMLParser
 from pathlib import Path
 from typing import Any, Mapping, Optional
@@ -75,7 +74,7 @@ class Joining(Folder):
         ))
 
 
-class Pages(unittest.TestCase):
+class Pages(Folder):
     @needs_esbuild
     def test_the_page_as_built(self) -> None:
         # It holds the order of modules, the place of each part, and what the page is given.
@@ -100,6 +99,12 @@ class Pages(unittest.TestCase):
         self.assertEqual(len(make_page(b"", small_sources(fits))), page.MOST_BYTES)
         told = refused(make_page, b"", small_sources(f"{fits}x"))
         self.assertEqual(told, "zaklimot.html: it would have 800,001 bytes, and 800,000 are the most")
+
+    def test_the_words_that_the_page_shares_with_the_tools(self) -> None:
+        made = self.folder / "wordings.js"
+        status, _, said = call(command.main, "wordings", made)
+        self.assertEqual((status, said), (0, ""))
+        self.assertEqual(made.read_bytes(), (page.SOURCES / "script" / "wordings.js").read_bytes())
 
     def test_what_an_example_is_about(self) -> None:
         hold(self, about, (

@@ -1,6 +1,7 @@
 """Why steps are refused, why lines are no steps and texts no scripts: in the page's words, for the same cases."""
 
 import json
+import re
 import unittest
 from pathlib import Path
 from typing import Sequence
@@ -8,7 +9,8 @@ from typing import Sequence
 from vga_report import TOP
 from vga_report.faults import explained
 from vga_report.mistakes import mistake_in
-from vga_report.registers import OF_CALLS, Registers, why_refused
+from vga_report.registers import MODES, OF_CALLS, Registers, why_refused
+from vga_report.wordings import WORDINGS
 from zaklimot.format import REFUSALS, Answer
 
 from .tools import Folder, hold, run_texts
@@ -50,6 +52,10 @@ class Refusals(unittest.TestCase):
     def test_there_is_one_of_each(self) -> None:
         self.assertEqual({case["answer"] for case in CASES}, {f"E{number} {name}" for number, name in REFUSALS.items()})
         self.assertEqual({1, 2, 12} | set(OF_CALLS), set(REFUSALS))
+
+    def test_the_modes_are_named(self) -> None:
+        named = re.findall(r"\b[0-9A-F]{2}\b", WORDINGS["refusals"]["5"])
+        self.assertEqual(named, [f"{mode:02X}" for mode in MODES])
 
     def test_what_the_adapter_does_not_refuse_so(self) -> None:
         behind = state_behind(["int ax=3", "out 3C0 1F", "in 3DA", "in 3DA", "out 3C0 5"])

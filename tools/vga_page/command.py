@@ -12,7 +12,7 @@ from vga_report.trouble import Trouble
 from vga_report.words import number_to
 
 from .making import MOST_MODULE, check_module, made_modules
-from .page import MOST_BYTES, examples, make_page, read_sources
+from .page import MOST_BYTES, examples, make_page, read_sources, wordings_module
 
 MOST_MEBIBYTES = 4096
 
@@ -36,6 +36,9 @@ def _parser() -> argparse.ArgumentParser:
     cli.add(made, "--memory MIB", told, type=lambda word: number_to(MOST_MEBIBYTES)(word) * MEBIBYTE)
     cli.add_proof(made, usually=usually)
     made.set_defaults(module=None)
+    told = "Makes the page's copy of tools/vga_report/wordings.json, as a module."
+    made = cli.command(commands, "wordings", _wordings, "makes the page's copy of the tools' words", description=told)
+    cli.add(made, "FILE", "the module, page/script/wordings.js in the repository")
     return parser
 
 
@@ -69,6 +72,11 @@ def _make(words: argparse.Namespace, progress: Progress) -> None:
 def _module(words: argparse.Namespace, progress: Progress) -> None:
     module = _made_module(words, progress)
     _write(words.file, module, check_module(module))
+
+
+def _wordings(words: argparse.Namespace, _: Progress) -> None:
+    check_file(words.file)
+    _write(words.file, wordings_module().encode("utf-8"), "written")
 
 
 # Runs a command line, and answers its exit status.

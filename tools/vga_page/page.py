@@ -15,13 +15,14 @@ from itertools import takewhile
 from pathlib import Path
 from typing import Any, NamedTuple
 
-from vga_report import TOP
-from vga_report.version import version
 from vga_library.making import FONTS
+from vga_report import TOP
 from vga_report.debugging import PAGE, data_element
 from vga_report.processes import check_program, ended_well
 from vga_report.streams import to_read
 from vga_report.trouble import Trouble
+from vga_report.version import version
+from vga_report.wordings import WORDINGS
 
 SOURCES = PAGE.parent
 EXAMPLES = TOP / "examples"
@@ -38,6 +39,8 @@ ESBUILD = "esbuild"
 TARGETS = "chrome103,firefox113,safari16.4"
 # The joining takes a fraction of a second.
 MOST_SECONDS = 60
+WORDINGS_HEAD = """// Made of tools/vga_report/wordings.json by `tools/vga-page wordings page/script/wordings.js`.
+/** The words of bad lines, faults and refusals, and the registers by name, bit and field. */"""
 # What a browser takes for the end of a page's script, or for a comment that hides it.
 ENDING = re.compile(r"</script|<!--", re.I)
 
@@ -74,6 +77,12 @@ def read_sources(folder: Path = SOURCES) -> Sources:
     """The sources of a folder."""
     frame, style = (Path(to_read(str(folder / name))).read_text("utf-8") for name in ("index.html", "style.css"))
     return Sources(frame, style, joined(folder))
+
+
+def wordings_module() -> str:
+    """The module `page/script/wordings.js`: the table that the tools read, as the page has it."""
+    table = json.dumps(WORDINGS, ensure_ascii=False, indent=2)
+    return f"{WORDINGS_HEAD}\nexport const WORDINGS = {table};\n"
 
 
 def about(text: str) -> str:

@@ -1,6 +1,6 @@
 """Answers that a script expects, held against those that came; what differs in a dump is told by name.
 
-The names of registers are those of page/module/registers.js; page/tests/registers.mjs holds the two together.
+The names of registers are those of the page.
 """
 
 from __future__ import annotations
@@ -16,6 +16,7 @@ from zaklimot.format import BLOCK_LINES, READING, REGISTERS, Answer
 
 from .mistakes import text_of
 from .trouble import Trouble
+from .wordings import WORDINGS
 
 # What a comment begins with that tells the answer which is expected; and what any answer meets.
 MARK, MARK_BYTE, ANY = "=", ord("="), "*"
@@ -26,22 +27,10 @@ BLOCK_WORDS = {name.encode() for name in BLOCK_LINES}
 STEPLESS = b" \t\r\n\v\f;" + "".join(name[0] + name[0].upper() for name in BLOCK_LINES).encode()
 FRONT = "..."
 REFUSAL = re.compile(r"(E[1-9][0-9]?) [A-Za-z]+")
-_PALETTE = [f"palette {number:X}" for number in range(16)]
-_HIDDEN, _BLANKING = ["horizontal blanking and retrace"] * 4, ["vertical blanking"] * 2
 # The registers that `show regs` shows, by the word that their line begins with.
 NAMES = {
-    "seq": ["reset", "clocking mode", "map mask", "character map select", "memory mode"],
-    "crtc": [
-        "horizontal total", "horizontal display enable end", *_HIDDEN, "vertical total", "overflow", "preset row scan",
-        "maximum scan line", "cursor start", "cursor end", "start address high", "start address low",
-        "cursor location high", "cursor location low", "vertical retrace start", "vertical retrace end",
-        "vertical display enable end", "offset", "underline location", *_BLANKING, "mode control", "line compare",
-    ],
-    "gfx": [
-        "set/reset", "enable set/reset", "colour compare", "data rotate", "read map select", "graphics mode",
-        "miscellaneous", "colour don't care", "bit mask",
-    ],
-    "attr": [*_PALETTE, "mode control", "overscan", "colour plane enable", "horizontal panning", "colour select"],
+    group["id"]: [register["name"] for register in group["registers"]]
+    for group in WORDINGS["registers"] if group["id"] != "misc"
 }
 COLOURS = ("red", "green", "blue")
 # The words before the numbers of a line: of registers, of cells, of a DAC entry, of a plane from an offset on.

@@ -1,5 +1,6 @@
 """What a fault of the program means, in the file where it arose: the program judges, and this looks for the reason."""
 
+from functools import partial
 from typing import Optional
 
 from zaklimot.format import (
@@ -10,15 +11,13 @@ from zaklimot.format.table import END_CODE, REPEAT_CODE
 from .mistakes import Mistake, marked_lines, mistake_among_lines, mistake_in, text_of
 from .streams import read_at_most
 from .trouble import Trouble
+from .wordings import WORDINGS, said
 
-UNKNOWN = "refused, and I can't say why"
-NO_SCRIPT = "this is no script"
-WITHOUT_MARK = "save the text as UTF-8 without it"
+# What is said of a file, and of a fault; the page says the same.
+_of_file, _of_fault = (partial(said, part) for part in ("files", "faults"))
+UNKNOWN = said("lines", "unknown")
 # Files of other kinds, by what they begin with; bytes that no text has; and how much of a file's front is looked at.
-FOREIGN = {
-    b"\x89PNG": "a PNG image", b"GIF8": "a GIF image", b"\xff\xd8\xff": "a JPEG image", b"P6": "a PPM image",
-    b"\x1f\x8b": "a file packed by gzip", b"PK\x03\x04": "a ZIP archive", b"\x7fELF": "a program",
-}
+FOREIGN = {bytes.fromhex(begin): what for begin, what in WORDINGS["foreign"]}
 CONTROLS, LOOKED_AT = set(range(32)) - set(b"\t\n\v\f\r"), 200
 SHOWS = FORMS["show regs"].opcode
 TOO_LONG = f"F6 TooLong: a script has at most {MOST_BYTES:,} bytes"
@@ -81,23 +80,24 @@ def reason_of(name: str, place: Optional[int], data: bytes) -> str:
     if name == "BadLine" and place is not None:
         return _bad_line(data, place)
     if name == "TooLong":
-        what = "file has" if len(data) > MOST_BYTES else "steps of the text have"
-        return f"the {what} more bytes, and {MOST_BYTES:,} bytes are the most"
+        what = _of_fault("file has" if len(data) > MOST_BYTES else "steps have")
+        return _of_fault("too long", what=what, most=MOST_BYTES)
     if name == "BadMagic":
         none = not_a_script(data)
-        looks = "this looks like a text, which `vga go` runs" if data and none is None else none or NO_SCRIPT
-        begins = " ".join(f"{byte:02X}" for byte in data[:4]) or "nothing"
-        return f"a script of bytes begins with 56 47 41 53, VGAS, and not with {begins}: {looks}"
+        looks = _of_file("a text") if data and none is None else none or _of_file("no script")
+        begins = " ".join(f"{byte:02X}" for byte in data[:4]) or _of_fault("nothing")
+        return _of_fault("magic", begins=begins, looks=looks)
     if name == "BadVersion":
-        return f"the version, byte 4, is {data[4]:02X}, and there are {' and '.join(f'{version:02X}' for version in HEADERS)}"
+        versions = " and ".join(f"{version:02X}" for version in HEADERS)
+        return _of_fault("version", version=data[4], versions=versions)
     if name == "TooMany":
-        at = "" if place is None else f" at {place}"
-        return f"with the repeat or step{at} the script means more than {MOST_STEPS:,} steps"
+        name = "too many anywhere" if place is None else "too many"
+        return _of_fault(name, place=place, most=MOST_STEPS)
     if name == "Truncated" and place is not None:
         if place >= len(data):
-            return "nothing stands after the magic: the version is lacking"
-        step = f"the step {OPCODES.get(data[place], '')} at offset {place}"
-        return f"{step} is cut off: the file ends after {len(data) - place} of its bytes"
+            return _of_fault("no version")
+        name = OPCODES.get(data[place], "")
+        return _of_fault("cut off", name=name, place=place, count=len(data) - place)
     return _bad_step(data, place) if name == "BadStep" and place is not None else UNKNOWN
 
 
@@ -117,16 +117,16 @@ def _bad_line(data: bytes, number: int) -> str:
 def _wrong_whole(data: bytes) -> Optional[str]:
     """What is wrong with a text as a whole that its first line shows."""
     if data.startswith(MAGIC):
-        return "this is a script of bytes: `vga run` runs it, and `vga dis` prints it as text"
+        return _of_file("bytes")
     if _is_utf_16(data):
-        return "the text is UTF-16, of two bytes a letter: save it as UTF-8 or ASCII"
+        return _of_file("UTF-16")
     if data.startswith(b"\xef\xbb\xbf"):
-        return f"the text begins with a byte order mark: {WITHOUT_MARK}"
+        return _of_file("byte order mark")
     none = not_a_script(data)
     if none is not None:
         return none
     if b"\n" not in data and b"\r" in data.strip():
-        return "lines end with a newline, and this text has carriage returns alone: it is one line"
+        return _of_file("carriage returns")
     return None
 
 
@@ -134,12 +134,12 @@ def not_a_script(data: bytes) -> Optional[str]:
     """What a file is that is neither a text nor bytes of a script; None where it may be one."""
     for begin, what in FOREIGN.items():
         if data.startswith(begin):
-            return f"this is not a script, but {what}"
+            return _of_file("foreign", what=what)
     if not data or not CONTROLS & set(data[:LOOKED_AT]):
         return None
     if len(data) == FONT_BYTES:
-        return "this is not a script, but a font file"
-    return "this is not a script: it has bytes that no text has"
+        return _of_file("foreign", what=_of_file("font file"))
+    return _of_file("no text")
 
 
 def _is_utf_16(data: bytes) -> bool:
@@ -155,13 +155,12 @@ def _bad_step(data: bytes, place: int) -> str:
         return UNKNOWN
     opcode, kind = data[place], data[place + 1:place + 2]
     if opcode in (REPEAT_CODE, END_CODE) and data[4:5] == b"\2":
-        wrong = "counts 0 or stands in another repeat" if opcode == REPEAT_CODE else "stands outside a repeat"
-        return f"the {OPCODES[opcode]} at offset {place} {wrong}"
-    front = f"at offset {place} stands"
+        name = "bad repeat" if opcode == REPEAT_CODE else "bad end"
+        return _of_fault(name, name=OPCODES[opcode], place=place)
     if opcode not in OPCODES or opcode in (REPEAT_CODE, END_CODE):
-        return f"{front} {opcode:02X}, which is no opcode: 01 to {SHOWS:02X} are; the bytes before it may be at fault"
+        return _of_fault("no opcode", place=place, opcode=opcode, last=SHOWS)
     if opcode == SHOWS and kind and kind[0] >= len(SHOWN):
-        return f"{front} a show of kind {kind[0]:02X}, and the kinds are 00 to {len(SHOWN) - 1:02X}"
+        return _of_fault("no kind", place=place, kind=kind[0], last=len(SHOWN) - 1)
     if opcode == SHOWS:
-        return f"{front} a show plane with a plane above 3, no bytes, more than 256, or past the plane's end"
+        return _of_fault("bad plane", place=place)
     return UNKNOWN

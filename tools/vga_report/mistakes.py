@@ -8,6 +8,7 @@ from __future__ import annotations
 
 import difflib
 import re
+from functools import partial
 from io import BytesIO
 from typing import Iterator, Optional, Sequence
 
@@ -15,6 +16,8 @@ from zaklimot.format import (
     BLOCK, BLOCK_LINES, END, FIRST_LINE, FORMS, MOST_BLOCK, MOST_STEPS, PLANE_BYTES, REGISTERS, REPEAT, SHOWN, Field,
     lines_in,
 )
+
+from .wordings import said
 
 WORD = re.compile(r"[^ \t\r]+")
 HEX = re.compile(r"[0-9A-Fa-f]+")
@@ -29,6 +32,8 @@ PUNCTUATION = ",;:."
 # The steps whose name is one word, with numbers alone behind it; and the first words of all lines.
 SHAPES = {name: form.fields for name, form in FORMS.items() if " " not in name and not form.has_block}
 NAMES = [*SHAPES, "int", "show", *BLOCK_LINES]
+# What is said of a line; the page says the same.
+_said = partial(said, "lines")
 # A word of a line, and where it begins.
 Word = re.Match[str]
 
@@ -71,28 +76,28 @@ def mistake_among_lines(data: bytes, number: int) -> Optional[str]:
     if line is None:
         return None
     if line.name == "version":
-        return f"{FIRST_LINE} stands once, before every other line" if line is not lines[0] else None
+        return _said("version twice", version=FIRST_LINE) if line is not lines[0] else None
     if line.name in BLOCK_LINES and not lines[0].has_blocks:
-        return f"repeats are of version 2: write {FIRST_LINE} before every other line"
+        return _said("repeats of version 2", version=FIRST_LINE)
     opened = None
     for other in lines[:lines.index(line)]:
         opened = other if other.name == REPEAT else None if other.name == END else opened
     if line.name == END and opened is None:
-        return "no repeat is open here"
+        return _said("no repeat")
     if line.name == REPEAT and opened is not None:
-        return f"a repeat contains no other, and the one of line {opened.number} is open here"
+        return _said("repeat in a repeat", line=opened.number)
     if line.name != REPEAT:
         return None
     has_end = any(other.name == END for other in lines[lines.index(line):])
-    return f"with this repeat the script means more than {MOST_STEPS:,} steps" if has_end else "the repeat has no end"
+    return _said("long repeat", most=MOST_STEPS) if has_end else _said("no end")
 
 
 def _heed_odd_byte(word: Word) -> None:
     for at, character in enumerate(word[0]):
         if not "!" <= character <= "~":
             code = f"U+{ord(character):04X}" if ord(character) < 0xDC80 else f"byte {ord(character) - 0xDC00:02X}"
-            what = "that looks like a blank is none" if character.isspace() else "stands in no step"
-            raise Mistake(word.start() + at, 1, f"the character {code} {what}; blanks are the space and the tab")
+            name = "odd blank" if character.isspace() else "odd character"
+            raise Mistake(word.start() + at, 1, _said(name, code=code))
 
 
 def _heed_step(words: Sequence[Word], end: int) -> None:
@@ -103,7 +108,7 @@ def _heed_step(words: Sequence[Word], end: int) -> None:
     elif name == "show":
         _heed_show(words, end)
     elif name == "version" and [word[0] for word in words[1:]] != ["2"]:
-        raise _wrong(words[-1], f"there is no such version: write {FIRST_LINE}, or nothing for version 1")
+        raise _wrong(words[-1], _said("no version", version=FIRST_LINE))
     elif numbers is None:
         raise _unknown_step(words[0])
     else:
@@ -113,16 +118,21 @@ def _heed_step(words: Sequence[Word], end: int) -> None:
 def _unknown_step(word: Word) -> Mistake:
     text = word[0].lower()
     if text.startswith(COMMENT_SIGNS) or text in COMMENT_WORDS:
-        return _wrong(word, "comments begin with ;")
+        return _wrong(word, _said("comment"))
     if text.rstrip(PUNCTUATION) in NAMES:
-        return _wrong(word, f"nothing stands after the name of a step but blanks: write {text.rstrip(PUNCTUATION)}")
+        return _wrong(word, _said("after a name", name=text.rstrip(PUNCTUATION)))
     longest = sorted((name for name, numbers in SHAPES.items() if numbers), key=len, reverse=True)
     glued = next((name for name in longest if text.startswith(name)), None)
     if glued and HEX.fullmatch(text[len(glued):]) and len(text) > len(glued) + 1:
-        return _wrong(word, f"a blank stands between words: write {glued} {word[0][len(glued):]}")
-    near = difflib.get_close_matches(text, NAMES, 1)
-    hint = f"did you mean {near[0]}?" if near else f"the steps are {', '.join(NAMES)}"
-    return _wrong(word, f"there is no step '{_short(word[0])}'; {hint}")
+        return _wrong(word, _said("no blank", name=glued, rest=word[0][len(glued):]))
+    hint = _near(text, NAMES) or _said("all steps", names=", ".join(NAMES))
+    return _wrong(word, _said("no step", word=_short(word[0]), hint=hint))
+
+
+def _near(text: str, names: Sequence[str]) -> str:
+    """The question whether the nearest of some names was meant; empty where none is near."""
+    near = difflib.get_close_matches(text, names, 1)
+    return _said("did you mean", near=near[0]) if near else ""
 
 
 def _heed_numbers(form: str, numbers: Sequence[Field], words: Sequence[Word], end: int) -> None:
@@ -130,15 +140,16 @@ def _heed_numbers(form: str, numbers: Sequence[Field], words: Sequence[Word], en
     for number, word in zip(numbers, words):
         (_heed_digits if number.digits else _heed_decimal)(number, word, word[0])
     if len(words) < len(numbers):
-        raise Mistake(end, 1, f"{numbers[len(words)].name} is lacking: {usage}")
+        raise Mistake(end, 1, _said("lacking", name=numbers[len(words)].name, usage=usage))
     if len(words) > len(numbers):
         raise _word_too_many(words[len(numbers)], usage)
 
 
 def _word_too_many(word: Word, usage: str) -> Mistake:
     if word[0].startswith(COMMENT_SIGNS):
-        return _wrong(word, "comments begin with ;")
-    return _wrong(word, f"a word too many: {'one step stands on a line' if word[0].lower() in NAMES else usage}")
+        return _wrong(word, _said("comment"))
+    usage = _said("one step") if word[0].lower() in NAMES else usage
+    return _wrong(word, _said("too many", usage=usage))
 
 
 def _cleaned(text: str) -> Optional[str]:
@@ -156,23 +167,24 @@ def _heed_digits(number: Field, word: Word, text: str) -> None:
         if len(text) <= number.digits:
             return _heed_range(number, word, int(text, 16))
         cut = text.lstrip("0") or "0"
-        hint = f": write {cut}" if len(cut) <= number.digits else ""
-        most = "1 digit is" if number.digits == 1 else f"{number.digits} digits are"
-        raise _wrong(word, f"{number.name} has {len(text)} digits, and {most} the most{hint}")
+        hint = _said("write", text=cut) if len(cut) <= number.digits else ""
+        name = "one digit" if number.digits == 1 else "digits"
+        raise _wrong(word, _said(name, name=number.name, count=len(text), most=number.digits, hint=hint))
     if not text:
-        raise _wrong(word, f"{number.name} has no digits")
+        raise _wrong(word, _said("no digits", name=number.name))
     cleaned = _cleaned(text)
     if cleaned is not None and len(cleaned) <= number.digits:
-        raise _wrong(word, f"numbers are hexadecimal digits alone: write {cleaned.upper()}")
+        raise _wrong(word, _said("other digits", digits=cleaned.upper()))
     if text[0] in "+-":
-        raise _wrong(word, "a number has no sign")
+        raise _wrong(word, _said("sign"))
     wrong = next(character for character in text if not HEX.fullmatch(character))
-    raise _wrong(word, f"{number.name} is a hexadecimal number, and '{wrong}' is no digit of one")
+    raise _wrong(word, _said("no digit", name=number.name, letter=wrong))
 
 
 def _heed_range(number: Field, word: Word, value: int) -> None:
     if not number.least <= value <= number.most:
-        raise _wrong(word, f"{number.name} is from {number.shown(number.least)} to {number.shown(number.most)}")
+        least, most = number.shown(number.least), number.shown(number.most)
+        raise _wrong(word, _said("range", name=number.name, least=least, most=most))
 
 
 def _heed_decimal(number: Field, word: Word, text: str) -> None:
@@ -180,27 +192,26 @@ def _heed_decimal(number: Field, word: Word, text: str) -> None:
         return _heed_range(number, word, int(text) if len(text) < 100 else number.most + 1)
     parted = text.strip(PUNCTUATION).replace(",", "").replace("_", "").replace("'", "")
     if parted.isdigit():
-        raise _wrong(word, f"{number.name} is decimal digits alone: write {parted}")
+        raise _wrong(word, _said("other decimal digits", name=number.name, digits=parted))
     hexadecimal = _cleaned(text)
     if hexadecimal is not None:
-        raise _wrong(word, f"{number.name} is decimal, and not hexadecimal: write {int(hexadecimal, 16)}")
-    raise _wrong(word, "a number has no sign" if text[0] in "+-" else f"{number.name} is a decimal number")
+        raise _wrong(word, _said("not hexadecimal", name=number.name, digits=int(hexadecimal, 16)))
+    raise _wrong(word, _said("sign") if text[0] in "+-" else _said("no decimal", name=number.name))
 
 
 def _heed_show(words: Sequence[Word], end: int) -> None:
     names = ", ".join(SHOWN)
     if len(words) == 1:
-        raise Mistake(end, 1, f"what is to be shown is lacking: {names}")
+        raise Mistake(end, 1, _said("nothing shown", names=names))
     name = words[1][0].lower()
     if name not in SHOWN:
-        near = difflib.get_close_matches(name, SHOWN, 1)
-        hint = f"did you mean {near[0]}?" if near else f"there are {names}"
-        raise _wrong(words[1], f"nothing of the state has the name '{_short(words[1][0])}'; {hint}")
+        hint = _near(name, list(SHOWN)) or _said("all shown", names=names)
+        raise _wrong(words[1], _said("not shown", word=_short(words[1][0]), hint=hint))
     _heed_numbers(f"show {name}", SHOWN[name].fields, words[2:], end)
     if name == "plane":
         offset, count = int(words[3][0], 16), int(words[4][0])
         if offset + count > PLANE_BYTES:
-            raise _wrong(words[4], f"from {offset:04X} on the plane has {PLANE_BYTES - offset} bytes")
+            raise _wrong(words[4], _said("past the plane", offset=offset, count=PLANE_BYTES - offset))
 
 
 def _heed_call(words: Sequence[Word]) -> None:
@@ -217,50 +228,50 @@ def _place_of(word: Word, behind: Sequence[Word], last: int) -> int:
     if found is None:
         raise _no_register(word, name, behind)
     if name not in REGISTERS:
-        hint = f"; its halves are no registers of their own: write {name[0]}x"
-        raise _wrong(word, f"a call takes ax, bx, cx and dx{hint if re.fullmatch('[abcd][hl]', name) else ''}")
+        is_half = re.fullmatch("[abcd][hl]", name)
+        hint = _said("half a register", name=f"{name[0]}x") if is_half else ""
+        raise _wrong(word, _said("no such register", hint=hint))
     place = REGISTERS.index(name)
     if place <= last:
-        raise _wrong(word, f"{name} stands twice" if place == last else "registers stand in the order ax, bx, cx, dx")
+        raise _wrong(word, _said("twice", name=name) if place == last else _said("order"))
     if not found[2] and behind and (HEX.match(behind[0][0]) or FOREIGN_HEX.match(behind[0][0])):
-        raise _wrong(word, f"no blank stands around =: write {name}={behind[0][0]}")
+        raise _wrong(word, _said("blank around =", name=name, value=behind[0][0]))
     _heed_digits(FORMS["int"].fields[place], word, found[2])
     return place
 
 
 def _no_register(word: Word, name: str, behind: Sequence[Word]) -> Mistake:
     if word[0].startswith(COMMENT_SIGNS):
-        return _wrong(word, "comments begin with ;")
+        return _wrong(word, _said("comment"))
     if name in REGISTERS and behind and behind[0][0].startswith("="):
         value = behind[0][0][1:] or (behind[1][0] if len(behind) > 1 else "0")
-        return _wrong(word, f"no blank stands around =: write {name}={value}")
+        return _wrong(word, _said("blank around =", name=name, value=value))
     if name in REGISTERS:
-        return _wrong(word, f"{name} has no value: write {name}=0")
+        return _wrong(word, _said("no value", name=name))
     if HEX.fullmatch(word[0]) or FOREIGN_HEX.fullmatch(word[0]):
-        return _wrong(word, "a call is always interrupt 10, and its numbers stand after their registers: ax=3")
-    near = difflib.get_close_matches(name, [BLOCK], 1)
-    hint = f"did you mean {near[0]}?" if near else "a call has ax=, bx=, cx=, dx= and block"
-    return _wrong(word, f"'{_short(word[0])}' is no register; {hint}")
+        return _wrong(word, _said("always interrupt 10"))
+    hint = _near(name, [BLOCK]) or _said("words of a call")
+    return _wrong(word, _said("no register", word=_short(word[0]), hint=hint))
 
 
 def _heed_block(words: Sequence[Word]) -> None:
     if len(words) == 1:
-        raise _wrong(words[0], "the block has no digits; a call without a block has no word for it")
+        raise _wrong(words[0], _said("empty block"))
     digits = words[1]
     if not HEX.fullmatch(digits[0]):
         cleaned = _cleaned(digits[0].replace(",", ""))
-        hint = f": write {cleaned.upper()}" if cleaned and len(cleaned) < 40 else ""
-        raise _wrong(digits, f"a block is hexadecimal digits alone, two for each byte{hint}")
+        hint = _said("write", text=cleaned.upper()) if cleaned and len(cleaned) < 40 else ""
+        raise _wrong(digits, _said("digits of a block", hint=hint))
     if len(words) > 2 and HEX.fullmatch(words[2][0]):
-        raise _wrong(words[2], "no blank stands among the digits of a block")
+        raise _wrong(words[2], _said("blank in a block"))
     if len(words) > 2 and REGISTER.fullmatch(words[2][0]):
-        raise _wrong(words[2], "the block stands last, after the registers")
+        raise _wrong(words[2], _said("block last"))
     if len(words) > 2:
-        raise _word_too_many(words[2], "int ax=N bx=N cx=N dx=N block BYTES")
+        raise _word_too_many(words[2], _said("usage of a call"))
     if len(digits[0]) % 2:
-        raise _wrong(digits, f"a block has two digits for each byte, and these are {len(digits[0])}")
+        raise _wrong(digits, _said("odd block", count=len(digits[0])))
     if len(digits[0]) > 2 * MOST_BLOCK:
-        raise _wrong(digits, f"a block has at most {MOST_BLOCK} bytes")
+        raise _wrong(digits, _said("long block", most=MOST_BLOCK))
 
 
 def _short(text: str) -> str:

@@ -1,7 +1,7 @@
 """The registers on which the time of frames and refusals hang, as far as a script tells them; why steps are refused.
 
-The words of refusals are those of page/script/refusals.js; page/tests/refusals.mjs and tests/test_refusals.py hold both to the
-same cases.
+The words of refusals are those of the page; page/tests/refusals.mjs and tests/test_refusals.py hold both to the same
+cases.
 """
 
 from functools import lru_cache, partial
@@ -9,6 +9,8 @@ from math import prod
 from typing import Callable, Iterator, NamedTuple, Optional
 
 from zaklimot.format import MOST_ADVANCE, REGISTERS, Answer, Step, parse_line
+
+from .wordings import WORDINGS, said
 
 SEQUENCER, GRAPHICS, CRT, ATTRIBUTES = "sequencer", "graphics controller", "CRT controller", "attribute controller"
 # How many registers a group has, and the bits of its index.
@@ -25,10 +27,15 @@ PROTECTING, PROTECT = (CRT, 0x11), 0x80
 CLOCKING, TOTAL, LINES, OVERFLOW = (SEQUENCER, 1), (CRT, 0), (CRT, 6), (CRT, 7)
 # The memory map, in bits 3 and 2.
 MAP = (GRAPHICS, 6)
-WINDOWS = ((0xA0000, 0xBFFFF), (0xA0000, 0xAFFFF), (0xB0000, 0xB7FFF), (0xB8000, 0xBFFFF))
-READ_ALONE, CRT_PORTS = {0x3C1, 0x3CA, 0x3CC}, {0x3B4, 0x3B5, 0x3BA, 0x3D4, 0x3D5, 0x3DA}
-READ_AND_WRITTEN = {0x3C0, 0x3C2, 0x3C3, 0x3C4, 0x3C5, 0x3C6, 0x3C7, 0x3C8, 0x3C9, 0x3CE, 0x3CF}
-LEFT_OUT = {0x3C2: "input status 0", 0x3C3: "subsystem enable", 0x3C7: "the DAC state", 0x3CA: "feature control"}
+_PORTS = WORDINGS["ports"]
+WINDOWS = [(int(first, 16), int(last, 16)) for first, last in _PORTS["windows"]]
+READ_ALONE, READ_AND_WRITTEN, CRT_PORTS = (
+    {int(port, 16) for port in _PORTS[name]}
+    for name in ("read alone", "read and written", "of the CRT controller")
+)
+LEFT_OUT = {int(port, 16): name for port, name in _PORTS["left out"].items()}
+# Why a step is refused; the page says the same.
+_why = partial(said, "refusals")
 # Registers whose bit 5 is left out.
 LEFT_OUT_BITS = {(GRAPHICS, 5): "graphics mode, shift register mode", (CRT, 0x14): "underline location, count by four"}
 CYCLES = {name + width for name in ("out", "in", "put", "get") for width in ("", "w")}
@@ -156,13 +163,13 @@ def why_refused(words: str, number: int, state: Registers) -> str:
     if step is None:
         return ""
     if number == 12:
-        return f"An advance has at most {MOST_ADVANCE:,} dots."
+        return _why("advance", most=MOST_ADVANCE)
     if number in (1, 2):
         reason = _not_decoded if number == 1 else _not_in_profile
         # Another program than the adapter's may refuse any step so.
         return next(filter(None, (reason(state, *cycle) for cycle in _cycles(step))), "")
     if step.name == "show cells" and number == 6:
-        return "Cells are shown in text, and the mode is graphics."
+        return _why("cells")
     told = OF_CALLS.get(number)
     numbers = step.numbers if step.name == "int" else (0,) * len(REGISTERS)
     return told(dict(zip(REGISTERS, numbers)), state) if told else ""
@@ -189,23 +196,24 @@ def _cycles(step: Step) -> Iterator[tuple[bool, int, Optional[int], Optional[int
 def _not_decoded(state: Registers, is_memory: bool, place: int, value: Optional[int], _: Optional[int]) -> str:
     misc, (first, last) = state.misc or 0, WINDOWS[state.map]
     if is_memory and not misc & 2:
-        return "Display memory is off: enable RAM, bit 1 of miscellaneous output, is 0."
+        return _why("memory off")
     if is_memory:
-        told = f"Memory map is {state.map} (graphics controller 6, bits 3-2), and it decodes {first:05X} to {last:05X}."
-        return "" if first <= place <= last else f"{told} {place:05X} lies outside."
+        is_inside = first <= place <= last
+        return "" if is_inside else _why("outside", map=state.map, first=first, last=last, address=place)
     if place in CRT_PORTS:
-        told = f"The CRT controller is at {state.base:03X} now, since bit 0 of miscellaneous output is {misc & 1}."
-        return "" if place & 0xFF0 == state.base & 0xFF0 else f"{told} There, port {place:03X} is {place ^ 0x60:03X}."
+        is_here = place & 0xFF0 == state.base & 0xFF0
+        told = partial(_why, "CRT controller elsewhere", base=state.base, bit=misc & 1)
+        return "" if is_here else told(port=place, other=place ^ 0x60)
     if place in READ_ALONE:
-        return "" if value is None else f"Port {place:03X} can be read, and not written."
-    return "" if place in READ_AND_WRITTEN else f"No part of the adapter decodes port {place:03X}."
+        return "" if value is None else _why("read alone", port=place)
+    return "" if place in READ_AND_WRITTEN else _why("no port", port=place)
 
 
 def _not_in_profile(state: Registers, _: bool, port: int, value: Optional[int], picked: Optional[int]) -> str:
     if value is not None and port & 0xF0F == 0x30A and port != 0x3CA:
-        return "Feature control is left out of the adapter."
+        return _why("feature control")
     if port in LEFT_OUT and (value is None or port == 0x3C3):
-        return f"Port {port:03X} would be {LEFT_OUT[port]}, which is left out of the adapter."
+        return _why("left out", port=port, name=LEFT_OUT[port])
     # The group of the registers that a data port is for.
     groups = {0x3C5: SEQUENCER, 0x3CF: GRAPHICS, state.base + 1: CRT, 0x3C0: ATTRIBUTES, 0x3C1: ATTRIBUTES}
     if port not in groups:
@@ -214,28 +222,28 @@ def _not_in_profile(state: Registers, _: bool, port: int, value: Optional[int], 
     count, bits = COUNTS[group]
     index = state.indexes[group] if picked is None else picked & bits
     if index >= count:
-        return f"The index of the {group} is {index:02X}, and its registers end at {count - 1:X}."
+        return _why("index", group=group, index=index, last=count - 1)
     if value is not None and (group, index) == (CRT, 0x17):
-        return "In mode control of the CRT controller bits 0 and 1 must be 1, and bits 2 and 3 must be 0."
+        return _why("mode control")
     name = LEFT_OUT_BITS.get((group, index)) if value is not None and value & 32 else None
-    return f"Bit 5 of {name}, is left out of the adapter, so it can't be 1." if name else ""
+    return _why("bit 5", name=name) if name else ""
 
 
 # What the refusals of calls mean, E3 to E11 and E13.
 OF_CALLS: dict[int, Callable[[dict[str, int], Registers], str]] = {
-    3: lambda *_: "No mode is set yet. `int ax=3` sets text of 80 by 25 cells, `int ax=13` 256 colours.",
-    4: lambda call, _: f"The video BIOS has no function {call['ax'] >> 8:02X}, "
-    f"or not with AL {call['ax'] & 255:02X} and BL {call['bx'] & 255:02X}.",
-    5: lambda call, _: f"There is no mode {call['ax'] & 127:02X}. The modes are "
-    f"{', '.join(f'{mode:02X}' for mode in [*MODES][:-1])} and {[*MODES][-1]:02X}; bit 7 of AL keeps the memory.",
-    6: lambda _, state: f"Mode {state.mode or 0:02X} is "
-    + ("text, and this wants graphics." if state.mode in (3, 7) else "graphics, and this wants text."),
-    7: lambda call, state: f"Mode {state.mode or 0:02X} has no page "
-    f"{call['ax'] & 255 if call['ax'] >> 8 == 5 else call['bx'] >> 8:02X}.",
-    8: lambda *_: "A dot or a place of the cursor lies outside the screen.",
-    9: lambda call, _: f"A count of {call['cx']:04X} goes past the last cell of the page, or past the last character.",
-    10: lambda call, _: "There is no such palette register or entry of the DAC: "
-    f"BX is {call['bx']:04X}, CX is {call['cx']:04X}.",
-    11: lambda *_: "The block has another length than this function takes.",
-    13: lambda call, _: f"Glyphs have 8, 14 or 16 scan lines (08, 0E, 10), and BH is {call['bx'] >> 8:02X}.",
+    3: lambda *_: _why("3"),
+    4: lambda call, _: _why("4", function=call["ax"] >> 8, al=call["ax"] & 255, bl=call["bx"] & 255),
+    5: lambda call, _: _why("5", mode=call["ax"] & 127),
+    6: lambda _, state: _why("6 in text" if state.mode in (3, 7) else "6 in graphics", mode=state.mode or 0),
+    7: lambda call, state: _why("7", mode=state.mode or 0, page=_page_of(call)),
+    8: lambda *_: _why("8"),
+    9: lambda call, _: _why("9", count=call["cx"]),
+    10: lambda call, _: _why("10", bx=call["bx"], cx=call["cx"]),
+    11: lambda *_: _why("11"),
+    13: lambda call, _: _why("13", rows=call["bx"] >> 8),
 }
+
+
+def _page_of(call: dict[str, int]) -> int:
+    """The page that a call names: function 05 in AL, the others in BH."""
+    return call["ax"] & 255 if call["ax"] >> 8 == 5 else call["bx"] >> 8
