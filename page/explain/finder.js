@@ -43,6 +43,8 @@ export class Finder {
   /** What to tell of a step that is shown: why the page is there, if a search has found it. */
   textAt(session, steps) {
     const { found } = this;
+    // A run that is over is kept no longer.
+    if (found && found.session !== session) this.found = null;
     return found && found.session === session && found.steps === steps ? found.text : "";
   }
 }

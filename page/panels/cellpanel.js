@@ -74,7 +74,14 @@ export class CellPanel {
       "The adapter shows graphics: bit 0 of miscellaneous, graphics controller 6, is 1.");
     this.brush = this.canvas.getContext("2d", { alpha: false });
     this.canvas.addEventListener("pointermove", event => this.tell(event));
-    this.root = element("div", { className: "cellbox" }, this.canvas, this.told);
+    this.canvas.tabIndex = 0;
+    this.canvas.addEventListener("focus", () => this.pick(this.picked.row, this.picked.column));
+    this.canvas.addEventListener("keydown", event => this.pressed(event));
+    this.canvas.addEventListener("blur", () => { this.mark.hidden = true; });
+    this.mark = element("div", { className: "cellpick", hidden: true });
+    this.picked = { row: 0, column: 0 };
+    const box = element("div", { className: "cellbox" }, this.canvas, this.mark);
+    this.root = element("div", {}, box, this.told);
   }
 
   made({ before, after }) {
@@ -141,12 +148,42 @@ export class CellPanel {
     const y = (event.clientY - box.top) * canvas.height / box.height;
     const row = rows.findLastIndex(({ top }) => top <= y);
     const column = Math.floor((event.clientX - box.left) * canvas.width / box.width / GLYPH_WIDTH);
-    const cell = rows[row]?.cells[column];
+    this.pick(row, column);
+    this.mark.hidden = true;
+  }
+
+  /** Arrows go from cell to cell, and a frame shows which one is told. */
+  pressed(event) {
+    const far = { ArrowLeft: [0, -1], ArrowRight: [0, 1], ArrowUp: [-1, 0],
+      ArrowDown: [1, 0] }[event.key];
+    if (!far) return;
+    event.preventDefault();
+    event.stopPropagation();
+    const { row, column } = this.picked;
+    this.pick(row + far[0], column + far[1]);
+    this.frame();
+  }
+
+  /** Tells a cell, which can be asked about then. */
+  pick(row, column) {
+    const cell = this.rows[row]?.cells[column];
     if (!cell) return;
+    this.picked = { row, column };
     const { character, attribute, address } = cell;
+    this.canvas.dataset.subject = `cell ${hex(address, 4)}`;
     setText(this.told,
       `row ${row}, column ${column}: character ${hex(character, 2)} ${LETTERS_437[character]}, ` +
       `attribute ${hex(attribute, 2)}, at ${hex(address, 4)} of planes 0 and 1`);
+  }
+
+  /** Frames the cell that is told. */
+  frame() {
+    const { canvas, rows, mark, picked: { row, column } } = this, part = (size, of) =>
+      `${100 * size / of}%`;
+    Object.assign(mark.style, { left: part(GLYPH_WIDTH * column, canvas.width),
+      width: part(GLYPH_WIDTH, canvas.width), top: part(rows[row].top, canvas.height),
+      height: part(rows[row].lines, canvas.height) });
+    mark.hidden = false;
   }
 }
 

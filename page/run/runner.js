@@ -194,6 +194,19 @@ export class Runner {
     this.#heard.changed();
   }
 
+  /**
+   * Goes back to the step that a search finds, and tells `heard` what that is, { steps }, or
+   * { ended: true }: then the page stays where it is. The search has `take(milliseconds)`, which
+   * answers that or null, and `looked`, the step at which it is.
+   */
+  findBy(search, heard) {
+    if (!this.session) return;
+    this.#drop();
+    this.#search = { search, points: [], isBack: true, heard };
+    this.#wake();
+    this.#heard.changed();
+  }
+
   #searchFrom(steps, points, isBack = false, isInclusive = false) {
     return { search: new Search(this.session, points, steps, isBack, isInclusive), points, isBack };
   }
@@ -302,7 +315,7 @@ export class Runner {
   }
 
   #searchOn() {
-    const { search, points, isBack } = this.#search, found = search.take(SLICE_TIME);
+    const { search, points } = this.#search, found = search.take(SLICE_TIME);
     this.#isSlow = !found || Boolean(found.waiting);
     if (!found) return;
     if (found.waiting) {
@@ -310,7 +323,7 @@ export class Runner {
     } else if (found.steps && this.#isLeftOut(found.steps)) {
       this.#search = this.#searchFrom(found.steps, points);
     } else {
-      this.#endSearch(found, points, isBack);
+      this.#endSearch(found, this.#search);
     }
   }
 
@@ -327,8 +340,14 @@ export class Runner {
       pacer.leavesOut(this.#clock.now(), this.#heard.frameTime(this.seen));
   }
 
-  #endSearch({ steps, ended }, points, isBack) {
+  #endSearch(found, { points, isBack, heard }) {
+    const { steps, ended } = found;
     this.#search = null;
+    if (heard) {
+      if (!ended) this.#goal = steps;
+      heard(found);
+      return;
+    }
     this.#goal = steps ?? (isBack ? 0 : this.session.length);
     if (!ended) return;
     this.#pacer = null;

@@ -11,17 +11,20 @@ export class Keyboard {
   #menu;
   #goToLine;
   #togglePoint;
+  #asks;
 
   /**
    * `editor`, `tabs` and `menu`, that of Save, hear keys of their own. `goToLine` goes to the step
-   * of a line, and `togglePoint` sets a breakpoint at one, or removes it.
+   * of a line, and `togglePoint` sets a breakpoint at one, or removes it. `ask` asks about what has
+   * the keys, or about a dot, and `again` for the change before the last one that was found.
    */
-  constructor({ editor, tabs, menu, goToLine, togglePoint }) {
+  constructor({ editor, tabs, menu, goToLine, togglePoint, ask, again }) {
     this.#editor = editor;
     this.#tabs = tabs;
     this.#menu = menu;
     this.#goToLine = goToLine;
     this.#togglePoint = togglePoint;
+    this.#asks = { ask, again };
     document.addEventListener("keydown", event => this.#pressed(event));
   }
 
@@ -67,6 +70,7 @@ export class Keyboard {
   }
 
   #press(control, key) {
+    if (control in this.#asks) return this.#asks[control]();
     if (control === "tab") return this.#tabs.openNumber(Number(key));
     const made = byId(control);
     if (control === "gotonumber" || control === "text") return made.focus();

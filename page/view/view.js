@@ -1,5 +1,6 @@
 // The page: its parts, and what each hears of the others.
 import { Adapter } from "../module/adapter.js";
+import { Asking } from "../explain/asking.js";
 import { BiosPanel } from "../panels/biospanel.js";
 import { CellPanel } from "../panels/cellpanel.js";
 import { CheckLine } from "./checkline.js";
@@ -7,6 +8,7 @@ import { ColourPanel } from "../panels/colourpanel.js";
 import { Desk } from "./desk.js";
 import { Drafts } from "../editor/drafts.js";
 import { Editor } from "../editor/editor.js";
+import { Finder } from "../explain/finder.js";
 import { Keyboard } from "./keyboard.js";
 import { LastStep } from "./laststep.js";
 import { Listing } from "../editor/listing.js";
@@ -24,6 +26,9 @@ import { Session, judgedText } from "../run/session.js";
 import { TABS, Tabs } from "./tabs.js";
 import { Transport } from "./transport.js";
 import { Trouble } from "../common/trouble.js";
+import { WatchPanel } from "../panels/watchpanel.js";
+import { MOST_WATCHES, Watches } from "../explain/watches.js";
+import { WritePanel } from "../panels/writepanel.js";
 import { byId, setText } from "../common/dom.js";
 import { bytesOfBase64, grouped } from "../common/bytes.js";
 import { copyLink, showLink } from "../files/linking.js";
@@ -52,6 +57,7 @@ export class View {
     this.#makeRun();
     this.#makeScript();
     this.#makeState();
+    this.#makeAsking();
     this.#makeFiles();
     this.#makeControls();
     followRowHeight(() => this.#resized());
@@ -72,7 +78,8 @@ export class View {
     this.transport = new Transport(this.runner, () => this.#activePoints, this.guarded);
     this.checkLine = new CheckLine(this.module);
     this.lastStep = new LastStep(this.data.pages);
-    this.screen = new Screen({ clicked: (line, dot) => this.#toDot(line, dot) });
+    this.screen = new Screen({ clicked: (line, dot) => this.asking.askDot(line, dot),
+      asked: () => this.#ask() });
     this.listing = new Listing(steps => this.runner.go(steps), () => this.runner.goal);
   }
 
@@ -94,10 +101,68 @@ export class View {
   #makeState() {
     const { pages } = this.data;
     const panels = { registers: new RegisterPanel(pages), memory: new MemoryPanel(),
-      cells: new CellPanel(), colours: new ColourPanel(pages), "BIOS data": new BiosPanel(pages) };
+      cells: new CellPanel(), colours: new ColourPanel(pages), "BIOS data": new BiosPanel(pages),
+      write: new WritePanel(pages), watches: this.#makeWatches() };
     const makers = Object.entries(panels).map(([name, panel]) => [name, seen => panel.made(seen)]);
     this.tabs = new Tabs({ ...Object.fromEntries(makers),
       breakpoints: () => this.pointPanel.box });
+  }
+
+  #makeWatches() {
+    this.watches = new Watches();
+    return new WatchPanel(this.watches, { change: subject => this.#findChange(subject),
+      changed: () => this.#titleWatches() });
+  }
+
+  #titleWatches() {
+    const { length } = this.watches.list;
+    this.tabs.setTitle("watches", length ? `watches (${length})` : "watches");
+  }
+
+  /** What the user asks about a dot, or about what a panel shows. */
+  #makeAsking() {
+    this.finder = new Finder(this.runner, text => this.notice.tell(text));
+    this.asking = new Asking({
+      drawn: (line, dot) => this.#toDot(line, dot),
+      change: subject => this.#findChange(subject),
+      watch: words => this.guarded(() => this.#watch(words)),
+      colourAt: (line, dot) => this.screen.colourAt(line, dot),
+      placeOf: (line, dot) => this.screen.placeOfDot(line, dot),
+    });
+    this.#titleWatches();
+    byId("panel").addEventListener("click", ({ target, clientX, clientY }) => {
+      const own = target.closest("a, input, select, label, button:not([data-subject])");
+      // A button that keys press has no place of its own.
+      const place = clientX || clientY ? { x: clientX, y: clientY } : null;
+      if (!own) this.asking.askAt(target, place);
+    });
+  }
+
+  #watch(words) {
+    if (!this.watches.add(words)) {
+      throw new Trouble(`The list has ${MOST_WATCHES} watches, and no room for more.`);
+    }
+    this.#titleWatches();
+    this.tabs.open("watches");
+  }
+
+  /** Asks about what has the keys, or about the dot under the pointer, or that of the beam. */
+  #ask() {
+    const { seen } = this.runner, { screen, asking } = this;
+    if (!seen || (!screen.pointed && asking.askAt(document.activeElement))) return;
+    const { line, dot } = screen.pointed ?? asking.dot ?? { line: 0, dot: 0 };
+    asking.askDot(line, dot);
+  }
+
+  #findChange(subject) {
+    return this.guarded(() => this.finder.find(subject));
+  }
+
+  /** Goes on to the change before, of what was asked about last. */
+  #findAgain() {
+    const { subject } = this.asking;
+    if (subject) this.#findChange(subject);
+    else this.#ask();
   }
 
   #makeFiles() {
@@ -134,7 +199,8 @@ export class View {
     this.#makeList();
     this.keyboard = new Keyboard({ editor: this.editor, tabs: this.tabs, menu: this.saver.menu,
       goToLine: line => this.guarded(() => this.transport.goTo("line", String(line))),
-      togglePoint: line => this.pointPanel.toggleLine(line) });
+      togglePoint: line => this.pointPanel.toggleLine(line), ask: () => this.#ask(),
+      again: () => this.#findAgain() });
     byId("keys").append(...keyTables());
     byId("version").textContent = `Zaklimot ${this.data.version}.`;
     byId("pagedoc").href = `${this.data.pages}PAGE.md#what-is-proved`;
@@ -199,6 +265,8 @@ export class View {
     this.listing.show(session, steps);
     session.spare = this.screen.show(seen);
     this.lastStep.show(seen);
+    this.#showFound(seen);
+    this.asking.show(seen);
     this.tabs.show(seen);
   }
 
@@ -206,6 +274,13 @@ export class View {
   #update() {
     this.transport?.update();
     setText(byId("state"), stateText(this.runner, { bad: this.bad, drawn: this.saver?.drawn }));
+  }
+
+  /** Tells why the page is at a step, if a search for a change has found it. */
+  #showFound({ session, steps }) {
+    const text = this.finder.textAt(session, steps), said = byId("found");
+    setText(said, text);
+    said.hidden = !text;
   }
 
   /** All steps are taken: their answers stand there, and are compared with those of zak_run. */
@@ -227,7 +302,7 @@ export class View {
     const { seen, isBusy } = this.runner;
     if (!seen || isBusy) return;
     const isBack = seen.picture.isWhole || dot < seen.picture.drawn[line];
-    const points = [{ kind: "beam", line, dot }];
+    const points = [{ kind: "drawn", line, dot }];
     this.guarded(() => this.runner.find(points, { isBack, isInclusive: true }));
   }
 

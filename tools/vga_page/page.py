@@ -75,8 +75,15 @@ class Sources(NamedTuple):
 
 def read_sources(folder: Path = SOURCES) -> Sources:
     """The sources of a folder."""
-    frame, style = (Path(to_read(str(folder / name))).read_text("utf-8") for name in ("index.html", "style.css"))
-    return Sources(frame, style, joined(folder))
+    frame = Path(to_read(str(folder / "index.html"))).read_text("utf-8")
+    return Sources(frame, style_of(folder), joined(folder))
+
+
+def style_of(folder: Path) -> str:
+    """The style sheets of a folder: its style.css first, then the others by their paths."""
+    first = Path(to_read(str(folder / "style.css")))
+    others = sorted(folder.rglob("*.css"), key=Path.as_posix)
+    return "".join(sheet.read_text("utf-8") for sheet in [first, *(one for one in others if one != first)])
 
 
 def wordings_module() -> str:
