@@ -38,16 +38,15 @@ export class PopCard {
   /** Shows a title and elements; `place` is { x, y } in the window. The first button gets the keys. */
   open(place, title, ...inside) {
     if (!this.isOpen) this.#opener = document.activeElement;
-    this.fill(title, ...inside);
+    this.title = title;
+    this.#body.replaceChildren(...inside);
     this.root.hidden = false;
     this.#put(place);
     this.root.querySelector(".actions button")?.focus({ preventScroll: true });
   }
 
-  /** Writes other words into the card, which stays where it is. */
-  fill(title, ...inside) {
-    this.#title.textContent = title;
-    this.#body.replaceChildren(...inside);
+  set title(text) {
+    this.#title.textContent = text;
   }
 
   #put({ x, y }) {
@@ -62,6 +61,8 @@ export class PopCard {
   close(isBack = true) {
     if (!this.isOpen) return;
     const hadKeys = this.root.contains(document.activeElement);
+    // Some browsers leave the keys with what is hidden, until they draw next.
+    if (hadKeys) document.activeElement.blur();
     this.root.hidden = true;
     if (isBack && hadKeys && this.#opener?.isConnected) this.#opener.focus({ preventScroll: true });
     this.#heard();

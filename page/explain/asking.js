@@ -4,7 +4,6 @@ import { PopCard } from "../common/popcard.js";
 import { GROUPS } from "../module/registers.js";
 import { cssColour, element, selectOf } from "../common/dom.js";
 import { dotOfSeen } from "./dotsearch.js";
-import { grouped } from "../common/bytes.js";
 import { rowsOfDot } from "./dotrows.js";
 import { subjectOf } from "./subjects.js";
 
@@ -16,6 +15,7 @@ export const ACTIONS = { drawn: "the step that draws it", change: "the last step
 export class Asking {
   #heard;
   #card = new PopCard("asked");
+  #told = element("div");
   /** What is asked about: the words of a subject, and of a dot its place. */
   #words = "";
   #seen = null;
@@ -32,11 +32,7 @@ export class Asking {
   /** What is shown has changed: an open card tells of that. */
   show(seen) {
     this.#seen = seen;
-    if (!this.#card.isOpen) return;
-    const [title, ...inside] = this.#made();
-    const had = document.activeElement?.dataset?.action;
-    this.#card.fill(title, ...inside);
-    if (had) this.#card.root.querySelector(`[data-action="${had}"]`)?.focus({ preventScroll: true });
+    if (this.#card.isOpen) this.#tell();
   }
 
   close() {
@@ -58,12 +54,15 @@ export class Asking {
     this.ask(`dot ${line} ${dot}`, this.#heard.placeOf(line, dot));
   }
 
-  /** Opens the card of a subject. */
+  /** Opens the card of a subject; `place` is { x, y } in the window. */
   ask(words, place) {
-    if (!this.#seen || !subjectOf(words)) return;
+    const subject = this.#seen && subjectOf(words);
+    if (!subject) return;
     this.#words = words;
-    const [title, ...inside] = this.#made();
-    this.#card.open(place, title, ...inside);
+    const choices = subject.isDot ? this.#picker(subject.place) : this.#fields(words);
+    this.#told.replaceChildren();
+    this.#tell();
+    this.#card.open(place, subject.title, this.#actions(subject.isDot), ...choices, this.#told);
   }
 
   /** Opens the card of what an element, or one around it, shows; whether it shows a subject. */
@@ -75,40 +74,40 @@ export class Asking {
     return true;
   }
 
-  /** The card's title and what it has inside. */
-  #made() {
-    const subject = subjectOf(this.#words);
-    return subject.isDot ? this.#madeDot(subject) : this.#madeSubject(subject);
+  /** Writes the title, and what is told below the buttons. */
+  #tell() {
+    const { subject } = this;
+    this.#card.title = subject.title;
+    this.#told.replaceChildren(...subject.isDot ? this.#tellDot(subject) : this.#tellValue(subject));
   }
 
-  #action(name, does, key = "") {
-    const made = element("button", { type: "button", onclick: does }, ACTIONS[name] + key);
+  #action(name, does) {
+    const made = element("button", { type: "button", onclick: does }, ACTIONS[name]);
     made.dataset.action = name;
     return made;
   }
 
-  #actions(subject, ...more) {
-    const { words } = subject;
-    return element("p", { className: "actions" }, ...more,
-      this.#action("change", () => this.#heard.change(subject)),
+  #actions(isDot) {
+    const buttons = [this.#action("change", () => this.#heard.change(this.subject)),
       this.#action("watch", () => {
-        this.#heard.watch(words);
         this.#card.close();
+        this.#heard.watch(this.#words);
+      })];
+    if (isDot) {
+      buttons.unshift(this.#action("drawn", () => {
+        this.#card.close();
+        this.#heard.drawn(this.dot.line, this.dot.dot);
       }));
+    }
+    return element("p", { className: "actions" }, ...buttons);
   }
 
-  #madeDot(subject) {
-    const { line, dot } = subject.place, shown = this.#heard.colourAt(line, dot);
-    const drawn = this.#action("drawn", () => {
-      this.#card.close();
-      this.#heard.drawn(line, dot);
-    });
-    const found = shown && dotOfSeen(this.#seen, subject.place);
-    const title = `dot ${grouped(dot)} of line ${grouped(line)}`;
-    return [title, this.#actions(subject, drawn), this.#picker(line, dot), found
-      ? this.#table(rowsOfDot(found, subject.place, shown).slice(1), shown)
-      : element("p", {}, shown ? "The registers as they stand display no dot there."
-        : "The picture has no such dot.")];
+  #tellDot({ place }) {
+    const { line, dot } = place, shown = this.#heard.colourAt(line, dot);
+    if (!shown) return [element("p", {}, "The picture has no such dot.")];
+    const found = dotOfSeen(this.#seen, place);
+    if (found) return [this.#table(rowsOfDot(found, place, shown).slice(1), shown)];
+    return [element("p", {}, "The registers as they stand display no dot there.")];
   }
 
   #table(rows, colour) {
@@ -116,32 +115,29 @@ export class Asking {
       element("th", { scope: "row" }, name), element("td", {}, value)));
     const swatch = element("span", { className: "swatch" });
     swatch.style.background = cssColour(colour);
-    body.at(-2)?.lastChild.prepend(swatch, " ");
+    body[rows.findIndex(([name]) => name === "DAC entry")].lastChild.prepend(swatch, " ");
     return element("table", { className: "plain" }, element("tbody", {}, ...body));
   }
 
   /** Two numbers, by which keys reach any dot. */
-  #picker(line, dot) {
-    const number = (title, value, chosen) => {
-      const made = element("input", { type: "number", min: 0, value, autocomplete: "off",
-        onchange: ({ target }) => {
-          if (target.value === "" || Number(target.value) < 0) return;
-          this.#words = chosen(Math.floor(Number(target.value)));
-          this.show(this.#seen);
-        } });
-      made.dataset.action = title;
-      return element("label", {}, `${title} `, made);
+  #picker({ line, dot }) {
+    const number = (title, value) => element("input", { type: "number", min: 0, value, title,
+      autocomplete: "off", onchange: () => choose() });
+    const [dots, lines] = [number("dot", dot), number("line", line)];
+    const choose = () => {
+      const words = `dot ${Math.floor(Number(lines.value))} ${Math.floor(Number(dots.value))}`;
+      if (!subjectOf(words)) return;
+      this.#words = words;
+      this.#tell();
     };
-    return element("p", { className: "picker" },
-      number("dot", dot, value => `dot ${line} ${value}`), number("line", line,
-        value => `dot ${value} ${dot}`));
+    return [element("p", { className: "picker" }, element("label", {}, "dot ", dots),
+      element("label", {}, "line ", lines))];
   }
 
-  #madeSubject(subject) {
+  #tellValue(subject) {
     const { before, after } = this.#seen, [was, is] = [before, after].map(subject.value);
-    const value = was === is ? is : `${was} before the last step, now ${is}`;
-    return [subject.title, this.#actions(subject), ...this.#fields(subject.words),
-      element("p", { className: "value" }, value)];
+    return [element("p", { className: "value" }, was === is ? is
+      : `${was} before the last step, now ${is}`)];
   }
 
   /** Of a register a choice of its fields. */
@@ -153,10 +149,9 @@ export class Asking {
       ...fields.map(({ bits, name }) => [`field ${group} ${index} ${bits}`, `bits ${bits}: ${name}`])];
     const choice = selectOf("which bits", options, { onchange: ({ target }) => {
       this.#words = target.value;
-      this.show(this.#seen);
+      this.#tell();
     } });
     choice.value = words;
-    choice.dataset.action = "bits";
     return [element("p", {}, choice)];
   }
 }

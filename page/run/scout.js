@@ -45,9 +45,10 @@ export class Operations {
     return this.script[this.starts[entry]];
   }
 
-  /** The port or the address of a step that has one, or the dots of an `advance`. */
+  /** The port or the address of a step that has one, or the dots of an `advance`; else 0. */
   place(entry) {
     const at = this.starts[entry], kind = this.script[at];
+    if (kind === KIND.int || kind > KIND.advance) return 0;
     return kind <= KIND.inw ? this.view.getUint16(at + 1, true) : this.view.getUint32(at + 1, true);
   }
 

@@ -1,6 +1,7 @@
 // A scout comes to the same states by single calls as a session by zak_run_on, forward and back.
 import assert from "node:assert/strict";
 import test from "node:test";
+import { Search } from "../run/points.js";
 import { Session } from "../run/session.js";
 import { Random } from "./randomly.mjs";
 import { FONTS, examples, loadAdapter, runWhole } from "./loading.mjs";
@@ -36,6 +37,17 @@ function randomStep(random) {
     () => `get ${address()}`, () => `getw ${address()}`, call, () => `advance ${random.below(50000)}`, () => "frame",
     () => `show ${random.one(["regs", "dac 5", "beam", "latches", "plane 1 20 16", "bda", "cells"])}`])();
 }
+
+test("the last step may be of any kind", () => {
+  for (const step of ["frame", "show beam", "int ax=F00", "advance 7", "get A0000", "out 3C4 2"]) {
+    const session = runWhole(new Session(adapter, FONTS, `int ax=3\n${step}`));
+    const search = new Search(session, [{ kind: "beam", line: 0, dot: 3 }, { kind: "colour", index: 9 }], 2, true, true);
+    let told = null;
+    while (!told) told = search.take(100);
+    assert.equal(told.steps, step === "frame" || step === "advance 7" ? 2 : 1, step);
+    session.close();
+  }
+});
 
 test("states of random scripts with every kind of step, in blocks too", () => {
   const random = new Random(21);
