@@ -25,8 +25,8 @@ export function addressText({ address, place }) {
 /** Which planes an address reaches, in a sentence. */
 function reachText({ place, mapMask, planes }) {
   const named = some => some.map(({ plane }) => plane).join(", ") || "none";
-  const by = { "chain 4": "chain 4 picks plane", "odd/even": "odd/even picks planes",
-    "all planes": "the address reaches planes" }[place.spread];
+  const by = { "chain 4": "Chain 4 picks plane", "odd/even": "Odd/even picks planes",
+    "all planes": "The address reaches planes" }[place.spread];
   return `${by} ${named(planes.filter(one => one.isAddressed))}, the map mask ` +
     `${hex(mapMask, 1)} lets through ${named(planes.filter(one => one.isMapped))}: ` +
     `written are ${named(planes.filter(one => one.isReached))}.`;

@@ -48,17 +48,27 @@ export function partsOfDot(sources, told) {
     "dot is": text.isOn ? "ink" : "ground" });
   if (kind === "16 colours") parts.bits = hex(way.four, 1);
   if (byte !== null) parts.byte = hex(byte, 2);
-  if (way && by === "palette") Object.assign(parts, { "palette register": hex(way.enabled, 1), "its value": hex(registers.attr[way.enabled], 2),
+  if (way && by === "palette") Object.assign(parts, { "palette register": hex(way.enabled, 1), "value of the palette register": hex(registers.attr[way.enabled], 2),
     "colour's number": hex(way.number, 2) });
   if (entry !== null) parts["entry of the DAC"] = hex(entry, 2);
   return { ...parts, colour: colour.map(six => hex(six, 2)).join(" ") };
 }
 
-/** What differs between the parts of two dots, a few words each. */
+/** The parts from a dot's bits to its entry of the DAC: each of them follows from those before. */
+const CHAIN = ["palette register", "value of the palette register", "colour's number",
+  "entry of the DAC"];
+
+/**
+ * What differs between the parts of two dots, a few words each: of parts that follow from others
+ * that differ, the colour alone.
+ */
 export function differingParts(old, now) {
-  const names = [...new Set([...Object.keys(old), ...Object.keys(now)])];
-  return names.filter(name => old[name] !== now[name]).map(name =>
-    `${name} ${old[name] ?? "none"} → ${now[name] ?? "none"}`);
+  const all = [...new Set([...Object.keys(old), ...Object.keys(now)])]
+    .filter(name => old[name] !== now[name]);
+  const causes = all.filter(name => name !== "colour" && !CHAIN.includes(name));
+  const kept = causes.length ? causes : CHAIN.filter(name => all.includes(name)).slice(0, 1);
+  if (all.includes("colour")) kept.push("colour");
+  return kept.map(name => `${name} ${old[name] ?? "none"} → ${now[name] ?? "none"}`);
 }
 
 /** Watches what a dot is made of: the dot as a frame with the registers of each state draws it. */

@@ -186,10 +186,11 @@ export class Runner {
     if (!points.length) {
       throw new Trouble("There are no breakpoints: click a line's number, or use their tab.");
     }
+    const from = this.goal;
     this.#awaited = null;
     this.#goal = null;
     this.#isSlow = false;
-    this.#search = this.#searchFrom(this.steps, points, isBack, isInclusive);
+    this.#search = this.#searchFrom(from, points, isBack, isInclusive);
     this.#wake();
     this.#heard.changed();
   }

@@ -66,7 +66,7 @@ const PARTS = {
     await shot("dot");
     await browser.click(action("change"));
     await stepIs(7, 8);
-    assert.match(await text("#found"), /^This step changed dot 327 of line 240: bits F → B; palette register F → B/);
+    assert.match(await text("#found"), /^This step changed dot 327 of line 240: bits F → B; colour 3F 3F 3F → 15 3F 3F\.$/);
     assert.ok(await isOpen());
     await browser.press("Enter");
     await stepIs(2, 8);
