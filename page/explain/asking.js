@@ -2,14 +2,18 @@
 // step that draws it, the last step that changed it, and whether to watch it.
 import { PopCard } from "../common/popcard.js";
 import { GROUPS } from "../module/registers.js";
+import { Trouble } from "../common/trouble.js";
 import { cssColour, element, selectOf } from "../common/dom.js";
-import { dotOfSeen } from "./dotsearch.js";
+import { DotSearch, dotOfSeen } from "./dotsearch.js";
 import { rowsOfDot } from "./dotrows.js";
 import { subjectOf } from "./subjects.js";
 
 /** What the buttons of the cards say. */
 export const ACTIONS = { drawn: "the step that draws it", change: "the last step that changed it",
   watch: "watch it" };
+
+/** So many milliseconds a search for the step that drew a dot goes on at a time, and waits. */
+const SLICE_TIME = 8, WAIT_TIME = 30;
 
 /** The cards of dots and of other subjects. */
 export class Asking {
@@ -19,11 +23,13 @@ export class Asking {
   /** What is asked about: the words of a subject, and of a dot its place. */
   #words = "";
   #seen = null;
+  /** What is known of the dot as it was drawn: of which words and state, and the dot. */
+  #then = null;
 
   /**
    * `heard` has `drawn(line, dot)`, `change(subject)` and `watch(words)`; `colourAt(line, dot)`
    * answers the colour of a dot of the picture, or null; `placeOf(line, dot)` where it stands in
-   * the window.
+   * the window; `isIdle()` whether the run searches for nothing.
    */
   constructor(heard) {
     this.#heard = heard;
@@ -105,9 +111,43 @@ export class Asking {
   #tellDot({ place }) {
     const { line, dot } = place, shown = this.#heard.colourAt(line, dot);
     if (!shown) return [element("p", {}, "The picture has no such dot.")];
-    const found = dotOfSeen(this.#seen, place);
+    const cheap = dotOfSeen(this.#seen, place), found = this.#foundThen() ?? cheap;
+    if (found?.how === "now") this.#lookUp(place);
     if (found) return [this.#table(rowsOfDot(found, place, shown).slice(1), shown)];
     return [element("p", {}, "The registers as they stand display no dot there.")];
+  }
+
+  /** The dot as it was drawn, if that is known of what is shown. */
+  #foundThen() {
+    const { words, seen, found } = this.#then ?? {};
+    return words === this.#words && seen === this.#seen ? found : null;
+  }
+
+  /** Searches for the step that drew a dot, while the card tells of it, a slice after the other. */
+  #lookUp(place) {
+    const words = this.#words, seen = this.#seen, { session, steps } = seen;
+    const search = new DotSearch(session, place, steps, { isDrawn: true, isMadeOnly: true });
+    const goOn = () => {
+      if (!this.#card.isOpen || this.#words !== words || this.#seen !== seen) return;
+      const told = this.#heard.isIdle() ? this.#taken(search) : null;
+      if (!told) {
+        setTimeout(goOn, this.#heard.isIdle() ? 0 : WAIT_TIME);
+      } else if (told.made) {
+        this.#then = { words, seen, found: { ...told.made, drawnBy: told.drawnBy, how: "then" } };
+        this.#tell();
+      }
+    };
+    setTimeout(goOn);
+  }
+
+  /** A slice of a search. If there is no memory for it, the card stays as it is. */
+  #taken(search) {
+    try {
+      return search.take(SLICE_TIME);
+    } catch (error) {
+      if (error instanceof Trouble) return {};
+      throw error;
+    }
   }
 
   #table(rows, colour) {

@@ -1,7 +1,7 @@
 // What the page tells of a dot, in words: on the line below the pointer, and as rows of its card.
 import { LETTERS_437 } from "../module/codepage.js";
 import { bytesOfDot, cellOf, hostAddress, pixelOf } from "./dot.js";
-import { hex } from "../common/bytes.js";
+import { grouped, hex } from "../common/bytes.js";
 
 /** How sure the page is of what it tells, by `how` of `dotOfSeen`. */
 export const HOW_TEXTS = {
@@ -13,10 +13,12 @@ export const HOW_TEXTS = {
 
 const coloursText = colour => colour.map(six => hex(six, 2)).join(" ");
 
-/** A byte of a dot: its plane, its value, and the bits that count if they are not all. */
+/** The bit that counts, if it is one. */
+const bitText = bits => (bits && bits !== 255 ? `, bit ${Math.log2(bits)}` : "");
+
+/** A byte of a dot: its plane, its value, and the bit that counts if they don't all. */
 function byteText({ plane, byte, bits, what }) {
-  const bit = bits && bits !== 255 ? `, bit ${Math.log2(bits & -bits)}` : "";
-  return `plane ${plane} ${hex(byte, 2)}${what === "bits" ? bit : ` (${what}${bit})`}`;
+  return `plane ${plane} ${hex(byte, 2)}${what === "bits" ? bitText(bits) : ` (${what})`}`;
 }
 
 /** The palette register and what it makes, in words. */
@@ -67,9 +69,10 @@ function entryText({ entry, number, colour }, { dacMask }) {
 
 /**
  * The rows of a dot's card: [name, value] each. `found` is what `dotOfSeen` or a search tells of
- * it, `place` its line and dot, and `shown` its colour in the picture, if it has one there.
+ * it, `place` its line and dot, and `shown` its colour in the picture, if it has one there. After
+ * `drawnBy` steps it was drawn, if `how` is "then".
  */
-export function rowsOfDot({ sources, told, how }, place, shown = null) {
+export function rowsOfDot({ sources, told, how, drawnBy }, place, shown = null) {
   const { registers } = sources, { kind, text, beam } = told, bytes = bytesOfDot(sources, told);
   const pixel = pixelOf(registers, place.line, place.dot);
   const size = pixel.across * pixel.down > 1 ? `, of ${pixel.across} × ${pixel.down} dots` : "";
@@ -84,14 +87,16 @@ export function rowsOfDot({ sources, told, how }, place, shown = null) {
     ["bytes", counted.map(byteText).join(", ") || "none: the ninth dot is 0"]);
   if (text) {
     const [glyph] = bytes.filter(({ what }) => what === "glyph");
-    rows.push(["glyph", `row ${text.scan} of map ${text.map}, plane 2 ` +
-      `${hex(text.glyphOffset, 4)}: ${byteText(glyph)}`], ["it is", ruleText(text, told.dot)]);
+    rows.push(["glyph", `row ${text.scan} of map ${text.map}: plane 2 ` +
+      `${hex(text.glyphOffset, 4)} is ${hex(glyph.byte, 2)}${bitText(glyph.bits)}`],
+    ["it is", ruleText(text, told.dot)]);
   }
   rows.push(["colour", numberText(registers, told)], ["DAC entry", entryText(told, registers)]);
   if (shown && coloursText(shown) !== coloursText(told.colour)) {
     rows.push(["but shown", `${coloursText(shown)}, since something changed after it was drawn`]);
   }
-  return [...rows, ["told", HOW_TEXTS[how]]];
+  const by = how === "then" ? `, by step ${grouped(drawnBy)}` : "";
+  return [...rows, ["told", HOW_TEXTS[how] + by]];
 }
 
 /** The same in one line, for a pointer. */

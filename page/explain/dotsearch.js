@@ -176,12 +176,23 @@ export function dotOfSeen({ before, after, picture, steps }, { line, dot }) {
  * some milliseconds: null while time is over, else { steps, differing }, or { ended: true }.
  */
 export class DotSearch {
+  /** After how many steps the dot was drawn; null if it was not. */
+  drawnBy = null;
+  /** The dot as it was drawn, as `dotAhead` tells it. */
+  made = null;
+  search = null;
+
   /**
    * `place` is { line, dot }. `steps` are those after which the picture is seen. A dot that is drawn there was
    * drawn by a step before; one that is not, or `isAhead`, is taken as it would be drawn from there on.
+   * With `isMadeOnly` the search ends with the step that drew it, as { made, drawnBy }.
    */
-  constructor(session, place, steps, { isDrawn, isAhead = false }) {
-    Object.assign(this, { session, place, steps, isDrawn: isDrawn && !isAhead, drawnBy: null, made: null, search: null });
+  constructor(session, place, steps, { isDrawn, isAhead = false, isMadeOnly = false }) {
+    this.session = session;
+    this.place = place;
+    this.steps = steps;
+    this.isDrawn = isDrawn && !isAhead;
+    this.isMadeOnly = isMadeOnly;
     this.turns = this.find();
   }
 
@@ -225,6 +236,7 @@ export class DotSearch {
     const { at, state, made } = yield* this.make(), { place } = this, { beam } = state;
     this.made = made;
     if (!made) return undefined;
+    if (this.isMadeOnly) return { made, drawnBy: this.drawnBy };
     const isWithin = made.isThisFrame && (beam.line || beam.character || beam.dot);
     const first = isWithin ? (yield* this.back({ kind: "start" }, at)) ?? 0 : at;
     if (isWithin) {

@@ -91,6 +91,12 @@ const PARTS = {
     await stepIs(12, 18);
     assert.match(await text("#found"), /colour 08 00 18 → 3F 18 08/);
     await browser.press("Escape");
+    await browser.press("End");
+    await stepIs(18, 18);
+    await browser.clickAt(...await placeOf(100, 150));
+    await says("#asked", "as they were when it was drawn, by step 13");
+    assert.match(await text("#asked"), /00: 3F 18 08/);
+    await browser.press("Escape");
   },
 
   async "a write stage by stage, on the way there by keys alone"() {

@@ -34,7 +34,7 @@ test("a dot of text is told", () => {
     offset: "0000 of the planes, counter 0000",
     bytes: "plane 0 41 (character), plane 1 1E (attribute)", glyph: told.glyph, "it is": told["it is"],
     colour: told.colour, "DAC entry": told["DAC entry"], told: "" });
-  assert.match(told.glyph, /^row 3 of map 0, plane 2 0823: plane 2 [0-9A-F]{2} \(glyph, bit 3\)$/);
+  assert.match(told.glyph, /^row 3 of map 0: plane 2 0823 is [0-9A-F]{2}, bit 3$/);
   assert.match(told.told, /last step drew it/);
 });
 

@@ -18,7 +18,7 @@ import { Opener, listenToFiles } from "../files/opening.js";
 import { PageClock } from "../run/clock.js";
 import { PointPanel } from "../panels/pointpanel.js";
 import { RegisterPanel } from "../panels/registerpanel.js";
-import { Runner, stateText } from "../run/runner.js";
+import { Runner, TASK, stateText } from "../run/runner.js";
 import { Saver } from "../files/saver.js";
 import { Screen } from "../picture/screen.js";
 import { Scripts } from "../editor/scripts.js";
@@ -128,6 +128,7 @@ export class View {
       watch: words => this.guarded(() => this.#watch(words)),
       colourAt: (line, dot) => this.screen.colourAt(line, dot),
       placeOf: (line, dot) => this.screen.placeOfDot(line, dot),
+      isIdle: () => this.runner.task === TASK.idle && this.runner.isShown,
     });
     this.#titleWatches();
     byId("panel").addEventListener("click", ({ target, clientX, clientY }) => {
