@@ -1,6 +1,6 @@
 // Where a dot of the picture comes from: its bytes in the planes, its colour's number, the palette, the DAC
 // (docs/RASTER.md). page/tests/dot.mjs holds the colour to that of the adapter's picture.
-import { characterWidth, fetchAddress, windowShape } from "../module/state.js";
+import { characterWidth, fetchAddress, paletteWay, windowShape } from "../module/state.js";
 import { WINDOWS } from "./cycle.js";
 
 const PLANES = [0, 1, 2, 3], BLACK = [0, 0, 0];
@@ -27,9 +27,14 @@ function sourceOf(registers, beam) {
     : { shift, character: beam.character + 1, dot: dot - width };
 }
 
-/** The number of the map of glyphs for an attribute. */
-function mapOf(select, attribute) {
+/** The number of the map of glyphs that character map select picks for an attribute. */
+export function mapOf(select, attribute) {
   return attribute & 8 ? select >> 2 & 3 | select >> 3 & 4 : select & 3 | select >> 2 & 4;
+}
+
+/** Where the row of a glyph stands in plane 2. */
+export function glyphPlace(map, character, scan) {
+  return 16384 * (map & 3) + 8192 * (map >> 2) + 32 * character + scan;
 }
 
 /** Whether a cell's cursor is seen at a beam's scan line and frame. */
@@ -42,8 +47,9 @@ function isCursorSeen({ crtc }, counter, { scan, frame }) {
 function textDot(registers, byteAt, beam, source) {
   const { attr, crtc, seq } = registers, { offset, counter, dot } = source, { scan, frame } = beam;
   const [character, attribute] = [byteAt(0, offset), byteAt(1, offset)], map = mapOf(seq[3], attribute);
-  const glyphOffset = 16384 * (map & 3) + 8192 * (map >> 2) + 32 * character + scan;
-  const glyph = byteAt(2, glyphOffset), isLine = (attr[16] & 4) !== 0 && character >= 0xc0 && character <= 0xdf;
+  const glyphOffset = glyphPlace(map, character, scan);
+  const glyph = byteAt(2, glyphOffset);
+  const isLine = (attr[16] & 4) !== 0 && character >= 0xc0 && character <= 0xdf;
   const isGlyph = dot < 8 ? (glyph >> 7 - dot & 1) === 1 : isLine && (glyph & 1) === 1;
   const hasBlink = (attr[16] & 8) !== 0;
   const isUnderline = (attr[16] & 2) !== 0 && (attribute & 0x77) === 1 && scan === (crtc[20] & 31);
@@ -57,13 +63,6 @@ function textDot(registers, byteAt, beam, source) {
 /** The four bits of a dot of 16 colours, a plane each. */
 function planarFour(byteAt, { offset, dot }) {
   return dot > 7 ? 0 : PLANES.reduce((four, plane) => four | (byteAt(plane, offset) >> 7 - dot & 1) << plane, 0);
-}
-
-/** The way of four bits through plane enable, palette and colour select: { four, enabled, own, number }. */
-function paletteWay({ attr }, four) {
-  const enabled = four & attr[18] & 15, own = attr[enabled], select = attr[20];
-  const low = attr[16] & 128 ? own & 15 | (select & 3) << 4 : own;
-  return { four, enabled, own, number: low | (select & 12) << 4 };
 }
 
 /** The number of a dot's colour, and what it comes from; with the screen off there is none. */

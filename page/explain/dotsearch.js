@@ -228,7 +228,7 @@ export class DotSearch {
       if (drawn !== undefined) [this.drawnBy, at] = [drawn, drawn - 1];
     }
     while (session.scout.at !== at && !session.scout.seek(at, 8)) yield null;
-    const state = new State(session.scout.card.save());
+    const state = State.of(session.scout.card);
     return { at, state, made: dotAhead(state, place) };
   }
 

@@ -1,5 +1,7 @@
 // Where the beam is at each dot of a frame, by the registers of a state (docs/RASTER.md).
-import { characterWidth, frameShape, windowShape } from "../module/state.js";
+import { PLANE_LENGTH } from "../module/adapter.js";
+import { panningShift } from "./dot.js";
+import { characterWidth, fetchAddress, frameShape, windowShape } from "../module/state.js";
 
 /** The beam at the first dot of a frame, before that dot. */
 const START = { frame: 0, line: 0, character: 0, dot: 0, base: 0, scan: 0, half: 0, split: 0 };
@@ -75,4 +77,32 @@ export class FrameWalk {
     const { base, scan, half, split } = this.lineAt(line);
     return { frame: this.beam.frame, line, character, dot, base, scan, half, split };
   }
+}
+
+/**
+ * Of each displayed line of a frame with these registers: its counter, the scan line of its row,
+ * and whether it is below the line compare.
+ */
+export function* displayedLines(registers) {
+  const walk = new FrameWalk(registers), { lines } = windowShape(registers);
+  for (let line = 0; line < lines; line++) {
+    const { base, scan, split } = walk.lineAt(line);
+    yield { line, base, scan, split };
+  }
+}
+
+/** Of each byte of a plane, whether a frame with these registers shows it. */
+export function shownBytes(registers) {
+  const shown = new Uint8Array(PLANE_LENGTH), seen = new Set();
+  const { characters } = windowShape(registers);
+  for (const { base, split } of displayedLines(registers)) {
+    // A picture that is panned shows a part of one character more.
+    const count = characters + (panningShift(registers, split) ? 1 : 0), key = 512 * base + count;
+    if (seen.has(key)) continue;
+    seen.add(key);
+    for (let i = 0; i < count; i++) {
+      shown[fetchAddress(registers, base + i & 65535)] = 1;
+    }
+  }
+  return shown;
 }

@@ -1,6 +1,8 @@
 // The cells of text that the adapter shows, with their characters' glyphs in plane 2.
 import { LETTERS_437 } from "../module/codepage.js";
-import { characterWidth, dacEntry, displayedLines, fetchAddress, windowShape } from "../module/state.js";
+import { characterWidth, dacEntry, fetchAddress, windowShape } from "../module/state.js";
+import { displayedLines } from "../explain/walk.js";
+import { glyphPlace, mapOf } from "../explain/dot.js";
 import { element, setAll, setText } from "../common/dom.js";
 import { hex, sameWords, wordsOfBytes } from "../common/bytes.js";
 import { widened } from "../picture/png.js";
@@ -37,14 +39,9 @@ export function cellsOf(state) {
   }) }));
 }
 
-/** Where the glyphs of a map begin in plane 2. */
-function mapStart(map) {
-  return 0x4000 * (map & 3) + (map & 4 ? 0x2000 : 0);
-}
-
 function drawCell(words, width, left, top, lines, { character, attribute },
   { glyphs, colours, hasBlink, maps }) {
-  const glyph = mapStart(maps[attribute >> 3 & 1]) + 32 * character;
+  const glyph = glyphPlace(maps[attribute >> 3 & 1], character, 0);
   const [own, ground] = [colours[attribute & 15], colours[attribute >> 4 & (hasBlink ? 7 : 15)]];
   const [ink, paper] = own === ground ? ALIKE : [own, ground];
   for (let y = 0; y < lines; y++) {
@@ -62,7 +59,7 @@ function cellColours(state) {
   };
   return { glyphs: state.plane(2), colours: Array.from({ length: 16 }, (_, four) => word(four)),
     hasBlink: Boolean(registers.attr[16] & 8),
-    maps: [select & 3 | select >> 2 & 4, select >> 2 & 3 | select >> 3 & 4] };
+    maps: [0, 8].map(attribute => mapOf(select, attribute)) };
 }
 
 /** The panel of cells, whose canvas is painted where a cell differs from what it shows. */

@@ -3,7 +3,8 @@ import { classesOf, element, selectOf, setAll, setText } from "../common/dom.js"
 import { counted, grouped, hex, wordsOfBytes } from "../common/bytes.js";
 import { changedPlanes } from "../run/changes.js";
 import { isWritten } from "../common/rows.js";
-import { rowBytes, shownBytes } from "../module/state.js";
+import { rowBytes } from "../module/state.js";
+import { shownBytes } from "../explain/walk.js";
 
 const PLANE_LENGTH = 65536, WIDEST_PITCH = 2040, HEX_ROWS = 16, HEX_COLUMNS = 16, USUAL_PITCH = 80;
 const COLOURS = { on: 0xffffffff, off: 0xff000000, shownOff: 0xff4a2a14, hiddenOn: 0xff8a8a8a,

@@ -1,7 +1,7 @@
 // Watches of the beam: that it passes a place or the end of a frame, and that it draws a dot of the picture.
 import { FrameWalk, dotsToFrame } from "../explain/walk.js";
 import { KIND } from "../script/outline.js";
-import { State, characterWidth, frameShape } from "../module/state.js";
+import { characterWidth, drawnDots, frameShape } from "../module/state.js";
 
 /** A card's registers and beam. */
 const lightOf = ({ card }) => ({ registers: card.registers(), beam: card.beam() });
@@ -65,7 +65,8 @@ export class DrawnWatch extends ClockWatch {
   /** Dots drawn so far matter only while the beam is in the line. */
   read({ card }) {
     const light = lightOf({ card }), { beam } = light;
-    return { ...light, drawn: beam.line === this.line ? new State(card.saved()).drawn[this.line] : 0 };
+    const isIn = beam.line === this.line;
+    return { ...light, drawn: isIn ? drawnDots(card.saved(), this.line) : 0 };
   }
 
   isChanged(scout, { kind, place }) {

@@ -225,12 +225,12 @@ export class Session {
 
   /** The card's state. */
   state() {
-    return new State(this.card.save());
+    return State.of(this.card);
   }
 
   /** The registers of any card. */
   registersOf(card) {
-    return new State(card.save()).registers;
+    return card.registers();
   }
 
   /**

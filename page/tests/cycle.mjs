@@ -19,7 +19,7 @@ class Bench {
     this.random = random;
     this.card = new Card(adapter, FONTS);
     this.card.restore([stateOf(this.card.save(), random, () => 0)]);
-    const state = new State(this.card.save());
+    const state = State.of(this.card);
     this.planes = [0, 1, 2, 3].map(plane => state.plane(plane).slice());
     this.out = adapter.room("cycle", 16);
   }
@@ -102,7 +102,7 @@ test("why an address is not decoded is told", () => {
 });
 
 test("memory of a saved state", () => {
-  const card = new Card(adapter, FONTS), state = new State(card.save());
+  const card = new Card(adapter, FONTS), state = State.of(card);
   assert.equal(memoryOf(state).byteAt(3, 65535), 0);
   card.close();
 });

@@ -59,7 +59,7 @@ test(`each dot of ${FRAMES} random frames has the colour that is explained`, () 
   let dots = 0;
   for (let time = 0; time < FRAMES; time++) {
     card.restore([seasoned(stateOf(first, random, giver(random)), random)]);
-    const state = new State(card.save()), { widths, rgb } = card.frameLines(), kind = dotKind(state.registers);
+    const state = State.of(card), { widths, rgb } = card.frameLines(), kind = dotKind(state.registers);
     const count = holdFrame(state, widths, rgb);
     kinds[kind] = (kinds[kind] ?? 0) + count;
     dots += count;
@@ -97,7 +97,7 @@ test("each dot of frames in which registers change has the colour of the state t
     card.restore([bytes]);
     for (let part = 0; part < 12; part++) {
       disturb(card, random);
-      const state = new State(card.save()), { widths, rgb } = card.frameLines();
+      const state = State.of(card), { widths, rgb } = card.frameLines();
       dots += holdFrame(state, widths, rgb);
       card.restore([state.bytes]);
       const { registers, beam } = state;
@@ -114,7 +114,8 @@ test("each dot of frames in which registers change has the colour of the state t
 test("the bytes that a dot is made of, and their bits, change its colour, and no others do", () => {
   const card = new Card(adapter, FONTS), random = new Random(9), first = card.save();
   for (let time = 0; time < 400; time++) {
-    const state = new State(seasoned(stateOf(first, random, giver(random)), random)), sources = sourcesOf(state);
+    card.restore([seasoned(stateOf(first, random, giver(random)), random)]);
+    const state = State.of(card), sources = sourcesOf(state);
     const walk = new FrameWalk(sources.registers, state.beam, state.drawn);
     const beam = walk.place(random.below(20), random.below(40));
     if (!beam) continue;

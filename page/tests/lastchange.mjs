@@ -2,6 +2,7 @@
 // random scripts.
 import assert from "node:assert/strict";
 import test from "node:test";
+import { Card } from "../module/adapter.js";
 import { DotSearch, dotAhead, dotOfSeen, partsOfDot } from "../explain/dotsearch.js";
 import { Search } from "../run/points.js";
 import { Session } from "../run/session.js";
@@ -101,15 +102,19 @@ test("the last step, and the next, that changed bytes, registers, colours or BIO
   assert.ok(changes > 800 && again > 40);
 });
 
+/** A card that states are restored on. */
+const scratch = new Card(adapter, FONTS);
+
 /** The parts of a dot as the frame of a state would draw it; of steps of its frame by the start taken then. */
 function partsAt(state, place, start, frame) {
-  const bytes = state.bytes.slice(0, 265086), other = new State(bytes);
+  const bytes = state.bytes.slice(0, 265086);
   // The same state at the first dot of a frame.
   bytes.fill(0, 41 + 27, 41 + 37);
   bytes.fill(0, 263038, 265086);
   bytes[41 + 26] = frame;
   for (const i of [8, 12, 13]) if (start) bytes[41 + i] = start[i];
-  const made = dotAhead(other, place);
+  scratch.restore([bytes]);
+  const made = dotAhead(State.of(scratch), place);
   return JSON.stringify(made ? partsOfDot(made.sources, made.told) : partsOfDot(null, null));
 }
 

@@ -5,6 +5,7 @@ import { readFileSync } from "node:fs";
 import { STRUCTS } from "../module/structs.js";
 import { State } from "../module/state.js";
 import { Card } from "../module/adapter.js";
+import { partsOfSaved } from "./saved.mjs";
 import { Random, stateOf } from "./randomly.mjs";
 import { FONTS, TOP, loadAdapter } from "./loading.mjs";
 
@@ -34,13 +35,13 @@ test("what the module's readers tell is what a saved state tells, of random stat
   for (let time = 0; time < 50; time++) {
     card.restore([stateOf(first, random, (group, i) => (group === "crtc" && i === 0 ? 80 : random.byte()))]);
     card.adapter.calls.zak_advance(card.at, random.below(100000));
-    const state = new State(card.save()), { rows, ...beam } = card.beam();
-    assert.deepEqual(card.registers(), { ...state.registers,
-      ...Object.fromEntries(["seq", "gfx", "crtc", "attr"].map(group => [group, state.registers[group].slice()])) });
-    assert.deepEqual(beam, state.beam);
+    const state = State.of(card), { rows, ...beam } = card.beam();
+    const { registers, latches, bda, beam: saved } = partsOfSaved(card.save());
+    assert.deepEqual(card.registers(), registers);
+    assert.deepEqual(beam, saved);
     assert.equal(rows, state.drawn.filter(dots => dots).length);
-    assert.deepEqual(card.latches(), state.latches.slice());
-    assert.deepEqual(card.bda(), state.bda);
+    assert.deepEqual(card.latches(), latches);
+    assert.deepEqual(card.bda(), bda);
     const index = random.byte(), plane = random.below(4), offset = random.below(65536);
     assert.deepEqual(card.colour(index), state.colour(index));
     assert.deepEqual(card.plane(plane, offset), state.plane(plane).slice(offset));
