@@ -249,9 +249,8 @@ try {
     await does();
     assert.deepEqual(await browser.heard(), [], "the console");
     done.push(name);
-    console.log(`ok ${name}`);
   }
-  console.log(`${done.length} of ${Object.keys(PARTS).length} in ${browser.name}`);
+  console.log(`asked in ${browser.name}: ${done.join("; ")}`);
 } catch (error) {
   await shot("failed");
   throw error;

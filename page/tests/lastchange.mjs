@@ -111,6 +111,7 @@ function partsAt(state, place, start, frame) {
   // The same state at the first dot of a frame.
   bytes.fill(0, 41 + 27, 41 + 37);
   bytes.fill(0, 263038, 265086);
+  new DataView(bytes.buffer, bytes.byteOffset).setUint32(5, bytes.length, true);
   bytes[41 + 26] = frame;
   for (const i of [8, 12, 13]) if (start) bytes[41 + i] = start[i];
   scratch.restore([bytes]);

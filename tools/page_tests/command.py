@@ -45,8 +45,8 @@ MOST_SECONDS, BROWSER_SECONDS = 300, 900
 TESTS = PAGE.parent / "tests"
 # What is done with the page in a browser: its check of all examples, what the tutorial says, what
 # a person does with keys and pointer, and each of its controls.
-OPENING, TUTORIAL, KEEPING, BROWSER = (
-    TESTS / f"{name}.mjs" for name in ("opening", "tutorial", "keeping", "browser")
+OPENING, TUTORIAL, KEEPING, ASKING, BROWSER = (
+    TESTS / f"{name}.mjs" for name in ("opening", "tutorial", "keeping", "asking", "browser")
 )
 CHROMIUM, FIREFOX, WEBKIT = "chromium", "firefox", "webkit"
 # The browsers: the packages of Debian that each needs, and a package's programs, of which one is
@@ -215,7 +215,7 @@ def check_browser(engine: str) -> str:
     """The page as built in a browser, and the tutorial in it. Chromium uses each control too."""
     tests = [[OPENING, engine], [TUTORIAL, engine]]
     if engine != WEBKIT:
-        tests.append([KEEPING, engine])
+        tests += [[KEEPING, engine], [ASKING, engine]]
     if engine == CHROMIUM:
         tests.append([BROWSER])
     told = [run_node(words, {BUILT: str(PAGE)}, BROWSER_SECONDS) for words in tests]

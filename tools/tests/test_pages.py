@@ -39,7 +39,7 @@ CIRCLE = EXAMPLES / "python" / "circle.py"
 # What the page has whole, in its order. The circle's script is too long for it.
 WHOLE = [
     SCRIPTS / "hello.vga", SCRIPTS / "eight-pixels.vga", CIRCLE, SCRIPTS / "going-round.vga",
-    SCRIPTS / "three-bands.vga",
+    SCRIPTS / "three-bands.vga", SCRIPTS / "lost-pixels.vga",
 ]
 BLOCK = re.compile(r"^```\w*\n(.*?)^```$", re.M | re.S)
 # The commands of examples/README.md that make pictures: script, stop, words of `pictures`, file.
@@ -262,8 +262,8 @@ class Tutorial(unittest.TestCase):
         self.assertEqual({path.stem for path in SCRIPTS.iterdir()} & listed, set())
 
     def test_the_check_in_a_browser_does_what_it_says(self) -> None:
-        told = {"chromium": "opening.mjs chromium; tutorial.mjs chromium; keeping.mjs chromium; browser.mjs",
-                "firefox": "opening.mjs firefox; tutorial.mjs firefox; keeping.mjs firefox",
+        told = {"chromium": "opening.mjs chromium; tutorial.mjs chromium; keeping.mjs chromium; asking.mjs chromium; browser.mjs",
+                "firefox": "opening.mjs firefox; tutorial.mjs firefox; keeping.mjs firefox; asking.mjs firefox",
                 "webkit": "opening.mjs webkit; tutorial.mjs webkit"}
         fake = mock.Mock(side_effect=lambda words, *_: " ".join([words[0].name, *words[1:]]) + "\n")
         with mock.patch.object(command, "run_node", fake):
