@@ -191,10 +191,11 @@ const PARTS = {
     const row = await browser.value("document.querySelector('.watches tr.changed').innerText");
     assert.match(row, /dot 327 of line 240\s+3F 3F 3F\s+15 3F 3F/);
     await shot("watches");
-    await browser.value("location.reload()");
-    await browser.until(IDLE);
+    await browser.value("(() => { window.isOld = true; location.reload(); })()");
+    await browser.until(`!window.isOld && ${IDLE}`);
     assert.equal((await text("#tab8")).toLowerCase(), "watches (2)");
     await browser.press("8");
+    await says(".watches", "dot 327 of line 240");
     await browser.click(".watches tbody tr:first-child button:last-child");
     assert.equal((await text("#tab8")).toLowerCase(), "watches (1)");
     await browser.click(".watches tbody tr:first-child button:last-child");
