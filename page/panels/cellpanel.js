@@ -77,8 +77,8 @@ export class CellPanel {
     this.canvas.addEventListener("blur", () => { this.mark.hidden = true; });
     this.mark = element("div", { className: "cellpick", hidden: true });
     this.picked = { row: 0, column: 0 };
-    const box = element("div", { className: "cellbox" }, this.canvas, this.mark);
-    this.root = element("div", {}, box, this.told);
+    const box = element("div", { className: "cellframe" }, this.canvas, this.mark);
+    this.root = element("div", { className: "cellbox" }, box, this.told);
   }
 
   made({ before, after }) {

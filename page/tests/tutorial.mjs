@@ -61,7 +61,7 @@ async function change(old, word) {
     area.focus();
     area.setSelectionRange(at, at + ${old.length});
   })()`);
-  await browser.type(word);
+  await (word.includes("\n") ? browser.paste(word) : browser.type(word));
   await ready();
   await press("Escape");
   await press("End");
