@@ -35,7 +35,9 @@ export class PopCard {
     return !this.root.hidden;
   }
 
-  /** Shows a title and elements; `place` is { x, y } in the window. The first button gets the keys. */
+  /**
+   * Shows a title and elements; `place` is { x, y } in the window. The first button gets the keys.
+   */
   open(place, title, ...inside) {
     if (!this.isOpen) this.#opener = document.activeElement;
     this.title = title;

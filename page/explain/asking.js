@@ -14,6 +14,8 @@ export const ACTIONS = { drawn: "the step that draws it", change: "the last step
 
 /** So many milliseconds a search for the step that drew a dot goes on at a time, and waits. */
 const SLICE_TIME = 8, WAIT_TIME = 30;
+/** So far from the left of what keys ask about its card stands at most, in pixels. */
+const MOST_ASIDE = 160;
 
 /** The cards of dots and of other subjects. */
 export class Asking {
@@ -76,7 +78,8 @@ export class Asking {
     const shown = target?.closest?.("[data-subject]");
     if (!shown) return false;
     const box = shown.getBoundingClientRect();
-    this.ask(shown.dataset.subject, place ?? { x: box.left + Math.min(box.width, 160), y: box.top });
+    this.ask(shown.dataset.subject,
+      place ?? { x: box.left + Math.min(box.width, MOST_ASIDE), y: box.top });
     return true;
   }
 
@@ -84,7 +87,8 @@ export class Asking {
   #tell() {
     const { subject } = this;
     this.#card.title = subject.title;
-    this.#told.replaceChildren(...subject.isDot ? this.#tellDot(subject) : this.#tellValue(subject));
+    this.#told.replaceChildren(...subject.isDot ? this.#tellDot(subject)
+      : this.#tellValue(subject));
   }
 
   #action(name, does) {
@@ -186,7 +190,8 @@ export class Asking {
     if (kind !== "register" && kind !== "field") return [];
     const { fields } = GROUPS.find(({ id }) => id === group).registers[parseInt(index, 16)];
     const options = [[`register ${group} ${index}`, "the whole register"],
-      ...fields.map(({ bits, name }) => [`field ${group} ${index} ${bits}`, `bits ${bits}: ${name}`])];
+      ...fields.map(({ bits, name }) =>
+        [`field ${group} ${index} ${bits}`, `bits ${bits}: ${name}`])];
     const choice = selectOf("which bits", options, { onchange: ({ target }) => {
       this.#words = target.value;
       this.#tell();

@@ -1,5 +1,5 @@
-// Where a dot of the picture comes from: its bytes in the planes, its colour's number, the palette, the DAC
-// (docs/RASTER.md). page/tests/dot.mjs holds the colour to that of the adapter's picture.
+// Where a dot of the picture comes from: its bytes in the planes, its colour's number, the palette,
+// the DAC (docs/RASTER.md). page/tests/dot.mjs holds the colour to that of the adapter's picture.
 import { characterWidth, fetchAddress, paletteWay, windowShape } from "../module/state.js";
 import { WINDOWS } from "./cycle.js";
 
@@ -22,7 +22,8 @@ export function panningShift(registers, split) {
 
 /** The character and the dot in it that the beam shows at its place. */
 function sourceOf(registers, beam) {
-  const width = characterWidth(registers), shift = panningShift(registers, beam.split), dot = beam.dot + shift;
+  const width = characterWidth(registers), shift = panningShift(registers, beam.split);
+  const dot = beam.dot + shift;
   return dot < width ? { shift, character: beam.character, dot }
     : { shift, character: beam.character + 1, dot: dot - width };
 }
@@ -46,31 +47,41 @@ function isCursorSeen({ crtc }, counter, { scan, frame }) {
 /** A dot of a cell of text: its character and glyph, which rules change it, and its four bits. */
 function textDot(registers, byteAt, beam, source) {
   const { attr, crtc, seq } = registers, { offset, counter, dot } = source, { scan, frame } = beam;
-  const [character, attribute] = [byteAt(0, offset), byteAt(1, offset)], map = mapOf(seq[3], attribute);
+  const [character, attribute] = [byteAt(0, offset), byteAt(1, offset)];
+  const map = mapOf(seq[3], attribute);
   const glyphOffset = glyphPlace(map, character, scan);
   const glyph = byteAt(2, glyphOffset);
   const isLine = (attr[16] & 4) !== 0 && character >= 0xc0 && character <= 0xdf;
   const isGlyph = dot < 8 ? (glyph >> 7 - dot & 1) === 1 : isLine && (glyph & 1) === 1;
   const hasBlink = (attr[16] & 8) !== 0;
   const isUnderline = (attr[16] & 2) !== 0 && (attribute & 0x77) === 1 && scan === (crtc[20] & 31);
-  const isBlinkedOff = hasBlink && attribute > 127 && frame >= 16, isCursor = isCursorSeen(registers, counter, beam);
+  const isBlinkedOff = hasBlink && attribute > 127 && frame >= 16;
+  const isCursor = isCursorSeen(registers, counter, beam);
   const isOn = isCursor || (!isBlinkedOff && (isUnderline || isGlyph));
   const four = isOn ? attribute & 15 : attribute >> 4 & (hasBlink ? 7 : 15);
-  return { character, attribute, map, glyphOffset, glyph, scan, isGlyph, isLine, isUnderline, isBlinkedOff,
-    isCursor, isOn, hasBlink, four };
+  return { character, attribute, map, glyphOffset, glyph, scan, isGlyph, isLine, isUnderline,
+    isBlinkedOff, isCursor, isOn, hasBlink, four };
 }
 
 /** The four bits of a dot of 16 colours, a plane each. */
 function planarFour(byteAt, { offset, dot }) {
-  return dot > 7 ? 0 : PLANES.reduce((four, plane) => four | (byteAt(plane, offset) >> 7 - dot & 1) << plane, 0);
+  if (dot > 7) return 0;
+  return PLANES.reduce((four, plane) =>
+    four | (byteAt(plane, offset) >> 7 - dot & 1) << plane, 0);
+}
+
+/** The byte of a dot of 256 colours: two dots have one. */
+function packedByte(byteAt, { offset, dot }) {
+  return dot > 7 ? 0 : byteAt(dot >> 1, offset);
 }
 
 /** The number of a dot's colour, and what it comes from; with the screen off there is none. */
 function numberOf(registers, byteAt, beam, source) {
   const { seq, attr, attrIndex } = registers, kind = dotKind(registers);
   const text = kind === "text" ? textDot(registers, byteAt, beam, source) : null;
-  const byte = kind === "256 colours" ? (source.dot > 7 ? 0 : byteAt(source.dot >> 1, source.offset)) : null;
-  const way = byte === null ? paletteWay(registers, text ? text.four : planarFour(byteAt, source)) : null;
+  const byte = kind === "256 colours" ? packedByte(byteAt, source) : null;
+  const four = () => (text ? text.four : planarFour(byteAt, source));
+  const way = byte === null ? paletteWay(registers, four()) : null;
   const own = way ? way.number : byte;
   if (seq[1] & 32) return { kind, text, byte, way, by: "screen off", number: null };
   if (!(attrIndex & 32)) return { kind, text, byte, way, by: "overscan", number: attr[17] };
@@ -78,12 +89,13 @@ function numberOf(registers, byteAt, beam, source) {
 }
 
 /**
- * Everything about a dot that the beam draws at a place with these registers: { beam, shift, character, dot,
- * counter, offset, kind, text, byte, way, by, number, entry, colour }.
+ * Everything about a dot that the beam draws at a place with these registers: { beam, shift,
+ * character, dot, counter, offset, kind, text, byte, way, by, number, entry, colour }.
  *
- * `byteAt(plane, offset)` reads the planes, `colourOf(entry)` the DAC. `character` and `dot` are the source
- * of the dot: a character of the line, and a dot in it, 0 to 8. `by` tells what gives `number`, the colour's
- * number: "palette", "byte" of 256 colours, "overscan" or "screen off", which has no number and no entry.
+ * `byteAt(plane, offset)` reads the planes, `colourOf(entry)` the DAC. `character` and `dot` are
+ * the source of the dot: a character of the line, and a dot in it, 0 to 8. `by` tells what gives
+ * `number`, the colour's number: "palette", "byte" of 256 colours, "overscan" or "screen off",
+ * which has no number and no entry.
  */
 export function explainDot({ registers, byteAt, colourOf }, beam) {
   const source = sourceOf(registers, beam), counter = beam.base + source.character & 65535;
@@ -100,7 +112,10 @@ export function sourcesOf(state) {
     colourOf: entry => state.colour(entry) };
 }
 
-/** The pixel of the screen that a dot of the picture belongs to, and how many dots it is wide and high. */
+/**
+ * The pixel of the screen that a dot of the picture belongs to, and how many dots it is wide and
+ * high.
+ */
 export function pixelOf(registers, line, x) {
   const kind = dotKind(registers), { rowLines, isDoubled } = windowShape(registers);
   const across = kind === "256 colours" && characterWidth(registers) === 8 ? 2 : 1;
@@ -108,7 +123,10 @@ export function pixelOf(registers, line, x) {
   return { x: Math.floor(x / across), y: Math.floor(line / down), across, down };
 }
 
-/** The row and column of a text's cell; the row is null where the counter is in none of the frame's rows. */
+/**
+ * The row and column of a text's cell; the row is null where the counter is in none of the frame's
+ * rows.
+ */
 export function cellOf(registers, { beam, character }) {
   const { pitch, start } = windowShape(registers), from = beam.split ? 0 : start;
   const row = pitch ? (beam.base - from & 65535) / pitch : 0;
@@ -120,20 +138,26 @@ export function hostAddress({ seq, gfx }, plane, offset) {
   const [start, length] = WINDOWS[gfx[6] >> 2 & 3], isChained = (seq[4] & 8) !== 0;
   const step = isChained ? 4 : gfx[6] & 2 ? 2 : 1;
   if (offset % step) return null;
-  const isOddEven = !isChained && !(seq[4] & 4), low = isChained ? plane : step === 2 && isOddEven ? plane & 1 : 0;
+  const isOddEven = !isChained && !(seq[4] & 4), isHalf = step === 2 && isOddEven;
+  const low = isChained ? plane : isHalf ? plane & 1 : 0;
   const place = offset + low;
   if (step === 1 && isOddEven && (place & 1) !== (plane & 1)) return null;
   return place < length ? start + place : null;
 }
 
-/** The bytes that a dot is made of: { plane, offset, byte, bits, what } each; `bits` are those that count. */
+/**
+ * The bytes that a dot is made of: { plane, offset, byte, bits, what } each; `bits` are those that
+ * count.
+ */
 export function bytesOfDot({ registers, byteAt }, { kind, text, offset, dot }) {
-  const byte = (plane, at, bits, what) => ({ plane, offset: at, byte: byteAt(plane, at), bits, what });
+  const byte = (plane, at, bits, what) =>
+    ({ plane, offset: at, byte: byteAt(plane, at), bits, what });
   if (text) {
     const bits = dot < 8 ? 128 >> dot : text.isLine ? 1 : 0;
     return [byte(0, offset, 255, "character"), byte(1, offset, 255, "attribute"),
       byte(2, text.glyphOffset, bits, "glyph")];
   }
   if (kind === "256 colours") return dot > 7 ? [] : [byte(dot >> 1, offset, 255, "colour")];
-  return PLANES.map(plane => byte(plane, offset, dot < 8 && registers.attr[18] >> plane & 1 ? 128 >> dot : 0, "bits"));
+  const isUsed = plane => dot < 8 && registers.attr[18] >> plane & 1;
+  return PLANES.map(plane => byte(plane, offset, isUsed(plane) ? 128 >> dot : 0, "bits"));
 }

@@ -1,5 +1,5 @@
-// The search for the last step that changed a dot of the picture: one of its own bits, a register that moves
-// it or changes its look, its palette register, its entry of the DAC.
+// The search for the last step that changed a dot of the picture: one of its own bits, a register
+// that moves it or changes its look, its palette register, its entry of the DAC.
 import { BytesWatch, ColourWatch, mayWrite } from "../run/watching.js";
 import { FrameWalk } from "./walk.js";
 import { KIND } from "../script/outline.js";
@@ -9,17 +9,23 @@ import { placeInStruct, sizeOfStruct } from "../module/structs.js";
 import { bytesOfDot, explainDot, sourcesOf } from "./dot.js";
 import { hex } from "../common/bytes.js";
 
-/** The registers that a dot depends on, as bits of zak_registers' fields; all others show in no dot. */
-const SHOWN = { seq: { 1: 0x21, 3: 0x3f }, gfx: { 5: 0x40, 6: 0x01 }, attrIndex: 0x20, dacMask: 0xff,
-  crtc: { 0: 255, 1: 255, 6: 255, 7: 0x73, 8: 0x7f, 9: 0xdf, 10: 0x3f, 11: 0x1f, 12: 255, 13: 255, 14: 255, 15: 255,
-    18: 255, 19: 255, 20: 0x5f, 23: 0x60, 24: 255 } };
+/**
+ * The registers that a dot depends on, as bits of zak_registers' fields; all others show in no dot.
+ */
+const SHOWN = { seq: { 1: 0x21, 3: 0x3f }, gfx: { 5: 0x40, 6: 0x01 }, attrIndex: 0x20,
+  dacMask: 0xff, crtc: { 0: 255, 1: 255, 6: 255, 7: 0x73, 8: 0x7f, 9: 0xdf, 10: 0x3f, 11: 0x1f,
+    12: 255, 13: 255, 14: 255, 15: 255, 18: 255, 19: 255, 20: 0x5f, 23: 0x60, 24: 255 } };
 /** Those that the adapter takes at a frame's first dot. */
 const START_REGISTERS = [8, 12, 13];
 const PORTS = [0x3c0, 0x3c5, 0x3c6, 0x3c9, 0x3cf, 0x3b5, 0x3d5];
 
-/** Of each byte of zak_registers the bits that show in dots; with `taken` without those that a frame's start takes. */
+/**
+ * Of each byte of zak_registers the bits that show in dots; with `taken` without those that a
+ * frame's start takes.
+ */
 function shownMask(taken) {
-  const mask = new Uint8Array(sizeOfStruct("zak_registers")), at = name => placeInStruct("zak_registers", name);
+  const mask = new Uint8Array(sizeOfStruct("zak_registers"));
+  const at = name => placeInStruct("zak_registers", name);
   for (const [name, bits] of Object.entries(SHOWN)) {
     if (typeof bits === "number") mask[at(name)] = bits;
     else for (const [i, some] of Object.entries(bits)) mask[at(name) + Number(i)] = some;
@@ -35,21 +41,29 @@ export function sourcesOfCard(card) {
     colourOf: entry => card.colour(entry) };
 }
 
-const TOLD_BY = { "screen off": "the screen is off", overscan: "overscan, since the palette is not shown",
-  palette: "the palette", byte: "the byte" };
+const TOLD_BY = { "screen off": "the screen is off",
+  overscan: "overscan, since the palette is not shown", palette: "the palette", byte: "the byte" };
 
-/** What a dot is made of, as { name: value in words }; two dots are the same if all of these are. */
+/**
+ * What a dot is made of, as { name: value in words }; two dots are the same if all of these are.
+ */
 export function partsOfDot(sources, told) {
   if (!told) return { shown: "no dot" };
   const { kind, text, way, byte, offset, dot, by, entry, colour } = told, { registers } = sources;
-  const parts = { shown: kind, offset: hex(offset, 4), "dot of its character": String(dot), "colour by": TOLD_BY[by] };
-  if (text) Object.assign(parts, { character: hex(text.character, 2), attribute: hex(text.attribute, 2),
-    "glyph's offset": hex(text.glyphOffset, 4), "glyph's bit": String(text.isGlyph ? 1 : 0),
-    "dot is": text.isOn ? "ink" : "ground" });
+  const parts = { shown: kind, offset: hex(offset, 4), "dot of its character": String(dot),
+    "colour by": TOLD_BY[by] };
+  if (text) {
+    Object.assign(parts, { character: hex(text.character, 2), attribute: hex(text.attribute, 2),
+      "glyph's offset": hex(text.glyphOffset, 4), "glyph's bit": String(text.isGlyph ? 1 : 0),
+      "dot is": text.isOn ? "ink" : "ground" });
+  }
   if (kind === "16 colours") parts.bits = hex(way.four, 1);
   if (byte !== null) parts.byte = hex(byte, 2);
-  if (way && by === "palette") Object.assign(parts, { "palette register": hex(way.enabled, 1), "value of the palette register": hex(registers.attr[way.enabled], 2),
-    "colour's number": hex(way.number, 2) });
+  if (way && by === "palette") {
+    Object.assign(parts, { "palette register": hex(way.enabled, 1),
+      "value of the palette register": hex(registers.attr[way.enabled], 2),
+      "colour's number": hex(way.number, 2) });
+  }
   if (entry !== null) parts["entry of the DAC"] = hex(entry, 2);
   return { ...parts, colour: colour.map(six => hex(six, 2)).join(" ") };
 }
@@ -74,8 +88,8 @@ export function differingParts(old, now) {
 /** Watches what a dot is made of: the dot as a frame with the registers of each state draws it. */
 class DotWatch {
   /**
-   * `told` is the dot as it is made at last. `taken` has values of the registers that were taken at the first
-   * dot of its frame, for steps of that frame; null for the steps before.
+   * `told` is the dot as it is made at last. `taken` has values of the registers that were taken at
+   * the first dot of its frame, for steps of that frame; null for the steps before.
    */
   constructor({ line, dot }, { sources, told }, taken) {
     Object.assign(this, { line, dot, taken, frame: told.beam.frame });
@@ -103,7 +117,8 @@ class DotWatch {
   }
 
   read(scout) {
-    const sources = this.sources(scout), beam = new FrameWalk(sources.registers).next(this.frame).place(this.line, this.dot);
+    const sources = this.sources(scout), walk = new FrameWalk(sources.registers).next(this.frame);
+    const beam = walk.place(this.line, this.dot);
     return partsOfDot(sources, beam && explainDot(sources, beam));
   }
 
@@ -147,17 +162,21 @@ class DotWatch {
   }
 }
 
-/** A dot as the beam draws it from a state on: in the frame under way, or in the next where it is past. */
+/**
+ * A dot as the beam draws it from a state on: in the frame under way, or in the next where it is
+ * past.
+ */
 export function dotAhead(state, { line, dot }) {
-  const sources = sourcesOf(state), walk = new FrameWalk(sources.registers, state.beam, state.drawn);
+  const sources = sourcesOf(state), { registers } = sources;
+  const walk = new FrameWalk(registers, state.beam, state.drawn);
   const here = walk.place(line, dot), beam = here ?? walk.next().place(line, dot);
   return beam && { sources, told: explainDot(sources, beam), isThisFrame: here !== null };
 }
 
 /**
- * A dot of what is seen, as cheaply as it is had: { sources, told, how }. `how` is "drawn" by the last step,
- * "ahead" if it is still to be drawn, or "now": it was drawn before, and this is told by the registers as they
- * stand. Null where no dot is.
+ * A dot of what is seen, as cheaply as it is had: { sources, told, how }. `how` is "drawn" by the
+ * last step, "ahead" if it is still to be drawn, or "now": it was drawn before, and this is told by
+ * the registers as they stand. Null where no dot is.
  */
 export function dotOfSeen({ before, after, picture, steps }, { line, dot }) {
   const isDrawn = picture.isWhole || dot < picture.drawn[line];
@@ -172,8 +191,8 @@ export function dotOfSeen({ before, after, picture, steps }, { line, dot }) {
 }
 
 /**
- * The search for the step that draws a dot, and then for the last step that changed it. `take` goes on for
- * some milliseconds: null while time is over, else { steps, differing }, or { ended: true }.
+ * The search for the step that draws a dot, and then for the last step that changed it. `take` goes
+ * on for some milliseconds: null while time is over, else { steps, differing }, or { ended: true }.
  */
 export class DotSearch {
   /** After how many steps the dot was drawn; null if it was not. */
@@ -183,9 +202,10 @@ export class DotSearch {
   search = null;
 
   /**
-   * `place` is { line, dot }. `steps` are those after which the picture is seen. A dot that is drawn there was
-   * drawn by a step before; one that is not, or `isAhead`, is taken as it would be drawn from there on.
-   * With `isMadeOnly` the search ends with the step that drew it, as { made, drawnBy }.
+   * `place` is { line, dot }. `steps` are those after which the picture is seen. A dot that is
+   * drawn there was drawn by a step before; one that is not, or `isAhead`, is taken as it would be
+   * drawn from there on. With `isMadeOnly` the search ends with the step that drew it, as { made,
+   * drawnBy }.
    */
   constructor(session, place, steps, { isDrawn, isAhead = false, isMadeOnly = false }) {
     this.session = session;
@@ -209,7 +229,10 @@ export class DotSearch {
     return null;
   }
 
-  /** Goes through a search back among steps from `first` to `to`; after how many steps it has found one. */
+  /**
+   * Goes through a search back among steps from `first` to `to`; after how many steps it has found
+   * one.
+   */
   * back(point, to, first = 0) {
     this.search = new Search(this.session, [point], to, true, true, first);
     for (;;) {

@@ -23,8 +23,8 @@ export class Finder {
     if (!session || !seen || seen.session !== session) return;
     const isAgain = this.found?.words === subject.words && this.found.steps === steps &&
       this.found.session === session;
-    const { place } = subject;
-    const isDrawn = subject.isDot && (seen.picture.isWhole || place.dot < seen.picture.drawn[place.line]);
+    const { isDot, place } = subject, { isWhole, drawn } = seen.picture;
+    const isDrawn = isDot && (isWhole || place.dot < drawn[place.line]);
     const search = subject.search(session, steps, isAgain, isDrawn);
     this.#runner.findBy(search, told => this.#hear(subject, session, told, isAgain));
   }

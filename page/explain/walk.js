@@ -6,7 +6,10 @@ import { characterWidth, fetchAddress, frameShape, windowShape } from "../module
 /** The beam at the first dot of a frame, before that dot. */
 const START = { frame: 0, line: 0, character: 0, dot: 0, base: 0, scan: 0, half: 0, split: 0 };
 
-/** The rest of a line from a place of the beam on: the dots of its character, and the characters after it. */
+/**
+ * The rest of a line from a place of the beam on: the dots of its character, and the characters
+ * after it.
+ */
 function restOfLine({ crtc }, width, { character, dot }) {
   const last = Math.max(crtc[0] + 4, character);
   return { own: Math.max(1, width - dot), more: last - character };
@@ -21,9 +24,15 @@ export function dotsToFrame(registers, beam) {
 
 /** A frame as the beam draws it with the registers of a state, from the state's own beam on. */
 export class FrameWalk {
-  /** `drawn` tells how many dots of each line are drawn. Without a beam the frame begins at its first dot. */
+  /**
+   * `drawn` tells how many dots of each line are drawn. Without a beam the frame begins at its
+   * first dot.
+   */
   constructor(registers, beam = START, drawn = []) {
-    Object.assign(this, { registers, drawn, width: characterWidth(registers), shape: windowShape(registers) });
+    this.registers = registers;
+    this.drawn = drawn;
+    this.width = characterWidth(registers);
+    this.shape = windowShape(registers);
     const { crtc } = registers, isStart = !beam.line && !beam.character && !beam.dot;
     const { start } = this.shape;
     this.lineCount = frameShape(registers).lines;
@@ -44,7 +53,9 @@ export class FrameWalk {
   /** What the beam keeps in a line that is to come, or under way: { base, scan, half, split }. */
   lineAt(line) {
     const { lines, first } = this;
-    while (lines.length <= line - first) lines.push(this.after(lines.at(-1), first + lines.length - 1));
+    while (lines.length <= line - first) {
+      lines.push(this.after(lines.at(-1), first + lines.length - 1));
+    }
     return lines[line - first];
   }
 
@@ -58,12 +69,13 @@ export class FrameWalk {
   }
 
   /**
-   * The beam at a dot of a line of the picture, as a state tells it; null where this walk draws no such dot,
-   * because it is drawn already, or because no dot is displayed there.
+   * The beam at a dot of a line of the picture, as a state tells it; null where this walk draws no
+   * such dot, because it is drawn already, or because no dot is displayed there.
    */
   place(line, x) {
     const { beam, first, width } = this, isFirst = line === first;
-    if (line < first || line >= this.shownLines || (!isFirst && line >= this.lineCount)) return null;
+    if (line < first || line >= this.shownLines) return null;
+    if (!isFirst && line >= this.lineCount) return null;
     const from = isFirst ? beam : START, left = x - (isFirst ? this.drawn[line] ?? 0 : 0);
     if (left < 0 || from.character > this.lastShown) return null;
     const { own, more } = restOfLine(this.registers, width, from), past = left - own;

@@ -213,7 +213,10 @@ export class Card {
     return readStruct(name, adapter.bytes.subarray(room.at, room.at + size));
   }
 
-  /** The registers, by the names of `State.registers`. Nothing changes, as by the other readers here. */
+  /**
+   * The registers, by the names of `State.registers`. Nothing changes, as by the other readers
+   * here.
+   */
   registers() {
     return this.struct("zak_registers", "zak_read_registers");
   }

@@ -76,13 +76,18 @@ export function frameShape(registers) {
   return { dots: (crtc[0] + 5) * characterWidth(registers), lines };
 }
 
-/** The dots of a frame and the dots that pass in a second; null where no clock is selected that is known. */
+/**
+ * The dots of a frame and the dots that pass in a second; null where no clock is selected that is
+ * known.
+ */
 export function frameSpeed(registers) {
   const clock = CLOCKS[registers.misc >> 2 & 3], { dots, lines } = frameShape(registers);
   return clock ? { dots: dots * lines, rate: clock / (registers.seq[1] & 8 ? 2 : 1) } : null;
 }
 
-/** The dots and the lines that are displayed, line compare, and how lines make rows of characters. */
+/**
+ * The dots and the lines that are displayed, line compare, and how lines make rows of characters.
+ */
 export function windowShape(registers) {
   const { crtc } = registers, bits = (eight, nine) => ((crtc[7] >> eight & 1) << 8) +
     ((crtc[7] >> nine & 1) << 9);
@@ -109,14 +114,18 @@ export function rowBytes(registers) {
   return 2 * crtc[19] * step;
 }
 
-/** The way of four bits through plane enable, palette and colour select: { four, enabled, number }. */
+/**
+ * The way of four bits through plane enable, palette and colour select: { four, enabled, number }.
+ */
 export function paletteWay({ attr }, four) {
   const enabled = four & attr[18] & 15, own = attr[enabled], select = attr[20];
   const low = attr[16] & 128 ? own & 15 | (select & 3) << 4 : own;
   return { four, enabled, number: low | (select & 12) << 4 };
 }
 
-/** The entry of the DAC that four bits of a dot pick (docs/REGISTERS.md, "Attribute controller"). */
+/**
+ * The entry of the DAC that four bits of a dot pick (docs/REGISTERS.md, "Attribute controller").
+ */
 export function dacEntry(registers, four) {
   return paletteWay(registers, four).number & registers.dacMask;
 }

@@ -1,5 +1,5 @@
-// The structs of include/zaklimot.h that calls write, as tables of their fields; page/tests/structs.mjs
-// holds the tables to the header.
+// The structs of include/zaklimot.h that calls write, as tables of their fields;
+// page/tests/structs.mjs holds the tables to the header.
 
 /** The fields of a struct: [its name in the header, bytes, how many, its name in the page]. */
 const field = (name, bytes = 1, count = 1, own = camelled(name)) => ({ name, bytes, count, own });
@@ -11,8 +11,8 @@ function camelled(name) {
 /** The structs by their names in the header. */
 export const STRUCTS = {
   zak_registers: [
-    field("misc"), field("seq_index"), field("seq", 1, 5), field("crtc_index"), field("crtc", 1, 25),
-    field("gfx_index"), field("gfx", 1, 9), field("attr_index"), field("attr_is_data"),
+    field("misc"), field("seq_index"), field("seq", 1, 5), field("crtc_index"),
+    field("crtc", 1, 25), field("gfx_index"), field("gfx", 1, 9), field("attr_index"), field("attr_is_data"),
     field("attr", 1, 21), field("dac_index"), field("dac_component"), field("dac_mask"),
     field("dac_waiting_red", 1, 1, "dacRed"), field("dac_waiting_green", 1, 1, "dacGreen"),
   ],
@@ -23,8 +23,8 @@ export const STRUCTS = {
   ],
   zak_latches: [field("plane", 1, 4)],
   zak_bda: [
-    field("columns", 2), field("size", 2), field("start", 2), field("cursor_places", 2, 8, "places"),
-    field("cursor_type", 2, 1, "type"), field("crtc_address", 2, 1, "crtc"), field("height", 2),
+    field("columns", 2), field("size", 2), field("start", 2),
+    field("cursor_places", 2, 8, "places"), field("cursor_type", 2, 1, "type"), field("crtc_address", 2, 1, "crtc"), field("height", 2),
     field("mode"), field("page"), field("last_row"),
   ],
   zak_timing: [
@@ -33,7 +33,10 @@ export const STRUCTS = {
   ],
 };
 
-/** Each field with its place, and how many bytes the struct has: C puts numbers at multiples of their size. */
+/**
+ * Each field with its place, and how many bytes the struct has: C puts numbers at multiples of
+ * their size.
+ */
 function laidOut(fields) {
   let at = 0, widest = 1;
   const placed = fields.map(one => {
@@ -46,7 +49,8 @@ function laidOut(fields) {
   return { fields: placed, size: Math.ceil(at / widest) * widest };
 }
 
-const LAYOUTS = Object.fromEntries(Object.entries(STRUCTS).map(([name, fields]) => [name, laidOut(fields)]));
+const LAYOUTS = Object.fromEntries(Object.entries(STRUCTS).map(([name, fields]) =>
+  [name, laidOut(fields)]));
 
 /** How many bytes a struct has. */
 export function sizeOfStruct(name) {
@@ -58,10 +62,14 @@ export function placeInStruct(name, own) {
   return LAYOUTS[name].fields.find(one => one.own === own).at;
 }
 
-/** The values of a struct by the page's names: numbers; of several bytes a Uint8Array, of words a list. */
+/**
+ * The values of a struct by the page's names: numbers; of several bytes a Uint8Array, of words a
+ * list.
+ */
 export function readStruct(name, bytes) {
   const view = new DataView(bytes.buffer, bytes.byteOffset, bytes.length);
-  const reads = { 1: at => bytes[at], 2: at => view.getUint16(at, true), 4: at => view.getUint32(at, true) };
+  const reads = { 1: at => bytes[at], 2: at => view.getUint16(at, true),
+    4: at => view.getUint32(at, true) };
   return Object.fromEntries(LAYOUTS[name].fields.map(({ own, at, bytes: size, count }) => {
     if (count === 1) return [own, reads[size](at)];
     if (size === 1) return [own, bytes.slice(at, at + count)];

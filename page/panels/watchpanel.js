@@ -16,8 +16,8 @@ export class WatchPanel {
   made(seen) {
     this.#seen = seen;
     const rows = this.#watches.values(seen).map(one => this.#row(one));
-    const hint = element("p", { className: "hint" }, "To watch a dot, a byte, a cell, a colour, a " +
-      "register or a field, click it and choose “watch it”. Yellow: changed by the last step.");
+    const hint = element("p", { className: "hint" }, "To watch a dot, a byte, a cell, a colour, " +
+      "a register or a field, click it and choose “watch it”. Yellow: changed by the last step.");
     this.root.replaceChildren(hint, rows.length ? this.#table(rows)
       : element("p", {}, "Nothing is watched yet."));
     return this.root;
@@ -26,8 +26,8 @@ export class WatchPanel {
   #table(rows) {
     const heads = ["watched", "before", "now", ""].map(text =>
       element("th", { scope: "col" }, text));
-    return element("table", { className: "plain" }, element("thead", {}, element("tr", {}, ...heads)),
-      element("tbody", {}, ...rows));
+    return element("table", { className: "plain" },
+      element("thead", {}, element("tr", {}, ...heads)), element("tbody", {}, ...rows));
   }
 
   #row({ subject, was, is, isChanged }) {

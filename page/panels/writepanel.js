@@ -32,9 +32,21 @@ function cycleOf(cycle) {
     className: classesOf(!isUsed && "unused") }, `plane ${plane}${source ? `: ${source}` : ""}`));
   const body = rows.map(row => element("tr", {}, element("th", { scope: "row" }, row.title),
     ...row.cells.map((cell, i) => cellOf(cell, heads[i].isUsed))));
-  return element("div", {}, element("h3", {}, title), ...said, element("div", { className: "scroll" },
-    element("table", { className: "cycle" }, element("thead", {}, element("tr", {}, element("td"),
-      ...head)), element("tbody", {}, ...body))));
+  const table = element("table", { className: "cycle" },
+    element("thead", {}, element("tr", {}, element("td"), ...head)),
+    element("tbody", {}, ...body));
+  return element("div", {}, element("h3", {}, title), ...said,
+    element("div", { className: "scroll" }, table));
+}
+
+/** What to say where the last step has no cycle of memory that could be shown. */
+function noneText(kind) {
+  const where = "Go to a put or a get, or click a dot and ask for the last step that changed it.";
+  if (kind !== KIND.int) {
+    return `The last step neither writes display memory nor reads it. ${where}`;
+  }
+  return "A BIOS call makes many cycles, and they are not shown one by one. The line above and " +
+    "the yellow marks in the other tabs show what they changed.";
 }
 
 /** The panel of the last step's write or read. */
@@ -55,7 +67,9 @@ export class WritePanel {
   #inside({ session, steps, before }) {
     const { outline } = session, entry = steps ? outline.entryOf(steps - 1) : -1;
     const kind = entry < 0 ? 0 : outline.kinds[entry];
-    if (!MEMORY_STEPS.includes(kind)) return [element("p", { className: "hint" }, this.#none(kind))];
+    if (!MEMORY_STEPS.includes(kind)) {
+      return [element("p", { className: "hint" }, noneText(kind))];
+    }
     const [name, place, value = "0"] = outline.wordsOf(entry).toLowerCase().split(" ");
     const step = { name, place: parseInt(place, 16), value: parseInt(value, 16) };
     const { cycles, isRefused } = cyclesOfStep(memoryOf(before), step);
@@ -64,12 +78,5 @@ export class WritePanel {
     const refused = isRefused ? [element("p", { className: "wrong" },
       "The step is refused, so nothing of this happens.")] : [];
     return [hint, ...refused, ...cycles.map(cycleOf)];
-  }
-
-  #none(kind) {
-    const where = "Go to a put or a get, or click a dot and ask for the last step that changed it.";
-    if (kind !== KIND.int) return `The last step neither writes display memory nor reads it. ${where}`;
-    return "A BIOS call makes many cycles, and they are not shown one by one. The line above and " +
-      "the yellow marks in the other tabs show what they changed.";
   }
 }

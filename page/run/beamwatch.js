@@ -1,4 +1,5 @@
-// Watches of the beam: that it passes a place or the end of a frame, and that it draws a dot of the picture.
+// Watches of the beam: that it passes a place or the end of a frame, and that it draws a dot of the
+// picture.
 import { FrameWalk, dotsToFrame } from "../explain/walk.js";
 import { KIND } from "../script/outline.js";
 import { characterWidth, drawnDots, frameShape } from "../module/state.js";
@@ -71,10 +72,14 @@ export class DrawnWatch extends ClockWatch {
 
   isChanged(scout, { kind, place }) {
     const { old, line, dot } = this, { registers, beam } = old;
-    const now = this.old = this.read(scout), walk = new FrameWalk(registers, beam, { [line]: old.drawn });
+    const now = this.old = this.read(scout);
+    const walk = new FrameWalk(registers, beam, { [line]: old.drawn });
     const rest = dotsToFrame(registers, beam), isPast = kind === KIND.frame || place >= rest;
     const isIn = ({ line: at }, drawn) => at > line || (at === line && drawn > dot);
-    if (!isPast) return !isIn(beam, old.drawn) && walk.place(line, dot) !== null && isIn(now.beam, now.drawn);
+    if (!isPast) {
+      return !isIn(beam, old.drawn) && walk.place(line, dot) !== null &&
+        isIn(now.beam, now.drawn);
+    }
     if (walk.place(line, dot) !== null) return true;
     if (kind === KIND.frame) return false;
     const next = walk.next(), { dots, lines } = frameShape(registers);
@@ -83,7 +88,10 @@ export class DrawnWatch extends ClockWatch {
   }
 }
 
-/** The first dot of a frame is drawn: the start address, byte panning and preset row scan are taken then. */
+/**
+ * The first dot of a frame is drawn: the start address, byte panning and preset row scan are taken
+ * then.
+ */
 export class StartWatch extends ClockWatch {
   start(scout) {
     this.old = lightOf(scout);

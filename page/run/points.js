@@ -1,5 +1,6 @@
 // Breakpoints: what they watch, and the search for the next or the last step that meets one.
-import { AnyWatch, BiosWatch, BytesWatch, ColourWatch, PaletteWatch, RegisterWatch } from "./watching.js";
+import { AnyWatch, BiosWatch, BytesWatch, ColourWatch, PaletteWatch,
+  RegisterWatch } from "./watching.js";
 import { BeamWatch, DrawnWatch, StartWatch } from "./beamwatch.js";
 import { GROUPS } from "../module/registers.js";
 import { KIND } from "../script/outline.js";
@@ -9,7 +10,10 @@ import { isRefusal } from "../script/expecting.js";
 const CHUNK = 20000, MOST_AHEAD = 4096;
 const PORT_STEPS = { out: "written", outw: "written", in: "read", inw: "read" };
 const MEMORY_STEPS = { put: "written", putw: "written", get: "read", getw: "read" };
-/** What is known of an entry of the script: nothing, or that it meets a point by its words, or may do so. */
+/**
+ * What is known of an entry of the script: nothing, or that it meets a point by its words, or may
+ * do so.
+ */
 const KNOWN = 1, MET = 2, WATCHED = 4;
 /** The kinds of steps that may take long begin with `int`. */
 const SLOW = KIND.int;
@@ -17,7 +21,8 @@ const SLOW = KIND.int;
 /** Which planes a mask means, in words. */
 export function planesText(planes) {
   const numbers = [0, 1, 2, 3].filter(plane => planes >> plane & 1);
-  return numbers.length === 4 ? "all planes" : `plane${numbers.length > 1 ? "s" : ""} ${numbers.join(" and ")}`;
+  const noun = numbers.length > 1 ? "planes" : "plane";
+  return numbers.length === 4 ? "all planes" : `${noun} ${numbers.join(" and ")}`;
 }
 
 function bytesText({ planes, from, to }) {
@@ -49,7 +54,7 @@ export function pointText(point) {
 function meetsWords(point, words, line) {
   if (point.kind === "line") return point.line === line;
   const [name, place] = words.toLowerCase().split(" ");
-  const way = (point.kind === "port" ? PORT_STEPS : point.kind === "address" ? MEMORY_STEPS : {})[name];
+  const ways = { port: PORT_STEPS, address: MEMORY_STEPS }[point.kind], way = ways[name];
   if (!way || (point.way !== "either" && point.way !== way)) return false;
   const first = parseInt(place, 16);
   return point.place === first || (name.endsWith("w") && point.place === first + 1);
@@ -79,14 +84,18 @@ export function watchOf(point) {
   }
 }
 
-/** A search among a session's steps. `take` goes on for some milliseconds, and tells what was found. */
+/**
+ * A search among a session's steps. `take` goes on for some milliseconds, and tells what was found.
+ */
 export class Search {
   /**
-   * From after `from` steps on, forward, or back from the step before; `isInclusive` has the last step looked
-   * at too. Back, it looks at no step before the first `first` ones.
+   * From after `from` steps on, forward, or back from the step before; `isInclusive` has the last
+   * step looked at too. Back, it looks at no step before the first `first` ones.
    */
   constructor(session, points, from, isBack, isInclusive = false, first = 0) {
-    Object.assign(this, { session, points, looked: from, first });
+    this.session = session;
+    this.looked = from;
+    this.first = first;
     this.plain = points.filter(point => ["line", "port", "address"].includes(point.kind));
     const watches = points.map(watchOf).filter(watch => watch);
     this.watch = watches.length ? new AnyWatch(watches) : null;
@@ -99,8 +108,8 @@ export class Search {
   }
 
   /**
-   * { steps } found, { ended: true }, { waiting: true } for the run to come so far, or null where time is
-   * over.
+   * { steps } found, { ended: true }, { waiting: true } for the run to come so far, or null where
+   * time is over.
    */
   take(milliseconds) {
     const until = performance.now() + milliseconds;
@@ -176,7 +185,8 @@ export class Search {
   }
 
   /**
-   * Goes through steps, and yields after each that meets a breakpoint how many were taken; null now and then.
+   * Goes through steps, and yields after each that meets a breakpoint how many were taken; null now
+   * and then.
    */
   * scan(from, to) {
     const { outline } = this.session;

@@ -1,12 +1,13 @@
-// A card of its own that goes through a run's steps for a search, by a call of the module for each step: the
-// page's picture stays as it is meanwhile, and a step costs less than by zak_run_on, since no report is made.
+// A card of its own that goes through a run's steps for a search, by a call of the module for each
+// step: the page's picture stays as it is meanwhile, and a step costs less than by zak_run_on,
+// since no report is made.
 import { Card } from "../module/adapter.js";
 import { KIND } from "../script/outline.js";
 
 const MAGIC = 5, VERSION_TWO = 2, REPEAT = 13, END = 14, MOST_TABLE = 768;
 /** Bytes of the steps by their kinds, but for `int`, which has a block, and `show`. */
-const SIZES = { [KIND.out]: 4, [KIND.outw]: 5, [KIND.in]: 3, [KIND.inw]: 3, [KIND.put]: 6, [KIND.putw]: 7,
-  [KIND.get]: 5, [KIND.getw]: 5, [KIND.advance]: 5, [KIND.frame]: 1 };
+const SIZES = { [KIND.out]: 4, [KIND.outw]: 5, [KIND.in]: 3, [KIND.inw]: 3, [KIND.put]: 6,
+  [KIND.putw]: 7, [KIND.get]: 5, [KIND.getw]: 5, [KIND.advance]: 5, [KIND.frame]: 1 };
 /** Bytes of `show`, by what it shows. */
 const SHOW_SIZES = [2, 3, 2, 2, 7, 2, 2];
 /** So many steps are taken before the time is looked at. */
@@ -15,7 +16,8 @@ const STEPS_A_LOOK = 512;
 /** The steps of a script's bytes: where each begins, as they stand in the text (docs/SCRIPT.md). */
 export class Operations {
   constructor(script, count) {
-    Object.assign(this, { script, view: new DataView(script.buffer, script.byteOffset, script.length) });
+    this.script = script;
+    this.view = new DataView(script.buffer, script.byteOffset, script.length);
     this.starts = new Uint32Array(count);
     let at = MAGIC;
     for (let entry = 0; entry < count; entry++) {
@@ -55,13 +57,15 @@ export class Operations {
   /** The byte or the word that a step writes. */
   value(entry) {
     const at = this.starts[entry], kind = this.script[at], from = at + (kind <= KIND.inw ? 3 : 5);
-    return kind === KIND.outw || kind === KIND.putw ? this.view.getUint16(from, true) : this.script[from];
+    const isWord = kind === KIND.outw || kind === KIND.putw;
+    return isWord ? this.view.getUint16(from, true) : this.script[from];
   }
 
   /** The four registers of a call, as eight bytes, and its block. */
   call(entry) {
     const at = this.starts[entry], length = this.view.getUint16(at + 9, true);
-    return { registers: this.script.subarray(at + 1, at + 9), block: this.script.subarray(at + 11, at + 11 + length) };
+    return { registers: this.script.subarray(at + 1, at + 9),
+      block: this.script.subarray(at + 11, at + 11 + length) };
   }
 }
 
@@ -84,7 +88,8 @@ export class Scout {
 
   /** Takes one step, the `entry` of the script. */
   take(entry) {
-    const { operations, adapter: { calls }, card: { at: card }, room } = this, kind = operations.kind(entry);
+    const { operations, adapter: { calls }, card: { at: card }, room } = this;
+    const kind = operations.kind(entry);
     this.at++;
     if (kind >= KIND.int) return this.takeOther(kind, entry);
     const place = operations.place(entry);
@@ -113,12 +118,13 @@ export class Scout {
     const { adapter, card, room } = this, { registers, block } = this.operations.call(entry);
     const given = adapter.given("block", block);
     adapter.bytes.set(registers, room);
-    return adapter.calls.zak_int10(card.at, room, given.at, given.length, room + 16, MOST_TABLE, room + 8);
+    return adapter.calls.zak_int10(card.at, room, given.at, given.length, room + 16, MOST_TABLE,
+      room + 8);
   }
 
   /**
-   * Goes to the state after so many steps, for about so many milliseconds; whether it is there. It goes on from
-   * where it is, or from the last checkpoint that is nearer.
+   * Goes to the state after so many steps, for about so many milliseconds; whether it is there. It
+   * goes on from where it is, or from the last checkpoint that is nearer.
    */
   seek(steps, milliseconds = Infinity) {
     const from = this.session.checkpointBefore(steps);
@@ -132,7 +138,8 @@ export class Scout {
 
   /** Takes steps until the card is after so many, or the time is over. */
   takeSteps(steps, until) {
-    const { outline } = this, run = outline.runOf(this.at), end = Math.min(steps, run.first + run.count * run.size);
+    const { outline } = this, run = outline.runOf(this.at);
+    const end = Math.min(steps, run.first + run.count * run.size);
     let within = (this.at - run.first) % run.size;
     while (this.at < end) {
       const entry = run.from + within;

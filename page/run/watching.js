@@ -1,16 +1,19 @@
-// What a search watches: registers, entries of the DAC, bytes of the planes, BIOS data, the beam. A watch
-// tells by a step's words whether the step may change what is watched, so that the others need not be looked
-// at, and holds the value after a step to the one before.
+// What a search watches: registers, entries of the DAC, bytes of the planes, BIOS data, the beam. A
+// watch tells by a step's words whether the step may change what is watched, so that the others
+// need not be looked at, and holds the value after a step to the one before.
 import { KIND } from "../script/outline.js";
 import { placeInStruct } from "../module/structs.js";
 import { placeOfAddress } from "../explain/cycle.js";
 
 const PLANES = [0, 1, 2, 3], ENTRIES = 256;
 /** The ports by which the registers of a group, and its index, are written. */
-const PORTS = { misc: [0x3c2], seq: [0x3c5], gfx: [0x3cf], crtc: [0x3d5, 0x3b5], attr: [0x3c0], attrIndex: [0x3c0],
-  dacMask: [0x3c6] };
+const PORTS = { misc: [0x3c2], seq: [0x3c5], gfx: [0x3cf], crtc: [0x3d5, 0x3b5], attr: [0x3c0],
+  attrIndex: [0x3c0], dacMask: [0x3c6] };
 
-/** Whether a step may write one of some ports, by its words; a call of the video BIOS may write all of them. */
+/**
+ * Whether a step may write one of some ports, by its words; a call of the video BIOS may write all
+ * of them.
+ */
 export function mayWrite(ports, { kind, place }) {
   if (kind === KIND.int) return true;
   if (kind === KIND.out) return ports.includes(place);
@@ -20,7 +23,8 @@ export function mayWrite(ports, { kind, place }) {
 /** Whether an address may lead to an offset from `from` to `to`, whatever the registers are. */
 function mayLead(address, from, to) {
   // The windows begin at A0000, B0000 and B8000.
-  return [address & 65535, address - 0x8000 & 65535].some(place => place >= from && (place & ~3) <= to);
+  const places = [address & 65535, address - 0x8000 & 65535];
+  return places.some(place => place >= from && (place & ~3) <= to);
 }
 
 /** Whether a step may write bytes at offsets from `from` to `to`. */
@@ -50,7 +54,10 @@ class Watch {
   }
 }
 
-/** Fields of registers: parts { group, index, mask } of zak_registers; without a mask the whole register. */
+/**
+ * Fields of registers: parts { group, index, mask } of zak_registers; without a mask the whole
+ * register.
+ */
 export class RegisterWatch extends Watch {
   constructor(parts) {
     super();
@@ -96,7 +103,10 @@ function colourAt(adapter, card, room, index) {
   return bytes[room] << 16 | bytes[room + 1] << 8 | bytes[room + 2];
 }
 
-/** All entries of the DAC. After a write of a port only the entry of the index, or that before, can differ. */
+/**
+ * All entries of the DAC. After a write of a port only the entry of the index, or that before, can
+ * differ.
+ */
 export class PaletteWatch extends Watch {
   mayChange(operation) {
     return mayWrite([0x3c9], operation);
@@ -123,14 +133,16 @@ export class PaletteWatch extends Watch {
   }
 }
 
-const AT = { misc: placeInStruct("zak_registers", "misc"), memory: placeInStruct("zak_registers", "seq") + 4,
+const AT = { misc: placeInStruct("zak_registers", "misc"),
+  memory: placeInStruct("zak_registers", "seq") + 4,
   map: placeInStruct("zak_registers", "gfx") + 6 };
 
 /** Those registers that say where an address leads, which `placeOfAddress` takes. */
 function wayOfAddresses({ adapter, card, room }) {
   adapter.calls.zak_read_registers(card.at, room);
   const { bytes } = adapter;
-  return { misc: bytes[room + AT.misc], seq: { 4: bytes[room + AT.memory] }, gfx: { 6: bytes[room + AT.map] } };
+  return { misc: bytes[room + AT.misc], seq: { 4: bytes[room + AT.memory] },
+    gfx: { 6: bytes[room + AT.map] } };
 }
 
 /** Bytes of planes: those of `planes`, a bit each, at offsets from `from` to `to`. */
@@ -153,9 +165,10 @@ export class BytesWatch extends Watch {
   isChanged(scout, { kind, place }) {
     if (kind === KIND.int) return super.isChanged(scout);
     if (this.from === this.to) return this.isOther(scout, this.from);
-    const registers = wayOfAddresses(scout), isFirst = this.isOther(scout, placeOfAddress(registers, place).offset);
-    if (kind === KIND.put) return isFirst;
-    return this.isOther(scout, placeOfAddress(registers, place + 1).offset) || isFirst;
+    const registers = wayOfAddresses(scout);
+    const isOther = address => this.isOther(scout, placeOfAddress(registers, address).offset);
+    const isFirst = isOther(place);
+    return kind === KIND.put ? isFirst : isOther(place + 1) || isFirst;
   }
 
   /** Whether a byte at an offset is another one than before. */
@@ -216,7 +229,8 @@ export class AnyWatch {
 
   isChanged(scout, operation) {
     // Each of them has to see the step.
-    const found = this.watches.map(watch => watch.mayChange(operation) && watch.isChanged(scout, operation));
+    const found = this.watches.map(watch =>
+      watch.mayChange(operation) && watch.isChanged(scout, operation));
     return found.some(isFound => isFound);
   }
 }

@@ -1,5 +1,5 @@
-// The way of a byte, as the page works it out, is that of the module: the bytes after each write, and the
-// value and the latches after each read, for random registers.
+// The way of a byte, as the page works it out, is that of the module: the bytes after each write,
+// and the value and the latches after each read, for random registers.
 import assert from "node:assert/strict";
 import test from "node:test";
 import { Card } from "../module/adapter.js";
@@ -35,7 +35,9 @@ class Bench {
     }
   }
 
-  /** Takes a step of a random address and value, and holds what comes of it to what is told before. */
+  /**
+   * Takes a step of a random address and value, and holds what comes of it to what is told before.
+   */
   step() {
     const { random, card, planes } = this, name = random.one(NAMES);
     const place = random.below(50) ? random.one([0xa0000, 0xb0000, 0xb8000, 0xa8000]) + random.below(0x8000)
@@ -77,7 +79,8 @@ test(`${TRIALS} random reads and writes go as the module's own`, () => {
     kinds.set(kind, (kinds.get(kind) ?? 0) + 1);
   }
   bench.planes.forEach((bytes, plane) => assert.deepEqual(bench.card.plane(plane), bytes, `plane ${plane}`));
-  // Four write modes and two read modes, each of byte and word, in three ways of spreading; and refusals.
+  // Four write modes and two read modes, each of byte and word, in three ways of spreading; and
+  // refusals.
   assert.equal(kinds.size, 2 * (4 + 2) * 3 + 1, [...kinds.keys()].sort().join("\n"));
   assert.ok([...kinds.values()].every(count => count > 100), JSON.stringify([...kinds]));
   bench.card.close();

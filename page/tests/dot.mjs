@@ -1,5 +1,5 @@
-// A dot's colour, as the page explains it, is that of the adapter's own picture: each dot of frames of
-// random registers and memory, and of frames in which registers change.
+// A dot's colour, as the page explains it, is that of the adapter's own picture: each dot of frames
+// of random registers and memory, and of frames in which registers change.
 import assert from "node:assert/strict";
 import test from "node:test";
 import { Card } from "../module/adapter.js";

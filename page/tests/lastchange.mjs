@@ -1,5 +1,5 @@
-// The last step that changed something is found, whatever it is: held to the states after every step, of
-// random scripts.
+// The last step that changed something is found, whatever it is: held to the states after every
+// step, of random scripts.
 import assert from "node:assert/strict";
 import test from "node:test";
 import { Card } from "../module/adapter.js";
@@ -105,7 +105,10 @@ test("the last step, and the next, that changed bytes, registers, colours or BIO
 /** A card that states are restored on. */
 const scratch = new Card(adapter, FONTS);
 
-/** The parts of a dot as the frame of a state would draw it; of steps of its frame by the start taken then. */
+/**
+ * The parts of a dot as the frame of a state would draw it; of steps of its frame by the start
+ * taken then.
+ */
 function partsAt(state, place, start, frame) {
   const bytes = state.bytes.slice(0, 265086);
   // The same state at the first dot of a frame.

@@ -39,12 +39,16 @@ export class Random {
 /** The bits that the registers of a group keep. */
 export const keptBits = group => GROUPS.find(({ id }) => id === group).registers.map(({ kept }) => kept);
 
-/** The length of a whole saved state before the dots of its frame, and where its parts begin (docs/STATE.md). */
+/**
+ * The length of a whole saved state before the dots of its frame, and where its parts begin
+ * (docs/STATE.md).
+ */
 const AT = { crtc: 41, attr: 78, dac: 101, host: 874, lengths: 263038 };
 
 /**
- * The bytes of a state at the first dot of a frame, from those of another such state: registers that `give`
- * makes of (group, number, kept bits), and planes, latches and DAC by chance where `isFilled` says so.
+ * The bytes of a state at the first dot of a frame, from those of another such state: registers
+ * that `give` makes of (group, number, kept bits), and planes, latches and DAC by chance where
+ * `isFilled` says so.
  */
 export function stateOf(old, random, give, isFilled = true) {
   const bytes = old.slice(0, AT.lengths + 2 * HIGHEST), put = (at, group) =>

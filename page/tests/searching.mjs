@@ -1,9 +1,13 @@
-// How long a search back over a million steps takes, of several kinds of scripts: a table.
-// node page/tests/searching.mjs; in a browser the page runs `timesOfSearches` itself (see searchtimes.mjs).
+// How long a search back over a million steps takes, of several kinds of scripts: a table. node
+// page/tests/searching.mjs; in a browser the page runs `timesOfSearches` itself (see
+// searchtimes.mjs).
 import { DotSearch } from "../explain/dotsearch.js";
 import { Search } from "../run/points.js";
 
-/** Scripts of a million steps and more, in which what is searched for changes in the first steps alone. */
+/**
+ * Scripts of a million steps and more, in which what is searched for changes in the first steps
+ * alone.
+ */
 export const LONG_SCRIPTS = {
   "puts, the same byte": "version 2\nint ax=12\nput A0000 12\n" + "repeat 50000\nput A0000 12\nend\n".repeat(20),
   "puts of a window": "version 2\nint ax=12\nput A0000 12\n" +
@@ -25,8 +29,8 @@ export const WATCHED = {
 };
 
 /**
- * The milliseconds of each search in a session, from its end back; the last one is for the picture's first dot.
- * Each is the least of some rounds, which end once it is within `most`.
+ * The milliseconds of each search in a session, from its end back; the last one is for the
+ * picture's first dot. Each is the least of some rounds, which end once it is within `most`.
  */
 export function timesOfSearches(session, rounds = 3, most = 0) {
   const searches = Object.entries(WATCHED).map(([name, point]) =>

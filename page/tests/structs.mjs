@@ -1,4 +1,5 @@
-// The structs that the page reads are those of the header, and what they tell is what a saved state tells.
+// The structs that the page reads are those of the header, and what they tell is what a saved state
+// tells.
 import assert from "node:assert/strict";
 import test from "node:test";
 import { readFileSync } from "node:fs";
