@@ -8,6 +8,7 @@ import { KIND, Outline } from "../script/outline.js";
 import { MOST_BYTES } from "../script/grammar.js";
 import { MOST_COMPARED, comparedToRun, digitsTo, sumOfBytes, sumOfText } from "./comparing.js";
 import { Pieces } from "./pieces.js";
+import { Scout } from "./scout.js";
 import { State } from "../module/state.js";
 import { Trouble } from "../common/trouble.js";
 import { counted, grouped } from "../common/bytes.js";
@@ -77,6 +78,7 @@ export class Session {
   spare = null;
   #sinceCheckpoint = 0;
   #sinceNear = 0;
+  #scout = null;
 
   constructor(adapter, fonts, text, judged = judgedText(adapter, text)) {
     this.adapter = adapter;
@@ -99,11 +101,18 @@ export class Session {
   close() {
     this.ahead.close();
     this.card.close();
+    this.#scout?.close();
     this.adapter.giveBack();
   }
 
   get isDone() {
     return this.ran === this.length;
+  }
+
+  /** A card by which searches go through the steps; it is opened once one is asked for. */
+  get scout() {
+    this.#scout ??= new Scout(this);
+    return this.#scout;
   }
 
   /** Runs steps for about so many milliseconds; whether some are left. */
@@ -220,12 +229,12 @@ export class Session {
 
   /** The card's state. */
   state() {
-    return new State(this.card.save());
+    return State.of(this.card);
   }
 
   /** The registers of any card. */
   registersOf(card) {
-    return new State(card.save()).registers;
+    return card.registers();
   }
 
   /**

@@ -198,7 +198,7 @@ await check("breakpoints by the form, each kind", async () => {
   await browser.until("document.querySelector('.points [role=alert]').textContent.length > 0");
 });
 
-await check("the picture: pointing, the glass, and a click that goes to the step", async () => {
+await check("the picture: pointing, the glass, and a card that leads to the step", async () => {
   await browser.click("#last");
   await stepIs(14);
   const [left, top, width, height] = await boxOf("#picture");
@@ -209,8 +209,10 @@ await check("the picture: pointing, the glass, and a click that goes to the step
   await browser.click("#framebefore");
   await stepIs(12);
   await browser.clickAt(left + 300.5 * width / 720, top + 1.5 * height / 400);
+  await browser.click("#asked [data-action=drawn]");
   await stepIs(6);
   await browser.clickAt(left + 300.5 * width / 720, top + 200.5 * height / 400);
+  await browser.click("#asked [data-action=drawn]");
   await stepIs(12);
 });
 

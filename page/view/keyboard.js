@@ -16,7 +16,8 @@ export class Keyboard {
   /**
    * `editor`, `tabs` and `menu`, that of Save, hear keys of their own. `goToLine` goes to the step
    * of a line, and `togglePoint` sets a breakpoint at one, or removes it. `orders` has functions by
-   * those names of the table that are no controls.
+   * those names of the table that are no controls, such as `ask`, which asks about what has the
+   * keys, or about a dot, and `again`, for the change before the last one that was found.
    */
   constructor({ editor, tabs, menu, goToLine, togglePoint, orders }) {
     this.#orders = orders;

@@ -13,8 +13,10 @@ export const KEYS = [
   ["", "", ["End"], "last"],
   ["P", "show frame after frame, or stop", ["p"], "play"],
   ["G", "type a step or a line to go to", ["g"], "gotonumber"],
-  ["1 to 6", "registers, memory, cells, colours, BIOS data, breakpoints",
-    ["1", "2", "3", "4", "5", "6"], "tab"],
+  ["1 to 8", "registers, memory, cells, colours, BIOS data, breakpoints, write, watches",
+    ["1", "2", "3", "4", "5", "6", "7", "8"], "tab"],
+  ["W", "ask where a dot comes from, or what changed a byte, register or colour", ["w"], "ask"],
+  ["C", "to the last step that changed what was asked about last", ["c"], "again"],
   ["E, Esc", "into the script, and out of it", ["e"], "text"],
   ["A, X, D, B, Z", "4:3, pixelated, as drawn so far, beam, zoom", ["a"], "aspect"],
   ["", "", ["x"], "sharp"], ["", "", ["d"], "sofar"],
@@ -71,7 +73,7 @@ export function keyTables() {
   const table = (title, rows) => element("table", {}, element("caption", {}, title),
     element("tbody", {}, ...rows.filter(([keys]) => keys).map(row)));
   const hints = ["Click a line's number to set a breakpoint. " +
-    "Click a dot of the picture to go to the step that draws it.",
+    "Click a dot of the picture to ask where it comes from.",
   "Drop a script, a font or a trace anywhere. " +
     "A report, a trace or a PNG of another adapter is compared with the run. " +
     "Drag a line between two parts of the page, or go to it by Tab: arrows move it.",

@@ -1,5 +1,6 @@
 // The page: its parts, and what each hears of the others.
 import { Adapter } from "../module/adapter.js";
+import { Asking } from "../explain/asking.js";
 import { BiosPanel } from "../panels/biospanel.js";
 import { CellPanel } from "../panels/cellpanel.js";
 import { CheckLine } from "./checkline.js";
@@ -9,6 +10,7 @@ import { Desk } from "./desk.js";
 import { Drafts } from "../editor/drafts.js";
 import { Editor } from "../editor/editor.js";
 import { Fonts } from "../files/fonts.js";
+import { Finder } from "../explain/finder.js";
 import { Keyboard } from "./keyboard.js";
 import { LastStep } from "./laststep.js";
 import { Listing } from "../editor/listing.js";
@@ -20,7 +22,7 @@ import { Panes } from "./panes.js";
 import { PictureSize } from "../picture/size.js";
 import { PointPanel } from "../panels/pointpanel.js";
 import { RegisterPanel } from "../panels/registerpanel.js";
-import { Runner, stateText } from "../run/runner.js";
+import { Runner, TASK, stateText } from "../run/runner.js";
 import { Saver } from "../files/saver.js";
 import { Screen } from "../picture/screen.js";
 import { Scripts } from "../editor/scripts.js";
@@ -29,6 +31,9 @@ import { Settings } from "../common/settings.js";
 import { TABS, Tabs } from "./tabs.js";
 import { Transport } from "./transport.js";
 import { Trouble } from "../common/trouble.js";
+import { WatchPanel } from "../panels/watchpanel.js";
+import { MOST_WATCHES, Watches } from "../explain/watches.js";
+import { WritePanel } from "../panels/writepanel.js";
 import { byId, setText } from "../common/dom.js";
 import { bytesOfBase64, grouped } from "../common/bytes.js";
 import { copyLink, showLink } from "../files/linking.js";
@@ -56,6 +61,7 @@ export class View {
     this.#makeRun();
     this.#makeScript();
     this.#makeState();
+    this.#makeAsking();
     this.#makeFiles();
     this.#makeControls();
     followRowHeight(() => this.#resized());
@@ -78,7 +84,8 @@ export class View {
     this.lastStep = new LastStep(this.data.pages);
     const settings = new Settings();
     this.panes = new Panes(settings);
-    this.screen = new Screen({ clicked: (line, dot) => this.#toDot(line, dot) });
+    this.screen = new Screen({ clicked: (line, dot) => this.asking.askDot(line, dot),
+      asked: () => this.#ask() });
     this.size = new PictureSize(this.screen, settings);
     this.comparison = new Comparison(this.runner, this.screen, this.guarded);
     this.listing = new Listing(steps => this.runner.go(steps), () => this.runner.goal);
@@ -103,10 +110,69 @@ export class View {
   #makeState() {
     const { pages } = this.data;
     const panels = { registers: new RegisterPanel(pages), memory: new MemoryPanel(),
-      cells: new CellPanel(), colours: new ColourPanel(pages), "BIOS data": new BiosPanel(pages) };
+      cells: new CellPanel(), colours: new ColourPanel(pages), "BIOS data": new BiosPanel(pages),
+      write: new WritePanel(pages), watches: this.#makeWatches() };
     const makers = Object.entries(panels).map(([name, panel]) => [name, seen => panel.made(seen)]);
     this.tabs = new Tabs({ ...Object.fromEntries(makers),
       breakpoints: () => this.pointPanel.box });
+  }
+
+  #makeWatches() {
+    this.watches = new Watches();
+    return new WatchPanel(this.watches, { change: subject => this.#findChange(subject),
+      changed: () => this.#titleWatches() });
+  }
+
+  #titleWatches() {
+    const { length } = this.watches.list;
+    this.tabs.setTitle("watches", length ? `watches (${length})` : "watches");
+  }
+
+  /** What the user asks about a dot, or about what a panel shows. */
+  #makeAsking() {
+    this.finder = new Finder(this.runner, text => this.notice.tell(text));
+    this.asking = new Asking({
+      drawn: (line, dot) => this.#toDot(line, dot),
+      change: subject => this.#findChange(subject),
+      watch: words => this.guarded(() => this.#watch(words)),
+      colourAt: (line, dot) => this.screen.colourAt(line, dot),
+      placeOf: (line, dot) => this.screen.placeOfDot(line, dot),
+      isIdle: () => this.runner.task === TASK.idle && this.runner.isShown,
+    });
+    this.#titleWatches();
+    byId("panel").addEventListener("click", ({ target, clientX, clientY }) => {
+      const own = target.closest("a, input, select, label, button:not([data-subject])");
+      // A button that keys press has no place of its own.
+      const place = clientX || clientY ? { x: clientX, y: clientY } : null;
+      if (!own) this.asking.askAt(target, place);
+    });
+  }
+
+  #watch(words) {
+    if (!this.watches.add(words)) {
+      throw new Trouble(`The list has ${MOST_WATCHES} watches, and no room for more.`);
+    }
+    this.#titleWatches();
+    this.tabs.open("watches");
+  }
+
+  /** Asks about what has the keys, or about the dot under the pointer, or that of the beam. */
+  #ask() {
+    const { seen } = this.runner, { screen, asking } = this;
+    if (!seen || (!screen.pointed && asking.askAt(document.activeElement))) return;
+    const { line, dot } = screen.pointed ?? asking.dot ?? { line: 0, dot: 0 };
+    asking.askDot(line, dot);
+  }
+
+  #findChange(subject) {
+    return this.guarded(() => this.finder.find(subject));
+  }
+
+  /** Goes on to the change before, of what was asked about last. */
+  #findAgain() {
+    const { subject } = this.asking;
+    if (subject) this.#findChange(subject);
+    else this.#ask();
   }
 
   #makeFiles() {
@@ -145,7 +211,8 @@ export class View {
       goToLine: line => this.guarded(() => this.transport.goTo("line", String(line))),
       togglePoint: line => this.pointPanel.toggleLine(line),
       orders: { larger: () => this.size.step(1), smaller: () => this.size.step(-1),
-        fill: () => this.size.choose(0), nextview: () => this.comparison.nextView() } });
+        fill: () => this.size.choose(0), nextview: () => this.comparison.nextView(), ask: () => this.#ask(),
+        again: () => this.#findAgain() } });
     byId("keys").append(...keyTables());
     byId("version").textContent = `Zaklimot ${this.data.version}.`;
     byId("pagedoc").href = `${this.data.pages}PAGE.md#what-is-proved`;
@@ -197,6 +264,8 @@ export class View {
     this.listing.show(session, steps);
     session.spare = this.screen.show(seen);
     this.lastStep.show(seen);
+    this.#showFound(seen);
+    this.asking.show(seen);
     this.tabs.show(seen);
     this.comparison.shown();
   }
@@ -205,6 +274,13 @@ export class View {
   #update() {
     this.transport?.update();
     setText(byId("state"), stateText(this.runner, { bad: this.bad, drawn: this.saver?.drawn }));
+  }
+
+  /** Tells why the page is at a step, if a search for a change has found it. */
+  #showFound({ session, steps }) {
+    const text = this.finder.textAt(session, steps), said = byId("found");
+    setText(said, text);
+    said.hidden = !text;
   }
 
   /** All steps are taken: their answers stand there, and are compared with those of zak_run. */
@@ -227,7 +303,7 @@ export class View {
     const { seen, isBusy } = this.runner;
     if (!seen || isBusy) return;
     const isBack = seen.picture.isWhole || dot < seen.picture.drawn[line];
-    const points = [{ kind: "beam", line, dot }];
+    const points = [{ kind: "drawn", line, dot }];
     this.guarded(() => this.runner.find(points, { isBack, isInclusive: true }));
   }
 

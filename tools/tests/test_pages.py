@@ -39,7 +39,7 @@ CIRCLE = EXAMPLES / "python" / "circle.py"
 # What the page has whole, in its order. The circle's script is too long for it.
 WHOLE = [
     SCRIPTS / "hello.vga", SCRIPTS / "eight-pixels.vga", CIRCLE, SCRIPTS / "going-round.vga",
-    SCRIPTS / "three-bands.vga",
+    SCRIPTS / "three-bands.vga", SCRIPTS / "lost-pixels.vga",
 ]
 BLOCK = re.compile(r"^```\w*\n(.*?)^```$", re.M | re.S)
 # The commands of examples/README.md that make pictures: script, stop, words of `pictures`, file.
@@ -262,7 +262,7 @@ class Tutorial(unittest.TestCase):
         self.assertEqual({path.stem for path in SCRIPTS.iterdir()} & listed, set())
 
     def test_the_check_in_a_browser_does_what_it_says(self) -> None:
-        first, by_hand = ("opening", "tutorial"), ("keeping", "panes", "sidebyside")
+        first, by_hand = ("opening", "tutorial"), ("keeping", "panes", "sidebyside", "asking")
         told = {engine: "; ".join(f"{name}.mjs {engine}" for name in names)
                 for engine, names in (("chromium", first + by_hand), ("firefox", first + by_hand), ("webkit", first))}
         told["chromium"] += "; browser.mjs"
