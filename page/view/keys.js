@@ -45,9 +45,9 @@ export function keyName(event) {
 }
 
 /** Whether keys that are pressed at an element are letters of a text. */
-export function takesText({ tagName, type }) {
+export function takesText({ tagName, type, isContentEditable }) {
   const isText = tagName === "INPUT" && !["checkbox", "button", "range"].includes(type);
-  return tagName === "TEXTAREA" || isText;
+  return tagName === "TEXTAREA" || isText || isContentEditable === true;
 }
 
 /** Whether a key is that of a list of choices, which goes up and down and to letters. */

@@ -155,7 +155,7 @@ export class View {
   }
 
   pressed(event) {
-    if (document.querySelector("dialog[open]")) return;
+    if (event.defaultPrevented || document.querySelector("dialog[open]")) return;
     const inText = event.target === this.editor.area, isTyping = takesText(event.target);
     if ((inText || !isTyping) && this.pressedUndo(event)) return event.preventDefault();
     if (event.altKey || event.metaKey) return;
@@ -194,7 +194,8 @@ export class View {
   press(control, key) {
     if (control === "tab") return this.open(TABS[Number(key) - 1]);
     const made = byId(control);
-    if (control === "gotonumber" || control === "text") return made.focus();
+    if (control === "text") return this.editor.focus();
+    if (control === "gotonumber") return made.focus();
     if (control === "savemenu") return this.saveMenu.toggle();
     return made.hidden || made.click();
   }
@@ -277,7 +278,7 @@ export class View {
     editor.load(text, script);
     if (old.script && old.script !== script) this.offerBack(old);
     this.swapLines(old.script, script);
-    this.scripts.show(script, editor.text, isAsked);
+    this.scripts.show(script, editor, isAsked);
     if (editor.isLong) byId("about").textContent = `${script.name}. ${editor.note}`;
     this.begin(asked);
   }
@@ -353,7 +354,7 @@ export class View {
 
   /** Takes what was typed; which script the text is now. */
   typed(change, old) {
-    const script = this.scripts.afterChange(this.editor.text, change, old);
+    const script = this.scripts.afterChange(this.editor, change, old);
     this.changed(script, change, old);
     return script;
   }
@@ -364,17 +365,17 @@ export class View {
     this.isNew ||= isNew;
     if (isNew) this.swapLines(this.scripts.now, script);
     else this.moveLines(old, change);
-    this.scripts.show(script, this.editor.text);
+    this.scripts.show(script, this.editor);
     this.forget();
     clearTimeout(this.timer);
-    const wait = this.editor.text.length > MUCH_TEXT ? TYPED_MUCH : TYPED;
+    const wait = this.editor.length > MUCH_TEXT ? TYPED_MUCH : TYPED;
     this.timer = setTimeout(() => this.guarded(() => this.begin(this.isNew ? Infinity : undefined)), wait);
   }
 
   /** Breakpoints go where their lines go. */
   moveLines(old, change) {
     if (!this.points.some(point => point.kind === "line")) return;
-    const lineAfter = linesAfter(old, change);
+    const lineAfter = linesAfter(old.text, change);
     this.pointPanel.change(this.points.map(point => (point.kind === "line"
       ? { ...point, line: lineAfter(point.line) } : point)).filter(point => point.line !== null));
   }
