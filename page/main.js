@@ -1,5 +1,6 @@
 // The page begins: it opens the module that stands in it, and shows a script. `#check` runs all examples
-// instead. In a worker, which has no document, the same script holds answers to those of zak_run.
+// instead. In a worker, which has no document, the same script holds answers to those of zak_run, or reads
+// a long text.
 import { Adapter } from "./module/adapter.js";
 import { Trouble } from "./common/trouble.js";
 import { View } from "./view/view.js";
@@ -7,7 +8,8 @@ import { byId, element } from "./common/dom.js";
 import { bytesOfBase64 } from "./common/bytes.js";
 import { checkedExamples } from "./run/checking.js";
 import { examplesOf, unzipped } from "./module/packed.js";
-import { serveComparison } from "./run/comparing.js";
+import { heldToSend } from "./run/comparing.js";
+import { judgedToSend } from "./run/judging.js";
 
 /** What some browsers lack, or have switched off, and what the page does with it. */
 const NEEDED = { WebAssembly: "runs the adapter", DecompressionStream: "unpacks the adapter" };
@@ -46,5 +48,12 @@ function tellOf(error) {
   if (!isOld && !(error instanceof Trouble)) throw error;
 }
 
-if (typeof document === "undefined") serveComparison();
+/** In a worker: does what the page asks for, once. */
+function serve() {
+  self.onmessage = async ({ data: { module, run, text } }) => {
+    self.postMessage(await (run ? heldToSend(module, run) : judgedToSend(module, text)));
+  };
+}
+
+if (typeof document === "undefined") serve();
 else begin().catch(tellOf);

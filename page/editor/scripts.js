@@ -33,7 +33,7 @@ export class Scripts {
     for (const event of ["pointerdown", "focus"]) {
       this.list.addEventListener(event, () => this.fill());
     }
-    for (const event of ["pagehide", "beforeunload"]) addEventListener(event, () => this.keepNow());
+    addEventListener("pagehide", () => this.keepNow());
     document.addEventListener("visibilitychange", () => this.keepNow());
     this.fill();
   }

@@ -67,15 +67,13 @@ function firstDifference(report, { steps, numbers, texts, cut, sums }) {
   return differs;
 }
 
-/** In a worker: holds the run that the page sends, and tells what came of it, or why nothing did. */
-export function serveComparison() {
-  self.onmessage = async ({ data: { module, run } }) => {
-    try {
-      self.postMessage({ differs: heldToRun(await Adapter.opened(module), run) });
-    } catch (error) {
-      self.postMessage({ trouble: error.message });
-    }
-  };
+/** In a worker: holds the run that the page sends. What came of it, or why nothing did. */
+export async function heldToSend(module, run) {
+  try {
+    return { differs: heldToRun(await Adapter.opened(module), run) };
+  } catch (error) {
+    return { trouble: error.message };
+  }
 }
 
 /** Holds runs in a worker, one at a time. `code` is the page's own script, which the worker runs too. */

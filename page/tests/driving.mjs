@@ -3,6 +3,7 @@ import { spawn } from "node:child_process";
 import { mkdtempSync, rmSync, statSync } from "node:fs";
 import { createServer } from "node:net";
 import { tmpdir } from "node:os";
+import { pasting } from "./editing.mjs";
 
 const NAMES = ["chromium", "chromium-browser", "google-chrome"];
 /** So many milliseconds something may take, on a machine on which much else runs. */
@@ -203,9 +204,9 @@ export class Browser {
     await this.send("Input.insertText", { text });
   }
 
-  /** Puts a text in place of what is selected, as one that is pasted. */
+  /** Puts a text in place of what is selected in the script, as one that is pasted. */
   paste(text) {
-    return this.type(text);
+    return this.value(pasting(text));
   }
 
   selectAll() {

@@ -2,6 +2,7 @@
 // firefox.mjs and webkit.mjs tell how a command reaches it. driving.mjs does the same in Chromium,
 // by another protocol.
 import { PATIENCE } from "./driving.mjs";
+import { pasting } from "./editing.mjs";
 
 const PAUSE = 20;
 // WebDriver's numbers of keys.
@@ -124,11 +125,9 @@ export class Driven {
     await this.act(keys([...text].flatMap(key => [["keyDown", key], ["keyUp", key]])));
   }
 
-  /** Puts a text in place of what is selected, as one that is pasted. */
-  async paste(text) {
-    const words = `"insertText", false, ${JSON.stringify(text)}`;
-    const isDone = await this.value(`document.execCommand(${words})`);
-    if (!isDone) throw new Error("the page takes no text here");
+  /** Puts a text in place of what is selected in the script, as one that is pasted. */
+  paste(text) {
+    return this.value(pasting(text));
   }
 
   /** Chooses a file in an element of the page that takes one. */
