@@ -1,6 +1,6 @@
-// The page begins: it opens the module that stands in it, and shows a script. `#check` runs all examples
-// instead. In a worker, which has no document, the same script holds answers to those of zak_run, or reads
-// a long text.
+// The page begins: it opens the module that stands in it, and shows a script. `#check` runs all
+// examples instead. In a worker, which has no document, the same script compares answers with
+// those of zak_run, or reads a long text.
 import { Adapter } from "./module/adapter.js";
 import { Trouble } from "./common/trouble.js";
 import { View } from "./view/view.js";
@@ -8,7 +8,7 @@ import { byId, element } from "./common/dom.js";
 import { bytesOfBase64 } from "./common/bytes.js";
 import { checkedExamples } from "./run/checking.js";
 import { examplesOf, unzipped } from "./module/packed.js";
-import { heldToSend } from "./run/comparing.js";
+import { comparedToSend } from "./run/comparing.js";
 import { judgedToSend } from "./run/judging.js";
 
 /** What some browsers lack, or have switched off, and what the page does with it. */
@@ -20,8 +20,8 @@ const OLD_WEBASSEMBLY = "This browser's WebAssembly is too old for the adapter."
 /** Shows what the check of all examples tells. */
 async function showCheck(adapter, { examples, fonts }) {
   const { agree, differ, lines } = await checkedExamples(adapter, bytesOfBase64(fonts), examples);
-  const told = [...lines, `${agree} agree, ${differ} differ`].join("\n");
-  document.body.replaceChildren(element("pre", { id: "checked" }, told));
+  const text = [...lines, `${agree} agree, ${differ} differ`].join("\n");
+  document.body.replaceChildren(element("pre", { id: "checked" }, text));
 }
 
 /** What this browser lacks, in a sentence; nothing where it has all that the page needs. */
@@ -51,7 +51,7 @@ function tellOf(error) {
 /** In a worker: does what the page asks for, once. */
 function serve() {
   self.onmessage = async ({ data: { module, run, text } }) => {
-    self.postMessage(await (run ? heldToSend(module, run) : judgedToSend(module, text)));
+    self.postMessage(await (run ? comparedToSend(module, run) : judgedToSend(module, text)));
   };
 }
 

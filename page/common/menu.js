@@ -1,9 +1,11 @@
-// A menu that a button opens: arrows go through its entries; Escape, Tab or a press elsewhere closes it.
+// A menu that a button opens: arrows go through its entries; Escape, Tab or a press elsewhere
+// closes it.
 
 /** The menu of a `details` element with a `summary`. */
 export class Menu {
   constructor(box) {
-    Object.assign(this, { box, button: box.querySelector("summary") });
+    this.box = box;
+    this.button = box.querySelector("summary");
     this.entries = [...box.querySelectorAll("[role=menuitem]")];
     for (const entry of this.entries) entry.tabIndex = -1;
     this.button.setAttribute("aria-haspopup", "menu");

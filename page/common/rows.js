@@ -1,10 +1,10 @@
-// Rows of a list, of which those in sight are in the page. They are used again, so that only what differs in
-// them is written, and the browser lays out little.
+// Rows of a list, of which those in sight are in the page. They are used again, so that only what
+// differs in them is written, and the browser lays out little.
 import { element } from "./dom.js";
 
 /**
- * Whether a row tells of these values already; from now on it does. So what they come to is worked out, and
- * the page is touched, where one of them differs.
+ * Whether a row tells of these values already; from now on it does. So what they come to is worked
+ * out, and the page is touched, where one of them differs.
  */
 export function isWritten(row, ...values) {
   const old = row.written;
@@ -14,7 +14,9 @@ export function isWritten(row, ...values) {
 
 /** Where lines are higher, since they are touched: the style's condition. */
 export const TOUCHED = "(max-width: 860px), (pointer: coarse)";
-/** How high a line of the script is, and a row of the list of steps, in pixels: the style's `--row`. */
+/**
+ * How high a line of the script is, and a row of the list of steps, in pixels: the style's `--row`.
+ */
 export const ROW = { height: 18 };
 
 /** Takes the height of rows from the style, now and when it changes, which is heard. */
@@ -29,13 +31,19 @@ export function followRowHeight(heard) {
 
 /** The rows in a box. `make` makes a row with nothing in it. */
 export class Rows {
+  height = ROW.height;
+  rows = [];
+  top = 0;
+  inner = element("div", { className: "inner", role: "presentation" });
+
   constructor(box, make) {
-    Object.assign(this, { height: ROW.height, make, rows: [], top: 0 });
-    this.inner = element("div", { className: "inner", role: "presentation" });
+    this.make = make;
     box.append(this.inner);
   }
 
-  /** Shows so many rows, the first at a place in the box; `fill(row, i)` writes the i-th of them. */
+  /**
+   * Shows so many rows, the first at a place in the box; `fill(row, i)` writes the i-th of them.
+   */
   show(count, top, fill) {
     const { rows, inner } = this, { height } = ROW, place = Math.round(top);
     if (height !== this.height) rows.forEach((made, i) => { made.style.top = height * i + "px"; });

@@ -1,7 +1,16 @@
-/** A box that scrolls. Its place and its height are known without asking the browser to lay out the page. */
+/**
+ * A box that scrolls. Its place and its height are known without asking the browser to lay out the
+ * page.
+ */
 export class Scroller {
+  top = 0;
+  left = 0;
+  seen = 0;
+  isAsked = false;
+
+  /** `heard` is called when the box is scrolled, or has another height. */
   constructor(box, heard) {
-    Object.assign(this, { box, top: 0, left: 0, seen: 0, isAsked: false });
+    this.box = box;
     box.addEventListener("scroll", () => {
       const { top, left } = this;
       // The event of a frame before must not undo what was asked for since then.
@@ -20,7 +29,10 @@ export class Scroller {
     return this.seen || this.box.clientHeight;
   }
 
-  /** Scrolls to a place of what is so high in all; the browser does it when it lays out the page next. */
+  /**
+   * Scrolls to a place of what is so high in all; the browser does it when it lays out the page
+   * next.
+   */
   scrollTo(top, high) {
     this.top = Math.max(0, Math.round(Math.min(top, high - this.height)));
     if (this.isAsked) return;

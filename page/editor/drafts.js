@@ -1,5 +1,5 @@
-// The user's own scripts, which the browser's storage keeps: each under a key of its own, as a line of
-// JSON { time, name } and the text. Several pages may use one storage at a time.
+// The user's own scripts, which the browser's storage keeps: each under a key of its own, as a line
+// of JSON { time, name } and the text. Several pages may use one storage at a time.
 
 const PREFIX = "zaklimot-script-";
 // Browsers give an address two and a half million characters, or more.
@@ -37,12 +37,13 @@ function readValue(value) {
 /** The scripts in a storage. `storage` answers it, or throws where the browser forbids it. */
 export class Drafts {
   constructor(storage = () => localStorage, now = () => Date.now()) {
-    Object.assign(this, { storage, now });
+    this.storage = storage;
+    this.now = now;
   }
 
   /**
-   * Keeps the text of a script { id, name, stored }. Where another page has changed what stands under its
-   * id, the script gets another id. What is wrong: "", "forbidden", "full" or "long".
+   * Keeps the text of a script { id, name, stored }. Where another page has changed what stands
+   * under its id, the script gets another id. What is wrong: "", "forbidden", "full" or "long".
    */
   keep(script, text) {
     if (text.length > LONGEST_KEPT) return "long";
@@ -59,7 +60,9 @@ export class Drafts {
     }
   }
 
-  /** Writes a value; where there is no room, in place of the oldest scripts. Whether it is written. */
+  /**
+   * Writes a value; where there is no room, in place of the oldest scripts. Whether it is written.
+   */
   put(storage, id, value) {
     const write = () => {
       try {

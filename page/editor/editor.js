@@ -82,7 +82,6 @@ export class Editor {
     const old = this.text, change = { from: 0, removed: old, added: now };
     this.put(now);
     this.#note(change, new OldText(this, change), true);
-    byId("about").textContent = this.note;
   }
 
   /** Takes what was typed, pasted or dropped. */

@@ -1,4 +1,5 @@
-// The steps of a run one below the other, those of a block each time: number, line, words and answer.
+// The steps of a run one below the other, those of a block each time: number, line, words and
+// answer.
 import { ROW, Rows, isWritten } from "../common/rows.js";
 import { byId, classesOf, element, rowsInSight, setAll, setText } from "../common/dom.js";
 import { Scroller } from "../common/scroller.js";
@@ -7,10 +8,18 @@ import { isRefusal } from "../script/expecting.js";
 // Browsers have no elements that are much higher.
 const HIGHEST_LIST = 8000000;
 
-/** The list of steps. `go` shows the state after so many; `goal` tells after how many it is, or will be, shown. */
+/**
+ * The list of steps. `go` shows the state after so many; `goal` tells after how many it is, or will
+ * be, shown.
+ */
 export class Listing {
+  session = null;
+  steps = 0;
+  height = 0;
+  rows = byId("rows");
+
   constructor(go, goal) {
-    Object.assign(this, { goal, rows: byId("rows"), session: null, steps: 0, height: 0 });
+    this.goal = goal;
     this.list = new Rows(this.rows, () => element("div", { className: "row", role: "option" },
       element("span"), element("span"), element("span"), element("span")));
     this.box = new Scroller(byId("listing"), () => this.draw());
@@ -19,26 +28,32 @@ export class Listing {
       if (step) go(step);
     });
     byId("listing").addEventListener("keydown", event => {
-      const far = event.altKey || event.ctrlKey || event.metaKey || event.shiftKey ? 0 : this.farOf(event.key);
+      const isOther = event.altKey || event.ctrlKey || event.metaKey || event.shiftKey;
+      const far = isOther ? 0 : this.farOf(event.key);
       if (!far || !this.session) return;
       event.preventDefault();
       go(Math.max(0, this.goal() + far));
     });
   }
 
-  /** How many steps a key goes: one, or as many as are in sight. The other keys are those of the page. */
+  /**
+   * How many steps a key goes: one, or as many as are in sight. The other keys are those of the
+   * page.
+   */
   farOf(key) {
     const page = Math.max(1, Math.floor(this.box.height / ROW.height) - 1);
     return { ArrowUp: -1, ArrowDown: 1, PageUp: -page, PageDown: page }[key] ?? 0;
   }
 
   show(session, steps) {
-    Object.assign(this, { session, steps });
+    this.session = session;
+    this.steps = steps;
     const height = Math.min(HIGHEST_LIST, ROW.height * session.ran);
     if (height !== this.height) this.rows.style.height = height + "px";
     this.height = height;
     const { box } = this, top = ROW.height * (steps - 1) / this.scale;
-    if (top < box.top || top > box.top + box.height - ROW.height) box.scrollTo(top - box.height / 2, height);
+    const isInSight = top >= box.top && top <= box.top + box.height - ROW.height;
+    if (!isInSight) box.scrollTo(top - box.height / 2, height);
     this.draw();
   }
 
@@ -71,13 +86,15 @@ export class Listing {
     const isLater = step + 1 > this.steps;
     if (isWritten(made, session, step, isHere, isLater)) return;
     const entry = outline.entryOf(step), answer = session.answerOf(step);
-    const lines = answer.split("\n"), words = outline.wordsOf(entry), expected = outline.expectedOf(entry);
+    const lines = answer.split("\n"), words = outline.wordsOf(entry);
+    const expected = outline.expectedOf(entry);
     const verdict = expected === null ? "" : session.isWrong(step) ? "wrong" : "right";
     const texts = [String(step + 1), String(outline.lineOf(entry)), words.slice(0, 200),
       lines[0].slice(0, 200) + (lines.length > 1 ? " …" : "")];
     texts.forEach((text, i) => setText(made.children[i], text));
-    setAll(made, { title: `${words.slice(0, 200)}\n${answer.slice(0, 600)}`, ariaSelected: String(isHere),
-      id: `step${step + 1}`, ariaPosInSet: String(step + 1), ariaSetSize: String(session.length),
+    setAll(made, { title: `${words.slice(0, 200)}\n${answer.slice(0, 600)}`,
+      ariaSelected: String(isHere), id: `step${step + 1}`,
+      ariaPosInSet: String(step + 1), ariaSetSize: String(session.length),
       className: classesOf("row", isHere && "here", isLater && "later",
         isRefusal(answer) && "refused", verdict) });
     made.dataset.step = step + 1;

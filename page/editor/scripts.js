@@ -23,13 +23,19 @@ function timeText(time) {
 }
 
 /**
- * The scripts. Each is { name, about, isExample, id }: under its id the user's own is kept, and other
- * scripts have none. `tell` says something that stays.
+ * The scripts. Each is { name, about, isExample, id }: under its id the user's own is kept, and
+ * other scripts have none. `tell` says something that stays.
  */
 export class Scripts {
+  /** The script that stands in the page. */
+  now = null;
+  list = byId("examples");
+  #warned = new Set();
+
   constructor(examples, drafts, tell) {
-    Object.assign(this, { examples, drafts, tell, told: new Set(), now: null });
-    this.list = byId("examples");
+    this.examples = examples;
+    this.drafts = drafts;
+    this.tell = tell;
     for (const event of ["pointerdown", "focus"]) {
       this.list.addEventListener(event, () => this.fill());
     }
@@ -146,8 +152,8 @@ export class Scripts {
   keep(script, text) {
     const wrong = text === null ? "long" : this.drafts.keep(script, text);
     if (!wrong) return this.note({ kept: script.id });
-    if (!this.told.has(wrong)) this.tell(WHY_LOST[wrong]);
-    return this.told.add(wrong);
+    if (!this.#warned.has(wrong)) this.tell(WHY_LOST[wrong]);
+    return this.#warned.add(wrong);
   }
 
   /** Notes in the browser's history which script stands there, for a reload and for Back. */
@@ -161,7 +167,9 @@ export class Scripts {
     }
   }
 
-  /** What the browser's history says stood here, as { text, script }; null where it says nothing. */
+  /**
+   * What the browser's history says stood here, as { text, script }; null where it says nothing.
+   */
   get noted() {
     const { state } = history;
     if (typeof state?.kept === "string") return this.kept(state.kept);

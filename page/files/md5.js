@@ -1,9 +1,12 @@
+// MD5 (RFC 1321), by which expected answers name pictures and dumps.
 const TURNS = [7, 12, 17, 22, 5, 9, 14, 20, 4, 11, 16, 23, 6, 10, 15, 21];
-const SINES = Int32Array.from({ length: 64 }, (_, i) => Math.floor(Math.abs(Math.sin(i + 1)) * 2 ** 32) | 0);
+const SINES = Int32Array.from({ length: 64 },
+  (_, i) => Math.floor(Math.abs(Math.sin(i + 1)) * 2 ** 32) | 0);
 
 /** The bytes as words, with the end that MD5 puts there. */
 function md5Words(bytes) {
-  const padded = new Uint8Array(((bytes.length + 8 >> 6) + 1) * 64), view = new DataView(padded.buffer);
+  const padded = new Uint8Array(((bytes.length + 8 >> 6) + 1) * 64);
+  const view = new DataView(padded.buffer);
   padded.set(bytes);
   padded[bytes.length] = 128;
   view.setUint32(padded.length - 8, bytes.length * 8, true);
@@ -19,9 +22,13 @@ function md5Mixed(round, i, b, c, d) {
   return [c ^ (b | ~d), 7 * i & 15];
 }
 
-/** The MD5 of bytes, in lower-case hexadecimal: the digest that expected answers have (tools/README.md). */
+/**
+ * The MD5 of bytes, in lower-case hexadecimal: the digest that expected answers have
+ * (tools/README.md).
+ */
 export function md5(bytes) {
-  const words = md5Words(bytes), sums = Int32Array.of(0x67452301, 0xefcdab89, 0x98badcfe, 0x10325476);
+  const words = md5Words(bytes);
+  const sums = Int32Array.of(0x67452301, 0xefcdab89, 0x98badcfe, 0x10325476);
   for (let at = 0; at < words.length; at += 16) {
     let [a, b, c, d] = sums;
     for (let i = 0; i < 64; i++) {
@@ -31,5 +38,6 @@ export function md5(bytes) {
     }
     [a, b, c, d].forEach((sum, i) => { sums[i] += sum; });
   }
-  return Array.from(new Uint8Array(sums.buffer), byte => byte.toString(16).padStart(2, "0")).join("");
+  const digits = Array.from(new Uint8Array(sums.buffer), byte => byte.toString(16).padStart(2, "0"));
+  return digits.join("");
 }

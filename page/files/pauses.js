@@ -1,6 +1,6 @@
 // The time between the steps of a trace (docs/TRACES.md), as dots of the clock that the steps
-// before have chosen. tools/vga_trace/converting.py does the same for `--time`; page/tests/traces.mjs
-// holds both to the same text.
+// before have chosen. tools/vga_trace/converting.py does the same for `--time`;
+// page/tests/traces.mjs holds both to the same text.
 import { frameSpeed } from "../module/state.js";
 
 const SEQUENCER_INDEX = 0x3c4, CRTC_INDEXES = [0x3b4, 0x3d4], MISC_OUTPUT = 0x3c2;
@@ -12,10 +12,13 @@ const LEAST_PAUSE = 30n;
 
 /** The registers on which a frame's time hangs, as far as a trace's steps have written them. */
 class TimingRegisters {
-  constructor() {
-    Object.assign(this, { misc: null, seq: new Uint8Array(8), crtc: new Uint8Array(32) });
-    Object.assign(this, { seqIndex: 0, crtcIndex: 0, told: new Set() });
-  }
+  misc = null;
+  seq = new Uint8Array(8);
+  crtc = new Uint8Array(32);
+  seqIndex = 0;
+  crtcIndex = 0;
+  /** The registers of the CRT controller that were written. */
+  written = new Set();
 
   /** Takes a step: { name, isPort, isWord, address, value }. */
   take({ name, isWord, address, value }) {
@@ -33,15 +36,15 @@ class TimingRegisters {
   }
 
   writeCrtc(value) {
-    const { crtc, crtcIndex, told } = this;
+    const { crtc, crtcIndex, written } = this;
     if (crtcIndex < PROTECTED_BELOW && crtc[RETRACE_END] & PROTECTS) return;
     crtc[crtcIndex] = value;
-    told.add(crtcIndex);
+    written.add(crtcIndex);
   }
 
   /** The dots of a frame and those of a second; null where the steps have chosen none. */
   get speed() {
-    if (this.misc === null || !SHAPE.every(register => this.told.has(register))) return null;
+    if (this.misc === null || !SHAPE.every(register => this.written.has(register))) return null;
     return frameSpeed(this);
   }
 }

@@ -25,7 +25,9 @@ export function reportOf(session) {
   return session.adapter.run(session.script, session.fonts, session.reported).report;
 }
 
-/** The picture that is seen, as { width, height, rgb }; a Trouble where its lines differ in width. */
+/**
+ * The picture that is seen, as { width, height, rgb }; a Trouble where its lines differ in width.
+ */
 export function wholePicture({ picture }) {
   if (picture.isWhole) return picture;
   const widths = picture.widths.filter(width => width > 0);
@@ -36,6 +38,7 @@ export function wholePicture({ picture }) {
   return { width: widths[0], height: widths.length, rgb: picture.rgb };
 }
 
+/** The picture that is seen, as the bytes of a PNG. */
 export function pngOfSeen(seen) {
   return pngOf(wholePicture(seen));
 }
@@ -47,10 +50,10 @@ export function frameSeconds(registers) {
 }
 
 /**
- * All pictures of a run as a PNG that moves. `told` is called with how many steps are done; it answers false
- * to end.
+ * All pictures of a run as a PNG that moves. `done` is called with how many steps are done; it
+ * answers false to end.
  */
-export async function apngOfRun(session, told) {
+export async function apngOfRun(session, done) {
   const card = new Card(session.adapter, session.fonts), frames = [];
   let size = 0, first = null, widest = 0, highest = 0;
   try {
@@ -72,7 +75,7 @@ export async function apngOfRun(session, told) {
         throw new Trouble(`There are more pictures than ${MOST_FRAMES}, or than fit.`);
       }
       step += taken;
-      if (await told(step) === false) return null;
+      if (await done(step) === false) return null;
     }
   } finally {
     card.close();

@@ -2,7 +2,8 @@
 import { FONTS_SIZE } from "../module/adapter.js";
 import { MOST_BYTES } from "../script/grammar.js";
 import { Trouble } from "../common/trouble.js";
-import { base64OfBytes, bytesOfBase64, counted, grouped, hex, throughStream } from "../common/bytes.js";
+import { base64OfBytes, bytesOfBase64, counted, grouped, hex, throughStream }
+  from "../common/bytes.js";
 import { encodingTrouble } from "../script/reasons.js";
 import { reasonOfBytes } from "../script/faults.js";
 import { textOfTrace, traceForm } from "./trace.js";
@@ -44,7 +45,8 @@ const WORDS = {
     throw new Trouble(`${saidWord("example", text)} names no example of this page.`);
   },
   async fonts(text) {
-    const fonts = await unpacked(text, "font file", FONTS_SIZE), size = counted(fonts.length, "byte");
+    const fonts = await unpacked(text, "font file", FONTS_SIZE);
+    const size = counted(fonts.length, "byte");
     if (fonts.length === FONTS_SIZE) return fonts;
     throw new Trouble(`The font file in this link has ${size}, and needs ${grouped(FONTS_SIZE)}.`);
   },
@@ -62,7 +64,9 @@ function saidWord(word, text) {
   return `${word}=${text.length > MOST_WORD ? `${text.slice(0, MOST_WORD)} …` : text}`;
 }
 
-/** What a fragment asks for, by its words; `wrong` has a sentence for each that stands for nothing. */
+/**
+ * What a fragment asks for, by its words; `wrong` has a sentence for each that stands for nothing.
+ */
 export async function readFragment(fragment, names) {
   const words = new URLSearchParams(fragment.replace(/^#/, "")), asked = { wrong: [] };
   for (const [word, read] of Object.entries(WORDS)) {
@@ -77,7 +81,9 @@ export async function readFragment(fragment, names) {
   return asked;
 }
 
-/** The bytes of the one file of a list; a Trouble where there are more, or where it can't be read. */
+/**
+ * The bytes of the one file of a list; a Trouble where there are more, or where it can't be read.
+ */
 export async function bytesOfFiles(files) {
   const [file] = files;
   if (files.length > 1) throw new Trouble(`These are ${files.length} files: open one at a time.`);
@@ -95,7 +101,8 @@ export async function bytesOfFiles(files) {
 export async function contentsOf(bytes, adapter) {
   if (startsWith(bytes, GZIP)) bytes = await gunzipped(bytes);
   if (startsWith(bytes, MAGIC)) return { text: printedText(bytes, adapter) };
-  if (bytes.length === FONTS_SIZE && bytes.some(byte => byte === 0 || byte > 126)) return { fonts: bytes };
+  const isFonts = bytes.length === FONTS_SIZE && bytes.some(byte => byte === 0 || byte > 126);
+  if (isFonts) return { fonts: bytes };
   const text = new TextDecoder().decode(bytes), form = traceForm(text);
   if (form) return { text: textOfTrace(text) };
   const begin = bytes.subarray(0, 4096);
@@ -105,7 +112,9 @@ export async function contentsOf(bytes, adapter) {
   const trouble = encodingTrouble(bytes);
   if (trouble) throw new Trouble(`This file is not run: ${trouble}.`);
   if (begin.includes(0)) throw new Trouble(noneOf(bytes));
-  if (bytes.length > MOST_BYTES) throw new Trouble(`The text has more than ${grouped(MOST_BYTES)} bytes.`);
+  if (bytes.length > MOST_BYTES) {
+    throw new Trouble(`The text has more than ${grouped(MOST_BYTES)} bytes.`);
+  }
   return { text };
 }
 
@@ -121,7 +130,10 @@ async function gunzipped(bytes) {
 export function printedText(bytes, adapter) {
   const { status, place, text } = adapter.printed(bytes.length > MOST_BYTES
     ? bytes.subarray(0, MOST_BYTES + 1) : bytes);
-  if (status) throw new Trouble(`This script of bytes is not run: ${reasonOfBytes(bytes, status, place)}.`);
+  if (status) {
+    const reason = reasonOfBytes(bytes, status, place);
+    throw new Trouble(`This script of bytes is not run: ${reason}.`);
+  }
   return new TextDecoder().decode(text);
 }
 

@@ -1,12 +1,12 @@
-// A trace of software (docs/TRACES.md) as a script: each cycle is a step, and what was read is what is
-// expected. Where it tells the time, the clock is advanced between the steps. tools/vga-trace does the same and
-// more; page/tests/traces.mjs holds both to the same text.
+// A trace of software (docs/TRACES.md) as a script: each cycle is a step, and what was read is what
+// is expected. Where it tells the time, the clock is advanced between the steps. tools/vga-trace
+// does the same and more; page/tests/traces.mjs holds both to the same text.
 import { Trouble } from "../common/trouble.js";
 import { hex } from "../common/bytes.js";
 import { withPauses } from "./pauses.js";
 
-const PLAIN_CYCLE =
-  /^\s*(?:-|(\d{1,18}))\s+([rw])\s+([pm])\s+([0-9A-Fa-f]{1,8})\s+([0-9A-Fa-f]{1,16})\s+(\d)\s*(?:;.*)?$/;
+const PLAIN_CYCLE = new RegExp("^\\s*(?:-|(\\d{1,18}))\\s+([rw])\\s+([pm])\\s+([0-9A-Fa-f]{1,8})" +
+  "\\s+([0-9A-Fa-f]{1,16})\\s+(\\d)\\s*(?:;.*)?$");
 const NO_CYCLE = /^\s*(?:;.*)?$/;
 const QEMU_EVENT = "memory_region_ops_";
 const QEMU_CYCLE = new RegExp("^(?:\\d+@(\\d+\\.\\d{6}):)?" +
@@ -17,15 +17,16 @@ const PORTS_OF_QEMU = ["vga", "cirrus-io"], MEMORY_OF_QEMU = ["vga-lowmem", "cir
 const STATUS_PORTS = [0x3ba, 0x3da];
 
 /**
- * The cycle of a line: { isWrite, isPort, address, value, size, time }; null where it has none of a VGA.
- * The time is in microseconds, a BigInt, and null where the line tells none.
+ * The cycle of a line: { isWrite, isPort, address, value, size, time }; null where it has none of a
+ * VGA. The time is in microseconds, a BigInt, and null where the line tells none.
  */
 function cycleOf(line, isPlain, number) {
   if (isPlain) {
     const found = line.match(PLAIN_CYCLE);
     if (found) return judged(found[2] === "w", found[3] === "p", found.slice(4), found[1], number);
     if (NO_CYCLE.test(line)) return null;
-    throw new Trouble(`Line ${number} of the trace is no cycle: \`TIME r|w p|m ADDRESS VALUE SIZE\` is one.`);
+    throw new Trouble(`Line ${number} of the trace is no cycle: ` +
+      "`TIME r|w p|m ADDRESS VALUE SIZE` is one.");
   }
   const found = line.includes(QEMU_EVENT) && line.match(QEMU_CYCLE);
   if (!found) return null;
@@ -37,13 +38,13 @@ function cycleOf(line, isPlain, number) {
 
 function judged(isWrite, isPort, [address, value, width], micros, number) {
   const size = Number(width), time = micros === undefined ? null : BigInt(micros);
-  const cycle = { isWrite, isPort, address: parseInt(address, 16), value: BigInt("0x" + value), size, time };
-  const most = isPort ? 0xffff : 0xffffffff;
-  if (![1, 2, 4, 8].includes(size) || cycle.value >> BigInt(8 * size) || cycle.address + size - 1 > most) {
-    throw new Trouble(
-      `Line ${number} of the trace has a cycle that can't be: ${address} ${value} of ${size} bytes.`);
+  const first = parseInt(address, 16), whole = BigInt("0x" + value);
+  const last = first + size - 1, most = isPort ? 0xffff : 0xffffffff;
+  if (![1, 2, 4, 8].includes(size) || whole >> BigInt(8 * size) || last > most) {
+    throw new Trouble(`Line ${number} of the trace has a cycle that can't be: ` +
+      `${address} ${value} of ${size} bytes.`);
   }
-  return cycle;
+  return { isWrite, isPort, address: first, value: whole, size, time };
 }
 
 /** The steps of a cycle: one of four or eight bytes becomes words, the lowest first. */
@@ -74,13 +75,16 @@ function* joinedSteps(steps) {
 
 function lineOfStep({ name, isPort, isWord, address, value, dots }) {
   if (name === "advance") return `advance ${dots}\n`;
-  const step = `${name}${isWord ? "w" : ""} ${hex(address, isPort ? 3 : 5)}`,
-    told = hex(value, isWord ? 4 : 2);
-  if (name === "out" || name === "put") return `${step} ${told}\n`;
-  return STATUS_PORTS.includes(address) && isPort && !isWord ? `${step}\n` : `${step} ; = ${told}\n`;
+  const step = `${name}${isWord ? "w" : ""} ${hex(address, isPort ? 3 : 5)}`;
+  const digits = hex(value, isWord ? 4 : 2);
+  if (name === "out" || name === "put") return `${step} ${digits}\n`;
+  const isStatus = STATUS_PORTS.includes(address) && isPort && !isWord;
+  return isStatus ? `${step}\n` : `${step} ; = ${digits}\n`;
 }
 
-/** Whether a text is a trace: its first line that is no comment is a cycle. Null where it is none. */
+/**
+ * Whether a text is a trace: its first line that is no comment is a cycle. Null where it is none.
+ */
 export function traceForm(text) {
   const line = text.split("\n", 200).find(one => one.includes(QEMU_EVENT) || !NO_CYCLE.test(one));
   if (line === undefined) return null;
@@ -88,7 +92,10 @@ export function traceForm(text) {
   return PLAIN_CYCLE.test(line) ? "plain" : null;
 }
 
-/** Where time passes, two frames stand at the end: the first began amid the cycles, the second is whole. */
+/**
+ * Where time passes, two frames stand at the end: the first began amid the cycles, the second is
+ * whole.
+ */
 function* timedLines(steps) {
   for (const step of withPauses(steps)) yield lineOfStep(step);
   yield* ["frame\n", "frame\n"];

@@ -4,13 +4,17 @@ import { MOST_BYTES } from "../script/grammar.js";
 import { Trouble } from "../common/trouble.js";
 import { grouped } from "../common/bytes.js";
 
-export const HIGHEST = 1024, WIDEST = 2304, FONTS_SIZE = 9728, FIRST_STATE = 265086, MOST_STATE = 7342974;
+/** The most lines of a picture, and the most dots of a line. */
+export const HIGHEST = 1024, WIDEST = 2304;
+/** The bytes of a font file, of the first saved state, and of the longest. */
+export const FONTS_SIZE = 9728, FIRST_STATE = 265086, MOST_STATE = 7342974;
 /** Bytes of a `zak_card`. */
 export const CARD_SIZE = 16;
 /** Bytes of the largest picture, with its head and a newline. */
 export const MOST_PICTURE = 3 * WIDEST * HIGHEST + 32;
 /** So many bytes before a state make its planes begin at multiples of four. */
 const AHEAD = 2;
+/** A call answers so if what it would write is longer than its room. */
 export const STATUS_NO_ROOM = 25;
 const STATUS_MEMORY = 23, STATUS_BAD_LINE = 107, STATUS_TOO_LONG = 106;
 const NO_MEMORY = "The module has no memory left for this.";
@@ -20,7 +24,8 @@ export class Adapter {
   constructor(instance) {
     this.calls = instance.exports;
     this.rooms = new Map();
-    this.told = this.room("told", 64);
+    /** The lengths and places that calls write. */
+    this.lengths = this.room("lengths", 64);
   }
 
   /** An adapter of the module's bytes. */
@@ -59,7 +64,7 @@ export class Adapter {
   /** Gives back the rooms that long scripts or pictures have taken. */
   giveBack() {
     for (const [name, room] of this.rooms) {
-      if (name === "told" || room.length < 1 << 16) continue;
+      if (name === "lengths" || room.length < 1 << 16) continue;
       this.calls.page_give(room.at);
       this.rooms.delete(name);
     }
@@ -79,7 +84,8 @@ export class Adapter {
 
   /** Bytes in the module's memory, given in parts. */
   givenParts(name, parts) {
-    const length = parts.reduce((sum, part) => sum + part.length, 0), room = this.room(name, length);
+    const length = parts.reduce((sum, part) => sum + part.length, 0);
+    const room = this.room(name, length);
     const { bytes } = this;
     let { at } = room;
     for (const part of parts) {
@@ -89,9 +95,9 @@ export class Adapter {
     return { at: room.at, length };
   }
 
-  /** One of the lengths and places that calls tell. */
+  /** One of the lengths and places that a call has written. */
   number(at) {
-    const { view } = this, place = this.told.at + 8 * at;
+    const { view } = this, place = this.lengths.at + 8 * at;
     return view.getUint32(place, true) + 2 ** 32 * view.getUint32(place + 4, true);
   }
 
@@ -106,42 +112,49 @@ export class Adapter {
     return { status, bytes: status ? new Uint8Array() : this.copied(room, this.number(0)) };
   }
 
-  /** The bytes of the script that a text spells: { bytes, line }. A bad line's number is `line`, else 0. */
+  /**
+   * The bytes of the script that a text spells: { bytes, line }. A bad line's number is `line`,
+   * else 0.
+   */
   assembled(text) {
-    const given = this.given("text", text), told = this.told.at;
+    const given = this.given("text", text), lengths = this.lengths.at;
     const { status, bytes } = this.written("script", Math.max(1024, text.length), room =>
-      this.calls.zak_assemble(given.at, given.length, room.at, room.length, told, told + 8));
+      this.calls.zak_assemble(given.at, given.length, room.at, room.length, lengths, lengths + 8));
     if (status === STATUS_TOO_LONG) throw new Trouble(tooLong(text.length));
-    if (status && status !== STATUS_BAD_LINE) throw new Trouble(`The module answers ${status} to this text.`);
+    if (status && status !== STATUS_BAD_LINE) {
+      throw new Trouble(`The module answers ${status} to this text.`);
+    }
     return { bytes, line: status ? this.number(1) : 0 };
   }
 
   /** The text of the script that some bytes are: { status, text, place }. */
   printed(script) {
-    const given = this.given("script", script), told = this.told.at;
+    const given = this.given("script", script), lengths = this.lengths.at;
     const { status, bytes } = this.written("text", Math.max(1024, 8 * script.length), room =>
-      this.calls.zak_print(given.at, given.length, room.at, room.length, told, told + 8));
+      this.calls.zak_print(given.at, given.length, room.at, room.length, lengths, lengths + 8));
     return { status, place: status ? this.number(1) : 0, text: bytes };
   }
 
   /** A whole run from power-on, whose report has about so many bytes: { status, report, place }. */
   run(script, fonts, size = 1 << 20) {
-    let told = this.runWithin(script, fonts, size);
-    if (told.status === STATUS_NO_ROOM) told = this.runWithin(script, fonts, told.length);
-    return { ...told, place: told.status ? this.number(1) : 0, report: told.report.slice() };
+    let result = this.runWithin(script, fonts, size);
+    if (result.status === STATUS_NO_ROOM) result = this.runWithin(script, fonts, result.length);
+    const { status, report } = result;
+    return { ...result, place: status ? this.number(1) : 0, report: report.slice() };
   }
 
   /**
-   * A whole run from power-on whose report may have so many bytes: { status, length, report }. The report is
-   * a view of the module's memory, which holds until the next call; its length is told where it has no room.
+   * A whole run from power-on whose report may have so many bytes: { status, length, report }. The
+   * report is a view of the module's memory, which holds until the next call; its length is told
+   * where it has no room.
    */
   runWithin(script, fonts, size) {
-    const given = this.given("script", script), font = this.given("fonts", fonts), told = this.told.at;
-    const room = this.room("report", Math.max(1, size));
+    const given = this.given("script", script), font = this.given("fonts", fonts);
+    const lengths = this.lengths.at, room = this.room("report", Math.max(1, size));
     const status = this.calls.zak_run(given.at, given.length, font.at, font.length, room.at, size,
-      told, told + 8);
+      lengths, lengths + 8);
     if (status === STATUS_MEMORY) throw new Trouble(NO_MEMORY);
-    const isTold = !status || status === STATUS_NO_ROOM, length = isTold ? this.number(0) : 0;
+    const isKnown = !status || status === STATUS_NO_ROOM, length = isKnown ? this.number(0) : 0;
     const report = this.bytes.subarray(room.at, room.at + (status ? 0 : length));
     return { status, length, report };
   }
@@ -174,16 +187,15 @@ export class Card {
   }
 
   /**
-   * Steps of a script: `most` of them after the first `first`. { taken, report }: the report is a view of
-   * the module's
-   * memory, which holds until the next call. `room` is how many bytes the report may have.
+   * Steps of a script: `most` of them after the first `first`. { taken, report }: the report is a
+   * view of the module's memory, which holds until the next call. `room` is how many bytes the
+   * report may have.
    */
   runOn(script, first, most, room) {
-    const adapter = this.adapter, given = adapter.given("steps", script), told = adapter.told.at;
+    const { adapter } = this, given = adapter.given("steps", script), lengths = adapter.lengths.at;
     const report = adapter.room("answers", Math.max(room, 4096));
-    const status = adapter.calls.zak_run_on(this.at, given.at, given.length, first, most, report.at,
-      report.length,
-      told, told + 8, told + 16);
+    const status = adapter.calls.zak_run_on(this.at, given.at, given.length, first, most,
+      report.at, report.length, lengths, lengths + 8, lengths + 16);
     if (status === STATUS_MEMORY) throw new Trouble(NO_MEMORY);
     if (status) throw new Trouble(`The module answers ${status} to steps that it has read before.`);
     const bytes = adapter.bytes.subarray(report.at, report.at + adapter.number(0));
@@ -193,14 +205,15 @@ export class Card {
   /** The state as bytes (docs/STATE.md), in the module's memory: they hold until the next call. */
   saved() {
     const adapter = this.adapter, room = adapter.room("state", MOST_STATE);
-    const status = adapter.calls.zak_save(this.at, room.at, room.length, adapter.told.at);
+    const status = adapter.calls.zak_save(this.at, room.at, room.length, adapter.lengths.at);
     if (status) throw new Trouble(`The card is not saved: the module answers ${status}.`);
     return adapter.bytes.subarray(room.at, room.at + adapter.number(0));
   }
 
   /** A copy of the state's bytes, in which planes begin at multiples of four. */
   save() {
-    const saved = this.saved(), bytes = new Uint8Array(new ArrayBuffer(saved.length + AHEAD), AHEAD);
+    const saved = this.saved(), room = new ArrayBuffer(saved.length + AHEAD);
+    const bytes = new Uint8Array(room, AHEAD);
     bytes.set(saved);
     return bytes;
   }
@@ -213,15 +226,17 @@ export class Card {
   }
 
   /**
-   * To the end of the frame: { widths, rgb }, of each of 1,024 lines how many dots it has, and their colours.
-   * They are written into `spare` where it is as long.
+   * To the end of the frame: { widths, rgb }, of each of 1,024 lines how many dots it has, and
+   * their colours. They are written into `spare` where it is as long.
    */
   frameLines(spare = null) {
     const adapter = this.adapter, widths = adapter.room("widths", 4 * HIGHEST);
     const rgb = adapter.room("rgb", 3 * WIDEST * HIGHEST);
-    const status = adapter.calls.zak_frame_lines(this.at, widths.at, rgb.at, rgb.length, adapter.told.at);
+    const status = adapter.calls.zak_frame_lines(this.at, widths.at, rgb.at, rgb.length,
+      adapter.lengths.at);
     if (status) throw new Trouble(`The frame is not drawn: the module answers ${status}.`);
-    const length = adapter.number(0), dots = spare?.length === length ? spare : new Uint8Array(length);
+    const length = adapter.number(0);
+    const dots = spare?.length === length ? spare : new Uint8Array(length);
     dots.set(adapter.bytes.subarray(rgb.at, rgb.at + length));
     return { widths: new Uint32Array(adapter.copied(widths, 4 * HIGHEST).buffer), rgb: dots };
   }

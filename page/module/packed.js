@@ -10,6 +10,7 @@ export function unzipped(text) {
 
 /** The examples: a list of { name, about, text }, which stands in the data as it is or packed. */
 export async function examplesOf({ examples }) {
-  return typeof examples === "string" ? JSON.parse(new TextDecoder().decode(await unzipped(examples)))
+  return typeof examples === "string"
+    ? JSON.parse(new TextDecoder().decode(await unzipped(examples)))
     : examples;
 }

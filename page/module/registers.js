@@ -1,5 +1,5 @@
-// The registers by name, kept bits and fields, as docs/REGISTERS.md has them: page/tests/registers.mjs
-// compares the two.
+// The registers by name, kept bits and fields, as docs/REGISTERS.md has them:
+// page/tests/registers.mjs compares the two.
 import { WORDINGS } from "../script/wordings.js";
 
 const fieldOf = ([bits, name, stored]) => ({ bits, name, isStored: stored !== undefined });
@@ -7,8 +7,8 @@ const registerOf = ({ name, kept, fields }) =>
   ({ name, kept: parseInt(kept, 16), fields: fields.map(fieldOf) });
 
 /**
- * The groups of registers: the word that a dump has for it, where docs/REGISTERS.md tells of them, the port
- * that picks one, and the registers. A field without an effect is only stored.
+ * The groups of registers: the word that a dump has for it, where docs/REGISTERS.md tells of them,
+ * the port that picks one, and the registers. A field without an effect is only stored.
  */
 export const GROUPS = WORDINGS.registers.map(({ port, registers, ...group }) => ({ ...group,
   ...(port && { port: parseInt(port, 16) }), registers: registers.map(registerOf) }));

@@ -33,10 +33,13 @@ const short = value => [value >> 8, value & 255];
 function chunk(kind, ...parts) {
   const data = joinedBytes(parts.map(part => Uint8Array.from(part)));
   const named = joinedBytes([Uint8Array.from(kind, letter => letter.charCodeAt(0)), data]);
-  return joinedBytes([Uint8Array.from(long(data.length)), named, Uint8Array.from(long(crcOf(named)))]);
+  const [length, crc] = [data.length, crcOf(named)].map(value => Uint8Array.from(long(value)));
+  return joinedBytes([length, named, crc]);
 }
 
-/** The dots of a picture as PNG packs them: of each row a 0, and its dots of eight bits a component. */
+/**
+ * The dots of a picture as PNG packs them: of each row a 0, and its dots of eight bits a component.
+ */
 export async function packedRows({ width, height, rgb }) {
   const rows = new Uint8Array((3 * width + 1) * height);
   for (let y = 0, from = 0, to = 0; y < height; y++) {
@@ -66,8 +69,9 @@ export function padded({ width, height, rgb }, wide, high) {
 }
 
 /**
- * Pictures as a PNG that moves; each has `packed` rows and the seconds that it lasts. The first must be as
- * wide and as high as any. Where sizes differ, each picture is taken away before the next one comes.
+ * Pictures as a PNG that moves; each has `packed` rows and the seconds that it lasts. The first
+ * must be as wide and as high as any. Where sizes differ, each picture is taken away before the
+ * next one comes.
  */
 export function apngOf(frames) {
   const parts = [...head(frames[0]), chunk("acTL", long(frames.length), long(0))];
@@ -81,8 +85,8 @@ export function apngOf(frames) {
     }
     const part = frame.seconds < 1 ? SHORT_PART : LONG_PART;
     const time = Math.min(MOST_FRACTION, Math.round(frame.seconds * part));
-    parts.push(chunk("fcTL", long(sequence++), long(width), long(height), long(0), long(0), short(time),
-      short(part), [isOneSize ? 0 : TO_BACKGROUND, 0]));
+    parts.push(chunk("fcTL", long(sequence++), long(width), long(height), long(0), long(0),
+      short(time), short(part), [isOneSize ? 0 : TO_BACKGROUND, 0]));
     parts.push(i ? chunk("fdAT", long(sequence++), frame.packed) : chunk("IDAT", frame.packed));
   }
   return joinedBytes([...parts, chunk("IEND")]);

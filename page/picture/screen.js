@@ -1,4 +1,5 @@
-// The picture as it is drawn so far. What is not drawn yet is dark, cross-hairs show the beam, a glass dots.
+// The picture as it is drawn so far. What is not drawn yet is dark, cross-hairs show the beam, a
+// glass dots.
 import { byId, cssColour, element, setAll } from "../common/dom.js";
 import { characterWidth, displayedLines, fetchAddress } from "../module/state.js";
 import { hex, wordsOfBytes } from "../common/bytes.js";
@@ -24,7 +25,10 @@ function linesOf(picture) {
   return { rows, width: widest, height: Math.max(1, rows.length) };
 }
 
-/** The words of colours of six bits, shifted to their place, and the same of dots that are not drawn yet. */
+/**
+ * The words of colours of six bits, shifted to their place, and the same of dots that are not drawn
+ * yet.
+ */
 const wordsOf = share => [0, 8, 16].map(shift =>
   Uint32Array.from({ length: 64 }, (_, six) => Math.round(widened(six) * share) << shift));
 const LIGHT = wordsOf(1), DIMMED = wordsOf(DARK);
@@ -35,7 +39,9 @@ function paintDots(words, to, rgb, from, count, [reds, greens, blues]) {
   }
 }
 
-/** Colours of dots as bytes, and as words, four bytes each, so that many are held to others quickly. */
+/**
+ * Colours of dots as bytes, and as words, four bytes each, so that many are held to others quickly.
+ */
 function dotsOf(rgb) {
   const isEven = rgb.byteOffset % 4 === 0;
   return { rgb, words: isEven ? wordsOfBytes(rgb) : null };
@@ -44,7 +50,8 @@ function dotsOf(rgb) {
 /** Whether dots have the same `length` bytes from a place on in each. */
 function sameDots(one, from, other, otherFrom, length) {
   const isEven = one.words && other.words && (from | otherFrom | length) % 4 === 0;
-  const [now, old] = isEven ? [one.words, other.words] : [one.rgb, other.rgb], share = isEven ? 4 : 1;
+  const [now, old] = isEven ? [one.words, other.words] : [one.rgb, other.rgb];
+  const share = isEven ? 4 : 1;
   const end = (from + length) / share, ahead = (otherFrom - from) / share;
   for (let at = from / share; at < end; at++) if (now[at] !== old[at + ahead]) return false;
   return true;
@@ -58,31 +65,43 @@ function isSameRow(row, dots, old, oldDots) {
 
 /** The picture on its stage. `heard` has `clicked(line, dot)`. */
 export class Screen {
+  /** What is shown, as a session tells it. */
+  seen = null;
+  stage = byId("stage");
+  canvas = byId("picture");
+  glass = byId("glass");
+  brush = this.canvas.getContext("2d", { alpha: false });
+  /** The room of the stage, in pixels. */
+  room = { width: 0, height: 0 };
+  pointer = null;
+
   constructor(heard) {
-    Object.assign(this, { heard, stage: byId("stage"), canvas: byId("picture"), glass: byId("glass"),
-      seen: null });
+    this.heard = heard;
     this.glass.width = this.glass.height = GLASS_DOTS * GLASS_SCALE;
     for (const name of ["aspect", "sharp", "sofar", "hairs", "zoom"]) {
       byId(name).addEventListener("change", () => this.draw());
     }
-    this.brush = this.canvas.getContext("2d", { alpha: false });
     this.canvas.addEventListener("pointermove", event => this.point(this.placeOf(event)));
     this.canvas.addEventListener("pointerleave", () => this.point(null));
     this.canvas.addEventListener("click", event => {
-      // A click's place is rounded to a pixel, and the dot that is told was that of the pointer's own place.
+      // A click's place is rounded to a pixel, and the dot that is told was that of the pointer's
+      // own place.
       const { pointer } = this, { clientX, clientY } = event;
-      const isNear = pointer && Math.hypot(pointer.clientX - clientX, pointer.clientY - clientY) < 2;
+      const isNear = pointer &&
+        Math.hypot(pointer.clientX - clientX, pointer.clientY - clientY) < 2;
       const found = this.dotAt(isNear ? pointer : this.placeOf(event));
       if (found) heard.clicked(found.row.line, found.x);
     });
-    this.room = { width: 0, height: 0 };
     new ResizeObserver(([{ contentRect: { width, height } }]) => {
       this.room = { width, height };
       this.shape();
     }).observe(this.stage);
   }
 
-  /** Shows what is seen. Answers the dots of the picture before, which nothing needs any longer; or null. */
+  /**
+   * Shows what is seen. Answers the dots of the picture before, which nothing needs any longer; or
+   * null.
+   */
   show(seen) {
     const old = this.painted?.dots?.rgb ?? null;
     this.seen = seen;
@@ -94,7 +113,9 @@ export class Screen {
     if (!this.seen) return;
     const { picture } = this.seen, shape = linesOf(picture);
     this.isSoFar = byId("sofar").checked && !picture.isWhole && picture.isBegun;
-    for (const row of shape.rows) row.light = this.isSoFar ? Math.min(row.drawn, row.width) : row.width;
+    for (const row of shape.rows) {
+      row.light = this.isSoFar ? Math.min(row.drawn, row.width) : row.width;
+    }
     this.rows = shape.rows;
     this.paint(shape, picture.rgb);
     setAll(this.canvas, { ariaLabel: this.description() });
@@ -137,14 +158,19 @@ export class Screen {
     return this.isSoFar ? `${size}, drawn to line ${beam.line}, dot ${this.beamPlace().x}` : size;
   }
 
-  /** How large the picture stands on its stage, as a monitor of 4:3 shows it or with square dots, and how. */
+  /**
+   * How large the picture stands on its stage, as a monitor of 4:3 shows it or with square dots,
+   * and how.
+   */
   shape() {
-    const { canvas, room } = this, ratio = byId("aspect").checked ? 4 / 3 : canvas.width / canvas.height;
+    const { canvas, room } = this;
+    const ratio = byId("aspect").checked ? 4 / 3 : canvas.width / canvas.height;
     const wide = Math.min(room.width, room.height * ratio);
     const width = Math.floor(wide) + "px", height = Math.floor(wide / ratio) + "px";
     setAll(byId("frame").style, { width, height });
     // Hard edges would drop dots of a picture that stands smaller than it is.
-    const isRoom = wide * devicePixelRatio >= canvas.width && wide / ratio * devicePixelRatio >= canvas.height;
+    const isRoom = wide * devicePixelRatio >= canvas.width &&
+      wide / ratio * devicePixelRatio >= canvas.height;
     canvas.classList.toggle("sharp", isRoom && byId("sharp").checked);
   }
 
@@ -168,7 +194,10 @@ export class Screen {
     hairs[2].classList.toggle("outside", x >= canvas.width || y < 0);
   }
 
-  /** Where a pointer is on the canvas: { clientX, clientY, right, down }, the last two as parts of it. */
+  /**
+   * Where a pointer is on the canvas: { clientX, clientY, right, down }, the last two as parts of
+   * it.
+   */
   placeOf({ clientX, clientY }) {
     const box = this.canvas.getBoundingClientRect();
     return { clientX, clientY, right: (clientX - box.left) / box.width,
@@ -187,20 +216,23 @@ export class Screen {
   /** Tells the dot under the pointer, and shows it in the glass. */
   point(pointer) {
     this.pointer = pointer;
-    const found = pointer && this.seen && this.dotAt(pointer), isOn = Boolean(found) && byId("zoom").checked;
+    const found = pointer && this.seen && this.dotAt(pointer);
+    const isOn = Boolean(found) && byId("zoom").checked;
     this.glass.hidden = !isOn;
     if (isOn) this.drawGlass(found);
-    const told = byId("dot");
-    if (!found) {
-      told.replaceChildren();
-      return;
-    }
+    if (found) this.describe(found);
+    else byId("dot").replaceChildren();
+  }
+
+  /** Tells a dot: its line, its colour, and in text its cell. */
+  describe(found) {
+    const { row: { line, drawn }, x, colour } = found;
     const swatch = element("span", { className: "swatch" });
-    swatch.style.background = cssColour(found.colour);
-    const isDark = this.isSoFar && found.x >= found.row.drawn ? ", not drawn yet" : "";
-    told.replaceChildren(swatch,
-      ` dot ${found.x} of line ${found.row.line}: ${found.colour.map(six => hex(six, 2)).join(" ")}` +
-      `${isDark}${this.cellAt(found)}`);
+    swatch.style.background = cssColour(colour);
+    const isDark = this.isSoFar && x >= drawn ? ", not drawn yet" : "";
+    const digits = colour.map(six => hex(six, 2)).join(" ");
+    byId("dot").replaceChildren(swatch,
+      ` dot ${x} of line ${line}: ${digits}${isDark}${this.cellAt(found)}`);
   }
 
   /** In text, the cell that a dot belongs to by the registers as they are. */
@@ -222,13 +254,15 @@ export class Screen {
 
   /** The dots round the pointer, large. */
   drawGlass({ x, y }) {
-    const brush = this.glass.getContext("2d"), half = GLASS_DOTS >> 1, side = GLASS_DOTS * GLASS_SCALE;
+    const brush = this.glass.getContext("2d");
+    const half = GLASS_DOTS >> 1, side = GLASS_DOTS * GLASS_SCALE;
     brush.imageSmoothingEnabled = false;
     brush.fillStyle = "#000";
     brush.fillRect(0, 0, side, side);
     brush.drawImage(this.canvas, x - half, y - half, GLASS_DOTS, GLASS_DOTS, 0, 0, side, side);
     brush.strokeStyle = "#f0f";
-    brush.strokeRect(half * GLASS_SCALE + 0.5, half * GLASS_SCALE + 0.5, GLASS_SCALE - 1, GLASS_SCALE - 1);
+    const edge = half * GLASS_SCALE + 0.5;
+    brush.strokeRect(edge, edge, GLASS_SCALE - 1, GLASS_SCALE - 1);
     this.glass.classList.toggle("left", x > this.canvas.width / 2);
   }
 }

@@ -2,8 +2,8 @@
 import { GROUPS, valuesOf } from "../module/registers.js";
 import { counted, hex, wordsOfBytes } from "../common/bytes.js";
 
-const POINTERS = { seqIndex: "sequencer index", gfxIndex: "graphics index", crtcIndex: "CRT controller index",
-  attrIndex: "attribute index", dacIndex: "DAC index", dacMask: "DAC mask" };
+const POINTERS = { seqIndex: "sequencer index", gfxIndex: "graphics index",
+  crtcIndex: "CRT controller index", attrIndex: "attribute index", dacIndex: "DAC index", dacMask: "DAC mask" };
 
 /** The numbers of the bytes in which two parts differ. */
 export function differingBytes(before, after) {
@@ -29,7 +29,8 @@ const CHANGED_PLANES = new WeakMap();
 export function changedPlanes(before, after) {
   const known = CHANGED_PLANES.get(after);
   if (known?.before === before) return known.found;
-  const found = [0, 1, 2, 3].map(plane => differingInWords(before.plane(plane), after.plane(plane)));
+  const found = [0, 1, 2, 3].map(plane =>
+    differingInWords(before.plane(plane), after.plane(plane)));
   CHANGED_PLANES.set(after, { before, found });
   return found;
 }
@@ -55,12 +56,15 @@ function changedRegisters(before, after) {
 
 function changedPointers(before, after) {
   const [old, now] = [before.registers, after.registers];
-  const told = Object.keys(POINTERS).filter(name => old[name] !== now[name])
+  const changes = Object.keys(POINTERS).filter(name => old[name] !== now[name])
     .map(name => `${POINTERS[name]} ${hex(old[name], 2)} → ${hex(now[name], 2)}`);
-  if (old.attrIsData !== now.attrIsData) told.push(`3C0 takes ${now.attrIsData ? "data" : "an index"} next`);
-  if (old.dacComponent !== now.dacComponent) told.push(
-    `${["red", "green", "blue"][now.dacComponent]} is next of the DAC`);
-  return told;
+  if (old.attrIsData !== now.attrIsData) {
+    changes.push(`3C0 takes ${now.attrIsData ? "data" : "an index"} next`);
+  }
+  if (old.dacComponent !== now.dacComponent) {
+    changes.push(`${["red", "green", "blue"][now.dacComponent]} is next of the DAC`);
+  }
+  return changes;
 }
 
 function changedMemory(before, after) {
@@ -70,27 +74,30 @@ function changedMemory(before, after) {
     const [first] = found, last = found.at(-1);
     if (first === last) return [
       `plane ${plane} ${hex(first, 4)}: ${hex(old[first], 2)} → ${hex(now[first], 2)}`];
-    return [`plane ${plane}: ${counted(found.length, "byte")} from ${hex(first, 4)} to ${hex(last, 4)}`];
+    const count = counted(found.length, "byte");
+    return [`plane ${plane}: ${count} from ${hex(first, 4)} to ${hex(last, 4)}`];
   });
 }
 
 /**
- * What changed between two states, a few words each; of more than `most` the first, and how many more there
- * are.
+ * What changed between two states, a few words each; of more than `most` the first, and how many
+ * more there are.
  */
 export function changesOf(before, after, most = 6) {
-  const told = [...changedRegisters(before, after), ...changedPointers(before, after)];
+  const changes = [...changedRegisters(before, after), ...changedPointers(before, after)];
   const colours = differingColours(before, after);
   if (colours.length) {
-    told.push(colours.length === 1 ? `DAC entry ${hex(colours[0], 2)}`
+    changes.push(colours.length === 1 ? `DAC entry ${hex(colours[0], 2)}`
       : `${colours.length} entries of the DAC`);
   }
   if (differingBytes(before.latches, after.latches).length) {
-    told.push(`latches ${Array.from(after.latches, byte => hex(byte, 2)).join(" ")}`);
+    changes.push(`latches ${Array.from(after.latches, byte => hex(byte, 2)).join(" ")}`);
   }
-  told.push(...changedMemory(before, after));
+  changes.push(...changedMemory(before, after));
   const [old, now] = [before.beam, after.beam];
-  if (["frame", "line", "character", "dot"].some(name => old[name] !== now[name])) told.push(`the beam`);
-  if (JSON.stringify(before.bda) !== JSON.stringify(after.bda)) told.push("BIOS data");
-  return told.length > most ? [...told.slice(0, most), `${told.length - most} more`] : told;
+  const isMoved = ["frame", "line", "character", "dot"].some(name => old[name] !== now[name]);
+  if (isMoved) changes.push("the beam");
+  if (JSON.stringify(before.bda) !== JSON.stringify(after.bda)) changes.push("BIOS data");
+  const more = changes.length - most;
+  return more > 0 ? [...changes.slice(0, most), `${more} more`] : changes;
 }

@@ -1,15 +1,16 @@
-// Holds the answers of a run, which were taken some steps at a time, to those of one call of zak_run, which
-// takes the whole script: in a worker with a module of its own, so that the page goes on meanwhile.
+// Compares the answers of a run, which was taken some steps at a time, with those of one call of
+// zak_run, which takes the whole script. A worker does it in a module of its own, so that the page
+// goes on meanwhile.
 import { Adapter, STATUS_NO_ROOM } from "../module/adapter.js";
 import { Trouble } from "../common/trouble.js";
 import { grouped, wordsOfBytes } from "../common/bytes.js";
 import { readReport } from "./report.js";
 
 /**
- * A call of zak_run is asked for reports of so many bytes at most. It puts one together in memory, which
- * takes up to five times as much in all, and a module has four GiB in some engines.
+ * zak_run is asked for a report of so many bytes at most. It puts the report together in memory,
+ * which takes up to five times as much in all, and some engines give a module four GiB.
  */
-export const MOST_HELD = 1 << 29;
+export const MOST_COMPARED = 1 << 29;
 const PRIME = 16777619;
 
 /** A number that tells byte sequences apart, such as pictures. */
@@ -37,77 +38,85 @@ export function digitsTo(number) {
 }
 
 /**
- * Holds a run to one by zak_run: what differs, in words; an empty text where nothing does.
+ * Compares a run with one by zak_run: what differs, in words; an empty text if nothing does.
  *
- * A run is { script, fonts, steps, reported, numbers, texts, cut, sums }: `reported` is the length of its
- * report, texts[numbers[i]] is the answer of step i, and `sums` has a number for each picture and for each
- * answer whose text is not kept whole; `cut` has the numbers of these texts.
+ * A run is { script, fonts, steps, reported, numbers, texts, cut, sums }: `reported` is the length
+ * of its report, texts[numbers[i]] is the answer of step i, and `sums` has a number for each
+ * picture and for each answer whose text is cut off; `cut` has the numbers of these texts.
  */
-export function heldToRun(adapter, run) {
+export function comparedToRun(adapter, run) {
   const { status, length, report } = adapter.runWithin(run.script, run.fonts, run.reported);
   if (status && status !== STATUS_NO_ROOM) return `zak_run answers ${status}`;
   if (length === run.reported) return firstDifference(report, run);
   return `its report has ${grouped(length)} bytes, and this run's ${grouped(run.reported)}`;
 }
 
-/** The first step that answers otherwise in a report than in a run, in words; an empty text for none. */
+/**
+ * The first step whose answers in a report and in a run differ, in words; an empty text for none.
+ */
 function firstDifference(report, { steps, numbers, texts, cut, sums }) {
-  let differs = "", place = 0;
+  let difference = "", place = 0;
   try {
     readReport(report, 1, steps, (i, answer, picture) => {
       const number = numbers[i], isCut = cut.has(number);
       const isSame = (isCut ? sumOfText(answer) === sums[place++] : answer === texts[number]) &&
         (!picture || sumOfBytes(picture.ppm) === sums[place++]);
-      if (!isSame && !differs) differs = `step ${grouped(i + 1)} answers otherwise`;
+      if (!isSame && !difference) difference = `step ${grouped(i + 1)} answers otherwise`;
     });
   } catch (trouble) {
     if (!(trouble instanceof Trouble)) throw trouble;
     return trouble.message;
   }
-  return differs;
+  return difference;
 }
 
-/** In a worker: holds the run that the page sends. What came of it, or why nothing did. */
-export async function heldToSend(module, run) {
+/** In a worker: compares the run that the page sends; what came of it, or why nothing did. */
+export async function comparedToSend(module, run) {
   try {
-    return { differs: heldToRun(await Adapter.opened(module), run) };
+    return { difference: comparedToRun(await Adapter.opened(module), run) };
   } catch (error) {
     return { trouble: error.message };
   }
 }
 
-/** Holds runs in a worker, one at a time. `code` is the page's own script, which the worker runs too. */
+/** Compares runs in a worker, one at a time. */
 export class Comparer {
+  #worker = null;
+  #address = null;
+
+  /** `module`: the adapter's bytes. `code`: the page's own script, which the worker runs too. */
   constructor(module, code) {
-    Object.assign(this, { module, code, worker: null, address: null });
+    this.module = module;
+    this.code = code;
   }
 
   /**
-   * Holds a run. `told` hears { differs }, or { trouble }, a text each, or null where the browser gives
-   * the page no worker. Another run, or `stop`, ends this one, and then nothing is heard.
+   * Compares a run. `done` hears { difference }, or { trouble }, a text each, or null if the
+   * browser gives the page no worker. Another run, or `stop`, ends this one, and then nothing is
+   * heard.
    */
-  start(run, told) {
+  start(run, done) {
     this.stop();
     try {
-      this.address ??= URL.createObjectURL(new Blob([this.code], { type: "text/javascript" }));
-      this.worker = new Worker(this.address);
+      this.#address ??= URL.createObjectURL(new Blob([this.code], { type: "text/javascript" }));
+      this.#worker = new Worker(this.#address);
     } catch {
-      return told(null);
+      return done(null);
     }
-    const heard = answer => {
+    const heard = result => {
       this.stop();
-      told(answer);
+      done(result);
     };
-    this.worker.onmessage = ({ data }) => heard(data);
-    this.worker.onerror = event => {
+    this.#worker.onmessage = ({ data }) => heard(data);
+    this.#worker.onerror = event => {
       event.preventDefault();
       heard(null);
     };
-    return this.worker.postMessage({ module: this.module, run });
+    return this.#worker.postMessage({ module: this.module, run });
   }
 
   stop() {
-    this.worker?.terminate();
-    this.worker = null;
+    this.#worker?.terminate();
+    this.#worker = null;
   }
 }

@@ -5,6 +5,9 @@ import { Outline } from "../script/outline.js";
 import { Trouble } from "../common/trouble.js";
 import { judgedText } from "./session.js";
 
+/** A text of more characters is read in a worker. */
+export const LONG_TEXT = 100000;
+
 /** In a worker: what a text is, in a form that can be sent: { script, outline }, or { trouble }. */
 export async function judgedToSend(module, text) {
   try {

@@ -1,19 +1,17 @@
-// A script in pieces: the module takes some steps of it at a time, and each piece is a script of its own
-// that it has assembled from the script's text. So a step costs as much at the end of a long script as at
-// its beginning.
+// A script in pieces: the module takes some steps of it at a time, and each piece is a script of
+// its own that it has assembled from the script's text. A step therefore costs as much at the end
+// of a long script as at its beginning.
 import { KIND } from "../script/outline.js";
 import { MOST_PICTURE } from "../module/adapter.js";
 
 /** The steps of a piece outside blocks, and the steps that a small block is repeated to. */
 const PIECE_STEPS = 2048;
-/** So many bytes of pieces are kept. */
+/** The bytes of assembled pieces that are cached. */
 const MOST_PIECES = 1 << 25;
-/** The bytes of a report that a slice of steps may have, but for one step that has more. */
+/** The bytes of report that a slice of steps may have, unless a single step has more. */
 const MOST_REPORT = 1 << 20;
 
-/**
- * About how many milliseconds a step of a kind takes, and how many bytes its line of the report has at most.
- */
+/** The milliseconds that a step of a kind takes, about, and the most bytes of its report line. */
 const COSTS = {
   [KIND.int]: { time: 1, report: 2048 },
   [KIND.frame]: { time: 2, report: MOST_PICTURE },
@@ -24,11 +22,15 @@ const DOTS_A_MILLISECOND = 200000;
 
 /** The pieces of a text that the module has assembled. */
 export class Pieces {
+  #cache = new Map();
+  #size = 0;
+
   constructor(adapter, outline) {
-    Object.assign(this, { adapter, outline, kept: new Map(), size: 0 });
+    this.adapter = adapter;
+    this.outline = outline;
   }
 
-  /** The piece that has a step: its bytes, which of its steps this is, and how many follow with it. */
+  /** The piece that has a step: its bytes, which of its steps this is, and how many follow. */
   at(step) {
     const { outline } = this, run = outline.runOf(step), within = step - run.first;
     const left = run.count * run.size - within, turn = within % run.size;
@@ -39,22 +41,23 @@ export class Pieces {
     }
     const chunk = Math.floor(turn / PIECE_STEPS), from = chunk * PIECE_STEPS;
     const count = Math.min(PIECE_STEPS, run.size - from);
-    return { bytes: this.bytes(run.from + from, count, 1), first: turn - from, most: count - (turn - from) };
+    const bytes = this.bytes(run.from + from, count, 1);
+    return { bytes, first: turn - from, most: count - (turn - from) };
   }
 
   /** The bytes of a script of some entries, all of them taken so many times. */
   bytes(from, count, turns) {
-    const key = `${from} ${count} ${turns}`, old = this.kept.get(key);
+    const key = `${from} ${count} ${turns}`, old = this.#cache.get(key);
     if (old) return old;
     const steps = this.outline.textOf(from, count);
     const text = turns === 1 ? steps : `version 2\nrepeat ${turns}\n${steps}\nend\n`;
     const { bytes } = this.adapter.assembled(new TextEncoder().encode(text));
-    if (this.size > MOST_PIECES) {
-      this.kept.clear();
-      this.size = 0;
+    if (this.#size > MOST_PIECES) {
+      this.#cache.clear();
+      this.#size = 0;
     }
-    this.kept.set(key, bytes);
-    this.size += bytes.length;
+    this.#cache.set(key, bytes);
+    this.#size += bytes.length;
     return bytes;
   }
 
@@ -62,13 +65,13 @@ export class Pieces {
     const kind = this.outline.kinds[entry];
     if (kind !== KIND.advance) return COSTS[kind] ?? USUAL_COST;
     const dots = Number(this.outline.wordsOf(entry).split(" ")[1]);
-    return { time: USUAL_COST.time + Math.min(dots, 1 << 24) / DOTS_A_MILLISECOND,
-      report: USUAL_COST.report };
+    const time = USUAL_COST.time + Math.min(dots, 1 << 24) / DOTS_A_MILLISECOND;
+    return { time, report: USUAL_COST.report };
   }
 
   /**
-   * How many steps from one on take about so many milliseconds, one at least, and the bytes of their report
-   * at most.
+   * How many steps from one on take about so many milliseconds, one at least, and the most bytes of
+   * their report.
    */
   slice(step, most, milliseconds) {
     const { outline } = this, run = outline.runOf(step);
@@ -84,9 +87,13 @@ export class Pieces {
     return { count, room };
   }
 
-  /** Has a card take steps from one on, at most so many and for about so long: { taken, first, report }. */
+  /**
+   * Has a card take steps from one on, at most so many and for about so many milliseconds:
+   * { taken, first, report }.
+   */
   runOn(card, step, most, milliseconds) {
-    const piece = this.at(step), { count, room } = this.slice(step, Math.min(most, piece.most), milliseconds);
+    const piece = this.at(step);
+    const { count, room } = this.slice(step, Math.min(most, piece.most), milliseconds);
     const { taken, report } = card.runOn(piece.bytes, piece.first, count, room);
     return { taken, first: piece.first + 1, report };
   }

@@ -118,7 +118,7 @@ export class Search {
 
   * back(to) {
     for (let end = to; end > 0;) {
-      const begin = Math.max(this.session.keptBefore(end - 1).at, end - CHUNK);
+      const begin = Math.max(this.session.checkpointBefore(end - 1).at, end - CHUNK);
       let last = 0;
       for (const met of this.scan(begin, end)) {
         if (met) last = met;
@@ -147,7 +147,7 @@ export class Search {
   /** Takes a step on the card, and looks at what it does. */
   * watch(step, entry) {
     const { session } = this;
-    while (!session.approach(step, 8)) yield null;
+    while (!session.seek(step, 8)) yield null;
     const before = this.light();
     session.advance(1);
     const after = this.light();

@@ -5,13 +5,16 @@ import { md5 } from "../files/md5.js";
 
 const ZERO = 48, NINE = 57, LINE_END = 10, LETTER_O = 111, LETTER_K = 107;
 
-/** A picture of a report: a PPM's bytes, its size, and where its dots begin. */
+/** A picture of a report: the bytes of a PPM, and its size in dots. */
 export class ReportPicture {
   constructor(ppm) {
     const [, width, height] = codesOfBytes(ppm.subarray(0, 24)).split(/\s/);
-    Object.assign(this, { ppm, width: Number(width), height: Number(height) });
+    this.ppm = ppm;
+    this.width = Number(width);
+    this.height = Number(height);
   }
 
+  /** As "720x400". */
   get size() {
     return `${this.width}x${this.height}`;
   }
@@ -21,14 +24,15 @@ export class ReportPicture {
     return this.ppm.subarray(this.ppm.length - 3 * this.width * this.height);
   }
 
+  /** The MD5 of the PPM. */
   digest() {
     return md5(this.ppm);
   }
 }
 
 /**
- * Reads `count` answers of a report whose first line has the number `first`; takes each with (index, answer,
- * picture).
+ * Reads `count` answers of a report whose first line has the number `first`; calls `take` for each
+ * with (index, answer, picture).
  */
 export function readReport(report, first, count, take) {
   let at = 0;
@@ -47,7 +51,7 @@ export function readReport(report, first, count, take) {
   if (at !== report.length) throw new Trouble("The report goes on after its last answer.");
 }
 
-/** The texts of answers of two and of four letters, by their letters: in long runs most answers are such. */
+/** The texts of answers of two to four letters, by their letters: in long runs most are such. */
 const SHORT_TEXTS = new Map();
 
 function shortText(report, at, end) {
@@ -64,7 +68,8 @@ function shortText(report, at, end) {
 function readAnswer(report, at, i, take) {
   let end = at;
   while (report[end] !== LINE_END && end < report.length) end++;
-  const answer = end - at <= 4 ? shortText(report, at, end) : codesOfBytes(report.subarray(at, end));
+  const answer = end - at <= 4 ? shortText(report, at, end)
+    : codesOfBytes(report.subarray(at, end));
   if (answer.startsWith("picture ")) {
     const length = Number(answer.slice(8));
     take(i, answer, new ReportPicture(report.subarray(end + 1, end + 1 + length)));

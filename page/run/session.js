@@ -1,65 +1,101 @@
-// A run of a script: the answers of all its steps, and how a card gets to any step of it, forward and back.
-// Each step and each answer is the module's (zak_run_on); states are its bytes (zak_save, zak_restore).
+// A run of a script: the answers of all its steps, and the way of a card to any step, forward and
+// back. Each step and each answer is the module's (zak_run_on); states are its bytes (zak_save,
+// zak_restore).
 import { Answers } from "./answers.js";
 import { Card } from "../module/adapter.js";
+import { Checkpoints } from "./checkpoints.js";
 import { KIND, Outline } from "../script/outline.js";
-import { Kept } from "./kept.js";
 import { MOST_BYTES } from "../script/grammar.js";
+import { MOST_COMPARED, comparedToRun, digitsTo, sumOfBytes, sumOfText } from "./comparing.js";
 import { Pieces } from "./pieces.js";
 import { State } from "../module/state.js";
 import { Trouble } from "../common/trouble.js";
 import { counted, grouped } from "../common/bytes.js";
-import { MOST_HELD, digitsTo, heldToRun, sumOfBytes, sumOfText } from "./comparing.js";
 import { encodingTrouble, reasonOfLine } from "../script/reasons.js";
 import { isAsExpected, isRefusal } from "../script/expecting.js";
 import { readReport } from "./report.js";
 
 /**
- * Where the page has no worker, the answers of runs of at most so many steps, bytes of report and
- * milliseconds are held to those of zak_run.
+ * Without a worker, the page compares runs of at most so many steps, bytes of report and
+ * milliseconds with zak_run.
  */
-const MOST_COMPARED = { steps: 100000, report: 1 << 27, time: 3000 };
-// Saved states have so many bytes at most, and stand so far apart as a card goes in so many milliseconds,
-// or further. On a longer way some more are kept, near the step that was asked for.
-const MOST_STATES = 1 << 28, MOST_NEAR = 1 << 26, APART = 4;
+const MOST_WITHOUT_WORKER = { steps: 100000, report: 1 << 27, time: 3000 };
+// Checkpoints have so many bytes at most, and stand so many milliseconds of running apart, or more.
+// On a longer way further ones are made near the step that was asked for.
+const MOST_CHECKPOINTS = 1 << 28, MOST_NEAR = 1 << 26, SPACING = 4;
 const MOST_DIFFERING = 100000, SLICE = 8;
+/** The first letter of a refusal, E. */
+const LETTER_E = 69;
 
-/** The steps of a text as the module reads it; a Trouble with the line and the reason where it is bad. */
+/**
+ * The steps of a text as the module reads it: { script, outline }. A bad text is a Trouble with the
+ * line and the reason.
+ */
 export function judgedText(adapter, text) {
   const bytes = new TextEncoder().encode(text);
-  if (bytes.length > MOST_BYTES) throw new Trouble(`The text has more than ${grouped(MOST_BYTES)} bytes.`);
+  if (bytes.length > MOST_BYTES) {
+    throw new Trouble(`The text has more than ${grouped(MOST_BYTES)} bytes.`);
+  }
   const { bytes: script, line } = adapter.assembled(bytes);
   if (!line) return { script, outline: new Outline(text) };
   const whole = line === 1 ? encodingTrouble(bytes) : null, found = reasonOfLine(text, line);
-  throw Object.assign(new Trouble(whole ?? found.reason, line), { at: found.at, width: found.width });
+  const trouble = new Trouble(whole ?? found.reason, line);
+  throw Object.assign(trouble, { at: found.at, width: found.width });
 }
 
 /** A run of a text with the fonts that its mode sets load. */
 export class Session {
+  /** The steps that are run so far, and the milliseconds that they took. */
+  ran = 0;
+  time = 0;
+  /** The card that shows steps stands after so many; -1 while it goes on. */
+  at = 0;
+  answers = new Answers();
+  /**
+   * How many answers are expected, how many of them are wrong, and the steps of the first of these.
+   */
+  expected = 0;
+  wrong = 0;
+  differing = [];
+  refused = 0;
+  /** How many pictures there are, and the size of each, as "720x400", by its step. */
+  pictures = 0;
+  sizes = new Map();
+  /** Of each picture, and of each answer whose text is cut off, a sum. */
+  sums = [];
+  /** The length of the whole report, and of the part that is short enough to be compared. */
+  reported = 0;
+  comparable = { steps: 0, reported: 0 };
+  mostCompared = MOST_COMPARED;
+  checkpoints = new Checkpoints(MOST_CHECKPOINTS);
+  near = new Checkpoints(MOST_NEAR);
+  /** The milliseconds between checkpoints. */
+  spacing = SPACING;
+  /** Dots of a picture that is no longer shown: the next one is written into them. */
+  spare = null;
+  #sinceCheckpoint = 0;
+  #sinceNear = 0;
+
   constructor(adapter, fonts, text, judged = judgedText(adapter, text)) {
-    const { script, outline } = judged;
-    Object.assign(this, { adapter, fonts, script, outline, length: outline.length });
-    this.pieces = new Pieces(adapter, outline);
-    this.runner = new Card(adapter, fonts);
+    this.adapter = adapter;
+    this.fonts = fonts;
+    this.script = judged.script;
+    this.outline = judged.outline;
+    this.length = judged.outline.length;
+    this.pieces = new Pieces(adapter, judged.outline);
+    /** The card that takes all steps, ahead of the one that shows them. */
+    this.ahead = new Card(adapter, fonts);
     try {
       this.card = new Card(adapter, fonts);
     } catch (trouble) {
-      this.runner.close();
+      this.ahead.close();
       throw trouble;
     }
-    Object.assign(this, { ran: 0, at: 0, time: 0, sinceKept: 0, apart: APART, sinceNear: 0 });
-    Object.assign(this, { kept: new Kept(MOST_STATES), near: new Kept(MOST_NEAR) });
-    Object.assign(this, { answers: new Answers(), expected: 0, differing: [], wrong: 0, refused: 0 });
-    this.sizes = new Map();
-    Object.assign(this, { pictures: 0, sums: [], reported: 0, mostHeld: MOST_HELD });
-    this.held = { steps: 0, reported: 0 };
-    // Dots of a picture that is not seen any longer: the next one is written into them.
-    this.spare = null;
-    this.keep();
+    this.#checkpoint();
   }
 
   close() {
-    this.runner.close();
+    this.ahead.close();
     this.card.close();
     this.adapter.giveBack();
   }
@@ -68,108 +104,114 @@ export class Session {
     return this.ran === this.length;
   }
 
-  /** Takes steps for about so many milliseconds; whether some are left. */
+  /** Runs steps for about so many milliseconds; whether some are left. */
   runFor(milliseconds) {
     const until = performance.now() + milliseconds;
     while (!this.isDone && performance.now() < until) {
       const begun = performance.now();
-      const { taken, first, report } = this.pieces.runOn(this.runner, this.ran, this.length, SLICE);
+      const { taken, first, report } = this.pieces.runOn(this.ahead, this.ran, this.length, SLICE);
       if (!taken) throw new Trouble(`The module takes no step after step ${this.ran}.`);
-      this.note(taken, first, report);
+      this.#note(taken, first, report);
       this.ran += taken;
-      if (this.reported <= this.mostHeld) this.held = { steps: this.ran, reported: this.reported };
+      if (this.reported <= this.mostCompared) {
+        this.comparable = { steps: this.ran, reported: this.reported };
+      }
       const spent = performance.now() - begun;
       this.time += spent;
-      this.sinceKept += spent;
-      if (this.sinceKept > this.apart) this.keep();
+      this.#sinceCheckpoint += spent;
+      if (this.#sinceCheckpoint > this.spacing) this.#checkpoint();
     }
     return !this.isDone;
   }
 
-  notePicture(picture, step) {
+  #notePicture(picture, step) {
     this.pictures++;
     this.sizes.set(step, picture.size);
     this.sums.push(sumOfBytes(picture.ppm));
   }
 
-  /** Notes the answers of the steps that the runner has taken. */
-  note(taken, first, report) {
+  /** Notes the answers of the steps that the card ahead has taken. */
+  #note(taken, first, report) {
     const digits = (before, count) => digitsTo(before + count) - digitsTo(before);
     // Steps have other numbers in the whole report than in that of a piece.
     this.reported += report.length + digits(this.ran, taken) - digits(first - 1, taken);
     readReport(report, first, taken, (i, answer, picture) => {
+      const step = this.ran + i;
       if (!this.answers.push(answer)) this.sums.push(sumOfText(answer));
-      if (picture) this.notePicture(picture, this.ran + i);
-      if (answer.charCodeAt(0) === 69 && isRefusal(answer)) this.refused++;
-      if (!this.outline.hasExpected) return;
-      const step = this.ran + i, entry = this.outline.entryOf(step),
-        expected = this.outline.expectedOf(entry);
-      if (expected === null) return;
-      this.expected++;
-      if (isAsExpected(answer, picture, expected, this.outline.nameOf(entry))) return;
-      this.wrong++;
-      if (this.differing.length < MOST_DIFFERING) this.differing.push(step);
+      if (picture) this.#notePicture(picture, step);
+      if (answer.charCodeAt(0) === LETTER_E && isRefusal(answer)) this.refused++;
+      if (this.outline.hasExpected) this.#noteExpected(answer, picture, step);
     });
   }
 
-  /** Keeps the runner's state. Where they become too many, every other one goes. */
-  keep() {
-    this.kept.add(this.ran, this.runner.saved());
-    this.sinceKept = 0;
-    if (!this.kept.isFull) return;
-    this.apart *= 2;
-    this.kept.thin();
+  #noteExpected(answer, picture, step) {
+    const entry = this.outline.entryOf(step), expected = this.outline.expectedOf(entry);
+    if (expected === null) return;
+    this.expected++;
+    if (isAsExpected(answer, picture, expected, this.outline.nameOf(entry))) return;
+    this.wrong++;
+    if (this.differing.length < MOST_DIFFERING) this.differing.push(step);
   }
 
-  /** Keeps the card's state, which is on its way to a step, where the last one kept is far behind. */
-  keepNear() {
-    if (this.sinceNear < APART) return;
+  /** Saves the state of the card ahead. If the checkpoints are full, every other one goes. */
+  #checkpoint() {
+    this.checkpoints.add(this.ran, this.ahead.saved());
+    this.#sinceCheckpoint = 0;
+    if (!this.checkpoints.isFull) return;
+    this.spacing *= 2;
+    this.checkpoints.thin();
+  }
+
+  /** Saves the state of the card on its way to a step, if the last checkpoint is far behind. */
+  #checkpointNear() {
+    if (this.#sinceNear < SPACING) return;
     if (this.near.isFull) this.near.clear();
     this.near.add(this.at, this.card.saved());
-    this.sinceNear = 0;
+    this.#sinceNear = 0;
   }
 
-  /** The last kept state that is not behind a step. */
-  keptBefore(step) {
-    const far = this.kept.before(step), near = this.near.before(step);
+  /** The last checkpoint at or before a step. */
+  checkpointBefore(step) {
+    const far = this.checkpoints.before(step), near = this.near.before(step);
     return near && near.at > far.at ? near : far;
   }
 
   /**
-   * Brings the card nearer to the state after so many steps, for about so many milliseconds; whether it is
-   * there.
+   * Brings the card to the state after so many steps, or nearer to it, for about so many
+   * milliseconds; whether it is there.
    */
-  approach(steps, milliseconds = Infinity) {
-    const from = this.keptBefore(steps);
+  seek(steps, milliseconds = Infinity) {
+    const from = this.checkpointBefore(steps);
     if (this.at > steps || this.at < from.at) this.restore(from);
     const until = performance.now() + milliseconds;
     for (let now = performance.now(); this.at < steps && now < until;) {
       this.advance(steps - this.at);
       const then = performance.now();
-      this.sinceNear += then - now;
-      this.keepNear();
+      this.#sinceNear += then - now;
+      this.#checkpointNear();
       now = then;
     }
     return this.at === steps;
   }
 
+  /** Brings the card to a checkpoint. */
   restore({ at, parts }) {
     this.at = -1;
     this.card.restore(parts);
     this.at = at;
-    this.sinceNear = 0;
+    this.#sinceNear = 0;
   }
 
   /**
-   * Has the card take some of the next steps, at most so many; what they answered as { taken, first, report
-   * }.
+   * Has the card take some of the next steps, at most so many; what they answered, as
+   * { taken, first, report }.
    */
   advance(most) {
     const from = this.at;
     this.at = -1;
-    const told = this.pieces.runOn(this.card, from, most, SLICE);
-    this.at = from + told.taken;
-    return told;
+    const result = this.pieces.runOn(this.card, from, most, SLICE);
+    this.at = from + result.taken;
+    return result;
   }
 
   /** The card's state. */
@@ -183,9 +225,8 @@ export class Session {
   }
 
   /**
-   * What is to be seen after so many steps, one of which the last is: the states before and after it, and
-   * the picture. The
-   * card must be before the last step already.
+   * What there is to see after so many steps: { steps, before, after, picture }, the states before
+   * and after the last of them, and the picture. The card must stand before the last step already.
    */
   seen(steps) {
     const before = steps ? this.state() : null;
@@ -201,7 +242,7 @@ export class Session {
     return { steps, before: before ?? after, after, picture: picture ?? this.pictureSoFar(after) };
   }
 
-  /** The picture of the frame under way, all lines of it, and how many dots of each are drawn so far. */
+  /** The picture of the frame under way: all its lines, and how many dots of each are drawn. */
   pictureSoFar(state) {
     const at = this.at;
     this.at = -1;
@@ -212,7 +253,9 @@ export class Session {
     return { isWhole: false, ...lines, drawn: state.drawn, isBegun: state.isBegun };
   }
 
-  /** A step's answer as the page shows it: of a picture its size, where the report tells its bytes. */
+  /**
+   * A step's answer as the page shows it. For a picture it has the size, not the length in bytes.
+   */
   answerOf(step) {
     const size = this.sizes.get(step);
     return size === undefined ? this.answers.get(step) : `picture ${size}`;
@@ -234,36 +277,41 @@ export class Session {
     return this.differing[low] === step;
   }
 
-  /** Why the answers are not held to those of zak_run where the page has no worker; null where they are. */
+  /** Why the page doesn't compare this run with zak_run if it has no worker; null if it does. */
   get whyNotCompared() {
-    if (this.length > MOST_COMPARED.steps) return `more than ${grouped(MOST_COMPARED.steps)} steps`;
-    const { report } = MOST_COMPARED;
+    const { steps, report, time } = MOST_WITHOUT_WORKER;
+    if (this.length > steps) return `more than ${grouped(steps)} steps`;
     if (this.reported > report) return `more than ${report >> 20} MiB of pictures`;
-    if (this.time > MOST_COMPARED.time) return `more than ${MOST_COMPARED.time / 1000} seconds`;
+    if (this.time > time) return `more than ${time / 1000} seconds`;
     return null;
   }
 
-  /** The run as it is held to one by zak_run: its first steps where the report of all would be too long. */
+  /**
+   * The run as comparedToRun takes it: only its first steps if the whole report would be too long.
+   */
   get whole() {
-    const { fonts, outline, length, answers, sums, held } = this, { steps, reported } = held;
+    const { fonts, outline, length, answers, sums, comparable: { steps, reported } } = this;
     const script = steps === length ? this.script
       : this.adapter.assembled(new TextEncoder().encode(outline.firstSteps(steps))).bytes;
-    return { script, fonts, steps, reported, numbers: answers.numbers.slice(0, steps), texts: answers.texts,
-      cut: answers.cut, sums: Int32Array.from(sums) };
+    return { script, fonts, steps, reported, numbers: answers.numbers.slice(0, steps),
+      texts: answers.texts, cut: answers.cut, sums: Int32Array.from(sums) };
   }
 
-  /** Holds the answers, pictures too, to those of one run by zak_run: what differs, or an empty text. */
+  /**
+   * Compares the answers, pictures too, with one run by zak_run: what differs, or an empty text.
+   */
   compared() {
-    return heldToRun(this.adapter, this.whole);
+    return comparedToRun(this.adapter, this.whole);
   }
 
-  /** What came of the run so far, in a few words. */
+  /** The result of the run so far, in a few words. */
   summary() {
     const parts = [counted(this.length, "step")];
     if (this.pictures) parts.push(counted(this.pictures, "picture"));
     if (this.refused) parts.push(`${grouped(this.refused)} refused`);
     if (this.expected) {
-      parts.push(`${grouped(this.expected - this.wrong)} of ${grouped(this.expected)} answers as expected`);
+      const right = this.expected - this.wrong;
+      parts.push(`${grouped(right)} of ${grouped(this.expected)} answers as expected`);
     }
     return parts.join(", ");
   }

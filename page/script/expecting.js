@@ -1,6 +1,6 @@
-// Answers that a script expects, held against those that came (tools/README.md, "An expected answer").
-// tools/vga_report/expecting.py has the same rules; page/tests/expecting.mjs holds both to the same
-// verdicts.
+// Answers that a script expects, held against those that came (tools/README.md, "An expected
+// answer"). tools/vga_report/expecting.py has the same rules; page/tests/expecting.mjs holds both
+// to the same verdicts.
 import { CALL_REGISTERS, READING } from "./grammar.js";
 import { bytesOfCodes } from "../common/bytes.js";
 import { md5 } from "../files/md5.js";
@@ -13,7 +13,8 @@ export function isRefusal(answer) {
 }
 
 /**
- * The answer that a comment expects: what stands behind `=`, up to another `;`. Null where it expects none.
+ * The answer that a comment expects: what stands behind `=`, up to another `;`. Null where it
+ * expects none.
  */
 export function expectedIn(comment) {
   const text = comment.trim();
@@ -22,10 +23,10 @@ export function expectedIn(comment) {
 }
 
 /**
- * An answer on one line. A picture is { size: "720x400", digest() }, a dump of several lines is told by their
- * digest.
+ * An answer on one line. A picture is { size: "720x400", digest() }, a dump of several lines is
+ * told by their digest.
  */
-export function toldAnswer(answer, picture) {
+export function answerText(answer, picture) {
   if (picture) return `picture ${picture.size} ${picture.digest()}`;
   const lines = answer.split("\n");
   return lines.length > 1 ? `${lines.length} lines ${md5(bytesOfCodes(answer + "\n"))}` : answer;
@@ -36,13 +37,13 @@ export function isAsExpected(answer, picture, expected, name) {
   const wanted = expected.toLowerCase();
   if (wanted === "*") return true;
   if (picture && wanted === `picture ${picture.size}`) return true;
-  const told = toldAnswer(answer, picture).toLowerCase();
-  if (wanted === told) return true;
-  if (wanted.endsWith("...") && told.startsWith(wanted.slice(0, -3))) return true;
+  const text = answerText(answer, picture).toLowerCase();
+  if (wanted === text) return true;
+  if (wanted.endsWith("...") && text.startsWith(wanted.slice(0, -3))) return true;
   const refusal = answer.match(REFUSAL);
   if (refusal && !READING.includes(name)) return wanted === refusal[1].toLowerCase();
   if (picture) return false;
-  const parts = wanted.split(" "), given = told.split(" ");
+  const parts = wanted.split(" "), given = text.split(" ");
   return parts.every(part => part.includes("=") && given.includes(part));
 }
 
@@ -54,17 +55,25 @@ function handedIn(words) {
   return CALL_REGISTERS.map(name => `${name}=${(given.get(name) ?? "").padStart(4, "0")}`);
 }
 
-/** Whether an answer tells nothing that the step's words don't: ok, or the registers that were handed in. */
+/**
+ * Whether an answer tells nothing that the step's words don't: ok, or the registers that were
+ * handed in.
+ */
 export function isPlainAnswer(answer, words) {
   return answer === "ok" || answer.toLowerCase() === handedIn(words).join(" ");
 }
 
-/** What a call answers that hands back AX to DX as they were given; it may have changed much else. */
+/**
+ * What a call answers that hands back AX to DX as they were given; it may have changed much else.
+ */
 export const AS_GIVEN = "ax to dx as given";
 
-/** An answer for a narrow column: of a call, the registers alone that differ from those handed in. */
+/**
+ * An answer for a narrow column: of a call, the registers alone that differ from those handed in.
+ */
 export function shortAnswer(answer, words) {
   if (!answer.startsWith("ax=")) return answer;
-  const given = handedIn(words), told = answer.split(" ").filter(word => !given.includes(word.toLowerCase()));
-  return told.join(" ") || AS_GIVEN;
+  const given = handedIn(words);
+  const others = answer.split(" ").filter(word => !given.includes(word.toLowerCase()));
+  return others.join(" ") || AS_GIVEN;
 }

@@ -1,7 +1,8 @@
 // Which of some names is nearest to a word, as Python's difflib finds it.
 
 /**
- * The longest part that two texts share: where it begins in each, and how long it is; the first of several.
+ * The longest part that two texts share: where it begins in each, and how long it is; the first of
+ * several.
  */
 function longestMatch(a, b, [aFrom, aTo, bFrom, bTo]) {
   let best = [aFrom, bFrom, 0], lengths = new Map();
@@ -26,8 +27,8 @@ function matching(a, b, [aFrom, aTo, bFrom, bTo] = [0, a.length, 0, b.length]) {
 }
 
 /**
- * The name that is most like a word, if one is like it by 0.6 of all characters; the last of equals by the
- * alphabet.
+ * The name that is most like a word, if one is like it by 0.6 of all characters; the last of equals
+ * by the alphabet.
  */
 export function nearest(word, names) {
   let best = null, most = 0.6;

@@ -1,11 +1,13 @@
-// Where the steps of a text stand: which line a step's number belongs to, with blocks taken so many times
-// as they count. The text is one that the module has assembled, so its lines are known to be good.
+// Where the steps of a text stand: which line a step's number belongs to, with blocks taken so many
+// times as they count. The text is one that the module has assembled, so its lines are known to be
+// good.
 import { expectedIn } from "./expecting.js";
 
 const SEMICOLON = 59;
 /** The steps by number: those of docs/SCRIPT.md, in the order of their opcodes from 1. */
-export const STEP_NAMES = ["", "out", "outw", "in", "inw", "put", "putw", "get", "getw", "int", "advance",
-  "frame", "show"];
+export const STEP_NAMES = ["", "out", "outw", "in", "inw", "put", "putw", "get", "getw", "int",
+  "advance", "frame", "show"];
+/** The numbers of steps by name. */
 export const KIND = Object.fromEntries(STEP_NAMES.map((name, kind) => [name, kind]));
 const isBlank = code => code === 32 || code === 9 || code === 13;
 
@@ -32,12 +34,17 @@ class Growing {
 
 /** The steps of a text. */
 export class Outline {
+  /** Blocks and the steps between them: { first, count, from, size, isBlock }. */
+  runs = [];
+  /** How many steps are taken. */
+  length = 0;
+  hasExpected = false;
+
   constructor(text) {
     this.text = text;
     const starts = new Growing(Uint32Array), lines = new Growing(Uint32Array),
       kinds = new Growing(Uint8Array);
     const marked = new Growing(Uint8Array);
-    Object.assign(this, { runs: [], length: 0, hasExpected: false });
     this.block = null;
     this.plainFrom = 0;
     this.steps = { lines, kinds, marked };

@@ -1,6 +1,7 @@
-// Why a line of a script is no step: the word at which it stops being one, and what could stand there.
-// Whether a line is a step, the module alone says. Here its answer is explained, by the rules of
-// tools/vga_report/mistakes.py and in the same words; page/tests/reasons.mjs compares the two.
+// Why a line of a script is no step: the word at which it stops being one, and what could stand
+// there. Whether a line is a step, the module alone says. Here its answer is explained, by the
+// rules of tools/vga_report/mistakes.py and in the same words; page/tests/reasons.mjs compares the
+// two.
 import { BLOCK, BLOCK_LINES, CALL_REGISTERS, MOST_STEPS, SHAPES, SHOWN, VERSION_TWO } from "./grammar.js";
 import { digitsNumber } from "./grammar.js";
 import { hex } from "../common/bytes.js";
@@ -252,7 +253,8 @@ function* linesWithWords(text) {
 }
 
 /**
- * The first line with a word, the line of a number, the block that is open there, and whether an end follows.
+ * The first line with a word, the line of a number, the block that is open there, and whether an
+ * end follows.
  */
 function surroundings(text, number) {
   let first = null, line = null, opened = null;
@@ -320,7 +322,10 @@ export function notAScript(bytes) {
   return ofFile("foreign", { what: ofFile("font file") });
 }
 
-/** Whether each other byte of a file's front is 0, as of letters of two bytes, and the others are a text. */
+/**
+ * Whether each other byte of a file's front is 0, as of letters of two bytes, and the others are a
+ * text.
+ */
 function isUtf16(bytes) {
   const begin = frontIs(bytes, [0xff, 0xfe]) || frontIs(bytes, [0xfe, 0xff]) ? 2 : 0;
   const front = bytes.subarray(begin, begin + LOOKED_AT);

@@ -53,7 +53,10 @@ function notDecoded(name, numbers, registers) {
   return ofRegisters(text, "ports", "all ports");
 }
 
-/** The register that a data port is for: { group, index, anchor, count }; null where the port is none. */
+/**
+ * The register that a data port is for: { group, index, anchor, count }; null where the port is
+ * none.
+ */
 function dataPort(port, registers, index) {
   const base = registers.misc & 1 ? 0x3d4 : 0x3b4;
   const groups = {
@@ -79,8 +82,8 @@ function refusedValue({ group, index }, value) {
 }
 
 /**
- * Why a cycle of a port is out of the profile; null where it is not. `index` is one that the cycle before has
- * picked.
+ * Why a cycle of a port is out of the profile; null where it is not. `index` is one that the cycle
+ * before has picked.
  */
 function portNotInProfile(port, value, registers, index) {
   const isWrite = value !== null, data = dataPort(port, registers, index);
@@ -131,8 +134,8 @@ function registersOfCall(words) {
 }
 
 /**
- * Why a step with these words was refused with this answer in a state: { text, link: { page, anchor, title }
- * }.
+ * Why a step with these words was refused with this answer in a state: { text, link: { page,
+ * anchor, title } }.
  */
 export function whyRefused(words, answer, state) {
   const [name, ...others] = words.toLowerCase().split(" "), number = Number(answer.slice(1).split(" ")[0]);

@@ -1,8 +1,10 @@
-// The words of bad lines, faults and refusals, which the tools say too: tools/vga_report/wordings.json.
+// The words of bad lines, faults and refusals, which the tools say too:
+// tools/vga_report/wordings.json.
 import { WORDINGS } from "./wordings.js";
 import { grouped, hex } from "../common/bytes.js";
 
-// A place for a value, in Python's form: {name}, {port:03X} in hexadecimal digits, {count:,} in groups.
+// A place for a value, in Python's form: {name}, {port:03X} in hexadecimal digits, {count:,} in
+// groups.
 const PLACE = /\{(\w+)(?::(?:0(\d))?([X,]))?\}/g;
 
 /** A value as its place has it. */

@@ -27,7 +27,7 @@ test("memory that is not there is told, and what was taken stays usable", async 
 test("a length is read from all of its 8 bytes", async () => {
   const adapter = await loadAdapter();
   const words = [7, 0, 0xffffffff, 0, 0x80000001, 3];
-  words.forEach((word, i) => adapter.view.setUint32(adapter.told.at + 4 * i, word, true));
+  words.forEach((word, i) => adapter.view.setUint32(adapter.lengths.at + 4 * i, word, true));
   const numbers = [0, 1, 2].map(at => adapter.number(at));
   assert.deepEqual(numbers, [7, 0xffffffff, 3 * 2 ** 32 + 0x80000001]);
 });

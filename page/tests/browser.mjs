@@ -1,7 +1,6 @@
-// The page as built in Chromium: each control is used once, hostile scripts are told, and the console stays
-// empty.
-// node page/tests/browser.mjs [FOLDER]: screenshots are written into the folder. ZAKLIMOT_PAGE names
-// another page.
+// The page as built in Chromium: each control is used once, hostile scripts are told, and the
+// console stays empty. node page/tests/browser.mjs [FOLDER]: screenshots are written into the
+// folder. ZAKLIMOT_PAGE names another page.
 import assert from "node:assert/strict";
 import { existsSync, mkdirSync, mkdtempSync, readFileSync, readlinkSync, rmSync, writeFileSync }
   from "node:fs";
@@ -568,8 +567,8 @@ await check("where no worker is to be had, short runs are held by the page itsel
 });
 
 /**
- * In the page: all that tells of a step, each part by its name: the panel, the picture, the bitmaps, and the
- * rows in sight of the script and of the steps.
+ * In the page: all that tells of a step, each part by its name: the panel, the picture, the
+ * bitmaps, and the rows in sight of the script and of the steps.
  */
 const TOLD = `(() => {
   const parts = {}, all = selector => [...document.querySelectorAll(selector)];
@@ -615,7 +614,9 @@ await check("after steps to and fro, all is shown as by a page that was opened t
   }
 });
 
-/** Tells times of jumps; on an idle machine the page's own work for each is held to 50 milliseconds. */
+/**
+ * Tells times of jumps; on an idle machine the page's own work for each is held to 50 milliseconds.
+ */
 async function holdJumps(name, hashes, count) {
   const isHeld = await isIdle(), jumps = [];
   for (const hash of hashes) jumps.push(...(await jumpsIn(browser, PAGE, hash, count)).flat());

@@ -1,5 +1,5 @@
-// The page's check of its examples, over its own data where the page is built; and that it tells what
-// differs.
+// The page's check of its examples, over its own data where the page is built; and that it tells
+// what differs.
 import assert from "node:assert/strict";
 import test from "node:test";
 import { checkedExamples } from "../run/checking.js";

@@ -10,8 +10,8 @@ const STYLE = readFileSync(TOP + "page/style.css", "utf-8");
 const LEAST = 4.5, LEAST_TOUCHED = 24;
 const TEXTS = ["ink", "pale", "link", "bad", "good", "refused"];
 const GROUNDS = ["back", "soft", "mark", "changed", "shown"];
-// What is paler by opacity and is no text that must be read: controls that do nothing now, what a mended
-// line makes anew, dots and hairs.
+// What is paler by opacity and is no text that must be read: controls that do nothing now, what a
+// mended line makes anew, dots and hairs.
 const NO_TEXT = ["button:disabled", ".number:hover::before, .number.point::before",
   ".number.point::before", ".hair", "body.stale #right > *:not(#tabs), body.stale #listing"];
 

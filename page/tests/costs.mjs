@@ -1,7 +1,7 @@
-// The table of costs of docs/PAGE.md, taken in one go on a machine that should have nothing else to do:
-// node page/tests/costs.mjs [FOLDER]. FOLDER is one that `tools/vga-library make` has made; without it
-// the column of the library stays empty. A browser that is not there has no column. It takes about two
-// minutes.
+// The table of costs of docs/PAGE.md, taken in one go on a machine that should have nothing else to
+// do: node page/tests/costs.mjs [FOLDER]. FOLDER is one that `tools/vga-library make` has made;
+// without it the column of the library stays empty. A browser that is not there has no column. It
+// takes about two minutes.
 import { spawnSync } from "node:child_process";
 import { existsSync, mkdtempSync, readFileSync, rmSync, writeFileSync } from "node:fs";
 import { tmpdir } from "node:os";
@@ -66,7 +66,9 @@ document.title = "measured";
 /** The first number of a version. */
 const majorOf = version => version.match(/\d+/)[0];
 
-/** What the column of a browser is called: WebKitGTK counts its versions by the second number too. */
+/**
+ * What the column of a browser is called: WebKitGTK counts its versions by the second number too.
+ */
 const titleOf = name => name.match(/^WebKitGTK \d+\.\d+|^\w+ \d+/)[0];
 
 async function browserCosts(browser, address) {

@@ -3,7 +3,7 @@ import assert from "node:assert/strict";
 import test from "node:test";
 import { createHash } from "node:crypto";
 import { execFileSync } from "node:child_process";
-import { expectedIn, isAsExpected, isPlainAnswer, isRefusal, shortAnswer, toldAnswer } from "../script/expecting.js";
+import { expectedIn, isAsExpected, isPlainAnswer, isRefusal, shortAnswer, answerText } from "../script/expecting.js";
 import { md5 } from "../files/md5.js";
 import { readReport } from "../run/report.js";
 import { TOP } from "./loading.mjs";
@@ -51,7 +51,7 @@ print(json.dumps([[is_as_expected(step, one, name) for one in expected] for step
 test("refusals, and what is read that looks like one", () => {
   assert.deepEqual(["E1 NotDecoded", "E12 TooFar", "E1", "ok", "E1E1"].map(isRefusal),
     [true, true, false, false, false]);
-  assert.equal(toldAnswer("55", null), "55");
+  assert.equal(answerText("55", null), "55");
 });
 
 test("expectations in comments", () => {

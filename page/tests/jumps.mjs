@@ -1,12 +1,13 @@
-// How long it takes in Chromium to go from any step to any other, drawing and all: from the slider's event to
-// the end of the browser's work for the frame that shows the step.
+// How long it takes in Chromium to go from any step to any other, drawing and all: from the
+// slider's event to the end of the browser's work for the frame that shows the step.
 //
 // - The whole time is what a user waits.
 // - The own work is that without the wait for the browser's frame, up to 16 ms. Left out is only the time in
 //   which the page's thread has no task, after the step is shown in the document and before the frame.
 // - The processor time is what the page's thread has computed. Other work of the machine adds least to it.
 //
-// node page/tests/jumps.mjs [COUNT]: so many jumps in the long script and in each example, 200 if not told.
+// node page/tests/jumps.mjs [COUNT]: so many jumps in the long script and in each example, 200 if
+// not told.
 import { cpus } from "node:os";
 import { resolve } from "node:path";
 import { fileURLToPath, pathToFileURL } from "node:url";
@@ -85,7 +86,9 @@ function* randomSteps(length) {
   }
 }
 
-/** So many jumps in the script of a fragment, one tab after the other: a list of jumps for each tab. */
+/**
+ * So many jumps in the script of a fragment, one tab after the other: a list of jumps for each tab.
+ */
 export async function jumpsIn(browser, page, hash, count) {
   await browser.open(pathToFileURL(resolve(page)).href + hash);
   await browser.until(IDLE);
@@ -102,7 +105,10 @@ export async function jumpsIn(browser, page, hash, count) {
   return jumps;
 }
 
-/** The average, the 95th percentile and the most of a kind of time of jumps: whole, own or processor. */
+/**
+ * The average, the 95th percentile and the most of a kind of time of jumps: whole, own or
+ * processor.
+ */
 export function figuresOf(jumps, kind) {
   const sorted = jumps.map(jump => jump[kind]).sort((one, other) => one - other), { length } = sorted;
   return { average: sorted.reduce((sum, time) => sum + time, 0) / length,
@@ -132,7 +138,10 @@ export async function fragmentOf(script) {
   return `#script=${await packed(new TextEncoder().encode(script))}`;
 }
 
-/** A line of the table: a title, the figures of each kind of time, and the most own work with each tab. */
+/**
+ * A line of the table: a title, the figures of each kind of time, and the most own work with each
+ * tab.
+ */
 function rowOf(title, jumps) {
   const kinds = ["own", "whole", "processor"].map(kind =>
     inWords(figuresOf(jumps.flat(), kind)).map(word => word.padStart(6)).join("").padEnd(21));

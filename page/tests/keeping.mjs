@@ -1,7 +1,7 @@
-// The page in a browser, as a person uses it with keys and pointer: nothing that was typed is lost, and no
-// control keeps the keyboard.
-// node page/tests/keeping.mjs [ENGINE [WORDS]]: ENGINE is chromium or firefox. With WORDS only the checks are done
-// whose names have them. ZAKLIMOT_PAGE names another page.
+// The page in a browser, as a person uses it with keys and pointer: nothing that was typed is lost,
+// and no control keeps the keyboard. node page/tests/keeping.mjs [ENGINE [WORDS]]: ENGINE is
+// chromium or firefox. With WORDS only the checks are done whose names have them. ZAKLIMOT_PAGE
+// names another page.
 import assert from "node:assert/strict";
 import { mkdtempSync, rmSync, writeFileSync } from "node:fs";
 import { tmpdir } from "node:os";
@@ -65,7 +65,10 @@ async function paste(script) {
   await until(IDLE);
 }
 
-/** Chooses an entry of the list of scripts, as by its list that opens: the pointer, and then the entry. */
+/**
+ * Chooses an entry of the list of scripts, as by its list that opens: the pointer, and then the
+ * entry.
+ */
 async function choose(entry) {
   await browser.value(`(() => {
     const list = document.getElementById("examples");
@@ -521,7 +524,8 @@ const CHECKS = {
     await paste(OWN);
     const high = () => browser.value(`[".number", ".row", ".answer"].map(one =>
       document.querySelector(one).getBoundingClientRect().height)`);
-    // From the first line's number to the third's, and from the first line of the text to the third.
+    // From the first line's number to the third's, and from the first line of the text to the
+    // third.
     const between = () => browser.value(`(() => {
       const [first, , third] = document.querySelectorAll(".number");
       const line = parseFloat(getComputedStyle(document.getElementById("text")).lineHeight);

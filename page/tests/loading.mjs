@@ -1,5 +1,5 @@
-// What the tests stand on: the module, the fonts and the examples. The module is that of ZAKLIMOT_MODULE, a
-// file of wasm, or else that of the page as built.
+// What the tests stand on: the module, the fonts and the examples. The module is that of
+// ZAKLIMOT_MODULE, a file of wasm, or else that of the page as built.
 import { createDeflateRaw, createInflateRaw, gunzipSync } from "node:zlib";
 import { mkdtempSync, readFileSync, readdirSync, rmSync } from "node:fs";
 import { tmpdir } from "node:os";

@@ -1,5 +1,5 @@
-// What calls of the module cost, measured alike in node and in a browser's page: so it imports nothing.
-// bench/calls.c makes the same calls of the library for C.
+// What calls of the module cost, measured alike in node and in a browser's page: so it imports
+// nothing. bench/calls.c makes the same calls of the library for C.
 
 const ROUNDS = 7, FRAMES = 60, CALLS = 1000000, PUTS = 10000, SLICE = 2040, RUNS = 20;
 const WIDEST = 2304, HIGHEST = 1024;

@@ -1,5 +1,5 @@
-// The page tells the same reasons of bad lines as tools/vga_report: those of a table that both tests read,
-// and those of lines at random, which Python is asked for.
+// The page tells the same reasons of bad lines as tools/vga_report: those of a table that both
+// tests read, and those of lines at random, which Python is asked for.
 import assert from "node:assert/strict";
 import test from "node:test";
 import { execFileSync } from "node:child_process";

@@ -14,14 +14,15 @@ function sessionOf(text) {
   return runWhole(new Session(adapter, FONTS, text));
 }
 
-// The refusals with their words, which the tests of tools/vga_report read too: so both tell the same.
+// The refusals with their words, which the tests of tools/vga_report read too: so both tell the
+// same.
 const REFUSED = JSON.parse(readFileSync(TOP + "tools/tests/refusals.json", "utf-8"));
 
 for (const { text, answer, told, anchor } of REFUSED) {
   test(`${text.split("\n").at(-1)} is refused`, () => {
     const session = sessionOf(text), last = session.length - 1;
     assert.equal(session.answers.get(last), answer);
-    session.approach(last);
+    session.seek(last);
     const found = whyRefused(session.outline.wordsOf(session.outline.entryOf(last)), answer, session.state());
     assert.equal(found.text, told);
     assert.equal(found.link.anchor, anchor);
@@ -60,8 +61,8 @@ repeat 3
 out 3C9 3F
 end
 `;
-// Steps: 1 int; 2..5, 6..9, 10..13 the block; 14 out 3B4, 15 get, 16 outw, 17 frame, 18 advance, 19 out,
-// 20..22 out 3C9
+// Steps: 1 int; 2..5, 6..9, 10..13 the block; 14 out 3B4, 15 get, 16 outw, 17 frame, 18 advance, 19
+// out, 20..22 out 3C9
 const POINTS = [
   [{ kind: "line", line: 5 }, [3, 7, 11]],
   [{ kind: "port", place: 0x3da, way: "read" }, [5, 9, 13]],
@@ -113,9 +114,9 @@ test("what a step has changed is told", () => {
     [15, ["latches 41 07 00 00"]],
     [22, ["red is next of the DAC", "DAC entry 01"]],
   ]) {
-    session.approach(steps - 1);
+    session.seek(steps - 1);
     const before = session.state();
-    session.approach(steps);
+    session.seek(steps);
     const found = changesOf(before, session.state());
     for (const one of told) assert.ok(found.includes(one), `${steps}: ${JSON.stringify(found)}`);
   }

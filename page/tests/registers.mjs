@@ -90,9 +90,10 @@ test("links lead to places that are there", () => {
 });
 
 test("links in the page's sources lead to places that are there", () => {
-  const sources = readdirSync(TOP + "page", { recursive: true }).filter(name => /\.(js|html)$/.test(name) &&
-    name !== "zaklimot.html")
-    .map(name => readFileSync(`${TOP}page/${name}`, "utf-8")).join("\n");
+  const names = readdirSync(`${TOP}page`, { recursive: true })
+    .filter(name => /\.(js|html)$/.test(name) && name !== "zaklimot.html");
+  assert.ok(names.length > 40, `${names.length} sources`);
+  const sources = names.map(name => readFileSync(`${TOP}page/${name}`, "utf-8")).join("\n");
   const links = [...sources.matchAll(/"([A-Z-]+\.md)", "([a-z0-9-]*)"/g),
     ...sources.matchAll(/\b([A-Z-]+\.md)#([a-z0-9-]+)/g)];
   assert.ok(links.length > 3, `${links.length} links`);

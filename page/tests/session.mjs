@@ -1,4 +1,5 @@
-// A session gives each step's answer as zak_run does, and gets to any step's state, forward and back.
+// A session gives each step's answer as zak_run does, and gets to any step's state, forward and
+// back.
 import assert from "node:assert/strict";
 import test from "node:test";
 import { Adapter } from "../module/adapter.js";
@@ -14,7 +15,7 @@ function sessionOf(text) {
 
 /** The state after so many steps, by steps from power-on and nothing else. */
 function stateFromPowerOn(session, steps) {
-  session.restore(session.kept.before(0));
+  session.restore(session.checkpoints.before(0));
   while (session.at < steps) session.advance(steps - session.at);
   return session.card.save();
 }
@@ -45,15 +46,15 @@ test("the length of the whole report is known without it", () => {
   for (const text of ["", "in 3CC\n".repeat(12345), block]) {
     const session = sessionOf(text), { report } = adapter.run(session.script, FONTS);
     assert.equal(session.reported, report.length);
-    assert.equal(session.held.reported, report.length);
+    assert.equal(session.comparable.reported, report.length);
     assert.equal(session.compared(), "");
-    session.held.reported++;
+    session.comparable.reported++;
     assert.match(session.compared(), /^its report has [\d,]+ bytes, and this run's [\d,]+$/);
     session.close();
   }
 });
 
-test("answers of which only the first words are kept are held all the same", () => {
+test("answers that are cut off are compared all the same", () => {
   const session = new Session(adapter, FONTS, "int ax=3\nshow regs\nint ax=F00\nint ax=3\nshow beam\n");
   session.answers = new Answers(20);
   runWhole(session);
@@ -75,15 +76,15 @@ test("a text of the first steps has these steps", () => {
   }
 });
 
-test("where the report of all is too long, the first steps are held", () => {
+test("where the whole report is too long, the first steps are compared", () => {
   const text = "version 2\nint ax=3\nrepeat 40\nframe ; = picture 720x400\nin 3CC\nend\nput B8000 41\n";
   for (const [frames, steps] of [[10, 19], [39, 77]]) {
     const session = new Session(adapter, FONTS, text);
-    session.mostHeld = 864040 * (frames - 0.5);
+    session.mostCompared = 864040 * (frames - 0.5);
     runWhole(session);
-    assert.equal(session.held.steps, steps);
-    const { steps: held, script } = session.whole;
-    assert.equal(judgedText(adapter, session.outline.firstSteps(held)).outline.length, held);
+    assert.equal(session.comparable.steps, steps);
+    const { steps: compared, script } = session.whole;
+    assert.equal(judgedText(adapter, session.outline.firstSteps(compared)).outline.length, compared);
     assert.notDeepEqual(script, session.script);
     assert.equal(session.compared(), "");
     session.sums[frames - 3]++;
@@ -97,9 +98,9 @@ test("a step's state is the same by whichever way one comes there", () => {
     "frame\nin 3DA\nend\nint ax=13\nadvance 99";
   const session = sessionOf(text), { length } = session;
   assert.equal(length, 1503);
-  assert.ok(session.kept.length > 3);
+  assert.ok(session.checkpoints.length > 3);
   for (const steps of [length, 1, 750, 749, 751, 0, 1502, 1499, 3, 4, 1000]) {
-    assert.ok(session.approach(steps));
+    assert.ok(session.seek(steps));
     const found = session.card.save();
     assert.deepEqual(found, stateFromPowerOn(session, steps), `after step ${steps}`);
   }
@@ -109,7 +110,7 @@ test("a step's state is the same by whichever way one comes there", () => {
 test("what is seen of a step leaves the card after it", () => {
   const session = sessionOf("int ax=3\nadvance 200000\nint ax=E41\nframe");
   for (const steps of [0, 1, 2, 3, 4, 3]) {
-    session.approach(Math.max(0, steps - 1));
+    session.seek(Math.max(0, steps - 1));
     const seen = session.seen(steps);
     assert.equal(session.at, steps);
     assert.deepEqual(session.card.save(), stateFromPowerOn(session, steps));
@@ -123,14 +124,16 @@ test("what is seen of a step leaves the card after it", () => {
 /** A way to a state takes less, in milliseconds. */
 const MOST_WAY = 25;
 
-/** How long it takes to see a step from elsewhere: the least of some times, since others work too. */
+/**
+ * How long it takes to see a step from elsewhere: the least of some times, since others work too.
+ */
 function quickest(session, step) {
   let least = Infinity;
   for (let time = 0; time < 3 || (time < 10 && least >= MOST_WAY); time++) {
-    session.approach(step < session.length / 2 ? session.length : 0);
+    session.seek(step < session.length / 2 ? session.length : 0);
     session.near.clear();
     const begun = performance.now();
-    session.approach(step);
+    session.seek(step);
     session.seen(step + 1);
     least = Math.min(least, performance.now() - begun);
   }
@@ -147,33 +150,34 @@ test("long scripts: any step of three million within 25 milliseconds, back as qu
   };
   for (const [shape, text] of Object.entries(shapes)) {
     let times = [Infinity];
-    // A machine may become slower behind the run, by whose time the states stand apart: then it runs again.
+    // A machine may become slower behind the run, by whose time checkpoints stand apart: then it
+    // runs again.
     for (let run = 0; run < 3 && Math.max(...times) >= MOST_WAY; run++) {
       const session = sessionOf(text);
       assert.ok(session.length >= 1200001, shape);
       times = [0.5, 0.999, 0.001, 0.3, 0.7, 0.2].flatMap(part =>
         [0, 1, 2].map(back => quickest(session, Math.floor(session.length * part) - back)));
       console.log(`${shape}: ${session.length} steps in ${session.time.toFixed(0)} ms, ` +
-        `${session.kept.length} states; to a step ${Math.max(...times).toFixed(1)} ms at most`);
+        `${session.checkpoints.length} states; to a step ${Math.max(...times).toFixed(1)} ms at most`);
       session.close();
     }
     assert.ok(Math.max(...times) < MOST_WAY, `${shape}: ${times.map(time => time.toFixed(1))}`);
   }
 });
 
-test("on a longer way states are kept near the step that was asked for", () => {
+test("on a longer way there are checkpoints near the step that was asked for", () => {
   const session = new Session(adapter, FONTS, "version 2\nint ax=3\nrepeat 900\nint ax=E41\nframe\nend\n");
-  session.kept.most = 1 << 18;
+  session.checkpoints.most = 1 << 18;
   runWhole(session);
-  const { apart, kept } = session;
-  assert.ok(apart > 100 && kept.length < 16, `${apart} ms, ${kept.length} states`);
-  // The way is a whole one, from a state that is kept to the next; the one behind the last may be short.
-  const steps = kept.before(session.length).at - 1, far = kept.before(steps).at;
-  assert.ok(session.approach(steps));
-  const near = session.keptBefore(steps - 1).at;
+  const { spacing, checkpoints } = session;
+  assert.ok(spacing > 100 && checkpoints.length < 16, `${spacing} ms, ${checkpoints.length} checkpoints`);
+  // The way is a whole one, from a checkpoint to the next; the one behind the last may be short.
+  const steps = checkpoints.before(session.length).at - 1, far = checkpoints.before(steps).at;
+  assert.ok(session.seek(steps));
+  const near = session.checkpointBefore(steps - 1).at;
   assert.ok(near > far && steps - near < (steps - far) / 2, `${steps} from ${near}, not ${far}`);
   for (const back of [1, 2, 9, 60]) {
-    assert.ok(session.approach(steps - back));
+    assert.ok(session.seek(steps - back));
     const found = session.card.save();
     assert.deepEqual(found, stateFromPowerOn(session, steps - back), `${back} back`);
   }

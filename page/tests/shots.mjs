@@ -61,7 +61,8 @@ function withPalette({ width, height, dots }) {
 
 /** A small PNG of what is seen of the page, or of an element of it. */
 export async function smallShot(browser, selector) {
-  // WebKit's driver draws an element alone without what lies over it, so it is cut out of the whole.
+  // WebKit's driver draws an element alone without what lies over it, so it is cut out of the
+  // whole.
   const isCut = selector && browser.hasWholePixels;
   const place = isCut ? await browser.value(`(${PLACE})("${selector}")`) : null;
   const data = await browser.screenshot(isCut ? undefined : selector);

@@ -54,7 +54,7 @@ for (const { name, text } of examples()) {
   test(`states of ${name}`, () => {
     const session = runWhole(new Session(adapter, FONTS, text));
     for (const part of [0, 0.1, 0.5, 0.9, 1]) {
-      session.approach(Math.floor(session.length * part));
+      session.seek(Math.floor(session.length * part));
       assertState(session.card);
     }
     session.close();
@@ -63,7 +63,7 @@ for (const { name, text } of examples()) {
 
 test("dots drawn so far are those of the state", () => {
   const session = runWhole(new Session(adapter, FONTS, "int ax=3\nadvance 100000"));
-  session.approach(2);
+  session.seek(2);
   const state = session.state();
   assert.equal(state.bytes.length, 265086 + 3 * state.drawn.reduce((sum, dots) => sum + dots, 0));
   assert.equal(state.isBegun, true);
@@ -76,7 +76,7 @@ const SHAPES = { 3: [720, 400, 900, 449], 7: [720, 400, 900, 449], 13: [320, 400
 for (const [mode, [width, height, dots, lines]] of Object.entries(SHAPES)) {
   test(`the window of mode ${Number(mode).toString(16)}`, () => {
     const session = runWhole(new Session(adapter, FONTS, `int ax=${Number(mode).toString(16)}\nframe`));
-    session.approach(1);
+    session.seek(1);
     const { registers } = session.state(), shape = windowShape(registers);
     assert.deepEqual([shape.characters * characterWidth(registers), shape.lines], [width, height]);
     assert.deepEqual(frameShape(registers), { dots, lines });
@@ -95,7 +95,7 @@ for (const mode of ["3", "D", "12", "13"]) {
   test(`bytes that are shown in mode ${mode}, and no others, change the picture`, () => {
     const text = `int ax=${mode}\n${mode === "3" ? "int ax=100 cx=2000\n" : ""}frame`;
     const session = runWhole(new Session(adapter, FONTS, text)), { card } = session;
-    session.approach(session.length);
+    session.seek(session.length);
     const state = card.save(), shown = shownBytes(new State(state).registers), plain = nextFrame(card);
     for (let offset = 0; offset < 65536; offset += 251) {
       const other = state.slice();
@@ -117,7 +117,7 @@ test("the entry of the DAC that a dot's four bits pick is that of the picture", 
     "in 3DA\nout 3C0 34\nout 3C0 3\nout 3C0 30\nout 3C0 81\n",
     "in 3DA\nout 3C0 32\nout 3C0 7\n"]) {
     const session = runWhole(new Session(adapter, FONTS, text + more + "frame"));
-    session.approach(session.length - 1);
+    session.seek(session.length - 1);
     const state = session.state(), { rgb } = session.card.frameLines();
     for (let four = 0; four < 16; four++) {
       assert.deepEqual([...rgb.slice(3 * four, 3 * four + 3)], state.colour(dacEntry(state.registers, four)),
@@ -145,7 +145,7 @@ test("input status 1 is what would be read", () => {
     let count = 0;
     for (let step = 1; step < session.length; step++) {
       if (outline.nameOf(outline.entryOf(step)) !== "in") continue;
-      session.approach(step);
+      session.seek(step);
       assert.equal(statusOne(session.state()).slice(0, 2), session.answers.get(step),
         `mode ${mode}, step ${step}`);
       count++;
@@ -159,7 +159,7 @@ test("the bytes of planes that a step changes are found, each of a word", () => 
   const puts = Array.from({ length: 9 }, (_, i) => `put A000${i} FF`).join("\n");
   const session = runWhole(new Session(adapter, FONTS, `int ax=12\n${puts}\nint ax=3`));
   for (let steps = 1; steps <= session.length; steps++) {
-    session.approach(steps - 1);
+    session.seek(steps - 1);
     const { before, after } = session.seen(steps);
     changedPlanes(before, after).forEach((found, plane) => {
       const [old, now] = [before, after].map(state => state.plane(plane));

@@ -6,13 +6,16 @@ import { MARKS, figuresOf, jumpsOf } from "./jumps.mjs";
 const PAGE_THREAD = { pid: 7, tid: 7 };
 const task = (ts, dur, thread = PAGE_THREAD) => ({ name: "RunTask", ph: "X", ts, dur, ...thread });
 
-/** The marks of a jump at some microseconds, with the processor time at the first and at the last. */
+/**
+ * The marks of a jump at some microseconds, with the processor time at the first and at the last.
+ */
 function marksAt(times, [first, last]) {
   return MARKS.map((name, i) => ({ name, ph: "I", ts: times[i], tts: i ? last : first, ...PAGE_THREAD }));
 }
 
 test("the wait for the frame alone is left out of the own work", () => {
-  // Shown at 12 ms in a task that goes on to 13; another task from 14 to 15; the frame's task begins at 20.
+  // Shown at 12 ms in a task that goes on to 13; another task from 14 to 15; the frame's task
+  // begins at 20.
   const tasks = [task(0, 1000), task(4000, 9000), task(14000, 1000), task(20000, 5000)];
   const marks = marksAt([500, 12000, 21000, 26000], [100, 9100]);
   assert.deepEqual(jumpsOf([...marks, ...tasks]), [{ whole: 25.5, own: 19.5, processor: 9 }]);

@@ -1,7 +1,7 @@
 // What keys do. The help shows this table.
 import { element } from "../common/dom.js";
 
-/** [keys as they are told, what they do, the key event, the control that is clicked]. */
+/** [keys as the help tells them, what they do, the key events, the control that is clicked]. */
 export const KEYS = [
   ["→ or F10", "a step forward", ["ArrowRight", "F10"], "next"],
   ["← or Shift+F10", "a step back", ["ArrowLeft", "Shift+F10"], "back"],
@@ -17,7 +17,8 @@ export const KEYS = [
     ["1", "2", "3", "4", "5", "6"], "tab"],
   ["E, Esc", "into the script, and out of it", ["e"], "text"],
   ["A, X, D, B, Z", "4:3, pixelated, as drawn so far, beam, zoom", ["a"], "aspect"],
-  ["", "", ["x"], "sharp"], ["", "", ["d"], "sofar"], ["", "", ["b"], "hairs"], ["", "", ["z"], "zoom"],
+  ["", "", ["x"], "sharp"], ["", "", ["d"], "sofar"],
+  ["", "", ["b"], "hairs"], ["", "", ["z"], "zoom"],
   ["U", "back to the script that stood here before", ["u"], "takeback"],
   ["O, L, S", "open a file, make a link, save", ["o"], "openfile"],
   ["", "", ["l"], "share"], ["", "", ["s"], "savemenu"],
@@ -57,13 +58,13 @@ export function isOfList({ target: { tagName }, key }) {
 
 /** What the help shows. */
 export function keyTables() {
+  const row = ([keys, does]) => element("tr", {}, element("th", { scope: "row" }, keys),
+    element("td", {}, does));
   const table = (title, rows) => element("table", {}, element("caption", {}, title),
-    element("tbody", {}, ...rows
-    .filter(([keys]) => keys).map(([keys, does]) => element("tr", {}, element("th", { scope: "row" }, keys),
-      element("td", {}, does)))));
-  const hints =
-    ["Click a line's number to set a breakpoint. Click a dot of the picture to go to the step that draws it.",
-    "Drop a script, a font or a trace anywhere."].map(text => element("p", {}, text));
+    element("tbody", {}, ...rows.filter(([keys]) => keys).map(row)));
+  const hints = ["Click a line's number to set a breakpoint. " +
+    "Click a dot of the picture to go to the step that draws it.",
+  "Drop a script, a font or a trace anywhere."].map(text => element("p", {}, text));
   return [table("Keys", KEYS), table("Keys in the script", IN_THE_SCRIPT),
     table("Keys in the list of steps", IN_THE_STEPS), ...hints];
 }

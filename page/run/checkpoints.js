@@ -1,28 +1,36 @@
-// The states of a run that are kept: from the last one before a step a card gets to that step soon. A state
-// is kept in parts, and those that are the same as in the state before it are kept once. So states of a run
-// that writes little take little memory, and many of them can stand close together.
+// Checkpoints: saved states of a run. From the last one before a step a card gets to that step
+// soon. A state is kept in parts, and a part that is the same as in the checkpoint before it is
+// kept once. Checkpoints of a run that writes little therefore take little memory, and many of
+// them can stand close together.
 import { sameWords, wordsOfBytes } from "../common/bytes.js";
 
 const PART = 4096;
-/** What a kept state takes beside its parts, about, in bytes. */
+/** The bytes that a checkpoint takes beside its parts, about. */
 const OVERHEAD = 1024;
+/** With fewer checkpoints than this there is nothing to thin out. */
+const FEWEST = 4;
 
-/** Saved states by the numbers of steps after which they stand, within so many bytes. */
-export class Kept {
+/** Saved states by the number of steps after which each stands, in a bounded number of bytes. */
+export class Checkpoints {
+  list = [];
+  /** The bytes that all of them take, about. */
+  size = 0;
+
+  /** `most`: above so many bytes they are full. */
   constructor(most) {
-    Object.assign(this, { most, list: [], size: 0 });
+    this.most = most;
   }
 
   get length() {
     return this.list.length;
   }
 
-  /** The last state that is not behind a step, as { at, parts }; undefined where all are. */
+  /** The last checkpoint at or before a step, as { at, parts }; undefined if there is none. */
   before(step) {
     return this.list[this.placeAfter(step) - 1];
   }
 
-  /** How many states are not behind a step. */
+  /** How many checkpoints stand at or before a step. */
   placeAfter(step) {
     let low = 0, high = this.list.length;
     while (low < high) {
@@ -33,7 +41,10 @@ export class Kept {
     return low;
   }
 
-  /** Keeps a state, as bytes that begin at a multiple of four; one that is kept already stays. */
+  /**
+   * Adds a copy of a state after `at` steps, whose bytes begin at a multiple of four. A checkpoint
+   * that stands there already stays.
+   */
   add(at, state) {
     const place = this.placeAfter(at), last = this.list[place - 1];
     if (last?.at === at) return;
@@ -50,18 +61,19 @@ export class Kept {
   }
 
   get isFull() {
-    return this.size > this.most && this.list.length >= 4;
+    return this.size > this.most && this.list.length >= FEWEST;
   }
 
-  /** Every other state goes. */
+  /** Drops every other checkpoint. */
   thin() {
     this.list = this.list.filter((_, i) => i % 2 === 0);
-    const parts = new Set(this.list.flatMap(kept => kept.parts));
+    const parts = new Set(this.list.flatMap(checkpoint => checkpoint.parts));
     this.size = OVERHEAD * this.list.length;
     for (const part of parts) this.size += part.length;
   }
 
   clear() {
-    Object.assign(this, { list: [], size: 0 });
+    this.list = [];
+    this.size = 0;
   }
 }

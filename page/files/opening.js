@@ -1,0 +1,101 @@
+// What is opened: files that are chosen or dropped, and what the address, the browser's history, or
+// the tool that made the page asks for.
+import { byId } from "../common/dom.js";
+import { bytesOfBase64 } from "../common/bytes.js";
+import { Trouble } from "../common/trouble.js";
+import { bytesOfFiles, contentsOf, printedText, readFragment } from "./share.js";
+
+/** What the page shows first. */
+const FIRST_EXAMPLE = "text-by-services";
+
+/** Has files handed to `opened` that are chosen, or dropped anywhere in the page. */
+export function listenToFiles(opened) {
+  const box = byId("drop");
+  byId("file").addEventListener("change", ({ target }) => {
+    opened([...target.files]);
+    target.value = "";
+  });
+  // Text that is dragged is the editor's.
+  const hasFiles = event => event.dataTransfer?.types.includes("Files");
+  document.addEventListener("dragover", event => {
+    if (!hasFiles(event)) return;
+    event.preventDefault();
+    box.hidden = false;
+  });
+  document.addEventListener("dragleave", ({ relatedTarget }) => {
+    box.hidden = relatedTarget === null;
+  });
+  document.addEventListener("drop", event => {
+    box.hidden = true;
+    if (!hasFiles(event)) return;
+    event.preventDefault();
+    opened([...event.dataTransfer.files]);
+  });
+}
+
+/** Opens files and links. Of several that are opened at a time, the last one stands there. */
+export class Opener {
+  #data;
+  #scripts;
+  #names;
+  #heard;
+  #count = 0;
+
+  /**
+   * `data`: what the page was built with; `tabs`: the names of the tabs. `heard` has `adapter()`,
+   * the module that prints bytes; `isEmpty()`, whether no script stands there; `script(text,
+   * script, asked)`; `fonts(fonts, name)`, fonts of a file, or without a name those that come with
+   * the script that follows; `tab(name)`; and `step(number)`.
+   */
+  constructor(data, scripts, tabs, heard) {
+    this.#data = data;
+    this.#scripts = scripts;
+    this.#names = { tabs, examples: data.examples.map(({ name }) => name) };
+    this.#heard = heard;
+  }
+
+  /** Opens the one file of a list. */
+  async openFiles(files) {
+    if (!files.length) return;
+    const number = ++this.#count, [{ name }] = files, bytes = await bytesOfFiles(files);
+    const found = await contentsOf(bytes, this.#heard.adapter());
+    if (number !== this.#count) return;
+    if (found.fonts) this.#heard.fonts(found.fonts, name);
+    else this.#heard.script(found.text, this.#scripts.made(name, name, true));
+  }
+
+  /** Opens what the history, the address or the tool asks for. */
+  async follow() {
+    const number = ++this.#count, asked = await readFragment(location.hash, this.#names);
+    if (number !== this.#count) return;
+    if (asked.fonts) this.#heard.fonts(asked.fonts);
+    if (asked.tab) this.#heard.tab(asked.tab);
+    const found = this.#wanted(asked);
+    if (found) this.#heard.script(found.text, found.script, { asked: asked.step, ...found });
+    else if (asked.step !== undefined) this.#heard.step(asked.step);
+    if (asked.wrong.length) throw new Trouble(asked.wrong.join(" "));
+  }
+
+  /** The script that is asked for, as { text, script }; null if the one that stands there stays. */
+  #wanted({ script, example }) {
+    const scripts = this.#scripts, { noted } = scripts;
+    if (noted) return { ...noted, asked: undefined };
+    if (script !== undefined) {
+      return { text: script, script: scripts.made("", "a script from a link"), isAsked: true };
+    }
+    if (example) return { ...scripts.example(example), isAsked: true };
+    return this.#heard.isEmpty() ? this.#first() : null;
+  }
+
+  /** The script that a page begins with. */
+  #first() {
+    const scripts = this.#scripts, { open, examples } = this.#data;
+    if (!open) {
+      const example = scripts.example(FIRST_EXAMPLE) ?? scripts.example(examples[0].name);
+      return scripts.last ?? { ...example, isAsked: true };
+    }
+    if (open.fonts) this.#heard.fonts(bytesOfBase64(open.fonts));
+    const text = open.text ?? printedText(bytesOfBase64(open.bytes), this.#heard.adapter());
+    return { text, script: scripts.made(open.name, open.name), isAsked: true };
+  }
+}

@@ -1,0 +1,111 @@
+// The script that stands in the editor: which one it is, its breakpoints, and the way back to the
+// one before.
+import { Trouble } from "../common/trouble.js";
+import { byId } from "../common/dom.js";
+import { LONG_TEXT } from "../run/judging.js";
+import { isNewText, linesAfter } from "../editor/history.js";
+
+/** A change of the text is run after so many milliseconds; of a long text, after more. */
+const WAIT = 250, LONG_WAIT = 1000;
+const isLine = point => point.kind === "line";
+
+/** The script in the editor. */
+export class Desk {
+  #editor;
+  #scripts;
+  #points;
+  #heard;
+  #before = null;
+  #isNew = false;
+  #timer = 0;
+
+  /**
+   * `points`: the panel of breakpoints. `heard` has `changed()`, the text is another one now, and
+   * `run(awaited)`, it is to be run, and so many steps shown; undefined for as many as before.
+   */
+  constructor(editor, scripts, points, heard) {
+    this.#editor = editor;
+    this.#scripts = scripts;
+    this.#points = points;
+    this.#heard = heard;
+  }
+
+  /** Loads what was chosen in the list of scripts. */
+  choose(value) {
+    const found = this.#scripts.chosen(value);
+    if (found) return this.load(found.text, found.script);
+    this.#scripts.fill();
+    if (value) throw new Trouble("This script is gone from the browser's storage.");
+    return null;
+  }
+
+  /**
+   * Shows a script in place of the one that stands there, to which `takeBack` leads. `asked`: so
+   * many steps are shown; `isAsked`: the address asks for the script.
+   */
+  load(text, script, { asked = Infinity, isAsked = false } = {}) {
+    const editor = this.#editor, old = { text: editor.text, script: editor.script };
+    editor.load(text, script);
+    if (old.script && old.script !== script) this.#offerBack(old);
+    this.#swapPoints(old.script, script);
+    this.#scripts.show(script, editor, isAsked);
+    if (editor.isLong) byId("about").textContent = `${script.name}. ${editor.note}`;
+    this.run(asked);
+  }
+
+  /** Loads the script that stood there before. */
+  takeBack() {
+    if (this.#before) this.load(this.#before.text, this.#before.script);
+  }
+
+  #offerBack({ text, script }) {
+    this.#before = { text, script };
+    byId("takeback").hidden = !text.trim();
+    byId("takeback").textContent = `↶ ${this.#scripts.title(script, text)}`;
+  }
+
+  /** Takes what was typed; which script the text is now. */
+  typed(change, old) {
+    const script = this.#scripts.afterChange(this.#editor, change, old);
+    this.switched(script, change, old);
+    return script;
+  }
+
+  /** Takes a change of the text, after which it may be another script. */
+  switched(script, change, old) {
+    const isNew = change.isWhole || isNewText(old, change), editor = this.#editor;
+    this.#isNew ||= isNew;
+    if (isNew) this.#swapPoints(this.#scripts.now, script);
+    else this.#movePoints(old, change);
+    this.#scripts.show(script, editor);
+    if (editor.isLong) byId("about").textContent = `${script.name}. ${editor.note}`;
+    this.#heard.changed();
+    clearTimeout(this.#timer);
+    this.#timer = setTimeout(() => this.run(this.#isNew ? Infinity : undefined),
+      editor.length > LONG_TEXT ? LONG_WAIT : WAIT);
+  }
+
+  /** Has the text run, and so many steps shown; undefined for as many as before. */
+  run(awaited) {
+    clearTimeout(this.#timer);
+    this.#isNew = false;
+    this.#heard.run(awaited);
+  }
+
+  /** Sets the breakpoints of another script's lines. */
+  #swapPoints(old, script) {
+    const { points } = this.#points;
+    if (old) old.points = points.filter(isLine);
+    this.#points.change([...points.filter(point => !isLine(point)), ...script.points ?? []]);
+  }
+
+  /** Breakpoints go where their lines go. */
+  #movePoints(old, change) {
+    const { points } = this.#points;
+    if (!points.some(isLine)) return;
+    const lineAfter = linesAfter(old.text, change);
+    const moved = points.map(point =>
+      (isLine(point) ? { ...point, line: lineAfter(point.line) } : point));
+    this.#points.change(moved.filter(point => point.line !== null));
+  }
+}

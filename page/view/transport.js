@@ -1,0 +1,84 @@
+// The transport: the buttons, the slider and the form that go from step to step.
+import { RUN } from "../run/runner.js";
+import { Trouble } from "../common/trouble.js";
+import { byId, setAll, setText } from "../common/dom.js";
+
+const FRAMES = [{ kind: "frame" }];
+const BACKWARD = ["first", "back", "framebefore", "runback"];
+const FORWARD = ["next", "frameafter", "last"];
+
+/** The controls that go from step to step. */
+export class Transport {
+  #runner;
+  #points;
+
+  /**
+   * `points` answers the breakpoints that are on. `guarded` calls what a control does, and tells
+   * what went wrong.
+   */
+  constructor(runner, points, guarded) {
+    this.#runner = runner;
+    this.#points = points;
+    const clicks = {
+      first: () => runner.go(0),
+      runback: () => runner.find(points(), { isBack: true }),
+      framebefore: () => runner.find(FRAMES, { isBack: true }),
+      back: () => runner.go(runner.goal - 1),
+      next: () => runner.go(runner.goal + 1),
+      frameafter: () => runner.find(FRAMES),
+      run: () => this.run(),
+      last: () => runner.toEnd(),
+      play: () => runner.play(!runner.isPlaying),
+    };
+    for (const [name, does] of Object.entries(clicks)) {
+      byId(name).addEventListener("click", () => guarded(does));
+    }
+    byId("slider").addEventListener("input", ({ target }) => runner.go(Number(target.value)));
+    byId("goto").addEventListener("submit", event => {
+      event.preventDefault();
+      guarded(() => this.goTo(byId("gotokind").value, byId("gotonumber").value));
+    });
+  }
+
+  /** Runs to the next breakpoint, or to the end; stops what is under way. */
+  run() {
+    const runner = this.#runner, points = this.#points();
+    if (runner.isBusy) return runner.stop();
+    runner.resume();
+    return points.length ? runner.find(points) : runner.toEnd();
+  }
+
+  /** Goes to a step, or to the next step of a line, whose number was typed. */
+  goTo(kind, text) {
+    const number = Number(text.replace(/[, ]/g, "")), runner = this.#runner;
+    if (!/^[\d, ]+$/.test(text.trim())) throw new Trouble("Type a number of a step or a line.");
+    if (!runner.session) throw new Trouble("There is no run: mend the script first.");
+    runner.go(kind === "step" ? number : this.#stepOfLine(number) + 1);
+  }
+
+  #stepOfLine(number) {
+    const { session: { outline }, steps } = this.#runner, entry = outline.entryAtLine(number);
+    if (entry < 0) throw new Trouble(`No step stands at line ${number} or after it.`);
+    const next = outline.stepOfEntry(entry, steps);
+    const step = next < 0 ? outline.stepOfEntry(entry) : next;
+    if (step >= 0) return step;
+    throw new Trouble(`The steps of line ${outline.lineOf(entry)} are never taken.`);
+  }
+
+  /** Shows what the runner does: which buttons do something, and where the slider stands. */
+  update() {
+    const runner = this.#runner, { session, goal, isAtEnd, isPlaying } = runner;
+    setText(byId("run"), runner.isBusy && !isPlaying ? "stop ■" : "run ▶▶");
+    setText(byId("play"), isPlaying ? "pause" : "play");
+    if (runner.run === RUN.none) return;
+    setAll(byId("slider"), { max: String(session.ran) });
+    for (const name of BACKWARD) setAll(byId(name), { disabled: goal === 0 });
+    for (const name of FORWARD) setAll(byId(name), { disabled: isAtEnd });
+  }
+
+  /** Puts the slider at the step that is shown. */
+  show({ steps }) {
+    byId("slider").max = this.#runner.session.ran;
+    byId("slider").value = steps;
+  }
+}
