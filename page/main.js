@@ -7,7 +7,7 @@ import { View } from "./view/view.js";
 import { byId, element } from "./common/dom.js";
 import { bytesOfBase64 } from "./common/bytes.js";
 import { checkedExamples } from "./run/checking.js";
-import { examplesOf, unzipped } from "./module/packed.js";
+import { examplesOf, unpackedJson, unzipped } from "./module/packed.js";
 import { comparedToSend } from "./run/comparing.js";
 import { judgedToSend } from "./run/judging.js";
 
@@ -35,6 +35,9 @@ async function begin() {
   const data = JSON.parse(byId("zaklimot-data").textContent);
   const module = await unzipped(data.module);
   data.examples = await examplesOf(data);
+  for (const part of ["tutorial", "sections"]) data[part] = await unpackedJson(data[part]);
+  // The scripts in the list: those of the tutorial have a title too.
+  data.scripts = [...data.tutorial, ...data.examples];
   const adapter = await Adapter.opened(module);
   if (location.hash === "#check") return showCheck(adapter, data);
   return new View(adapter, module, data);

@@ -29,12 +29,15 @@ export class Editor {
   mark = 0;
   next = 0;
   points = new Set();
+  /** Functions that hear of each change of the text. */
+  listeners = [];
   #clearMark = null;
+  #place = 0;
 
   constructor(heard) {
     this.heard = heard;
     this.field = new TextField(byId("page"), { changing: change => this.#isTaken(change),
-      changed: changes => this.#typed(changes), moved: () => {} });
+      changed: changes => this.#typed(changes) });
     this.area = this.field.area;
     this.longText = new LongText(byId("long"), byId("longrows"));
     this.columns = new Columns(line => heard.pointed(line));
@@ -96,6 +99,11 @@ export class Editor {
     const before = { script: this.script };
     this.script = this.heard.typed(change, old);
     this.history.note({ ...change, before, after: { script: this.script }, isWhole });
+    this.#tell();
+  }
+
+  #tell() {
+    for (const heard of this.listeners) heard();
   }
 
   /** Undoes the last change, or does one again; whether there was one. */
@@ -114,6 +122,7 @@ export class Editor {
     }
     this.script = change.after.script;
     this.heard.switched(change, new OldText(this, change));
+    this.#tell();
     return true;
   }
 
@@ -122,6 +131,7 @@ export class Editor {
     const removed = this.text, before = { script: this.script }, after = { script };
     this.put(text);
     this.script = script;
+    this.#tell();
     if (!before.script) return;
     this.history.note({ from: 0, removed, added: this.text, before, after, isWhole: true });
   }
@@ -139,6 +149,30 @@ export class Editor {
     else this.field.refresh();
     this.scrollTo(0);
     this.draw();
+  }
+
+  /** The place of the caret, or of what is selected, in characters from the text's begin. */
+  get place() {
+    return this.isLong ? this.#place : this.field.place;
+  }
+
+  /** What is selected. */
+  get selected() {
+    return this.isLong ? "" : this.field.selected;
+  }
+
+  /** Selects a part of the text, and shows it; of a text that is only shown, its line. */
+  select(from, to) {
+    this.#place = from;
+    if (!this.isLong) return this.field.select(from, to);
+    this.mark = this.longText.lineAt(from);
+    this.reveal(this.mark);
+    return this.draw();
+  }
+
+  /** Marks all that a pattern finds in sight; answers what takes the marks away. */
+  markAll(pattern) {
+    return this.isLong ? null : this.field.markAll(pattern, "found");
   }
 
   /** Takes a text as one that was typed at the caret's line. */

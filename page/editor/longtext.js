@@ -56,6 +56,17 @@ export class LongText {
     return this.text.slice(this.starts[line - 1], this.starts[line] ? this.starts[line] - 1 : undefined);
   }
 
+  /** The number of the line at a place, in characters from the text's begin. */
+  lineAt(place) {
+    let low = 0, high = this.starts.length - 1;
+    while (low < high) {
+      const middle = (low + high + 1) >> 1;
+      if (this.starts[middle] <= place) low = middle;
+      else high = middle - 1;
+    }
+    return low + 1;
+  }
+
   /** Gives the box its height, in pixels. */
   resize(height) {
     this.rows.style.height = height + "px";

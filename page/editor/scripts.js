@@ -53,7 +53,10 @@ export class Scripts {
     const group = (label, options) => element("optgroup", { label }, ...options);
     list.replaceChildren(new Option("your own script", ""),
       ...kept.length ? [group("Your last scripts", kept)] : [],
-      group("Examples", this.examples.map(({ name }) => new Option(name, name))));
+      group("Tutorial", this.examples.filter(({ title }) => title)
+        .map(({ name, title }) => new Option(title, name))),
+      group("Examples", this.examples.filter(({ title }) => !title)
+        .map(({ name }) => new Option(name, name))));
     this.choose();
   }
 

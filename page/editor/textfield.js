@@ -17,8 +17,8 @@ function commentsApart() {
 
 /**
  * A field of text in a box. `heard` has `changing(change)`, a change { from, removed, added } before it
- * is made, which may answer false and then it is not made; `changed(changes)`, when changes were made;
- * and `moved()`, when the caret was. Changes that the page makes by `put` and `replace` are not told.
+ * is made, which may answer false and then it is not made; and `changed(changes)`, when changes were
+ * made. Those that the page makes by `put` and `replace` are not told.
  */
 export class TextField {
   #isOurs = false;
@@ -39,7 +39,12 @@ export class TextField {
     this.length = 0;
     this.cm.on("beforeChange", (_, change) => this.#noteChange(change));
     this.cm.on("changes", () => this.#tellChanges());
-    this.cm.on("cursorActivity", () => heard.moved());
+    // Files that are dropped are the page's.
+    for (const event of ["dragenter", "dragover", "drop"]) {
+      this.cm.on(event, (_, dragged) => {
+        dragged.codemirrorIgnore = dragged.dataTransfer?.types.includes("Files");
+      });
+    }
   }
 
   #noteChange(change) {
@@ -74,7 +79,7 @@ export class TextField {
   }
 
   get hasFocus() {
-    return this.cm.hasFocus();
+    return document.activeElement === this.area;
   }
 
   /** The caret: { line, ch }, the line's number from 1. */

@@ -26,6 +26,7 @@ import { Transport } from "./transport.js";
 import { Trouble } from "../common/trouble.js";
 import { byId, setText } from "../common/dom.js";
 import { bytesOfBase64, grouped } from "../common/bytes.js";
+import { Helper } from "../help/helper.js";
 import { Judge, LONG_TEXT } from "../run/judging.js";
 import { copyLink, showLink } from "../files/linking.js";
 import { followRowHeight } from "../common/rows.js";
@@ -81,7 +82,7 @@ export class View {
   }
 
   #makeScript() {
-    this.scripts = new Scripts(this.data.examples, new Drafts(),
+    this.scripts = new Scripts(this.data.scripts, new Drafts(),
       text => this.notice.tell(text, true));
     this.editor = new Editor({
       typed: (change, old) => this.desk.typed(change, old),
@@ -136,6 +137,7 @@ export class View {
       byId(name).addEventListener("click", () => this.guarded(does));
     }
     this.#makeList();
+    this.helper = new Helper(this.editor, this.runner, this.data);
     this.keyboard = new Keyboard({ editor: this.editor, tabs: this.tabs, menu: this.saver.menu,
       goToLine: line => this.guarded(() => this.transport.goTo("line", String(line))),
       togglePoint: line => this.pointPanel.toggleLine(line) });
