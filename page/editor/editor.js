@@ -170,6 +170,11 @@ export class Editor {
     return this.draw();
   }
 
+  /** Marks a part of the text by a class; answers what takes the mark away. */
+  mark(from, to, className) {
+    return this.isLong ? null : this.field.mark(from, to, className);
+  }
+
   /** Marks all that a pattern finds in sight; answers what takes the marks away. */
   markAll(pattern) {
     return this.isLong ? null : this.field.markAll(pattern, "found");
@@ -236,8 +241,9 @@ export class Editor {
     this.bad = trouble;
     this.#sayWhy();
     if (trouble && !this.isLong) {
-      const { line, at = 0, width = 1 } = trouble, end = this.lineText(line).length;
-      this.#clearMark = this.field.mark(line, Math.max(0, Math.min(at, end - 1)), Math.min(at + width, end), "badword");
+      const { line, at = 0, width = 1 } = trouble, begin = this.field.placeOf(line, 0);
+      const end = this.lineText(line).length, from = Math.max(0, Math.min(at, end - 1));
+      this.#clearMark = this.mark(begin + from, begin + Math.min(at + width, end), "badword");
     }
     // Whoever types stays where the caret is.
     if (trouble && !this.field.hasFocus) this.reveal(trouble.line);
@@ -267,7 +273,7 @@ export class Editor {
     if (!bad) return;
     this.reveal(bad.line);
     if (this.isLong) return;
-    const begin = field.cm.indexFromPos({ line: bad.line - 1, ch: bad.at ?? 0 });
+    const begin = field.placeOf(bad.line, bad.at ?? 0);
     field.select(begin, begin + (bad.width ?? 0));
     field.focus();
   }

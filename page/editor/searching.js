@@ -26,10 +26,11 @@ export class TextSearch {
   /** Searches for about so many milliseconds; whether it is done. */
   take(milliseconds) {
     const until = performance.now() + milliseconds;
-    while (!this.isDone && (this.length % LOOKED_AT_ONCE || performance.now() < until)) {
+    while (!this.isDone) {
       const found = this.pattern.exec(this.text);
       if (found) this.#push(found.index);
       this.isDone = !found || this.length === MOST_FOUND;
+      if (this.length % LOOKED_AT_ONCE === 0 && performance.now() > until) break;
     }
     return this.isDone;
   }

@@ -147,10 +147,16 @@ export class TextField {
     this.cm.scrollIntoView({ from: begin, to: end }, 3 * this.cm.defaultTextHeight());
   }
 
-  /** Marks a part of a line by a class; answers what takes the mark away. */
-  mark(line, from, to, className) {
-    const made = this.cm.markText({ line: line - 1, ch: from }, { line: line - 1, ch: to }, { className });
+  /** Marks a part of the text by a class; answers what takes the mark away. */
+  mark(from, to, className) {
+    const [begin, end] = [from, to].map(place => this.cm.posFromIndex(place));
+    const made = this.cm.markText(begin, end, { className });
     return () => made.clear();
+  }
+
+  /** The place of a column of a line, in characters from the text's begin. */
+  placeOf(line, column) {
+    return this.cm.indexFromPos({ line: line - 1, ch: column });
   }
 
   /** Marks all that a search finds in the lines in sight; answers what takes the marks away. */

@@ -13,6 +13,7 @@ export class TextFinder {
   #asked = null;
   #timer = 0;
   #clearMarks = null;
+  #clearHere = null;
   #at = -1;
 
   constructor(editor) {
@@ -34,9 +35,7 @@ export class TextFinder {
   /** Searches anew in a moment, and goes to the first find from a place on, where one is told. */
   #soon(asked) {
     clearTimeout(this.#timer);
-    this.#search = null;
-    this.#clearMarks?.();
-    this.#clearMarks = null;
+    this.#clear();
     this.#asked = asked ?? this.#asked;
     if (!this.bar.words) return this.bar.say("");
     this.#timer = setTimeout(() => this.#begin(), WAIT);
@@ -76,7 +75,13 @@ export class TextFinder {
   #show(number) {
     const search = this.#search;
     this.#at = number;
-    if (number >= 0) this.#editor.select(search.at(number), search.at(number) + search.words.length);
+    this.#clearHere?.();
+    if (number >= 0) {
+      const from = search.at(number), to = from + search.words.length;
+      this.#editor.select(from, to);
+      // Where the bar has the keys, no selection is seen.
+      this.#clearHere = this.#editor.mark(from, to, "foundhere");
+    }
     this.#say();
   }
 
@@ -88,9 +93,15 @@ export class TextFinder {
 
   #end() {
     clearTimeout(this.#timer);
+    this.#clear();
+    this.#editor.focus();
+  }
+
+  #clear() {
     this.#search = null;
     this.#clearMarks?.();
     this.#clearMarks = null;
-    this.#editor.focus();
+    this.#clearHere?.();
+    this.#clearHere = null;
   }
 }

@@ -14,7 +14,7 @@ export const PORTS = [
   [0x3c4, "sequencer index"], [0x3c5, "the sequencer register of the index"],
   [0x3c6, "DAC mask"], [0x3c7, "DAC index, for reading", "the DAC state, which is left out"],
   [0x3c8, "DAC index, for writing", "DAC index"], [0x3c9, "DAC component"],
-  [0x3cc, "", "miscellaneous output"],
+  [0x3ca, "", "feature control, which is left out"], [0x3cc, "", "miscellaneous output"],
   [0x3ce, "graphics index"], [0x3cf, "the graphics register of the index"],
   [0x3d4, "CRT controller index"], [0x3d5, "the CRT controller register of the index"],
   [0x3da, "feature control, which is left out", "input status 1"],

@@ -33,13 +33,18 @@ function toldPort(name, port) {
   return { title: `Port ${hex(port, 3)}: ${what || "nothing is decoded there"}`, lines: [], link };
 }
 
-/** The function of the video BIOS that a value of AX calls. `sections`: those of the page's data. */
+/**
+ * The function of the video BIOS that a value of AX calls: { title, anchor, part, row }, the part that AL picks
+ * and what it takes, in the documentation's words; null for no function. `sections`: those of the page's data.
+ */
 export function serviceOf(ax, sections) {
   const anchor = SERVICE_ANCHORS[ax >> 8], section = anchor && sections["SERVICES.md"]?.[anchor];
   if (!section) return null;
-  const table = section.blocks.find(([kind]) => kind === "table");
-  const row = table?.slice(1).find(([[head]]) => head === "Arguments");
-  return { title: section.title, anchor, row: row?.[1] ?? [] };
+  const [head = [], ...rows] = section.blocks.find(([kind]) => kind === "table")?.slice(1) ?? [];
+  const al = hex(ax & 255, 2), isByAl = head.length > 0 && plainText(head[0]) === "AL";
+  const found = rows.find(([first]) => plainText(first).startsWith(isByAl ? `${al} ` : "Arguments"));
+  const part = isByAl && found ? `: ${plainText(found[0]).slice(al.length + 1)}` : "";
+  return { title: section.title, anchor, part, row: found?.[1] ?? [] };
 }
 
 /** The plain text of some of the documentation's words. */
@@ -53,7 +58,7 @@ function toldCall(words, sections) {
   const link = { page: "SERVICES.md", anchor: found?.anchor ?? "refusals", title: "the function" };
   if (!found) return { title: `The video BIOS has no function ${hex(ax >> 8, 2)}`, lines: [], link };
   const sentences = plainText(found.row).split(/(?<=\.) /).filter(text => text);
-  return { title: `Function ${found.title}, AL ${hex(ax & 255, 2)}`, lines: sentences, link };
+  return { title: `Function ${found.title}, AL ${hex(ax & 255, 2)}${found.part}`, lines: sentences, link };
 }
 
 /**

@@ -209,6 +209,12 @@ export class Browser {
     return this.value(pasting(text));
   }
 
+  /** Pastes what the clipboard has, by Ctrl+V. */
+  pressPaste() {
+    return this.send("Input.dispatchKeyEvent", { type: "rawKeyDown", key: "v", code: "KeyV",
+      modifiers: 2, windowsVirtualKeyCode: 86, commands: ["paste"] });
+  }
+
   selectAll() {
     return this.send("Input.dispatchKeyEvent", { type: "rawKeyDown", key: "a", code: "KeyA",
       modifiers: 2, windowsVirtualKeyCode: 65, commands: ["selectAll"] });

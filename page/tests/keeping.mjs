@@ -106,7 +106,7 @@ async function drop(files) {
 const listed = () => browser.value(`(() => {
   const list = document.getElementById("examples");
   list.dispatchEvent(new PointerEvent("pointerdown", { bubbles: true }));
-  return [...list.querySelectorAll("optgroup:not(:last-child) option")].map(one => one.text);
+  return [...list.querySelectorAll("optgroup[label^=Your] option")].map(one => one.text);
 })()`);
 
 /** Takes away what earlier checks have kept. */
@@ -413,9 +413,14 @@ const CHECKS = {
       data.setData("text/plain", "frame");
       const event = new DragEvent("dragover", { bubbles: true, cancelable: true, dataTransfer: data });
       document.getElementById("text").dispatchEvent(event);
-      return event.defaultPrevented || !document.getElementById("drop").hidden;
+      const isShown = !document.getElementById("drop").hidden;
+      document.getElementById("text").dispatchEvent(new DragEvent("drop", { bubbles: true, cancelable: true,
+        dataTransfer: data, clientX: 200, clientY: 200 }));
+      return isShown || !document.getElementById("drop").hidden;
     })()`);
     assert.equal(isTaken, false);
+    // It is the field's, which puts it where it was dropped.
+    await until(`${TEXT}.split("frame").length === ${(await value("text")).split("frame").length}`);
   },
 
   async "words: what a call hands back, a picture's size, whose palette mode 13 has, the version"() {
@@ -528,7 +533,7 @@ const CHECKS = {
     // third.
     const between = () => browser.value(`(() => {
       const [first, , third] = document.querySelectorAll(".number");
-      const line = parseFloat(getComputedStyle(document.getElementById("text")).lineHeight);
+      const line = document.querySelector(".CodeMirror-line").getBoundingClientRect().height;
       return [third.getBoundingClientRect().top - first.getBoundingClientRect().top, 2 * line]; })()`);
     assert.deepEqual([await high(), await between()], [[18, 18, 18], [36, 36]]);
     await browser.look({ width: 500, height: 860 });

@@ -116,6 +116,11 @@ export class Driven {
       ...held.reverse().map(one => ["keyUp", one])]));
   }
 
+  /** Pastes what the clipboard has, by Ctrl+V. */
+  pressPaste() {
+    return this.press("v", { control: true });
+  }
+
   selectAll() {
     return this.press("a", { control: true });
   }
