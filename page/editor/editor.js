@@ -171,7 +171,7 @@ export class Editor {
   }
 
   /** Marks a part of the text by a class; answers what takes the mark away. */
-  mark(from, to, className) {
+  markPart(from, to, className) {
     return this.isLong ? null : this.field.mark(from, to, className);
   }
 
@@ -243,7 +243,7 @@ export class Editor {
     if (trouble && !this.isLong) {
       const { line, at = 0, width = 1 } = trouble, begin = this.field.placeOf(line, 0);
       const end = this.lineText(line).length, from = Math.max(0, Math.min(at, end - 1));
-      this.#clearMark = this.mark(begin + from, begin + Math.min(at + width, end), "badword");
+      this.#clearMark = this.markPart(begin + from, begin + Math.min(at + width, end), "badword");
     }
     // Whoever types stays where the caret is.
     if (trouble && !this.field.hasFocus) this.reveal(trouble.line);

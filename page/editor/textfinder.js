@@ -80,7 +80,7 @@ export class TextFinder {
       const from = search.at(number), to = from + search.words.length;
       this.#editor.select(from, to);
       // Where the bar has the keys, no selection is seen.
-      this.#clearHere = this.#editor.mark(from, to, "foundhere");
+      this.#clearHere = this.#editor.markPart(from, to, "foundhere");
     }
     this.#say();
   }

@@ -35,8 +35,8 @@ export class Sections {
     if (!section) return false;
     const whole = pageLink(this.base, page, anchor, `the whole page, ${page}`);
     whole.dataset.isWhole = "yes";
-    this.#shown.replaceChildren(element("h2", {}, section.title),
-      ...section.blocks.map(block => this.#blockOf(block, page)), element("p", {}, "See ", whole, "."));
+    byId("sectiontitle").textContent = section.title;
+    this.#shown.replaceChildren(...section.blocks.map(block => this.#blockOf(block, page)), element("p", {}, "See ", whole, "."));
     if (!this.#box.open) this.#box.showModal();
     this.#box.scrollTop = 0;
     return true;

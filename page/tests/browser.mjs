@@ -450,7 +450,7 @@ await check("a script of 16 MiB", async () => {
   await open();
   const line = "put A0000 11\n", count = Math.floor((1 << 24) / line.length);
   await choose("large.vga", line.repeat(count));
-  await browser.until("document.getElementById('about').textContent.includes('too long to be edited')");
+  await browser.until("document.getElementById('about').textContent.includes('the page edits no text that long')");
   await browser.until(`document.getElementById("state").textContent.startsWith("1,290,555 steps")`, 120000);
   await browser.until(IDLE);
   assert.equal(count, 1290555);

@@ -6,7 +6,9 @@ import { readFileSync } from "node:fs";
 import { TOUCHED } from "../common/rows.js";
 import { TOP } from "./loading.mjs";
 
-const STYLE = readFileSync(TOP + "page/style.css", "utf-8");
+// The page's own style, and those of its parts.
+const STYLES = ["style.css", "editor/editor.css", "help/help.css"];
+const STYLE = STYLES.map(name => readFileSync(`${TOP}page/${name}`, "utf-8")).join("");
 const LEAST = 4.5, LEAST_TOUCHED = 24;
 const TEXTS = ["ink", "pale", "link", "bad", "good", "refused"];
 const GROUNDS = ["back", "soft", "mark", "changed", "shown"];

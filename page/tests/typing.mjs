@@ -13,12 +13,12 @@ const ADDRESS = pathToFileURL(resolve(PAGE)).href, WINDOW = { width: 1280, heigh
 /** What a paste and a key may take, in milliseconds, on a machine without other work; and of other machines. */
 const MOST_PASTE = 2000, MOST_KEY = 50, LATE = 10;
 const LINES = 23000, KEYS = 60;
-/** Milliseconds between two keys: of a quick hand, and of one that waits until the text is judged meanwhile. */
-const PACES = { "typed on": 60, "with pauses": 1040 };
+/** Milliseconds between two keys, in turn: of a quick hand, and of one that stops while the text is read and run. */
+const PACES = { "typed on": [60], "with pauses": [1020, 1080, 1150, 1250, 1400, 1650] };
 
 /** A script of a megabyte: 23,000 steps with a comment each. */
 const script = Array.from({ length: LINES }, (_, i) =>
-  `put ${(0xa0000 + i % 65536).toString(16).toUpperCase()} ${(i & 255).toString(16)} ; a comment of some words`)
+  `put ${(0xa0000 + i % 65536).toString(16).toUpperCase()} ${(i & 255).toString(16)} ; a comment of some more words`)
   .join("\n");
 const { browser } = await begun();
 
@@ -66,11 +66,12 @@ async function pasteByKeys(text) {
   await browser.until(`window.times.paste.length > 0 && ${TEXT}.length === ${text.length}`, 60000);
 }
 
-async function typed(pace) {
+async function typed(paces) {
   for (let i = 0; i < KEYS; i++) {
     const begun = Date.now();
     await browser.press("abcdefgh"[i % 8]);
-    await new Promise(done => setTimeout(done, Math.max(0, pace - (Date.now() - begun))));
+    const left = paces[i % paces.length] - (Date.now() - begun);
+    await new Promise(done => setTimeout(done, Math.max(0, left)));
   }
   await browser.until(`window.times.key.length === ${KEYS}`, 60000);
   return told(await times("key"));
@@ -89,8 +90,8 @@ try {
   await browser.until(IDLE, 60000);
   await caretAt(browser, (await browser.value(`${TEXT}.indexOf("comment", ${script.length >> 1})`)));
   await times("key");
-  for (const [name, pace] of Object.entries(PACES)) {
-    const { usual, most, longest } = await typed(pace);
+  for (const [name, paces] of Object.entries(PACES)) {
+    const { usual, most, longest } = await typed(paces);
     said.push(`a key ${name} ${usual.toFixed(0)}, ${most.toFixed(0)}, ${longest.toFixed(0)} ms`);
     assert.ok(most < MOST_KEY * factor, said.at(-1));
   }

@@ -262,8 +262,8 @@ class Tutorial(unittest.TestCase):
         self.assertEqual({path.stem for path in SCRIPTS.iterdir()} & listed, set())
 
     def test_the_check_in_a_browser_does_what_it_says(self) -> None:
-        told = {"chromium": "opening.mjs chromium; tutorial.mjs chromium; keeping.mjs chromium; browser.mjs",
-                "firefox": "opening.mjs firefox; tutorial.mjs firefox; keeping.mjs firefox",
+        of_both = "opening.mjs {0}; tutorial.mjs {0}; keeping.mjs {0}; writing.mjs {0}; typing.mjs {0}"
+        told = {"chromium": of_both.format("chromium") + "; browser.mjs", "firefox": of_both.format("firefox"),
                 "webkit": "opening.mjs webkit; tutorial.mjs webkit"}
         fake = mock.Mock(side_effect=lambda words, *_: " ".join([words[0].name, *words[1:]]) + "\n")
         with mock.patch.object(command, "run_node", fake):

@@ -39,6 +39,11 @@ LEVEL = 9
 SENTENCE = re.compile(r"(.+?[.!?])(?: |$)")
 ENTRY, FIRST_STYLE, TESTS = "main.js", "style.css", "tests"
 ESBUILD = "esbuild"
+# The editor's parts in a page as built.
+EDITOR = tuple(re.compile(form, re.S) for form in (
+    r"<script>\n(.*?)</script>", r"<style>\n(.*?)</style>",
+    r"<!-- The editor of this page is (.*?)\. -->",
+))
 # The oldest browsers in which the page works: the script says nothing that they don't take.
 TARGETS = "chrome103,firefox113,safari16.4"
 # The joining takes a fraction of a second.
@@ -172,10 +177,19 @@ def page_text(sources: Sources, data: dict[str, Any]) -> str:
             raise Trouble(f"a page would take {ending[0]} for the end of a script", name)
     # The data come last, since what they hold may look like a mark.
     text = _filled(sources.frame, MADE, f"<!-- The editor of this page is {editor.made}. -->")
-    text = _filled(text, STYLE, f"<style>\n{editor.style}</style>\n<style>\n{sources.style}</style>")
-    scripts = f'<script>\n{editor.script}</script>\n<script type="module">\n{sources.script}</script>'
-    text = _filled(text, SCRIPT, scripts)
+    styles_of_both = f"<style>\n{editor.style}</style>\n<style>\n{sources.style}</style>"
+    text = _filled(text, STYLE, styles_of_both)
+    scripts = f"<script>\n{editor.script}</script>\n"
+    text = _filled(text, SCRIPT, f'{scripts}<script type="module">\n{sources.script}</script>')
     return _filled(text, DATA, data_element(data))
+
+
+def editor_in(page: str) -> Editor:
+    """The editor that a page has in it."""
+    parts = [found[1] for form in EDITOR if (found := form.search(page))]
+    if len(parts) != len(EDITOR):
+        raise Trouble("it has no editor", PAGE.name)
+    return Editor(*parts)
 
 
 def make_page(module: bytes, sources: Sources) -> bytes:
