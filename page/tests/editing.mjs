@@ -30,9 +30,10 @@ export async function pasteOver(browser, script) {
 /** In the page: puts a text in place of what is selected, as one that is pasted. */
 export function pasting(text) {
   return `(() => {
-    const data = new DataTransfer();
-    data.setData("text/plain", ${JSON.stringify(text)});
-    return document.activeElement.dispatchEvent(new ClipboardEvent("paste",
-      { clipboardData: data, bubbles: true, cancelable: true }));
+    const told = ${JSON.stringify(text)}, data = new DataTransfer();
+    data.setData("text/plain", told);
+    // Firefox takes a text alone.
+    const given = { clipboardData: data, dataType: "text/plain", data: told, bubbles: true, cancelable: true };
+    return document.activeElement.dispatchEvent(new ClipboardEvent("paste", given));
   })()`;
 }
