@@ -20,6 +20,33 @@ export function changeBetween(old, now, caret = now.length) {
   return { from, removed, added };
 }
 
+/** A text without a change that has made it what it is now: { length, text }. `now` has both too. */
+export class OldText {
+  #now;
+  #change;
+
+  constructor(now, change) {
+    this.length = now.length - change.added.length + change.removed.length;
+    this.#change = change;
+    this.#now = now;
+  }
+
+  get text() {
+    return changedBack(this.#now.text, this.#change);
+  }
+}
+
+function changedBack(text, { from, removed, added }) {
+  return text.slice(0, from) + removed + text.slice(from + added.length);
+}
+
+/** Several changes that were made one after the other as one change; `now` is the text since then. */
+export function changeOfAll(changes, now) {
+  if (changes.length === 1) return changes[0];
+  const old = changes.reduceRight((text, change) => changedBack(text, change), now.text);
+  return changeBetween(old, now.text);
+}
+
 /** Whether a change leaves less than half of a text, so that another script stands there. */
 export function isNewText(old, { removed }) {
   return 2 * removed.length > old.length;

@@ -7,7 +7,7 @@ import { DotSearch, dotAhead, dotOfSeen, partsOfDot } from "../explain/dotsearch
 import { Search } from "../run/points.js";
 import { Session } from "../run/session.js";
 import { State } from "../module/state.js";
-import { LONG_SCRIPTS, WATCHED, timesOfSearches } from "./searching.mjs";
+import { LONG_SCRIPTS, WATCHED, timesOfSearches } from "./longsearches.mjs";
 import { Random } from "./randomly.mjs";
 import { FONTS, loadAdapter, runWhole } from "./loading.mjs";
 

@@ -1,50 +1,91 @@
-// How long a search back over a million steps takes, of several kinds of scripts: a table. node
-// page/tests/searching.mjs; in a browser the page runs `timesOfSearches` itself (see
-// searchtimes.mjs).
-import { DotSearch } from "../explain/dotsearch.js";
-import { Search } from "../run/points.js";
+// The search in a text and in the steps of a run: against plain ways to find the same.
+import assert from "node:assert/strict";
+import test from "node:test";
+import { StepSearch, TextSearch } from "../editor/searching.js";
+import { LongText, MOST_LINES, lineStarts, whyNotEdited } from "../editor/longtext.js";
+import { Session } from "../run/session.js";
+import { LONG } from "./jumps.mjs";
+import { FONTS, examples, loadAdapter, runWhole } from "./loading.mjs";
 
-/**
- * Scripts of a million steps and more, in which what is searched for changes in the first steps
- * alone.
- */
-export const LONG_SCRIPTS = {
-  "puts, the same byte": "version 2\nint ax=12\nput A0000 12\n" + "repeat 50000\nput A0000 12\nend\n".repeat(20),
-  "puts of a window": "version 2\nint ax=12\nput A0000 12\n" +
-    `repeat 1000\n${Array.from({ length: 1000 }, (_, i) => `put ${(0xa0001 + 8 * i).toString(16)} ${i & 1 ? "12" : "34"}`).join("\n")}\nend\n`,
-  "registers": "version 2\nint ax=12\nput A0000 12\n" +
-    "repeat 50000\noutw 3C4 0F02\noutw 3CE FF08\nout 3C8 5\nout 3C9 11\nend\n".repeat(5),
-  "puts, gets and registers": "version 2\nint ax=13\nput A0000 12\n" +
-    "repeat 50000\nput A0001 12\nget A0002\nout 3C8 3\nput A1234 77\nin 3DA\nend\n".repeat(4),
-  "lines": "int ax=13\nput A0000 12\n" + "get A0001\nout 3CE 8\nput A0004 1\nput A0000 12\n".repeat(250000),
-};
-/** What is searched for. */
-export const WATCHED = {
-  "a byte": { kind: "bytes", planes: 1, from: 0, to: 0 },
-  "bytes of all planes": { kind: "bytes", planes: 15, from: 0, to: 15 },
-  "a register": { kind: "register", group: "crtc", index: 1, title: "" },
-  "map mask": { kind: "register", group: "seq", index: 2, title: "" },
-  "an entry of the DAC": { kind: "colour", index: 9 },
-  "any entry": { kind: "register", group: "dac", index: null, title: "" },
-};
-
-/**
- * The milliseconds of each search in a session, from its end back; the last one is for the
- * picture's first dot. Each is the least of some rounds, which end once it is within `most`.
- */
-export function timesOfSearches(session, rounds = 3, most = 0) {
-  const searches = Object.entries(WATCHED).map(([name, point]) =>
-    [name, () => new Search(session, [point], session.length + 1, true)]);
-  searches.push(["a dot", () => new DotSearch(session, { line: 0, dot: 0 }, session.length, { isDrawn: false })]);
-  return Object.fromEntries(searches.map(([name, made]) => {
-    let least = Infinity, steps = null;
-    for (let round = 0; round < rounds && least > most; round++) {
-      const begun = performance.now(), search = made();
-      let told = null;
-      while (!told) told = search.take(14);
-      least = Math.min(least, performance.now() - begun);
-      steps = told.steps ?? 0;
-    }
-    return [name, { time: least, steps }];
-  }));
+/** All places of some words, as a search finds them in slices of no time. */
+function placesOf(text, words) {
+  const search = new TextSearch(text, words);
+  let slices = 1;
+  while (!search.take(0)) slices++;
+  return { slices, search, places: Array.from({ length: search.length }, (_, i) => search.at(i)) };
 }
+
+test("all places of some words, in letters of either case", () => {
+  const { places } = placesOf("out 3c4\nOUT 3C4 out\n; (out) 3.4\n", "out");
+  assert.deepEqual(places, [0, 8, 16, 23]);
+  // Words are no pattern.
+  assert.deepEqual(placesOf("out 3c4\n; 3.4 (x) [\\", "3.4").places, [10]);
+  assert.deepEqual(placesOf("a(b", "(").places, [1]);
+  assert.deepEqual(placesOf("; é\u0130x É", "é").places, [2, 6]);
+  for (const { text } of examples()) {
+    for (const words of ["frame", "int ax=", "3c", "; ", "\n"]) {
+      const plain = [], low = text.toLowerCase();
+      for (let at = low.indexOf(words); at >= 0; at = low.indexOf(words, at + words.length)) plain.push(at);
+      assert.deepEqual(placesOf(text, words).places, plain);
+    }
+  }
+});
+
+test("a long text is searched in slices, and the next find is told from any place", () => {
+  const { slices, search, places } = placesOf("frame\n".repeat(200000), "frame");
+  assert.ok(slices > 100 && places.length === 200000, `${slices} slices`);
+  assert.deepEqual([0, 1, 6, 1199995].map(place => search.numberFrom(place)), [0, 1, 1, 0]);
+  assert.deepEqual([0, 1, 6, 1199995].map(place => search.numberFrom(place, true)), [199999, 0, 0, 199999]);
+  assert.equal(placesOf("frame", "x").search.numberFrom(0), -1);
+});
+
+/** What a search of the steps finds in slices of no time, and how many they are. */
+function found(session, words, from, isBack = false) {
+  const search = new StepSearch(session, words, from, isBack);
+  for (let slices = 1; ; slices++) {
+    const told = search.take(0);
+    if (told) return { steps: told.steps, slices };
+  }
+}
+
+test("the next step, and the last, whose words or answer have some words", async () => {
+  const adapter = await loadAdapter();
+  for (const { text } of examples()) {
+    const session = runWhole(new Session(adapter, FONTS, text)), { outline, length } = session;
+    for (const words of ["frame", "3d", "ok", "picture 7", "E1", "no such words"]) {
+      const has = step => [outline.wordsOf(outline.entryOf(step)), session.answerOf(step)]
+        .some(told => told.toLowerCase().includes(words.toLowerCase()));
+      for (const from of [0, 1, length >> 1, length]) {
+        const all = Array.from({ length }, (_, i) => i), after = i => (from + i) % length;
+        const next = all.map(after).find(has), last = all.map(i => (2 * length + from - 2 - i) % length).find(has);
+        assert.equal(found(session, words, from).steps, next === undefined ? 0 : next + 1);
+        assert.equal(found(session, words, from, true).steps, last === undefined ? 0 : last + 1);
+      }
+    }
+    session.close();
+  }
+});
+
+test("three million steps are searched in slices that are short", async () => {
+  const session = runWhole(new Session(await loadAdapter(), FONTS, `${LONG}show beam\n`));
+  const search = new StepSearch(session, "show beam", 0), times = [];
+  for (let told = null; !told;) {
+    const begun = performance.now();
+    told = search.take(8);
+    times.push(performance.now() - begun);
+    if (told) assert.equal(told.steps, 3000002);
+  }
+  assert.ok(times.sort((one, other) => one - other)[times.length >> 1] < 20, `${times.length} slices`);
+  assert.equal(found(session, "nothing of this", 5).steps, 0);
+});
+
+test("which texts can't be edited, in a sentence; and the lines of a text that is shown", () => {
+  assert.equal(whyNotEdited("frame\n".repeat(MOST_LINES - 1)), "");
+  assert.match(whyNotEdited("frame\n".repeat(MOST_LINES)), /^This text has 300,001 lines, and the page edits/);
+  assert.match(whyNotEdited("x".repeat(8000001)), /has 8,000,001 characters/);
+  assert.match(whyNotEdited(`\n${"x".repeat(200001)}\nframe`), /has a line of 200,001 characters/);
+  assert.equal(whyNotEdited(""), "");
+  const text = "a\n\nbc\n", long = Object.assign(Object.create(LongText.prototype), { text, starts: lineStarts(text) });
+  assert.deepEqual([1, 2, 3, 4].map(line => long.lineText(line)), ["a", "", "bc", ""]);
+  assert.deepEqual([0, 1, 2, 3, 4, 6].map(place => long.lineAt(place)), [1, 1, 2, 3, 3, 4]);
+});

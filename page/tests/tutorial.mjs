@@ -6,6 +6,7 @@ import assert from "node:assert/strict";
 import { mkdirSync, readFileSync, writeFileSync } from "node:fs";
 import { resolve } from "node:path";
 import { pathToFileURL } from "node:url";
+import { TEXT, pasteOver, select } from "./editing.mjs";
 import { begun } from "./engines.mjs";
 import { IDLE } from "./jumps.mjs";
 import { PAGE, TOP } from "./loading.mjs";
@@ -39,10 +40,7 @@ async function stepIs(step, count) {
 
 /** Pastes a script of the tutorial over the one in the page, and shows its last step. */
 async function paste(number, count, told) {
-  await browser.click("#text");
-  await browser.selectAll();
-  await browser.paste(blocks[number]);
-  assert.equal(await browser.value("document.getElementById('text').value"), blocks[number]);
+  await pasteOver(browser, blocks[number]);
   await atTheEnd(count, told);
 }
 
@@ -56,11 +54,8 @@ async function atTheEnd(count, told) {
 
 /** Changes a word of the script, as a hand would. */
 async function change(old, word) {
-  await browser.value(`(() => {
-    const area = document.getElementById("text"), at = area.value.indexOf("${old}");
-    area.focus();
-    area.setSelectionRange(at, at + ${old.length});
-  })()`);
+  const at = (await browser.value(TEXT)).indexOf(old);
+  await select(browser, at, at + old.length);
   await (word.includes("\n") ? browser.paste(word) : browser.type(word));
   await ready();
   await press("Escape");

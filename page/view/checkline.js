@@ -10,10 +10,12 @@ export class CheckLine {
   #comparer;
   #box = byId("compared");
 
-  /** `module`: the adapter's bytes, of which the worker makes a module of its own. */
-  constructor(module) {
-    const { textContent } = document.querySelector("script[type=module]");
-    this.#comparer = new Comparer(module, textContent);
+  /**
+   * `module`: the adapter's bytes, of which the worker makes a module of its own. `code`: the page's
+   * script.
+   */
+  constructor(module, code) {
+    this.#comparer = new Comparer(module, code);
   }
 
   /** Compares a run that is done. */

@@ -30,7 +30,7 @@ export class Keyboard {
   }
 
   #pressed(event) {
-    if (document.querySelector("dialog[open]")) return;
+    if (event.defaultPrevented || document.querySelector("dialog[open]")) return;
     const inText = event.target === this.#editor.area, isTyping = takesText(event.target);
     if ((inText || !isTyping) && this.#pressedUndo(event)) return event.preventDefault();
     if (event.altKey || event.metaKey) return;
@@ -74,7 +74,8 @@ export class Keyboard {
     if (control === "tab") return this.#tabs.openNumber(Number(key));
     if (this.#orders[control]) return this.#orders[control]();
     const made = byId(control);
-    if (control === "gotonumber" || control === "text") return made.focus();
+    if (control === "text") return this.#editor.focus();
+    if (control === "gotonumber") return made.focus();
     if (control === "savemenu") return this.#menu.toggle();
     return made.hidden || made.click();
   }

@@ -32,6 +32,8 @@ export const KEYS = [
   ["U", "back to the script that stood here before", ["u"], "takeback"],
   ["O, L, S", "open a file, make a link, save", ["o"], "openfile"],
   ["", "", ["l"], "share"], ["", "", ["s"], "savemenu"],
+  ["/ or Ctrl+Shift+F", "find a step by its words or its answer", ["/", "Shift+/"], "findsteps"],
+  ["F1", "the steps of a script, each with an example", ["F1"], "language"],
   ["?", "this help", ["?", "Shift+?"], "help"],
 ];
 /** What keys do in the script. */
@@ -39,6 +41,10 @@ const IN_THE_SCRIPT = [
   ["Ctrl+Enter", "go to the line of the caret"],
   ["F9 or Ctrl+B", "set or remove a breakpoint at the line of the caret"],
   ["Ctrl+Z, Ctrl+Y", "undo a change, also that another script was loaded; do it again"],
+  ["Ctrl+F, F3", "find words in the script; the next find"],
+  ["Ctrl+Space", "what can stand at the caret: Enter or Tab takes it, Esc closes the list"],
+  ["Ctrl+I or Shift+F1", "what the word at the caret means; Esc closes it"],
+  ["Tab", "leaves the script, as Esc does"],
   ["F8, F10", "run, a step forward"],
 ];
 
@@ -56,9 +62,9 @@ export function keyName(event) {
 }
 
 /** Whether keys that are pressed at an element are letters of a text. */
-export function takesText({ tagName, type }) {
+export function takesText({ tagName, type, isContentEditable }) {
   const isText = tagName === "INPUT" && !["checkbox", "button", "range"].includes(type);
-  return tagName === "TEXTAREA" || isText;
+  return tagName === "TEXTAREA" || isText || isContentEditable === true;
 }
 
 /** Whether a key is that of a list of choices, which goes up and down and to letters. */

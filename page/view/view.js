@@ -36,6 +36,8 @@ import { MOST_WATCHES, Watches } from "../explain/watches.js";
 import { WritePanel } from "../panels/writepanel.js";
 import { byId, setText } from "../common/dom.js";
 import { bytesOfBase64, grouped } from "../common/bytes.js";
+import { Helper } from "../help/helper.js";
+import { Judge, LONG_TEXT } from "../run/judging.js";
 import { copyLink, showLink } from "../files/linking.js";
 import { followRowHeight } from "../common/rows.js";
 import { frameSeconds } from "../files/saving.js";
@@ -44,7 +46,7 @@ import { pointText } from "../run/points.js";
 
 /** The time of a frame while none is shown, in milliseconds. */
 const NO_FRAME_TIME = 4;
-const MOST_WORDS = 160;
+const MOST_WORDS = 160, READING = "reading the script …";
 
 /** The page over a module, with the data that it was built with. */
 export class View {
@@ -80,7 +82,10 @@ export class View {
       frameTime: seen => (seen ? 1000 * frameSeconds(seen.after.registers) : NO_FRAME_TIME),
     });
     this.transport = new Transport(this.runner, () => this.#activePoints, this.guarded);
-    this.checkLine = new CheckLine(this.module);
+    // The script that a worker runs too.
+    const { textContent } = document.querySelector("script[type=module]");
+    this.checkLine = new CheckLine(this.module, textContent);
+    this.judge = new Judge(this.module, textContent);
     this.lastStep = new LastStep(this.data.pages);
     const settings = new Settings();
     this.panes = new Panes(settings);
@@ -92,7 +97,7 @@ export class View {
   }
 
   #makeScript() {
-    this.scripts = new Scripts(this.data.examples, new Drafts(),
+    this.scripts = new Scripts(this.data.scripts, new Drafts(),
       text => this.notice.tell(text, true));
     this.editor = new Editor({
       typed: (change, old) => this.desk.typed(change, old),
@@ -101,7 +106,7 @@ export class View {
     });
     this.pointPanel = new PointPanel({ changed: points => this.#pointsChanged(points) });
     this.desk = new Desk(this.editor, this.scripts, this.pointPanel, {
-      changed: () => this.checkLine.clear(),
+      changed: () => this.#forget(),
       run: awaited => this.guarded(() => this.#run(awaited)),
     });
     this.desk.listenTo(byId("examples"), this.guarded);
@@ -207,6 +212,7 @@ export class View {
     for (const [name, does] of Object.entries(clicks)) {
       byId(name).addEventListener("click", () => this.guarded(does));
     }
+    this.helper = new Helper(this.editor, this.runner, this.data);
     this.keyboard = new Keyboard({ editor: this.editor, tabs: this.tabs, menu: this.saver.menu,
       goToLine: line => this.guarded(() => this.transport.goTo("line", String(line))),
       togglePoint: line => this.pointPanel.toggleLine(line),
@@ -233,11 +239,20 @@ export class View {
 
   /** Runs the text, and shows so many steps: as many as before, if it is not told, or all. */
   #run(awaited = this.runner.wanted) {
-    const { runner, editor: { text } } = this;
-    this.checkLine.clear();
+    const { runner, editor: { text, length } } = this, here = () => judgedText(this.adapter, text);
+    this.#forget();
     runner.halt();
+    if (length <= LONG_TEXT) return this.#runJudged(text, awaited, here);
+    this.judge.start(text, there =>
+      this.guarded(() => this.#runJudged(text, awaited, there ?? here)));
+    return this.#update();
+  }
+
+  /** Runs a text that was read, or tells why it can't. */
+  #runJudged(text, awaited, judge) {
+    const { runner } = this;
     try {
-      const judged = judgedText(this.adapter, text);
+      const judged = judge();
       runner.close();
       runner.start(new Session(this.adapter, this.fonts.bytes, text, judged), awaited);
       this.#setStale(false, null);
@@ -246,6 +261,12 @@ export class View {
       this.#setStale(true, bad);
       if (!bad) throw error;
     }
+  }
+
+  /** What is done with the text that stood there goes no further. */
+  #forget() {
+    this.judge.stop();
+    this.checkLine.clear();
   }
 
   /** Tells whether what is shown is of another text than that in the editor, and its bad line. */
@@ -273,7 +294,8 @@ export class View {
   /** Shows what the run does. It may tell so before the page is put together. */
   #update() {
     this.transport?.update();
-    setText(byId("state"), stateText(this.runner, { bad: this.bad, drawn: this.saver?.drawn }));
+    const told = { bad: this.bad, drawn: this.saver?.drawn };
+    setText(byId("state"), this.judge.isAtWork ? READING : stateText(this.runner, told));
   }
 
   /** Tells why the page is at a step, if a search for a change has found it. */
@@ -347,7 +369,7 @@ export class View {
 
   async #openAnew({ message }) {
     this.runner.close(true);
-    this.checkLine.clear();
+    this.#forget();
     this.adapter = await Adapter.opened(this.module);
     this.notice.tell(`The module has stopped (${message}). It is opened anew: change the script, ` +
       "and it runs again.");
