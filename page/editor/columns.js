@@ -1,4 +1,5 @@
-// Beside the script's text: the numbers of its lines with their breakpoints, and the answers of its steps.
+// Beside the script's text: the numbers of its lines with their breakpoints, and the answers of its
+// steps.
 import { Rows, isWritten } from "../common/rows.js";
 import { byId, classesOf, element, setAll, setText } from "../common/dom.js";
 import { isPlainAnswer, isRefusal, shortAnswer } from "../script/expecting.js";
@@ -17,8 +18,8 @@ export class Columns {
   }
 
   /**
-   * Shows so many lines from one on, the first at a place. `state` has what they tell: { session, steps,
-   * mark, next, bad, isStale, points }.
+   * Shows so many lines from one on, the first at a place. `state` has what they tell: { session,
+   * steps, mark, next, bad, isStale, points }.
    */
   show(count, first, top, state) {
     this.numbers.show(count, top, (made, i) => this.#fillNumber(made, first + i + 1, state));
@@ -46,7 +47,9 @@ export class Columns {
   }
 }
 
-/** The last step of a line so far, or its first one, which is to come; -1 where it has no answer. */
+/**
+ * The last step of a line so far, or its first one, which is to come; -1 where it has no answer.
+ */
 function stepOfLine(line, { session, steps, bad, isStale }) {
   if (!session || bad || isStale) return -1;
   const { outline, answers } = session, entry = outline.entryAtLine(line);

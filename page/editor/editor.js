@@ -1,8 +1,8 @@
-// The script's text: what was typed and loaded, which script it is, and what stands beside its lines.
+// The script's text: what was typed and loaded, which script it is, and what stands beside its
+// lines.
 import { Columns } from "./columns.js";
 import { History, OldText, changeOfAll } from "./history.js";
-import { LongText, MOST_LINES, whyNotEdited } from "./longtext.js";
-import { MOST_EDITED } from "./longtext.js";
+import { LongText, MOST_EDITED, MOST_LINES, whyNotEdited } from "./longtext.js";
 import { ROW } from "../common/rows.js";
 import { Scroller } from "../common/scroller.js";
 import { TextField } from "./textfield.js";
@@ -14,8 +14,8 @@ const HIGHEST_TEXT = 8000000;
 
 /**
  * The editor. `heard` has `typed(change, old)`, which answers which script the changed text is,
- * `switched(change, old)`, a change that was undone or done again, and `pointed(line)`, a breakpoint's mark
- * that was clicked. `old` is the text before: { length, text }.
+ * `switched(change, old)`, a change that was undone or done again, and `pointed(line)`, a
+ * breakpoint's mark that was clicked. `old` is the text before: { length, text }.
  */
 export class Editor {
   isLong = false;
@@ -47,7 +47,8 @@ export class Editor {
       event.preventDefault();
       this.turn(way);
     });
-    this.boxes = [this.field.scroller, byId("long")].map(box => new Scroller(box, () => this.draw()));
+    this.boxes = [this.field.scroller, byId("long")]
+      .map(box => new Scroller(box, () => this.draw()));
     new ResizeObserver(() => this.field.refresh()).observe(byId("page"));
     byId("why").firstElementChild.addEventListener("click", () => this.#toBad());
   }
@@ -70,11 +71,15 @@ export class Editor {
     return this.field.caret.line;
   }
 
-  /** Whether the field takes a change. A text that becomes too long for it is shown as one that is loaded. */
+  /**
+   * Whether the field takes a change. A text that becomes too long for it is shown as one that is
+   * loaded.
+   */
   #isTaken({ from, removed, added }) {
     const length = this.field.length + added.length - removed.length;
     if (length <= MOST_EDITED && added.length < MOST_LINES) return true;
-    const { text } = this.field, now = text.slice(0, from) + added + text.slice(from + removed.length);
+    const { text } = this.field;
+    const now = text.slice(0, from) + added + text.slice(from + removed.length);
     if (!whyNotEdited(now)) return true;
     queueMicrotask(() => this.#replaceAll(now));
     return false;
@@ -126,7 +131,10 @@ export class Editor {
     return true;
   }
 
-  /** Shows another script, a text and which script it is. The script before is there again by `turn`. */
+  /**
+   * Shows another script, a text and which script it is. The script before is there again by
+   * `turn`.
+   */
   load(text, script) {
     const removed = this.text, before = { script: this.script }, after = { script };
     this.put(text);
@@ -202,8 +210,9 @@ export class Editor {
 
   /** How much a pixel of the scroll bar is, in pixels of lines. */
   get scale() {
-    const seen = this.box.height;
-    return this.isLong ? Math.max(1, (ROW.height * this.count - seen) / Math.max(1, this.height - seen)) : 1;
+    if (!this.isLong) return 1;
+    const seen = this.box.height, lines = ROW.height * this.count - seen;
+    return Math.max(1, lines / Math.max(1, this.height - seen));
   }
 
   get scrolled() {
@@ -232,7 +241,8 @@ export class Editor {
   /** Scrolls to a line that is not in sight. */
   reveal(line) {
     const top = TOP + ROW.height * (line - 1), { scrolled, box: { height } } = this;
-    if (line && (top < scrolled || top > scrolled + height - 2 * ROW.height)) this.scrollTo(top - height / 2);
+    const isSeen = top >= scrolled && top <= scrolled + height - 2 * ROW.height;
+    if (line && !isSeen) this.scrollTo(top - height / 2);
   }
 
   /** Marks a bad line: { line, at, width, message }; null where there is none. */
@@ -286,7 +296,8 @@ export class Editor {
   }
 
   draw() {
-    const { box, scrolled } = this, { first, last } = rowsInSight(scrolled, box.height, ROW.height, this.count);
+    const { box, scrolled } = this;
+    const { first, last } = rowsInSight(scrolled, box.height, ROW.height, this.count);
     const count = Math.max(0, last - first), top = TOP + ROW.height * first - scrolled;
     const marked = this.bad?.line ?? this.mark;
     this.columns.show(count, first, top, this);

@@ -1,12 +1,13 @@
-// The changes of the script's text, which are undone one by one: what was typed and what was loaded.
+// The changes of the script's text, which are undone one by one: what was typed and what was
+// loaded.
 
 /** The changes that are kept have so many characters at most, removed and added. */
 const MOST_CHANGED = 1 << 26;
 const NEWLINE = 10;
 
 /**
- * How a text became another: { from, removed, added }. The caret stands at the end of what was added,
- * which tells where a line was inserted among others like it.
+ * How a text became another: { from, removed, added }. The caret stands at the end of what was
+ * added, which tells where a line was inserted among others like it.
  */
 export function changeBetween(old, now, caret = now.length) {
   const shorter = Math.min(old.length, now.length);
@@ -20,7 +21,9 @@ export function changeBetween(old, now, caret = now.length) {
   return { from, removed, added };
 }
 
-/** A text without a change that has made it what it is now: { length, text }. `now` has both too. */
+/**
+ * A text without a change that has made it what it is now: { length, text }. `now` has both too.
+ */
 export class OldText {
   #now;
   #change;
@@ -40,7 +43,9 @@ function changedBack(text, { from, removed, added }) {
   return text.slice(0, from) + removed + text.slice(from + added.length);
 }
 
-/** Several changes that were made one after the other as one change; `now` is the text since then. */
+/**
+ * Several changes that were made one after the other as one change; `now` is the text since then.
+ */
 export function changeOfAll(changes, now) {
   if (changes.length === 1) return changes[0];
   const old = changes.reduceRight((text, change) => changedBack(text, change), now.text);
@@ -60,8 +65,8 @@ function lineEnds(text, from = 0, to = text.length) {
 }
 
 /**
- * The numbers that lines of a text have after a change of it, by their numbers; of a line that is gone,
- * none. A line goes where its first word goes.
+ * The numbers that lines of a text have after a change of it, by their numbers; of a line that is
+ * gone, none. A line goes where its first word goes.
  */
 export function linesAfter(old, { from, removed, added }) {
   const to = from + removed.length, more = lineEnds(added) - lineEnds(removed);
@@ -97,9 +102,9 @@ function goesOn(last, next) {
 }
 
 /**
- * The changes so far, and those that were undone. A change is { from, removed, added, before, after,
- * isWhole }: `before` and `after` are { script }, which script the text was, and `isWhole` tells that
- * another one was loaded.
+ * The changes so far, and those that were undone. A change is { from, removed, added, before,
+ * after, isWhole }: `before` and `after` are { script }, which script the text was, and `isWhole`
+ * tells that another one was loaded.
  */
 export class History {
   constructor(most = MOST_CHANGED) {

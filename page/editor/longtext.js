@@ -3,7 +3,10 @@ import { ROW, Rows, isWritten } from "../common/rows.js";
 import { classesOf, element, setAll, setText } from "../common/dom.js";
 import { grouped } from "../common/bytes.js";
 
-/** The field has texts of so many lines and characters at most: browsers have no elements that are much higher. */
+/**
+ * The field has texts of so many lines and characters at most: browsers have no elements that are
+ * much higher.
+ */
 export const MOST_LINES = 300000, MOST_EDITED = 8000000, LONGEST_EDITED = 200000;
 const WIDEST_LINE = 400;
 
@@ -18,7 +21,8 @@ export function lineStarts(text) {
 
 /** Why a text can't be edited in the page, in a sentence; an empty text where it can. */
 export function whyNotEdited(text) {
-  const told = why => `This text ${why}, and the page edits no text that long; it runs all the same.`;
+  const told = why =>
+    `This text ${why}, and the page edits no text that long; it runs all the same.`;
   if (text.length > MOST_EDITED) return told(`has ${grouped(text.length)} characters`);
   let lines = 1, begin = 0;
   for (let at = text.indexOf("\n"); at >= 0; at = text.indexOf("\n", begin)) {
@@ -53,7 +57,8 @@ export class LongText {
 
   /** A line as it stands, with its number from 1. */
   lineText(line) {
-    return this.text.slice(this.starts[line - 1], this.starts[line] ? this.starts[line] - 1 : undefined);
+    const { [line - 1]: begin, [line]: next } = this.starts;
+    return this.text.slice(begin, next ? next - 1 : undefined);
   }
 
   /** The number of the line at a place, in characters from the text's begin. */
@@ -74,10 +79,11 @@ export class LongText {
 
   /** Shows so many lines from one on, the first at a place of the box, and one of them marked. */
   show(count, first, top, here) {
-    this.lines.show(count, top, (made, i) => this.#fill(made, first + i + 1, first + i + 1 === here));
+    this.lines.show(count, top, (made, i) => this.#fill(made, first + i + 1, here));
   }
 
-  #fill(made, line, isHere) {
+  #fill(made, line, here) {
+    const isHere = line === here;
     if (isWritten(made, this.starts, line, isHere, ROW.height)) return;
     setText(made, this.lineText(line).slice(0, WIDEST_LINE));
     setAll(made, { className: classesOf("longrow", isHere && "here") });

@@ -114,8 +114,8 @@ export class Scripts {
   }
 
   /**
-   * Shows which script stands there now; its text, which `typed` has, is kept if it is the user's own.
-   * `isAsked` tells that the address asks for it.
+   * Shows which script stands there now; its text, which `typed` has, is kept if it is the user's
+   * own. `isAsked` tells that the address asks for it.
    */
   show(script, typed, isAsked = false) {
     const isOther = this.now !== script;
@@ -131,7 +131,9 @@ export class Scripts {
     this.note(script.isExample && !isAsked ? { example: script.name } : null);
   }
 
-  /** Keeps a short text at once. A long one takes time, so it is kept a moment after the first key. */
+  /**
+   * Keeps a short text at once. A long one takes time, so it is kept a moment after the first key.
+   */
   keepSoon(script, typed, isOther) {
     if (isOther || typed.length <= MUCH_TEXT || typed.length > LONGEST_KEPT) {
       this.waiting = null;

@@ -1,14 +1,15 @@
-// A bar to search by: a field for words, what came of it, and buttons to the next and the last find.
+// A bar to search by: a field for words, what came of it, and buttons to the next and the last
+// find.
 import { element } from "../common/dom.js";
 
 /**
- * The bar in a box. `heard` has `typed(words)`, the words were changed; `asked(words, isBack)`, the next or
- * the last find is asked for; and `closed()`.
+ * The bar in a box. `heard` has `typed(words)`, the words were changed; `asked(words, isBack)`, the
+ * next or the last find is asked for; and `closed()`.
  */
 export class SearchBar {
   constructor(box, label, heard) {
-    const button = (text, title, onclick) =>
-      element("button", { type: "button", title, "aria-label": title.split(" (")[0], onclick }, text);
+    const button = (text, title, onclick) => element("button",
+      { type: "button", title, "aria-label": title.split(" (")[0], onclick }, text);
     this.box = box;
     this.heard = heard;
     this.field = element("input", { type: "search", "aria-label": label, placeholder: label,

@@ -49,7 +49,9 @@ export class TextSearch {
     return this.#places[number];
   }
 
-  /** The number of the first find at or after a place, or of the last one before it; -1 for none. */
+  /**
+   * The number of the first find at or after a place, or of the last one before it; -1 for none.
+   */
   numberFrom(place, isBack) {
     let low = 0, high = this.length;
     while (low < high) {

@@ -47,8 +47,10 @@ export class StepFinder {
       this.bar.say(`looked at ${grouped(search.looked)} of ${grouped(search.count)}`);
       return setTimeout(() => this.#turn(search, session, from));
     }
-    if (!found.steps) return this.#stop(session.isDone ? "not found" : "not found in the steps so far");
+    const isAll = session.isDone ? "" : " in the steps so far";
+    if (!found.steps) return this.#stop(`not found${isAll}`);
     this.#runner.go(found.steps);
-    return this.#stop(`step ${grouped(found.steps)}` + (found.steps === from ? ", the only one" : ""));
+    const isSame = found.steps === from ? ", the only one" : "";
+    return this.#stop(`step ${grouped(found.steps)}${isSame}`);
   }
 }

@@ -1,9 +1,11 @@
-// The field in which the script is written: CodeMirror, which the page has as `CodeMirror` before its own
-// script begins. All that is known of CodeMirror stands here, in `completion.js` and in `editor.css`.
+// The field in which the script is written: CodeMirror, which the page has as `CodeMirror` before
+// its own script begins. All that is known of CodeMirror stands here, in `completion.js` and in
+// `editor.css`.
 
 // The page undoes changes itself, and Tab leaves the text: what CodeMirror would do by these keys.
-const LEFT_ALONE = ["Tab", "Shift-Tab", "Esc", "Insert", "F1", "F9", "Ctrl-Z", "Ctrl-Y", "Shift-Ctrl-Z", "Cmd-Z",
-  "Cmd-Y", "Shift-Cmd-Z", "Ctrl-U", "Alt-U", "Ctrl-B", "Ctrl-I", "Ctrl-F", "Shift-Ctrl-F", "Cmd-F"];
+const LEFT_ALONE = ["Tab", "Shift-Tab", "Esc", "Insert", "F1", "F9", "Ctrl-Z", "Ctrl-Y",
+  "Shift-Ctrl-Z", "Cmd-Z", "Cmd-Y", "Shift-Cmd-Z", "Ctrl-U", "Alt-U", "Ctrl-B", "Ctrl-I", "Ctrl-F", "Shift-Ctrl-F",
+  "Cmd-F"];
 const MODE = "zaklimot";
 
 /** Colours a line's comment. */
@@ -16,9 +18,9 @@ function commentsApart() {
 }
 
 /**
- * A field of text in a box. `heard` has `changing(change)`, a change { from, removed, added } before it
- * is made, which may answer false and then it is not made; and `changed(changes)`, when changes were
- * made. Those that the page makes by `put` and `replace` are not told.
+ * A field of text in a box. `heard` has `changing(change)`, a change { from, removed, added }
+ * before it is made, which may answer false and then it is not made; and `changed(changes)`, when
+ * changes were made. Those that the page makes by `put` and `replace` are not told.
  */
 export class TextField {
   #isOurs = false;
@@ -30,12 +32,14 @@ export class TextField {
     CodeMirror.defineMode(MODE, commentsApart);
     this.heard = heard;
     // Screen readers read an editable element line by line, and a hidden field not at all.
-    this.cm = CodeMirror(box, { mode: MODE, inputStyle: "contenteditable", tabSize: 8, smartIndent: false,
-      electricChars: false, undoDepth: 1, spellcheck: false, screenReaderLabel: "script",
-      configureMouse: () => ({ addNew: false }), extraKeys: Object.fromEntries(LEFT_ALONE.map(key => [key, false])) });
+    this.cm = CodeMirror(box, { mode: MODE, inputStyle: "contenteditable", tabSize: 8,
+      smartIndent: false, electricChars: false, undoDepth: 1, spellcheck: false,
+      screenReaderLabel: "script", configureMouse: () => ({ addNew: false }),
+      extraKeys: Object.fromEntries(LEFT_ALONE.map(key => [key, false])) });
     this.area = this.cm.getInputField();
     this.area.id = "text";
-    for (const [name, value] of [["role", "textbox"], ["aria-multiline", "true"]]) this.area.setAttribute(name, value);
+    this.area.setAttribute("role", "textbox");
+    this.area.setAttribute("aria-multiline", "true");
     this.length = 0;
     this.cm.on("beforeChange", (_, change) => this.#noteChange(change));
     this.cm.on("changes", () => this.#tellChanges());
@@ -48,7 +52,8 @@ export class TextField {
   }
 
   #noteChange(change) {
-    const { cm } = this, from = cm.indexFromPos(change.from), removed = cm.getRange(change.from, change.to);
+    const { cm } = this, from = cm.indexFromPos(change.from);
+    const removed = cm.getRange(change.from, change.to);
     const noted = { from, removed, added: change.text.join("\n") };
     if (!this.#isOurs && this.heard.changing(noted) === false) return change.cancel();
     this.length += noted.added.length - removed.length;
@@ -132,7 +137,10 @@ export class TextField {
     });
   }
 
-  /** Types a text at lines: in place of the caret's line where that is blank, and after it elsewhere. */
+  /**
+   * Types a text at lines: in place of the caret's line where that is blank, and after it
+   * elsewhere.
+   */
   insertLines(text) {
     const { cm } = this, { line } = cm.getCursor(), old = cm.getLine(line);
     const [added, begin] = old.trim() ? [`\n${text}`, old.length] : [text, 0];

@@ -86,9 +86,10 @@ export class TextFinder {
   }
 
   #say() {
-    const { length } = this.#search, of = length === MOST_FOUND ? "more than " : "";
+    const { length } = this.#search, isCut = length === MOST_FOUND;
+    const all = `${isCut ? "more than " : ""}${grouped(length)}`;
     if (!length) this.bar.say("not found");
-    else this.bar.say(`${this.#at < 0 ? "" : `${grouped(this.#at + 1)} of `}${of}${grouped(length)}`);
+    else this.bar.say(this.#at < 0 ? all : `${grouped(this.#at + 1)} of ${all}`);
   }
 
   #end() {

@@ -1,4 +1,5 @@
-// What can stand at the caret: names of steps, ports, registers by their index, functions of the video BIOS.
+// What can stand at the caret: names of steps, ports, registers by their index, functions of the
+// video BIOS.
 import { PORTS, groupAt } from "./ports.js";
 import { BLOCK, CALL_REGISTERS, SHOWN } from "../script/grammar.js";
 import { STEPS } from "./steps.js";
@@ -6,9 +7,10 @@ import { SERVICE_ANCHORS } from "../script/refusals.js";
 import { hex } from "../common/bytes.js";
 import { serviceOf } from "./telling.js";
 
-const WINDOWS = [["A0000", "graphics"], ["B0000", "text of mode 7"], ["B8000", "text of mode 3"]];
-
 const choice = (text, told) => ({ text, told });
+
+const WINDOWS = [choice("A0000", "graphics"), choice("B0000", "text of mode 7"),
+  choice("B8000", "text of mode 3")];
 
 function stepNames() {
   return STEPS.filter(({ name }) => !name.startsWith(";"))
@@ -30,7 +32,8 @@ function callChoices(words, sections) {
   const given = words.map(word => word.split("=", 1)[0].toLowerCase());
   if (given.includes(BLOCK)) return [];
   const last = Math.max(-1, ...given.map(name => CALL_REGISTERS.indexOf(name)));
-  const left = CALL_REGISTERS.slice(last + 1).map(name => choice(`${name}=`, "a register of the call"));
+  const left = CALL_REGISTERS.slice(last + 1)
+    .map(name => choice(`${name}=`, "a register of the call"));
   if (last >= 0) return [...left, choice(`${BLOCK} `, "bytes, two digits each")];
   return Object.keys(SERVICE_ANCHORS).map(ah => [Number(ah) << 8, serviceOf(ah << 8, sections)])
     .map(([ax, service]) => choice(`ax=${hex(ax, 4)}`, service?.title ?? ""));
@@ -44,7 +47,7 @@ function choicesFor([name, ...words], sections) {
   }
   if (/^(in|out)w?$/.test(name) && !words.length) return portChoices(name);
   if (name === "out" && words.length === 1) return indexChoices(parseInt(words[0], 16));
-  if (/^(put|get)w?$/.test(name) && !words.length) return WINDOWS.map(([text, told]) => choice(text, told));
+  if (/^(put|get)w?$/.test(name) && !words.length) return WINDOWS;
   return [];
 }
 
@@ -65,7 +68,10 @@ export function choicesAt(line, column, sections) {
   return { from: start, to: column, list };
 }
 
-/** Whether the choices are shown by themselves: once a step has its name, and not amid a comment. */
+/**
+ * Whether the choices are shown by themselves: once a step has its name, and not amid a comment.
+ */
 export function opensItself(line, column) {
-  return /^[ \t]*(in|out|inw|outw|int|show)[ \t]+$/i.test(line.slice(0, column)) && !line.slice(column).trim();
+  const [before, after] = [line.slice(0, column), line.slice(column)];
+  return !after.trim() && /^[ \t]*(in|out|inw|outw|int|show)[ \t]+$/i.test(before);
 }

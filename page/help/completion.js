@@ -18,7 +18,8 @@ function keysOfItself() {
     isChosen = true;
     list.moveFocus(by);
   };
-  return { Up: move(-1), Down: move(1), Enter: (cm, list) => (isChosen ? list.pick() : endLine(cm)) };
+  return { Up: move(-1), Down: move(1),
+    Enter: (cm, list) => (isChosen ? list.pick() : endLine(cm)) };
 }
 
 /**

@@ -1,5 +1,5 @@
-// The help around the script: the search in it and in its steps, completion, tips, the panel of steps, and the
-// sections of the documentation.
+// The help around the script: the search in it and in its steps, completion, tips, the panel of
+// steps, and the sections of the documentation.
 import { Completion } from "./completion.js";
 import { Language } from "./language.js";
 import { Sections } from "./sections.js";
@@ -19,8 +19,11 @@ export class Helper {
     this.completion = new Completion(field, data.sections);
     this.tip = new Tip(field, this.sections);
     this.language = new Language(text => editor.insertLines(text), data.pages);
-    const clicks = { findtext: () => this.textFinder.open(), findsteps: () => this.stepFinder.open(),
-      language: () => this.language.open(editor.lineText(editor.line)) };
+    const clicks = {
+      findtext: () => this.textFinder.open(),
+      findsteps: () => this.stepFinder.open(),
+      language: () => this.language.open(editor.lineText(editor.line)),
+    };
     for (const [name, does] of Object.entries(clicks)) byId(name).addEventListener("click", does);
     // Before the other keys of the page, and before those of the field.
     document.addEventListener("keydown", event => this.#pressed(event), true);
@@ -49,8 +52,9 @@ export class Helper {
     const { tip, completion } = this, wasShown = tip.isShown;
     if (!["Control", "Shift"].includes(key)) tip.hide();
     if (key === "Escape") return wasShown && !completion.isOpen;
-    if (ctrlKey && (key === " " || key === "Spacebar")) completion.open();
-    else if ((ctrlKey && key.toLowerCase() === "i") || (shiftKey && key === "F1")) tip.showAtCaret();
+    const isTip = (ctrlKey && key.toLowerCase() === "i") || (shiftKey && key === "F1");
+    if (ctrlKey && key === " ") completion.open();
+    else if (isTip) tip.showAtCaret();
     else return false;
     return true;
   }

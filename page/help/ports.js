@@ -1,5 +1,5 @@
-// The ports by name, as docs/REGISTERS.md has them under "Ports"; page/tests/help.mjs holds them to it. And
-// which register a cycle of a port writes, where the lines before tell it.
+// The ports by name, as docs/REGISTERS.md has them under "Ports"; page/tests/help.mjs holds them to
+// it. And which register a cycle of a port writes, where the lines before tell it.
 import { GROUPS } from "../module/registers.js";
 
 const CRTC_BASES = [0x3b4, 0x3d4], FLIP_FLOP = 0x3c0, STATUS = [0x3ba, 0x3da];
@@ -56,7 +56,10 @@ function indexAbove(port, lineText, line) {
   return null;
 }
 
-/** The attribute controller's index, where the next write to 3C0 is its data; null where it is not told. */
+/**
+ * The attribute controller's index, where the next write to 3C0 is its data; null where it is not
+ * told.
+ */
 function attributeIndex(lineText, line) {
   const written = [];
   for (const { name, numbers: [port, value] } of stepsBefore(lineText, line)) {
@@ -76,7 +79,7 @@ const registerIn = (group, index, value) =>
  */
 export function registerOf(name, [port, value = null], lineText, line) {
   const isOut = name.startsWith("out");
-  if ((port === 0x3c2 && isOut) || (port === 0x3cc && !isOut)) return registerIn(groupOf("misc"), 0, value);
+  if (port === (isOut ? 0x3c2 : 0x3cc)) return registerIn(groupOf("misc"), 0, value);
   if (name === "outw" && groupAt(port)) return registerIn(groupAt(port), value & 0xff, value >> 8);
   if (port === FLIP_FLOP && isOut) {
     const index = attributeIndex(lineText, line);

@@ -1,5 +1,5 @@
-// The sections of the documentation that the page links to, which it shows itself. They stand in its data, as
-// tools/vga_page/sections.py makes them of docs/.
+// The sections of the documentation that the page links to, which it shows itself. They stand in
+// its data, as tools/vga_page/sections.py makes them of docs/.
 import { byId, element, pageLink } from "../common/dom.js";
 
 const LINK = /^(?:([A-Z-]+\.md))?(?:#(.*))?$/;
@@ -36,7 +36,8 @@ export class Sections {
     const whole = pageLink(this.base, page, anchor, `the whole page, ${page}`);
     whole.dataset.isWhole = "yes";
     byId("sectiontitle").textContent = section.title;
-    this.#shown.replaceChildren(...section.blocks.map(block => this.#blockOf(block, page)), element("p", {}, "See ", whole, "."));
+    const blocks = section.blocks.map(block => this.#blockOf(block, page));
+    this.#shown.replaceChildren(...blocks, element("p", {}, "See ", whole, "."));
     if (!this.#box.open) this.#box.showModal();
     this.#box.scrollTop = 0;
     return true;
@@ -47,11 +48,14 @@ export class Sections {
     if (kind === "pre") return element("pre", {}, parts[0]);
     if (kind === "h") return element("h3", {}, ...inline(parts[0]));
     if (kind === "p") return element("p", {}, ...inline(parts[0]));
-    if (kind !== "table") return element(kind, {}, ...parts.map(item => element("li", {}, ...inline(item))));
+    if (kind !== "table") {
+      return element(kind, {}, ...parts.map(item => element("li", {}, ...inline(item))));
+    }
     const row = (cells, name) => element("tr", {}, ...cells.map((cell, i) =>
       element(i ? name : "th", {}, ...inline(cell))));
     const [head, ...rows] = parts, hasHead = head.some(cell => cell.length);
-    return element("table", {}, ...(hasHead ? [row(head, "th")] : []), ...rows.map(cells => row(cells, "td")));
+    return element("table", {}, ...(hasHead ? [row(head, "th")] : []),
+      ...rows.map(cells => row(cells, "td")));
   }
 
   #inline(list, page) {
@@ -61,8 +65,8 @@ export class Sections {
       if (kind !== "a") return element(kind, {}, ...this.#inline(parts[0], page));
       const [address, inside] = parts, place = address.startsWith("#") ? page + address : address;
       const isWeb = /^https?:/.test(address);
-      return element("a", { href: isWeb ? address : this.base + place, target: "_blank", rel: "noopener" },
-        ...this.#inline(inside, page));
+      return element("a", { href: isWeb ? address : this.base + place, target: "_blank",
+        rel: "noopener" }, ...this.#inline(inside, page));
     });
   }
 }

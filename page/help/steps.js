@@ -21,7 +21,8 @@ export const STEPS = [
   shape("get", "Reads a byte of display memory, and loads the latches.", "get B8000"),
   shape("getw", "Reads a word from an address and the next.", "getw B8000"),
   { name: "int", form: `int ${CALL_REGISTERS.map(name => `${name}=N`).join(" ")} block BYTES`,
-    does: "Calls the video BIOS. AH, the high byte of ax, picks the function. What is left out is 0.",
+    does: "Calls the video BIOS. AH, the high byte of ax, picks the function. " +
+      "What is left out is 0.",
     example: "int ax=3 ; mode 3: 25 rows of 80 cells of text" },
   shape("advance", "Lets the beam go on by so many dots, a decimal number.", "advance 80000"),
   shape("frame", "Lets the beam draw to the end of the frame, and answers the picture.", "frame"),

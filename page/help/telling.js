@@ -13,13 +13,15 @@ const INDEX_DIGITS = 2;
 function toldRegister({ group, index, register, value }) {
   const number = group.registers.length > 1 ? ` ${hex(index, INDEX_DIGITS)}` : "";
   const link = { page: "REGISTERS.md", anchor: group.anchor, title: group.title };
-  if (!register) return { title: `${group.title}: no register has index ${hex(index, 2)}`, lines: [], link };
+  if (!register) {
+    return { title: `${group.title}: no register has index ${hex(index, 2)}`, lines: [], link };
+  }
   const name = `${group.title}${number}: ${register.name}`;
   if (value === null || Number.isNaN(value)) return { title: name, lines: [], link };
   const lines = register.fields.map(field => {
     const held = fieldValue(field, value);
-    return `${field.name} (bit${/[-,]/.test(field.bits) ? "s" : ""} ${field.bits}): ${hex(held, 1)}` +
-      (field.isStored ? ", only stored" : "");
+    const bits = `bit${/[-,]/.test(field.bits) ? "s" : ""} ${field.bits}`;
+    return `${field.name} (${bits}): ${hex(held, 1)}${field.isStored ? ", only stored" : ""}`;
   });
   const lost = value & ~register.kept;
   if (lost) lines.push(`bits that are not kept: ${hex(lost, 2)}`);
@@ -27,22 +29,24 @@ function toldRegister({ group, index, register, value }) {
 }
 
 function toldPort(name, port) {
-  const found = PORTS.find(one => one.port === port), link = { page: "REGISTERS.md", anchor: "ports",
-    title: "all ports" };
+  const found = PORTS.find(one => one.port === port);
+  const link = { page: "REGISTERS.md", anchor: "ports", title: "all ports" };
   const what = found?.[name.startsWith("out") ? "write" : "read"];
   return { title: `Port ${hex(port, 3)}: ${what || "nothing is decoded there"}`, lines: [], link };
 }
 
 /**
- * The function of the video BIOS that a value of AX calls: { title, anchor, part, row }, the part that AL picks
- * and what it takes, in the documentation's words; null for no function. `sections`: those of the page's data.
+ * The function of the video BIOS that a value of AX calls: { title, anchor, part, row }, the part
+ * that AL picks and what it takes, in the documentation's words; null for no function. `sections`:
+ * those of the page's data.
  */
 export function serviceOf(ax, sections) {
   const anchor = SERVICE_ANCHORS[ax >> 8], section = anchor && sections["SERVICES.md"]?.[anchor];
   if (!section) return null;
   const [head = [], ...rows] = section.blocks.find(([kind]) => kind === "table")?.slice(1) ?? [];
   const al = hex(ax & 255, 2), isByAl = head.length > 0 && plainText(head[0]) === "AL";
-  const found = rows.find(([first]) => plainText(first).startsWith(isByAl ? `${al} ` : "Arguments"));
+  const begin = isByAl ? `${al} ` : "Arguments";
+  const found = rows.find(([first]) => plainText(first).startsWith(begin));
   const part = isByAl && found ? `: ${plainText(found[0]).slice(al.length + 1)}` : "";
   return { title: section.title, anchor, part, row: found?.[1] ?? [] };
 }
@@ -56,14 +60,16 @@ function toldCall(words, sections) {
   const value = words.find(({ text }) => /^ax=[0-9a-f]{1,4}$/i.test(text))?.text.slice(3) ?? "0";
   const ax = parseInt(value, 16), found = serviceOf(ax, sections);
   const link = { page: "SERVICES.md", anchor: found?.anchor ?? "refusals", title: "the function" };
-  if (!found) return { title: `The video BIOS has no function ${hex(ax >> 8, 2)}`, lines: [], link };
+  const none = `The video BIOS has no function ${hex(ax >> 8, 2)}`;
+  if (!found) return { title: none, lines: [], link };
   const sentences = plainText(found.row).split(/(?<=\.) /).filter(text => text);
-  return { title: `Function ${found.title}, AL ${hex(ax & 255, 2)}${found.part}`, lines: sentences, link };
+  const title = `Function ${found.title}, AL ${hex(ax & 255, 2)}${found.part}`;
+  return { title, lines: sentences, link };
 }
 
 /**
- * What the word at a place of the text means: { from, to, title, lines, link }, columns of its line and
- * { page, anchor, title } of a section; null where there is nothing to tell. `lineText(line)`
+ * What the word at a place of the text means: { from, to, title, lines, link }, columns of its line
+ * and { page, anchor, title } of a section; null where there is nothing to tell. `lineText(line)`
  * answers a line by its number from 1.
  */
 export function helpAt(lineText, line, column, sections) {

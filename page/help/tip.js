@@ -1,4 +1,5 @@
-// What a word of the script means, beside it: where the pointer rests, or at the caret at a press of a key.
+// What a word of the script means, beside it: where the pointer rests, or at the caret at a press
+// of a key.
 import { byId, element, pageLink } from "../common/dom.js";
 import { helpAt } from "./telling.js";
 
@@ -19,7 +20,9 @@ export class Tip {
     over.addEventListener("pointerdown", () => this.hide());
     over.addEventListener("scroll", () => this.hide());
     // Whoever goes from the word to the tip may read it, and press its link.
-    for (const box of [over, this.#box]) box.addEventListener("pointerleave", event => this.#left(event));
+    for (const box of [over, this.#box]) {
+      box.addEventListener("pointerleave", event => this.#left(event));
+    }
   }
 
   get isShown() {
@@ -50,8 +53,9 @@ export class Tip {
     const found = helpAt(number => field.lineText(number), line, ch, data);
     if (!found) return false;
     const { title, lines, link, from } = found;
+    const items = lines.map(text => element("li", {}, text));
     this.#box.replaceChildren(element("strong", {}, title),
-      ...(lines.length ? [element("ul", {}, ...lines.map(text => element("li", {}, text)))] : [" "]),
+      items.length ? element("ul", {}, ...items) : " ",
       pageLink(base, link.page, link.anchor, `See ${link.title}.`));
     this.#box.hidden = false;
     this.#place(field.pointOf({ line, ch: from }));

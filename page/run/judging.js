@@ -1,5 +1,5 @@
-// Reads a long text in a worker, so that keys are not late meanwhile: whether each line is a step, and where
-// the steps stand. The worker is the page's own script, with a module of its own.
+// Reads a long text in a worker, so that keys are not late meanwhile: whether each line is a step,
+// and where the steps stand. The worker is the page's own script, with a module of its own.
 import { Adapter } from "../module/adapter.js";
 import { Outline } from "../script/outline.js";
 import { Trouble } from "../common/trouble.js";
@@ -15,19 +15,23 @@ export async function judgedToSend(module, text) {
     return { script, outline: outline.parts };
   } catch (error) {
     const { message, line, at, width } = error;
-    return { trouble: { message, line, at, width, isTold: error instanceof Trouble } };
+    const kind = error instanceof Trouble ? "told" : error instanceof RangeError ? "memory" : "fault";
+    return { trouble: { kind, message, line, at, width } };
   }
 }
 
 /** What was sent, as `judgedText` answers it, or a Trouble that is thrown as it would throw it. */
 export function judgedOfSent({ script, outline, trouble }, text) {
   if (!trouble) return { script, outline: Outline.of(text, outline) };
-  const { message, line, at, width, isTold } = trouble;
-  if (!isTold) throw new RangeError(message);
+  const { kind, message, line, at, width } = trouble;
+  if (kind !== "told") throw kind === "memory" ? new RangeError(message) : new Error(message);
   throw Object.assign(new Trouble(message, line), { at, width });
 }
 
-/** Reads texts in a worker, one at a time. `code` is the page's own script, which the worker runs too. */
+/**
+ * Reads texts in a worker, one at a time. `code` is the page's own script, which the worker runs
+ * too.
+ */
 export class Judge {
   #worker = null;
   #address = null;
@@ -38,9 +42,9 @@ export class Judge {
   }
 
   /**
-   * Reads a text. `told` hears a function that answers what `judgedText` answers, or throws what it throws;
-   * or null where the browser gives the page no worker. Another text, or `stop`, ends this one, and then
-   * nothing is heard.
+   * Reads a text. `told` hears a function that answers what `judgedText` answers, or throws what it
+   * throws; or null where the browser gives the page no worker. Another text, or `stop`, ends this
+   * one, and then nothing is heard.
    */
   start(text, told) {
     this.stop();

@@ -496,7 +496,7 @@ await check("frames without an end", async () => {
 
 await check("want of memory in the module", async () => {
   const page = readFileSync(PAGE, "utf-8"), { module } = pageData();
-  for (const [pages, isRun] of [[300, false], [800, true]]) {
+  for (const [pages, isRun] of [[300, false], [600, true]]) {
     const small = gzipSync(withMemory(gunzipSync(Buffer.from(module, "base64")), pages)).toString("base64");
     writeFileSync(`${folder}/small.html`, page.replace(module, small));
     const address = pathToFileURL(`${folder}/small.html`).href;

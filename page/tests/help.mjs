@@ -1,5 +1,5 @@
-// The help around the script: the steps, the ports and registers, what a word means, what can stand at the caret,
-// and the sections of the documentation that the page has.
+// The help around the script: the steps, the ports and registers, what a word means, what can stand
+// at the caret, and the sections of the documentation that the page has.
 import assert from "node:assert/strict";
 import test from "node:test";
 import { execFileSync } from "node:child_process";
@@ -14,7 +14,7 @@ import { choicesAt, opensItself } from "../help/choices.js";
 import { helpAt, plainText, serviceOf } from "../help/telling.js";
 import { judgedText } from "../run/session.js";
 import { judgedOfSent, judgedToSend } from "../run/judging.js";
-import { TOP, loadAdapter, moduleBytes, pageData } from "./loading.mjs";
+import { TOP, loadAdapter, moduleBytes, pageData, withMemory } from "./loading.mjs";
 
 const unpacked = text => JSON.parse(gunzipSync(Buffer.from(text, "base64")));
 const DATA = pageData(), SECTIONS = unpacked(DATA.sections);
@@ -159,6 +159,9 @@ test("a text that a worker reads comes out as one that the page reads", async ()
     return true;
   });
   await assert.rejects(there(";".repeat((1 << 24) + 1)), /more than 16,777,216 bytes/);
+  await assert.rejects(async () => judgedOfSent(await judgedToSend(withMemory(module, 300), "put A0000 11\n".repeat(1290555))),
+    RangeError);
+  await assert.rejects(async () => judgedOfSent(await judgedToSend(module.subarray(0, 99), "frame")), Error);
 });
 
 test("what the tools make of Markdown", () => {

@@ -1,6 +1,7 @@
-// How long the page takes for a paste of a megabyte, and for each key in it, from the event to the frame that shows
-// it. Keys are pressed amid the text as a person types: on and on, and with pauses after which the text is judged.
-// node page/tests/typing.mjs [ENGINE [FOLDER]]: ENGINE is chromium or firefox. ZAKLIMOT_PAGE names another page.
+// How long the page takes for a paste of a megabyte, and for each key in it, from the event to the
+// frame that shows it. Keys are pressed amid the text as a person types: on and on, and with pauses
+// after which the text is judged. node page/tests/typing.mjs [ENGINE [FOLDER]]: ENGINE is chromium
+// or firefox. ZAKLIMOT_PAGE names another page.
 import assert from "node:assert/strict";
 import { resolve } from "node:path";
 import { pathToFileURL } from "node:url";
@@ -10,10 +11,16 @@ import { IDLE, isIdle } from "./jumps.mjs";
 import { PAGE } from "./loading.mjs";
 
 const ADDRESS = pathToFileURL(resolve(PAGE)).href, WINDOW = { width: 1280, height: 860 };
-/** What a paste and a key may take, in milliseconds, on a machine without other work; and of other machines. */
+/**
+ * What a paste and a key may take, in milliseconds, on a machine without other work; and of other
+ * machines.
+ */
 const MOST_PASTE = 2000, MOST_KEY = 50, LATE = 10;
 const LINES = 23000, KEYS = 60;
-/** Milliseconds between two keys, in turn: of a quick hand, and of one that stops while the text is read and run. */
+/**
+ * Milliseconds between two keys, in turn: of a quick hand, and of one that stops while the text is
+ * read and run.
+ */
 const PACES = { "typed on": [60], "with pauses": [1020, 1080, 1150, 1250, 1400, 1650] };
 
 /** A script of a megabyte: 23,000 steps with a comment each. */

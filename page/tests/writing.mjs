@@ -1,7 +1,7 @@
-// Who writes a script in a browser, with keys and pointer: search, completion, tips, the panel of steps, the
-// documentation's sections, bad lines, and texts that are too long.
-// node page/tests/writing.mjs [ENGINE [WORDS]]: ENGINE is chromium or firefox. With WORDS only the checks are done
-// whose names have them. ZAKLIMOT_PAGE names another page.
+// Who writes a script in a browser, with keys and pointer: search, completion, tips, the panel of
+// steps, the documentation's sections, bad lines, and texts that are too long. node
+// page/tests/writing.mjs [ENGINE [WORDS]]: ENGINE is chromium or firefox. With WORDS only the
+// checks are done whose names have them. ZAKLIMOT_PAGE names another page.
 import assert from "node:assert/strict";
 import { resolve } from "node:path";
 import { pathToFileURL } from "node:url";

@@ -11,8 +11,8 @@ export class CheckLine {
   #box = byId("compared");
 
   /**
-   * `module`: the adapter's bytes, of which the worker makes a module of its own. `code`: the page's
-   * script.
+   * `module`: the adapter's bytes, of which the worker makes a module of its own. `code`: the
+   * page's script.
    */
   constructor(module, code) {
     this.#comparer = new Comparer(module, code);
