@@ -57,8 +57,9 @@ export class OtherTrace {
 
   /** Compares the trace with a run that is done; yields now and then. */
   * compare(session) {
-    Object.assign(this, { differences: [], count: 0, note: "" });
-    this.#read = this.#skipped = 0;
+    this.differences = [];
+    this.count = this.#read = this.#skipped = 0;
+    this.note = "";
     const cycles = this.#cycles(), known = new Map();
     for (let step = 0; step < session.length; step++) {
       if (step % CHUNK === CHUNK - 1) yield;
