@@ -30,6 +30,9 @@ function seasoned(bytes, random) {
   const cursor = random.below(65536);
   if (random.below(2)) for (const [at, value] of [[14, cursor >> 8], [15, cursor & 255]]) bytes[41 + at] = value;
   if (random.below(2)) [bytes[41 + 12], bytes[41 + 13]] = [bytes[41 + 14], bytes[41 + 15]];
+  // Frames at which blinking and the cursor change, and a cursor that is high.
+  if (random.below(2)) bytes[41 + 26] = random.one([0, 7, 8, 15, 16, 23, 24, 31]);
+  if (random.below(2)) [bytes[41 + 10], bytes[41 + 11]] = [0, 31];
   for (let at = 0; at < 65536; at += 3) bytes[894 + 65536 + at] = [1, 9, 0x81, 0x80][at & 3];
   for (let at = 0; at < 65536; at += 4) bytes[894 + at] = 0xc0 + (at >> 2 & 31);
   return bytes;

@@ -101,6 +101,18 @@ test("subjects: each that a panel names has a title, a value and a search", () =
   }
 });
 
+test("a search for a field looks at the field's bits alone", () => {
+  const text = "int ax=12\noutw 3CE 0105\noutw 3CE 0905\nout 3C6 0F\nin 3DA\nout 3C0 0\nout 3C0 20";
+  const session = runWhole(new Session(adapter, FONTS, text));
+  const last = words => {
+    const search = subjectOf(words).search(session, session.length, false);
+    for (let told = null; ; told = search.take(100)) if (told) return told.steps;
+  };
+  assert.deepEqual(["field gfx 05 1-0", "field gfx 05 3", "register gfx 05", "dacmask", "source",
+    "bios mode"].map(last), [2, 3, 3, 4, 6, 1]);
+  session.close();
+});
+
 test("the watch list keeps its words, and forgets bad ones", () => {
   const kept = new Map(), storage = { getItem: key => kept.get(key) ?? null, setItem: (key, value) => kept.set(key, value) };
   const first = new Watches(() => storage);

@@ -24,6 +24,7 @@ function writingStep(random) {
     () => `get ${address()}`, () => `outw 3C4 ${random.one(["0F02", "0102", "0804", "0604", "0004"])}`,
     () => `outw 3CE ${random.one(["0005", "0105", "0205", "0B05", "FF08", "0F08", "0006", "0406", "0C06", "0506", "0706"])}`,
     () => `outw 3D4 ${value()}${index()}`, () => "out 3C8 0", () => `out 3C9 ${value()}`, () => `outw 3C8 ${value()}00`,
+    () => "frame", () => `in 3DA\nout 3C0 ${digits(random.below(21), 2)}\nout 3C0 ${value()}\nout 3C0 20`,
     () => "in 3DA", () => `out 3C0 ${index()}`, () => "out 3C0 20", () => `advance ${random.below(60000)}`,
     () => `int ax=9${value()} bx=${value()} cx=${random.below(5)}`, () => `int ax=1010 bx=${random.below(3)} cx=${value()}00 dx=1100`,
     () => `int ax=1000 bx=${value()}0${random.below(3)}`, () => `out 3C6 ${value()}`,
@@ -140,6 +141,50 @@ function lastChangeOf(states, place, at, frames) {
   return null;
 }
 
+/** Whether a dot of a picture is drawn, and the number of steps before it was, or is to be. */
+function drawingOf({ outline }, states, frames, place, steps) {
+  const isIn = state => state.drawn[place.line] > place.dot;
+  const isWhole = outline.nameOf(outline.entryOf(steps - 1)) === "frame", last = isWhole ? steps - 1 : steps;
+  if (!isIn(states[last])) {
+    const isDrawn = isWhole && dotAhead(states[last], place)?.isThisFrame === true;
+    return { isDrawn, at: isDrawn ? last : steps };
+  }
+  // The step that drew it: the first state of the frame in which it is drawn.
+  let at = last;
+  while (at > 0 && frames[at - 1] === frames[last] && isIn(states[at - 1])) at--;
+  return { isDrawn: true, at: at - 1 };
+}
+
+/** A dot, and steps after which a picture is seen: half of the time one in which it is drawn, if there is one. */
+function randomDot(random, states) {
+  const wanted = random.below(2) === 1;
+  for (let trial = 0; ; trial++) {
+    const place = { line: random.below(random.one([8, 400])), dot: random.below(64) };
+    const steps = 1 + random.below(states.length - 1);
+    const isDrawn = states[steps].drawn[place.line] > place.dot;
+    if (!wanted || isDrawn || trial > 50) return { place, steps };
+  }
+}
+
+test("the start address counts as it was taken at the frame's first dot", () => {
+  const last = (text, place, isDrawn = true) => {
+    const session = runWhole(new Session(adapter, FONTS, text));
+    const told = found(new DotSearch(session, place, session.length, { isDrawn }));
+    session.close();
+    return told?.steps ?? null;
+  };
+  const place = { line: 12, dot: 3 };
+  // Within the frame it shows in the next one only.
+  assert.equal(last("int ax=13\nadvance 8000\noutw 3D4 010C\nadvance 8000", place), 1);
+  assert.equal(last("int ax=13\nadvance 8000\noutw 3D4 010C", place, false), 1);
+  // Before the frame's first dot it moves the dot.
+  assert.equal(last("int ax=13\nframe\noutw 3D4 010C\nadvance 16000", place), 3);
+  assert.equal(last("int ax=13\nframe\noutw 3D4 010C\nadvance 8000\nadvance 8000", place), 3);
+  assert.equal(last("int ax=13\nframe\noutw 3D4 010C\nframe", place), 3);
+  assert.equal(last("int ax=13\nadvance 8000\noutw 3D4 010C\nadvance 400000", { line: 3, dot: 3 }), 3);
+  assert.equal(last("int ax=13\nadvance 8000\noutw 3D4 010C\nframe", { line: 3, dot: 3 }), 1);
+});
+
 test("the last step that changed a dot", () => {
   const random = new Random(31);
   let dots = 0, none = 0;
@@ -152,12 +197,8 @@ test("the last step that changed a dot", () => {
       frames.push(frames[steps - 1] + (isSame ? 0 : 1));
     }
     for (let i = 0; i < 6; i++) {
-      const steps = 1 + random.below(session.length), state = states[steps], place = { line: random.below(random.one([8, 400])), dot: random.below(64) };
-      const isDrawn = place.dot < state.drawn[place.line];
-      // The step that drew it: the first state of the frame under way in which it is drawn.
-      let at = steps;
-      while (isDrawn && at > 0 && frames[at - 1] === frames[steps] && states[at - 1].drawn[place.line] > place.dot) at--;
-      if (isDrawn) at--;
+      const { place, steps } = randomDot(random, states);
+      const { isDrawn, at } = drawingOf(session, states, frames, place, steps);
       const search = new DotSearch(session, place, steps, { isDrawn }), told = found(search);
       if (isDrawn) assert.equal(search.drawnBy, at + 1, `drawn: ${JSON.stringify(place)} at ${steps}`);
       const wanted = lastChangeOf(states, place, at, frames);

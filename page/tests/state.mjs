@@ -228,7 +228,9 @@ test("bytes that are shown by random registers, panned too, are those that chang
     card.restore([bytes]);
     const shown = shownBytes(card.registers()), plain = nextFrame(card);
     for (let trial = 0; trial < 25; trial++) {
-      const offset = random.below(3) ? random.below(65536) : shown.indexOf(1, random.below(65536)) & 65535;
+      const from = shown.indexOf(1, random.below(65536)), past = shown.indexOf(0, Math.max(0, from));
+      // Anywhere, at a byte that is shown, or right behind such bytes.
+      const offset = random.one([random.below(65536), from, past + random.below(3)]) & 65535;
       const other = bytes.slice();
       for (const plane of [0, 1, 2, 3]) other[894 + 65536 * plane + offset] = 255;
       card.restore([other]);
@@ -239,6 +241,6 @@ test("bytes that are shown by random registers, panned too, are those that chang
       else if (!shown[offset]) hides++;
     }
   }
-  assert.ok(shows > 150 && hides > 200, `${shows} ${hides}`);
+  assert.ok(shows > 100 && hides > 200, `${shows} ${hides}`);
   session.close();
 });
