@@ -58,12 +58,16 @@ class Joining(Folder):
 
     def test_one_script_of_all_modules(self) -> None:
         script = self.joined({
-            "main.js": 'import { é } from "./one/a.js";\nstart(é);\n',
-            "one/a.js": 'import { b } from "../b.js";\nexport const é = b + "</script>";\n',
-            "b.js": "export const b = 1;\n", "tests/one.js": "",
+            "main.js": 'import { é } from "./one/a.js";\nconsole.log(é);\n',
+            "one/a.js": 'import { b } from "../b.js";\nexport const é = b() + "</script>é";\n',
+            "b.js": "export const b = () => [1, 2].at(-1);\n", "tests/one.js": "",
         })
-        self.assertLess(script.index("var b = 1;"), script.index('var é = b + "<\\/script>";'))
-        self.assertTrue(script.endswith("start(é);\n"))
+        # No character is spelt in ASCII, and nothing ends the page's script.
+        self.assertIn("é", script)
+        self.assertNotIn("</script", script)
+        if shutil.which(tests_command.NODE):
+            path = Path(self.write("joined.mjs", script))
+            self.assertEqual(tests_command.run_node([path]), "2</script>é\n")
 
     def test_what_does_not_fit_together(self) -> None:
         one = 'import { a } from "./a.js";\na();\n'

@@ -317,7 +317,7 @@ class Words(unittest.TestCase):
     def test_each_is_a_step_of_a_script(self) -> None:
         steps = {step for path in SCRIPTS.iterdir() for step in printed(path.read_bytes())}
         written = [step for line in self.lines() for step in printed(line)]
-        self.assertEqual(len(written), 4)
+        self.assertEqual(len(written), 5)
         self.assertEqual([line for line in written if line not in steps], [])
 
 
@@ -337,7 +337,7 @@ class Pictures(Folder):
     def test_each_is_its_scripts(self) -> None:
         want_program()
         commands = MAKING.findall((EXAMPLES / "README.md").read_text("utf-8"))
-        self.assertEqual(len(commands), 4)
+        self.assertEqual(len(commands), 5)
         for script, stop, words, picture in commands:
             with self.subTest(picture):
                 ran = run_program("go", TOP / script, *stop.split(), "--fonts", FONTS)
