@@ -1,14 +1,15 @@
 // The page begins: it opens the module that stands in it, and shows a script. `#check` runs all
-// examples instead. In a worker, which has no document, the same script holds answers to those of
-// zak_run.
+// examples instead. In a worker, which has no document, the same script compares answers with
+// those of zak_run, or reads a long text.
 import { Adapter } from "./module/adapter.js";
 import { Trouble } from "./common/trouble.js";
 import { View } from "./view/view.js";
 import { byId, element } from "./common/dom.js";
 import { bytesOfBase64 } from "./common/bytes.js";
 import { checkedExamples } from "./run/checking.js";
-import { examplesOf, unzipped } from "./module/packed.js";
-import { serveComparison } from "./run/comparing.js";
+import { examplesOf, unpackedJson, unzipped } from "./module/packed.js";
+import { comparedToSend } from "./run/comparing.js";
+import { judgedToSend } from "./run/judging.js";
 
 /** What some browsers lack, or have switched off, and what the page does with it. */
 const NEEDED = { WebAssembly: "runs the adapter", DecompressionStream: "unpacks the adapter" };
@@ -34,6 +35,9 @@ async function begin() {
   const data = JSON.parse(byId("zaklimot-data").textContent);
   const module = await unzipped(data.module);
   data.examples = await examplesOf(data);
+  for (const part of ["tutorial", "sections"]) data[part] = await unpackedJson(data[part]);
+  // The scripts in the list: those of the tutorial have a title too.
+  data.scripts = [...data.tutorial, ...data.examples];
   const adapter = await Adapter.opened(module);
   if (location.hash === "#check") return showCheck(adapter, data);
   return new View(adapter, module, data);
@@ -47,5 +51,12 @@ function tellOf(error) {
   if (!isOld && !(error instanceof Trouble)) throw error;
 }
 
-if (typeof document === "undefined") serveComparison();
+/** In a worker: does what the page asks for, once. */
+function serve() {
+  self.onmessage = async ({ data: { module, run, text } }) => {
+    self.postMessage(await (run ? comparedToSend(module, run) : judgedToSend(module, text)));
+  };
+}
+
+if (typeof document === "undefined") serve();
 else begin().catch(tellOf);

@@ -8,7 +8,8 @@ export function ask(question, answers) {
   const buttons = answers.map(([value, title]) => element("button", { value }, title));
   const form = element("form", { method: "dialog" }, element("p", {}, question),
     element("div", { className: "bar" }, ...buttons));
-  const box = element("dialog", { className: "ask", "aria-label": "what to do with the file" }, form);
+  const label = "what to do with the file";
+  const box = element("dialog", { className: "ask", "aria-label": label }, form);
   document.body.append(box);
   return new Promise(resolve => {
     box.addEventListener("close", () => {

@@ -47,9 +47,8 @@ export class Comparison {
     element("div", { className: "bar" }, this.#title,
       button("lastdifference", "The difference before (Shift+N)", "◀", () => this.#go(-1)),
       button("nextdifference", "The next difference (N)", "difference ▶", () => this.#go(1)),
-      button("flip", "This run's picture, and the other's, by turns (C)", "flip", () => this.#flip()),
+      button("flip", "This run's picture and the other's by turns (C)", "flip", () => this.#flip()),
       this.#views,
-      button("nextview", "The next view (V)", "view", () => this.#nextView()),
       button("endcompare", "End the comparison", "×", () => this.close())), this.#text);
     this.#views.addEventListener("change", () => {
       this.#show(this.#views.value);
@@ -61,7 +60,9 @@ export class Comparison {
 
   /** Compares a file: { report }, { png } or { trace }, as contentsOf tells them. */
   async open({ report, png, trace }, name) {
-    if (!this.#runner.session) throw new Trouble("There is no run to compare with: mend the script.");
+    if (!this.#runner.session) {
+      throw new Trouble("There is no run to compare with: mend the script first.");
+    }
     const other = report ? new OtherReport(name, report)
       : png ? await OtherPicture.opened(name, png) : new OtherTrace(name, trace);
     this.#other = other;
@@ -157,7 +158,7 @@ export class Comparison {
       parts.push(this.#difference.summary ?? this.#difference.trouble, this.#difference.note);
     }
     if (this.#other.isPicture && this.#runner.seen && !this.#runner.seen.picture.isWhole) {
-      parts.push("This is the picture so far, as its frame would end: go to the step that you mean.");
+      parts.push("This frame is under way: go to the step that you mean.");
     }
     this.#setText(parts.filter(Boolean).join(" "));
   }
@@ -202,13 +203,16 @@ export class Comparison {
     const { places = [] } = this.#difference ?? {};
     const found = way > 0 ? places.find(({ y }) => y > this.#line)
       : [...places].reverse().find(({ y }) => y < this.#line);
-    if (!found) throw new Trouble(`No ${way > 0 ? "lower" : "higher"} line of the picture differs.`);
+    if (!found) {
+      throw new Trouble(`No ${way > 0 ? "lower" : "higher"} line of the picture differs.`);
+    }
     this.#line = found.y;
     this.#markDot(found);
     const [here, there] = this.#difference.coloursAt(found)
       .map(colour => colour.map(six => hex(six, 2)).join(" "));
-    this.#setText(`Dot ${found.x} of line ${found.y}: ${here} here, ${there} there. ` +
-      this.#difference.summary);
+    const { summary, note } = this.#difference;
+    this.#setText([`Dot ${found.x} of line ${found.y}: ${here} here, ${there} there.`, summary, note]
+      .filter(Boolean).join(" "));
   }
 
   #markDot({ x, y }) {
@@ -223,7 +227,9 @@ export class Comparison {
     this.#show(this.#view === "other" ? "own" : "other");
   }
 
-  #nextView() {
+  /** Shows the next of the views. */
+  nextView() {
+    if (!this.#other) return;
     const at = VIEWS.findIndex(([view]) => view === this.#view);
     this.#show(VIEWS[(at + 1) % VIEWS.length][0]);
   }

@@ -15,7 +15,9 @@ const WIDENINGS = [
 ];
 const NO_RULE = "none";
 
-/** The rule by which all of some bytes were widened from six bits; "none" if there is no such rule. */
+/**
+ * The rule by which bytes were widened from six bits, or "none"; `isUsed` tells which there are.
+ */
 function wideningOf(isUsed) {
   const fits = ({ widen }) => {
     const made = new Set(Array.from({ length: 64 }, (_, six) => widen(six)));
@@ -44,7 +46,8 @@ export function pictureOfBytes(width, height, bytes) {
 export function wideningNote(widening) {
   if (!widening || widening === WIDENINGS[0].rule) return "";
   if (widening === NO_RULE) {
-    return "Its colours are not those of six bits widened by one rule. The upper six bits are compared.";
+    return "Its colours are not those of six bits widened by one rule. " +
+      "The upper six bits are compared.";
   }
   return `It widens six bits to eight by ${widening}, and this page by ${WIDENINGS[0].rule}. ` +
     "The six bits are compared.";
@@ -70,8 +73,8 @@ function timesText(times, [larger, smaller]) {
 }
 
 function scalingNote(across, down) {
-  const parts = [timesText(across.times, ["wide", "narrow"]), timesText(down.times, ["high", "low"])]
-    .filter(part => part);
+  const wide = timesText(across.times, ["wide", "narrow"]);
+  const parts = [wide, timesText(down.times, ["high", "low"])].filter(part => part);
   return parts.length ? `It is ${parts.join(" and ")}: each dot is compared with the nearest one.`
     : "";
 }
@@ -141,7 +144,7 @@ export class DotDifference {
 }
 
 const SAME_SHARE = 0.28, DIFFERING = 0xffff2bff, OPAQUE = 0xff000000;
-/** Dots so near to one that differs are tinted, so that it is seen where the picture stands small. */
+/** Dots so near to one that differs are tinted, so that it is seen in a small picture too. */
 const HALO = 2, HALO_COLOUR = 0xff8a178a;
 
 /** The words of a picture's dots, four bytes each, as an ImageData has them. */

@@ -44,7 +44,8 @@ export class OtherReport {
   #addPicture(step, picture) {
     const { width, height, rgb } = picture, size = 3 * width * height;
     if (!(size > 0) || rgb.length !== size || rgb.some(part => part > MOST_LEVEL)) {
-      throw new Trouble(`The picture of step ${grouped(step + 1)} in this report is none, or is cut off.`);
+      throw new Trouble(`The picture of step ${grouped(step + 1)} in this report is none, ` +
+        "or is cut off.");
     }
     this.#pictures.set(step, { picture, sum: sumOfBytes(picture.ppm) });
   }
@@ -74,7 +75,9 @@ export class OtherReport {
   #differenceAt(session, step) {
     const own = session.answers.get(step), other = this.#answers.get(step);
     const sum = this.#pictures.get(step)?.sum, ownSum = session.pictureSums.get(step);
-    if (sum !== undefined && ownSum !== undefined) return sum === ownSum ? "" : "other pictures";
+    if (sum !== undefined && ownSum !== undefined) {
+      return sum === ownSum ? "" : "the pictures differ";
+    }
     return own === other ? ""
       : `${shortened(session.answerOf(step))} here, ${shortened(other)} there`;
   }

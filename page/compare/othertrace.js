@@ -30,6 +30,12 @@ function cycleOfWords(words) {
     address: parseInt(place, 16), value: isWrite ? parseInt(given, 16) : null };
 }
 
+/** Why the comparison ends at a BIOS call. */
+function callNote(step) {
+  return `Step ${grouped(step + 1)} is a BIOS call, whose cycles stand in no script: the trace is ` +
+    "compared to there. Open it as the script to compare all.";
+}
+
 /** A trace of other hardware. */
 export class OtherTrace {
   differences = [];
@@ -51,15 +57,15 @@ export class OtherTrace {
 
   /** Compares the trace with a run that is done; yields now and then. */
   * compare(session) {
-    Object.assign(this, { differences: [], count: 0, note: "" });
-    this.#read = this.#skipped = 0;
+    this.differences = [];
+    this.count = this.#read = this.#skipped = 0;
+    this.note = "";
     const cycles = this.#cycles(), known = new Map();
     for (let step = 0; step < session.length; step++) {
       if (step % CHUNK === CHUNK - 1) yield;
       const entry = session.outline.entryOf(step), name = session.outline.nameOf(entry);
       if (NO_CYCLES.includes(name)) continue;
-      if (name === "int") return this.#end(`Step ${grouped(step + 1)} is a BIOS call, whose cycles ` +
-        "stand in no script: the trace is compared to there. Open it as the script to compare all.");
+      if (name === "int") return this.#end(callNote(step));
       if (!known.has(entry)) known.set(entry, cycleOfWords(session.outline.wordsOf(entry)));
       const why = this.#compareStep(known.get(entry), session.answers.get(step), cycles, step);
       if (why) return this.#end(why);

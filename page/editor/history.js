@@ -1,12 +1,13 @@
-// The changes of the script's text, which are undone one by one: what was typed and what was loaded.
+// The changes of the script's text, which are undone one by one: what was typed and what was
+// loaded.
 
 /** The changes that are kept have so many characters at most, removed and added. */
 const MOST_CHANGED = 1 << 26;
 const NEWLINE = 10;
 
 /**
- * How a text became another: { from, removed, added }. The caret stands at the end of what was added,
- * which tells where a line was inserted among others like it.
+ * How a text became another: { from, removed, added }. The caret stands at the end of what was
+ * added, which tells where a line was inserted among others like it.
  */
 export function changeBetween(old, now, caret = now.length) {
   const shorter = Math.min(old.length, now.length);
@@ -18,6 +19,37 @@ export function changeBetween(old, now, caret = now.length) {
   while (after < shorter - from && isSameEnd(after)) after++;
   const [removed, added] = [old, now].map(text => text.slice(from, text.length - after));
   return { from, removed, added };
+}
+
+/**
+ * A text without a change that has made it what it is now: { length, text }. `now` has both too.
+ */
+export class OldText {
+  #now;
+  #change;
+
+  constructor(now, change) {
+    this.length = now.length - change.added.length + change.removed.length;
+    this.#change = change;
+    this.#now = now;
+  }
+
+  get text() {
+    return changedBack(this.#now.text, this.#change);
+  }
+}
+
+function changedBack(text, { from, removed, added }) {
+  return text.slice(0, from) + removed + text.slice(from + added.length);
+}
+
+/**
+ * Several changes that were made one after the other as one change; `now` is the text since then.
+ */
+export function changeOfAll(changes, now) {
+  if (changes.length === 1) return changes[0];
+  const old = changes.reduceRight((text, change) => changedBack(text, change), now.text);
+  return changeBetween(old, now.text);
 }
 
 /** Whether a change leaves less than half of a text, so that another script stands there. */
@@ -33,8 +65,8 @@ function lineEnds(text, from = 0, to = text.length) {
 }
 
 /**
- * The numbers that lines of a text have after a change of it, by their numbers; of a line that is gone,
- * none. A line goes where its first word goes.
+ * The numbers that lines of a text have after a change of it, by their numbers; of a line that is
+ * gone, none. A line goes where its first word goes.
  */
 export function linesAfter(old, { from, removed, added }) {
   const to = from + removed.length, more = lineEnds(added) - lineEnds(removed);
@@ -70,9 +102,9 @@ function goesOn(last, next) {
 }
 
 /**
- * The changes so far, and those that were undone. A change is { from, removed, added, before, after,
- * isWhole }: `before` and `after` are { script }, which script the text was, and `isWhole` tells that
- * another one was loaded.
+ * The changes so far, and those that were undone. A change is { from, removed, added, before,
+ * after, isWhole }: `before` and `after` are { script }, which script the text was, and `isWhole`
+ * tells that another one was loaded.
  */
 export class History {
   constructor(most = MOST_CHANGED) {

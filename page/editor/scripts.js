@@ -7,6 +7,8 @@ import { isNewText } from "./history.js";
 /** The name of a script that has none. */
 export const NAMELESS = "script";
 const KEPT = "kept ", SHORT_TITLE = 30;
+// A text of more characters is kept so many milliseconds after it was typed.
+const MUCH_TEXT = 30000, KEPT_AFTER = 500;
 const WHY_LOST = {
   forbidden: "This browser keeps nothing for the page, so your script is gone after a reload: " +
     "save it as a file, or make a link.",
@@ -37,6 +39,8 @@ export class Scripts {
     for (const event of ["pointerdown", "focus"]) {
       this.list.addEventListener(event, () => this.fill());
     }
+    addEventListener("pagehide", () => this.keepNow());
+    document.addEventListener("visibilitychange", () => this.keepNow());
     this.fill();
   }
 
@@ -49,7 +53,10 @@ export class Scripts {
     const group = (label, options) => element("optgroup", { label }, ...options);
     list.replaceChildren(new Option("your own script", ""),
       ...kept.length ? [group("Your last scripts", kept)] : [],
-      group("Examples", this.examples.map(({ name }) => new Option(name, name))));
+      group("Tutorial", this.examples.filter(({ title }) => title)
+        .map(({ name, title }) => new Option(title, name))),
+      group("Examples", this.examples.filter(({ title }) => !title)
+        .map(({ name }) => new Option(name, name))));
     this.choose();
   }
 
@@ -95,9 +102,10 @@ export class Scripts {
     return { name: short, about, isExample: false, id: isOwn ? newId() : "" };
   }
 
-  /** Which script a text is after it was typed over. */
-  afterChange(text, change, old) {
-    const { now } = this, example = this.examples.find(one => one.text === text);
+  /** Which script a text is after it was typed over. `typed` has it: { length, text }. */
+  afterChange(typed, change, old) {
+    const isThis = one => one.text.length === typed.length && one.text === typed.text;
+    const { now } = this, example = this.examples.find(isThis);
     if (example) return now.isExample && now.name === example.name ? now : this.scriptOf(example);
     const isNew = isNewText(old, change);
     if (now.id && !isNew) return now;
@@ -106,24 +114,48 @@ export class Scripts {
   }
 
   /**
-   * Shows which script stands there now; its text is kept if it is the user's own. `isAsked` tells
-   * that the address asks for it.
+   * Shows which script stands there now; its text, which `typed` has, is kept if it is the user's
+   * own. `isAsked` tells that the address asks for it.
    */
-  show(script, text, isAsked = false) {
+  show(script, typed, isAsked = false) {
     const isOther = this.now !== script;
+    if (isOther) this.keepNow();
     this.now = script;
     if (isOther) {
       byId("about").textContent = script.about;
       document.title = `${script.name}: Zaklimot`;
     }
-    if (script.id) this.keep(script, text);
+    if (script.id) this.keepSoon(script, typed, isOther);
     if (isOther) this.choose();
     if (!isOther || script.id) return;
     this.note(script.isExample && !isAsked ? { example: script.name } : null);
   }
 
+  /**
+   * Keeps a short text at once. A long one takes time, so it is kept a moment after the first key.
+   */
+  keepSoon(script, typed, isOther) {
+    if (isOther || typed.length <= MUCH_TEXT || typed.length > LONGEST_KEPT) {
+      this.waiting = null;
+      return this.keep(script, typed.length > LONGEST_KEPT ? null : typed.text);
+    }
+    this.waiting = { script, text: typed.text };
+    this.timer ??= setTimeout(() => this.keepNow(), KEPT_AFTER);
+    return null;
+  }
+
+  /** Keeps what still waits for it. */
+  keepNow() {
+    const { waiting } = this;
+    clearTimeout(this.timer);
+    this.timer = undefined;
+    this.waiting = null;
+    if (waiting) this.keep(waiting.script, waiting.text);
+  }
+
+  /** Keeps a text; null is one that is too long. */
   keep(script, text) {
-    const wrong = this.drafts.keep(script, text);
+    const wrong = text === null ? "long" : this.drafts.keep(script, text);
     if (!wrong) return this.note({ kept: script.id });
     if (!this.#warned.has(wrong)) this.tell(WHY_LOST[wrong]);
     return this.#warned.add(wrong);

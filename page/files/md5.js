@@ -38,6 +38,6 @@ export function md5(bytes) {
     }
     [a, b, c, d].forEach((sum, i) => { sums[i] += sum; });
   }
-  const digits = Array.from(new Uint8Array(sums.buffer), byte => byte.toString(16).padStart(2, "0"));
-  return digits.join("");
+  const bytes16 = new Uint8Array(sums.buffer);
+  return Array.from(bytes16, byte => byte.toString(16).padStart(2, "0")).join("");
 }

@@ -53,7 +53,7 @@ export class Opener {
   constructor(data, scripts, tabs, heard) {
     this.#data = data;
     this.#scripts = scripts;
-    this.#names = { tabs, examples: data.examples.map(({ name }) => name) };
+    this.#names = { tabs, examples: data.scripts.map(({ name }) => name) };
     this.#heard = heard;
   }
 

@@ -100,8 +100,8 @@ export async function bytesOfFiles(files) {
 }
 
 /**
- * What a file is: { fonts }; { png } or { report }, the bytes of one; or { text } of a script, which
- * a trace is too, with the `trace` as it stands. `adapter` prints scripts of bytes.
+ * What a file is: { fonts }; { png } or { report }, the bytes of one; or { text } of a script,
+ * which a trace is too, with the `trace` as it stands. `adapter` prints scripts of bytes.
  */
 export async function contentsOf(bytes, adapter) {
   if (startsWith(bytes, GZIP)) bytes = await gunzipped(bytes);

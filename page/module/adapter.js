@@ -3,11 +3,14 @@
 import { MOST_BYTES } from "../script/grammar.js";
 import { Trouble } from "../common/trouble.js";
 import { grouped } from "../common/bytes.js";
+import { readStruct, sizeOfStruct } from "./structs.js";
 
 /** The most lines of a picture, and the most dots of a line. */
 export const HIGHEST = 1024, WIDEST = 2304;
 /** The bytes of a font file, of the first saved state, and of the longest. */
 export const FONTS_SIZE = 9728, FIRST_STATE = 265086, MOST_STATE = 7342974;
+/** Bytes of a plane. */
+export const PLANE_LENGTH = 65536;
 /** Bytes of a `zak_card`. */
 export const CARD_SIZE = 16;
 /** Bytes of the largest picture, with its head and a newline. */
@@ -200,6 +203,54 @@ export class Card {
     if (status) throw new Trouble(`The module answers ${status} to steps that it has read before.`);
     const bytes = adapter.bytes.subarray(report.at, report.at + adapter.number(0));
     return { taken: adapter.number(1), report: bytes };
+  }
+
+  /** What a call writes into a struct of the header; its other arguments stand before that. */
+  struct(name, call, ...more) {
+    const { adapter } = this, size = sizeOfStruct(name), room = adapter.room("struct", 1024);
+    const status = adapter.calls[call](this.at, ...more, room.at);
+    if (status) throw new Trouble(`The module answers ${status} to ${call}.`);
+    return readStruct(name, adapter.bytes.subarray(room.at, room.at + size));
+  }
+
+  /**
+   * The registers, by the names of `State.registers`. Nothing changes, as by the other readers
+   * here.
+   */
+  registers() {
+    return this.struct("zak_registers", "zak_read_registers");
+  }
+
+  /** The beam; `rows` is how many rows of the frame under way have a dot so far. */
+  beam() {
+    return this.struct("zak_beam", "zak_read_beam");
+  }
+
+  latches() {
+    return this.struct("zak_latches", "zak_read_latches").plane;
+  }
+
+  bda() {
+    return this.struct("zak_bda", "zak_read_bda");
+  }
+
+  /** What the clock comes to next, and the shape of line and frame (`zak_timing`). */
+  clock() {
+    return this.struct("zak_timing", "zak_clock");
+  }
+
+  /** Red, green and blue of an entry of the DAC, 0 to 63 each. */
+  colour(index) {
+    const { red, green, blue } = this.struct("zak_colour", "zak_read_colour", index);
+    return [red, green, blue];
+  }
+
+  /** A copy of bytes of a plane, from an offset on, to the plane's end at most. */
+  plane(plane, offset = 0, count = PLANE_LENGTH - offset) {
+    const { adapter } = this, room = adapter.room("plane", PLANE_LENGTH);
+    const status = adapter.calls.zak_read_plane(this.at, plane, offset, room.at, count);
+    if (status) throw new Trouble(`The module answers ${status} to zak_read_plane.`);
+    return adapter.copied(room, count);
   }
 
   /** The state as bytes (docs/STATE.md), in the module's memory: they hold until the next call. */

@@ -1,4 +1,4 @@
-// What the page is given: the module, the fonts and the examples.
+// What the page is given: the module, the fonts, the examples, and parts of the documentation.
 import { bytesOfBase64, throughStream } from "../common/bytes.js";
 
 const MOST_UNPACKED = 1 << 26;
@@ -8,9 +8,13 @@ export function unzipped(text) {
   return throughStream(bytesOfBase64(text), new DecompressionStream("gzip"), MOST_UNPACKED);
 }
 
-/** The examples: a list of { name, about, text }, which stands in the data as it is or packed. */
-export async function examplesOf({ examples }) {
-  return typeof examples === "string"
-    ? JSON.parse(new TextDecoder().decode(await unzipped(examples)))
-    : examples;
+/** A value that stands in the data as it is, or as JSON that is packed. */
+export async function unpackedJson(value) {
+  return typeof value === "string" ? JSON.parse(new TextDecoder().decode(await unzipped(value)))
+    : value;
+}
+
+/** The examples: a list of { name, about, text }. */
+export function examplesOf({ examples }) {
+  return unpackedJson(examples);
 }

@@ -26,6 +26,11 @@ export function fieldValue(field, value) {
   return bitsOf(field).reduce((sum, bit) => 2 * sum + (value >> bit & 1), 0);
 }
 
+/** The bits of a field in its register. */
+export function fieldMask(field) {
+  return bitsOf(field).reduce((mask, bit) => mask | 1 << bit, 0);
+}
+
 /** The registers of a group in a state's registers: a list, also where there is only one. */
 export function valuesOf(registers, group) {
   return group === "misc" ? [registers.misc] : registers[group];

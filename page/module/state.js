@@ -1,42 +1,41 @@
-// What a saved state says (docs/STATE.md): the page reads registers, planes and dots there.
+// The state of a card: what the module's readers tell of it, and its saved bytes, in which planes,
+// the DAC and the dots drawn so far stand (docs/STATE.md); and what follows from registers.
 // page/tests/state.mjs holds each of them to the module's own calls.
-import { FIRST_STATE, HIGHEST } from "./adapter.js";
+import { FIRST_STATE, HIGHEST, PLANE_LENGTH } from "./adapter.js";
 
-const AT = { bda: 9, misc: 40, crtc: 41, attr: 78, dac: 101, host: 874, lengths: 263038 };
-const PLANE = 65536;
+const AT = { dac: 101, planes: 894, drawn: 263038 };
 // The clocks that bits 3 and 2 of miscellaneous output select, in dots a second.
 const CLOCKS = { 0: 25175000, 1: 28322000 };
 
-/** A saved state, by name. */
+/** How many dots a line of the frame under way has so far, in saved bytes. */
+export function drawnDots(bytes, line) {
+  return bytes[AT.drawn + 2 * line] | bytes[AT.drawn + 2 * line + 1] << 8;
+}
+
+/** A state, by name. */
 export class State {
-  constructor(bytes) {
+  /** The state of a card as it is. */
+  static of(card) {
+    const { rows, ...beam } = card.beam();
+    return new State(card.save(), { registers: card.registers(), latches: card.latches(), beam,
+      bda: card.bda() });
+  }
+
+  /** The saved bytes, and the registers, latches, beam and BIOS data that the card tells. */
+  constructor(bytes, { registers, latches, beam, bda }) {
     this.bytes = bytes;
-    this.view = new DataView(bytes.buffer, bytes.byteOffset, bytes.length);
+    this.registers = registers;
+    this.latches = latches;
+    this.beam = beam;
+    this.bda = bda;
   }
 
   part(at, length) {
     return this.bytes.subarray(at, at + length);
   }
 
-  get registers() {
-    const { bytes } = this, dac = AT.dac + 768;
-    return {
-      misc: bytes[AT.misc],
-      seq: this.part(AT.host + 4, 5), seqIndex: bytes[AT.host + 18],
-      gfx: this.part(AT.host + 9, 9), gfxIndex: bytes[AT.host + 19],
-      crtc: this.part(AT.crtc, 25), crtcIndex: bytes[AT.crtc + 25],
-      attr: this.part(AT.attr, 21), attrIndex: bytes[AT.attr + 21], attrIsData: bytes[AT.attr + 22],
-      dacIndex: bytes[dac], dacComponent: bytes[dac + 1], dacRed: bytes[dac + 2], dacGreen: bytes[dac + 3],
-      dacMask: bytes[dac + 4],
-    };
-  }
-
-  get latches() {
-    return this.part(AT.host, 4);
-  }
-
   plane(number) {
-    return this.part(AT.host + 20 + PLANE * number, PLANE);
+    return this.part(AT.planes + PLANE_LENGTH * number, PLANE_LENGTH);
   }
 
   /** The DAC: the reds of its 256 entries, then the greens, then the blues, 0 to 63 each. */
@@ -49,20 +48,6 @@ export class State {
     return [0, 256, 512].map(part => this.bytes[AT.dac + part + index]);
   }
 
-  get beam() {
-    const { bytes } = this, at = AT.crtc, word = offset => this.view.getUint16(at + offset, true);
-    return { frame: bytes[at + 26], line: word(27), character: word(29), dot: bytes[at + 31], base: word(32),
-      scan: bytes[at + 34], half: bytes[at + 35], split: bytes[at + 36] };
-  }
-
-  get bda() {
-    const { bytes } = this, word = offset => this.view.getUint16(AT.bda + offset, true);
-    return { mode: bytes[AT.bda], columns: word(1), size: word(3), start: word(5),
-      places: [0, 1, 2, 3, 4, 5, 6, 7].map(page => word(7 + 2 * page)), type: word(23),
-        page: bytes[AT.bda + 25],
-      crtc: word(26), lastRow: bytes[AT.bda + 28], height: word(29) };
-  }
-
   /** Whether a mode was set by the video BIOS. */
   get hasMode() {
     return this.bda.columns > 0;
@@ -70,9 +55,7 @@ export class State {
 
   /** Of each of 1,024 lines, how many dots the frame under way has so far. */
   get drawn() {
-    const drawn = new Uint16Array(HIGHEST), { view } = this;
-    for (let line = 0; line < HIGHEST; line++) drawn[line] = view.getUint16(AT.lengths + 2 * line, true);
-    return drawn;
+    return Uint16Array.from({ length: HIGHEST }, (_, line) => drawnDots(this.bytes, line));
   }
 
   /** Whether a dot of the frame under way is drawn. */
@@ -93,13 +76,18 @@ export function frameShape(registers) {
   return { dots: (crtc[0] + 5) * characterWidth(registers), lines };
 }
 
-/** The dots of a frame and the dots that pass in a second; null where no clock is selected that is known. */
+/**
+ * The dots of a frame and the dots that pass in a second; null where no clock is selected that is
+ * known.
+ */
 export function frameSpeed(registers) {
   const clock = CLOCKS[registers.misc >> 2 & 3], { dots, lines } = frameShape(registers);
   return clock ? { dots: dots * lines, rate: clock / (registers.seq[1] & 8 ? 2 : 1) } : null;
 }
 
-/** The dots and the lines that are displayed, line compare, and how lines make rows of characters. */
+/**
+ * The dots and the lines that are displayed, line compare, and how lines make rows of characters.
+ */
 export function windowShape(registers) {
   const { crtc } = registers, bits = (eight, nine) => ((crtc[7] >> eight & 1) << 8) +
     ((crtc[7] >> nine & 1) << 9);
@@ -126,38 +114,18 @@ export function rowBytes(registers) {
   return 2 * crtc[19] * step;
 }
 
-/** Of each displayed line of a frame with these registers: its counter, and the scan line of its row. */
-export function* displayedLines(registers) {
-  const shape = windowShape(registers);
-  let base = shape.start, scan = registers.crtc[8] & 31, half = 0;
-  for (let line = 0; line < shape.lines; line++) {
-    yield { line, base, scan };
-    if (line === shape.compare) {
-      [base, scan, half] = [0, 0, 0];
-    } else if (shape.isDoubled && !half) {
-      half = 1;
-    } else {
-      half = 0;
-      if (scan < shape.rowLines - 1) scan++;
-      else [scan, base] = [0, (base + shape.pitch) & 65535];
-    }
-  }
-}
-
-/** Of each byte of a plane, whether a frame with these registers shows it. */
-export function shownBytes(registers) {
-  const shown = new Uint8Array(PLANE), { characters } = windowShape(registers), seen = new Set();
-  for (const { base } of displayedLines(registers)) {
-    if (seen.has(base)) continue;
-    seen.add(base);
-    for (let i = 0; i < characters; i++) shown[fetchAddress(registers, (base + i) & 65535)] = 1;
-  }
-  return shown;
-}
-
-/** The entry of the DAC that four bits of a dot pick (docs/REGISTERS.md, "Attribute controller"). */
-export function dacEntry(registers, four) {
-  const { attr, dacMask } = registers, own = attr[four & attr[18] & 15], select = attr[20];
+/**
+ * The way of four bits through plane enable, palette and colour select: { four, enabled, number }.
+ */
+export function paletteWay({ attr }, four) {
+  const enabled = four & attr[18] & 15, own = attr[enabled], select = attr[20];
   const low = attr[16] & 128 ? own & 15 | (select & 3) << 4 : own;
-  return (low | (select & 12) << 4) & dacMask;
+  return { four, enabled, number: low | (select & 12) << 4 };
+}
+
+/**
+ * The entry of the DAC that four bits of a dot pick (docs/REGISTERS.md, "Attribute controller").
+ */
+export function dacEntry(registers, four) {
+  return paletteWay(registers, four).number & registers.dacMask;
 }

@@ -3,6 +3,11 @@ import { PlainTable, rowsOfStates } from "./registerpanel.js";
 import { element, pageLink, setText } from "../common/dom.js";
 import { hex } from "../common/bytes.js";
 
+/** What the rows are asked about, in their order. */
+const SUBJECTS = ["mode", "columns", "size", "start",
+  ...[0, 1, 2, 3, 4, 5, 6, 7].map(page => `places ${page}`), "type", "page", "crtc", "lastRow",
+  "height"].map(name => `bios ${name}`);
+
 function biosRows({ bda }) {
   const place = word => `row ${word >> 8}, column ${word & 255}`;
   return [
@@ -19,7 +24,7 @@ function biosRows({ bda }) {
 /** The panel of BIOS data. */
 export class BiosPanel {
   constructor(base) {
-    Object.assign(this, { table: new PlainTable("BIOS data"), said: element("span") });
+    Object.assign(this, { table: new PlainTable("BIOS data", SUBJECTS), said: element("span") });
     const link = pageLink(base, "SERVICES.md", "the-bios-data", "What changes them");
     const hint = element("p", { className: "hint" },
       "Offsets are those of the data area at segment 0040. ", link, ".", this.said);

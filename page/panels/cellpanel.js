@@ -1,6 +1,8 @@
 // The cells of text that the adapter shows, with their characters' glyphs in plane 2.
 import { LETTERS_437 } from "../module/codepage.js";
-import { characterWidth, dacEntry, displayedLines, fetchAddress, windowShape } from "../module/state.js";
+import { characterWidth, dacEntry, fetchAddress, windowShape } from "../module/state.js";
+import { displayedLines } from "../explain/walk.js";
+import { glyphPlace, mapOf } from "../explain/dot.js";
 import { element, setAll, setText } from "../common/dom.js";
 import { hex, sameWords, wordsOfBytes } from "../common/bytes.js";
 import { widened } from "../picture/png.js";
@@ -37,14 +39,9 @@ export function cellsOf(state) {
   }) }));
 }
 
-/** Where the glyphs of a map begin in plane 2. */
-function mapStart(map) {
-  return 0x4000 * (map & 3) + (map & 4 ? 0x2000 : 0);
-}
-
 function drawCell(words, width, left, top, lines, { character, attribute },
   { glyphs, colours, hasBlink, maps }) {
-  const glyph = mapStart(maps[attribute >> 3 & 1]) + 32 * character;
+  const glyph = glyphPlace(maps[attribute >> 3 & 1], character, 0);
   const [own, ground] = [colours[attribute & 15], colours[attribute >> 4 & (hasBlink ? 7 : 15)]];
   const [ink, paper] = own === ground ? ALIKE : [own, ground];
   for (let y = 0; y < lines; y++) {
@@ -62,7 +59,7 @@ function cellColours(state) {
   };
   return { glyphs: state.plane(2), colours: Array.from({ length: 16 }, (_, four) => word(four)),
     hasBlink: Boolean(registers.attr[16] & 8),
-    maps: [select & 3 | select >> 2 & 4, select >> 2 & 3 | select >> 3 & 4] };
+    maps: [0, 8].map(attribute => mapOf(select, attribute)) };
 }
 
 /** The panel of cells, whose canvas is painted where a cell differs from what it shows. */
@@ -74,7 +71,14 @@ export class CellPanel {
       "The adapter shows graphics: bit 0 of miscellaneous, graphics controller 6, is 1.");
     this.brush = this.canvas.getContext("2d", { alpha: false });
     this.canvas.addEventListener("pointermove", event => this.tell(event));
-    this.root = element("div", { className: "cellbox" }, this.canvas, this.told);
+    this.canvas.tabIndex = 0;
+    this.canvas.addEventListener("focus", () => this.pick(this.picked.row, this.picked.column));
+    this.canvas.addEventListener("keydown", event => this.pressed(event));
+    this.canvas.addEventListener("blur", () => { this.mark.hidden = true; });
+    this.mark = element("div", { className: "cellpick", hidden: true });
+    this.picked = { row: 0, column: 0 };
+    const box = element("div", { className: "cellframe" }, this.canvas, this.mark);
+    this.root = element("div", { className: "cellbox" }, box, this.told);
   }
 
   made({ before, after }) {
@@ -141,12 +145,42 @@ export class CellPanel {
     const y = (event.clientY - box.top) * canvas.height / box.height;
     const row = rows.findLastIndex(({ top }) => top <= y);
     const column = Math.floor((event.clientX - box.left) * canvas.width / box.width / GLYPH_WIDTH);
-    const cell = rows[row]?.cells[column];
+    this.pick(row, column);
+    this.mark.hidden = true;
+  }
+
+  /** Arrows go from cell to cell, and a frame shows which one is told. */
+  pressed(event) {
+    const far = { ArrowLeft: [0, -1], ArrowRight: [0, 1], ArrowUp: [-1, 0],
+      ArrowDown: [1, 0] }[event.key];
+    if (!far) return;
+    event.preventDefault();
+    event.stopPropagation();
+    const { row, column } = this.picked;
+    this.pick(row + far[0], column + far[1]);
+    this.frame();
+  }
+
+  /** Tells a cell, which can be asked about then. */
+  pick(row, column) {
+    const cell = this.rows[row]?.cells[column];
     if (!cell) return;
+    this.picked = { row, column };
     const { character, attribute, address } = cell;
+    this.canvas.dataset.subject = `cell ${hex(address, 4)}`;
     setText(this.told,
       `row ${row}, column ${column}: character ${hex(character, 2)} ${LETTERS_437[character]}, ` +
       `attribute ${hex(attribute, 2)}, at ${hex(address, 4)} of planes 0 and 1`);
+  }
+
+  /** Frames the cell that is told. */
+  frame() {
+    const { canvas, rows, mark, picked: { row, column } } = this, part = (size, of) =>
+      `${100 * size / of}%`;
+    Object.assign(mark.style, { left: part(GLYPH_WIDTH * column, canvas.width),
+      width: part(GLYPH_WIDTH, canvas.width), top: part(rows[row].top, canvas.height),
+      height: part(rows[row].lines, canvas.height) });
+    mark.hidden = false;
   }
 }
 

@@ -7,8 +7,9 @@ import { isWritten } from "../common/rows.js";
 
 /** A swatch of the palette or the DAC, which is written anew where what it shows differs. */
 class Swatch {
-  constructor(text) {
+  constructor(text, subject) {
     this.button = element("button", { type: "button" }, text);
+    this.button.dataset.subject = subject;
     this.key = "";
   }
 
@@ -37,9 +38,11 @@ export class ColourPanel {
     const told = element("output", { className: "told" }),
       title = "Palette: four bits of a dot, and their entry of the DAC";
     const tell = event => { told.textContent = event.target.dataset?.told ?? ""; };
-    this.palette = Array.from({ length: 16 }, (_, four) => new Swatch(hex(four, 1)));
+    this.palette = Array.from({ length: 16 }, (_, four) =>
+      new Swatch(hex(four, 1), `register attr ${hex(four, 2)}`));
     this.entries = this.palette.map(() => element("small"));
-    this.dac = Array.from({ length: 256 }, (_, entry) => new Swatch(hex(entry, 2)));
+    this.dac = Array.from({ length: 256 }, (_, entry) =>
+      new Swatch(hex(entry, 2), `colour ${hex(entry, 2)}`));
     this.title = element("h3");
     const pairs = this.palette.map(({ button }, four) =>
       element("span", { className: "pair" }, button, this.entries[four]));

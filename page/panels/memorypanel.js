@@ -2,7 +2,9 @@
 import { classesOf, element, selectOf, setAll, setText } from "../common/dom.js";
 import { counted, grouped, hex, wordsOfBytes } from "../common/bytes.js";
 import { changedPlanes } from "../run/changes.js";
-import { rowBytes, shownBytes } from "../module/state.js";
+import { isWritten } from "../common/rows.js";
+import { rowBytes } from "../module/state.js";
+import { shownBytes } from "../explain/walk.js";
 
 const PLANE_LENGTH = 65536, WIDEST_PITCH = 2040, HEX_ROWS = 16, HEX_COLUMNS = 16, USUAL_PITCH = 80;
 const COLOURS = { on: 0xffffffff, off: 0xff000000, shownOff: 0xff4a2a14, hiddenOn: 0xff8a8a8a,
@@ -135,6 +137,24 @@ class HexTable {
       ...cells.map(cell => cell.made)));
     this.made = element("table", { className: "hex" }, this.caption, element("tbody", {}, ...rows));
     this.marked = null;
+    this.cells = this.rows.flatMap(({ cells }) => cells);
+    this.cells.forEach(({ made }, i) => { made.tabIndex = i ? -1 : 0; });
+    this.made.addEventListener("keydown", event => this.pressed(event));
+  }
+
+  /** Arrows go from byte to byte. */
+  pressed(event) {
+    const far = { ArrowLeft: -1, ArrowRight: 1, ArrowUp: -HEX_COLUMNS,
+      ArrowDown: HEX_COLUMNS }[event.key];
+    const at = this.cells.findIndex(({ made }) => made === event.target);
+    if (far === undefined || at < 0) return;
+    event.preventDefault();
+    event.stopPropagation();
+    const next = this.cells[at + far]?.made;
+    if (!next) return;
+    event.target.tabIndex = -1;
+    next.tabIndex = 0;
+    next.focus();
   }
 
   /** Marks the byte at a place of the table, and scrolls the panel so that it is in sight. */
@@ -145,9 +165,18 @@ class HexTable {
     this.marked.scrollIntoView({ block: "nearest", inline: "nearest" });
   }
 
+  /** Names what each cell is asked about. */
+  name(plane, offset) {
+    if (isWritten(this, plane, offset)) return;
+    this.cells.forEach(({ made }, i) => {
+      made.dataset.subject = `byte ${plane} ${hex(offset + i, 4)}`;
+    });
+  }
+
   show(plane, offset, bytes, before, shown) {
     this.marked?.classList.remove("marked");
     this.marked = null;
+    this.name(plane, offset);
     setText(this.caption, `Plane ${plane} from ${hex(offset, 4)}: bytes on blue are shown`);
     this.rows.forEach(({ head, cells }, row) => {
       const from = offset + HEX_COLUMNS * row;

@@ -5,8 +5,9 @@ import { hex } from "../common/bytes.js";
 import { pointText } from "../run/points.js";
 
 const POINT_KINDS = [["line", "a line of the script"], ["port", "a port"],
-  ["address", "an address of memory"], ["register", "a register's change"],
-  ["beam", "a place of the beam"], ["refusal", "any refusal"]];
+  ["address", "an address of memory"], ["bytes", "bytes of planes that change"],
+  ["register", "a register's change"], ["beam", "a place of the beam"],
+  ["refusal", "any refusal"], ["wrong", "an answer that is not as expected"]];
 const WAYS = [["either", "read or written"], ["read", "read"], ["written", "written"]];
 
 /** The registers that a breakpoint may watch: [value, title]. */
@@ -17,6 +18,19 @@ function watchable() {
       ? `${group.title} ${hex(i, 1)}: ${register.name}` : group.title]),
   ]);
   return [...all, ["dac any", "DAC: any entry"]];
+}
+
+/** The bytes that a form names, or what is wrong with it. */
+function bytesOf(form) {
+  const planes = form.getAll("plane").reduce((mask, plane) => mask | 1 << plane, 0);
+  const from = form.get("from").trim(), to = form.get("to").trim() || from;
+  if (!planes) return "choose a plane";
+  if (![from, to].every(text => /^[0-9A-Fa-f]{1,4}$/.test(text))) {
+    return "an offset has 1 to 4 hexadecimal digits";
+  }
+  const [first, last] = [from, to].map(text => parseInt(text, 16));
+  return first > last ? "the first offset is after the last"
+    : { kind: "bytes", planes, from: first, to: last };
 }
 
 /** The panel of breakpoints. `heard` has `changed(points)`. */
@@ -49,7 +63,8 @@ export class PointPanel {
       return element("li", {}, element("label", {}, box, ` ${pointText(point)}`), remove);
     });
     const hint = "A run stops after the step that meets a breakpoint, so you see what the step did. " +
-      "Cycles within a BIOS call meet no port and no address; what they change in registers does. " +
+      "Cycles within a BIOS call meet no port and no address; what they change in registers and " +
+      "planes does. " +
       "Click a line's number to set a breakpoint there.";
     this.box.replaceChildren(element("p", { className: "hint" }, hint), this.form(), rows.length
       ? element("ul", { "aria-label": "breakpoints" }, ...rows)
@@ -79,7 +94,11 @@ export class PointPanel {
       element("input", { name, size: 6, title, autocomplete: "off" }));
     const way = selectOf("way", WAYS, { name: "way" });
     const registers = selectOf("register", watchable(), { name: "register" });
-    return { line: [number("line", "line", "decimal")], port: [number("place", "port", "hexadecimal"), way],
+    const planes = [0, 1, 2, 3].map(plane => element("label", {}, element("input",
+      { type: "checkbox", name: "plane", value: plane, checked: true }), ` ${plane}`));
+    const bytes = [element("span", {}, "planes ", ...planes),
+      number("from", "offset", "hexadecimal"), number("to", "to", "hexadecimal; may be left out")];
+    return { bytes, wrong: [], line: [number("line", "line", "decimal")], port: [number("place", "port", "hexadecimal"), way],
       address: [number("place", "address", "hexadecimal")].concat(way), register: [registers],
       beam: [number("line", "line", "decimal"), number("dot", "dot", "decimal")], refusal: [] }[this.kind];
   }
@@ -88,7 +107,8 @@ export class PointPanel {
   pointOf(form) {
     const { kind } = this, decimal = name => (/^\d{1,8}$/.test(form.get(name).trim())
       ? Number(form.get(name)) : null);
-    if (kind === "refusal") return { kind };
+    if (kind === "refusal" || kind === "wrong") return { kind };
+    if (kind === "bytes") return bytesOf(form);
     if (kind === "register") {
       const [group, index] = form.get("register").split(" ");
       const [, title] = watchable().find(([value]) => value === form.get("register"));

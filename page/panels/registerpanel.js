@@ -47,11 +47,15 @@ class RegisterRow {
     const isOne = register.fields.length === 1 && !register.fields[0].isStored;
     Object.assign(this, { register, runs, value: element("td", { className: "value" }) });
     this.fields = isOne ? [] : register.fields.map(fieldOf);
+    for (const { field: { bits }, made: one } of this.fields) {
+      one.dataset.subject = `field ${group.id} ${hex(i, 2)} ${bits}`;
+    }
     const link = pageLink(base, "REGISTERS.md", group.anchor, register.name);
     this.made = element("tr", {},
       element("th", { scope: "row" }, group.registers.length > 1 ? hex(i, 2) : ""), this.value,
       element("td", { className: "eight" }, made), element("td", { className: "name" }, link),
       element("td", { className: "fields" }, ...this.fields.map(one => one.made)));
+    this.made.dataset.subject = `register ${group.id} ${hex(i, 2)}`;
   }
 
   fill(now, before, isPicked) {
@@ -89,16 +93,17 @@ function groupNote(group, registers) {
 
 /** A table of names and values, whose names are the same each time. */
 export class PlainTable {
-  constructor(title) {
+  /** `subjects`: the words by which rows are asked about, by their numbers; others are not. */
+  constructor(title, subjects = []) {
     const body = element("tbody");
-    Object.assign(this, { body, rows: [] });
+    Object.assign(this, { body, rows: [], subjects });
     this.made = element("table", { className: "plain" }, element("caption", {}, title), body);
   }
 
   /** Writes the values; each row is [name, value, the value before]. */
   fill(told) {
     told.forEach(([name, now, old], i) => {
-      const row = this.rows[i] ??= this.row(name), isChanged = now !== old;
+      const row = this.rows[i] ??= this.row(name, this.subjects[i]), isChanged = now !== old;
       if (isWritten(row, now, old)) return;
       setText(row.lastChild, now);
       setAll(row, { className: isChanged ? "changed" : "",
@@ -106,8 +111,13 @@ export class PlainTable {
     });
   }
 
-  row(name) {
+  row(name, subject) {
     const made = element("tr", {}, element("th", { scope: "row" }, name), element("td"));
+    if (subject) {
+      made.dataset.subject = subject;
+      // Keys reach it too.
+      made.lastChild.tabIndex = 0;
+    }
     this.body.append(made);
     return made;
   }
@@ -118,6 +128,9 @@ export function rowsOfStates(before, after, told) {
   const [old, now] = [before, after].map(told);
   return now.map(([name, value], i) => [name, value, old[i][1]]);
 }
+
+/** The row of the table of latches, beam and DAC that has the DAC mask. */
+const DAC_MASK_ROW = 9;
 
 function otherRows(state) {
   const { beam, registers, latches } = state;
@@ -153,10 +166,11 @@ const FIRST_COLUMN = ["misc", "seq", "gfx", "crtc"];
 /** The panel of registers. */
 export class RegisterPanel {
   constructor(base) {
-    this.more = new PlainTable("Latches, beam and DAC");
+    this.more = new PlainTable("Latches, beam and DAC", { [DAC_MASK_ROW]: "dacmask" });
     this.groups = GROUPS.map(group => {
       const note = element("small"), rows = group.registers.map((_, i) => new RegisterRow(base, group, i));
       const caption = element("caption", {}, group.title, note);
+      if (group.id === "attr") note.dataset.subject = "source";
       const table = element("table", { className: "group" }, caption,
         element("tbody", {}, ...rows.map(row => row.made)));
       return { group, note, rows, table };

@@ -1,7 +1,9 @@
 // The picture as it is drawn so far. What is not drawn yet is dark, cross-hairs show the beam, a
 // glass dots.
 import { byId, cssColour, element, setAll } from "../common/dom.js";
-import { characterWidth, displayedLines, fetchAddress } from "../module/state.js";
+import { characterWidth } from "../module/state.js";
+import { dotOfSeen } from "../explain/dotsearch.js";
+import { lineOfDot } from "../explain/dotrows.js";
 import { hex, wordsOfBytes } from "../common/bytes.js";
 import { widened } from "./png.js";
 
@@ -63,7 +65,10 @@ function isSameRow(row, dots, old, oldDots) {
     sameDots(dots, row.from, oldDots, old.from, 3 * row.width);
 }
 
-/** The picture on its stage. `heard` has `clicked(line, dot)`. */
+/**
+ * The picture on its stage. `heard` has `clicked(line, dot)`, and `asked()`, for Enter where the
+ * picture has the keys.
+ */
 export class Screen {
   /** What is shown, as a session tells it. */
   seen = null;
@@ -95,6 +100,11 @@ export class Screen {
         Math.hypot(pointer.clientX - clientX, pointer.clientY - clientY) < 2;
       const found = this.dotAt(isNear ? pointer : this.placeOf(event));
       if (found) heard.clicked(found.row.line, found.x);
+    });
+    this.canvas.addEventListener("keydown", event => {
+      if (event.key !== "Enter" && event.key !== " ") return;
+      event.preventDefault();
+      heard.asked();
     });
     new ResizeObserver(([{ contentRect: { width, height } }]) => {
       this.room = { width, height };
@@ -254,24 +264,35 @@ export class Screen {
     const isDark = this.isSoFar && x >= drawn ? ", not drawn yet" : "";
     const digits = colour.map(six => hex(six, 2)).join(" ");
     byId("dot").replaceChildren(swatch,
-      ` dot ${x} of line ${line}: ${digits}${isDark}${this.cellAt(found)}`);
+      ` dot ${x} of line ${line}: ${digits}${isDark}${this.wayOf(found)}`);
   }
 
-  /** In text, the cell that a dot belongs to by the registers as they are. */
-  cellAt({ row, x }) {
-    const { after } = this.seen, { registers } = after;
-    if (registers.gfx[6] & 1) return "";
-    let number = -1, last = -1;
-    for (const { line, base, scan } of displayedLines(registers)) {
-      if (scan === 0 && base !== last) [number, last] = [number + 1, base];
-      if (line < row.line) continue;
-      const column = Math.floor(x / characterWidth(registers)),
-        at = fetchAddress(registers, (base + column) & 65535);
-      const [character, attribute] = [0, 1].map(plane => hex(after.plane(plane)[at], 2));
-      const cell = `cell of row ${Math.max(0, number)}, column ${column}`;
-      return ` · ${cell}: character ${character}, attribute ${attribute}`;
-    }
-    return "";
+  /** Where a dot comes from, in words behind others. */
+  wayOf({ row: { line }, x: dot }) {
+    const found = dotOfSeen(this.seen, { line, dot });
+    return found ? ` · ${lineOfDot(found, { line, dot })}` : "";
+  }
+
+  /** The dot under the pointer, as { line, dot }; null if the pointer is elsewhere. */
+  get pointed() {
+    const found = this.pointer && this.seen && this.dotAt(this.pointer);
+    return found ? { line: found.row.line, dot: found.x } : null;
+  }
+
+  /** The colour of a dot of the picture, six bits a component; null if it has no such dot. */
+  colourAt(line, dot) {
+    const row = this.rows?.find(one => one.line === line);
+    if (!row || !(dot >= 0 && dot < row.width)) return null;
+    const at = row.from + 3 * dot;
+    return Array.from(this.seen.picture.rgb.subarray(at, at + 3));
+  }
+
+  /** Where a dot stands in the window, or would stand. */
+  placeOfDot(line, dot) {
+    const { left, top, width, height } = this.canvas.getBoundingClientRect();
+    const y = Math.max(0, this.rows?.findIndex(row => row.line >= line) ?? 0);
+    return { x: left + width * Math.min(1, (dot + 0.5) / this.canvas.width),
+      y: top + height * (y + 0.5) / this.canvas.height };
   }
 
   /** The dots round the pointer, large. */

@@ -3,7 +3,8 @@ import { GROUPS, valuesOf } from "../module/registers.js";
 import { counted, hex, wordsOfBytes } from "../common/bytes.js";
 
 const POINTERS = { seqIndex: "sequencer index", gfxIndex: "graphics index",
-  crtcIndex: "CRT controller index", attrIndex: "attribute index", dacIndex: "DAC index", dacMask: "DAC mask" };
+  crtcIndex: "CRT controller index", attrIndex: "attribute index",
+  dacIndex: "DAC index", dacMask: "DAC mask" };
 
 /** The numbers of the bytes in which two parts differ. */
 export function differingBytes(before, after) {

@@ -70,17 +70,13 @@ function firstDifference(report, { steps, numbers, texts, cut, sums }) {
   return difference;
 }
 
-/**
- * In a worker: compares the run that the page sends, and posts the result, or why there is none.
- */
-export function serveComparison() {
-  self.onmessage = async ({ data: { module, run } }) => {
-    try {
-      self.postMessage({ difference: comparedToRun(await Adapter.opened(module), run) });
-    } catch (error) {
-      self.postMessage({ trouble: error.message });
-    }
-  };
+/** In a worker: compares the run that the page sends; what came of it, or why nothing did. */
+export async function comparedToSend(module, run) {
+  try {
+    return { difference: comparedToRun(await Adapter.opened(module), run) };
+  } catch (error) {
+    return { trouble: error.message };
+  }
 }
 
 /** Compares runs in a worker, one at a time. */

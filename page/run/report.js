@@ -57,8 +57,8 @@ export function readLine(report, at, wanted, index, take) {
 }
 
 /** The line of a report's first step (docs/REPORT.md, "Lines"). */
-const FIRST_LINE = new RegExp("^1 (?:ok|ragged|picture \\d+|[0-9A-F]{2}|[0-9A-F]{4}|ax=[0-9A-F]{4} .*|" +
-  "E\\d+ [A-Za-z]+|(?:misc|beam|latches|bda|entry|plane|row) .*)$");
+const FIRST_LINE = new RegExp("^1 (?:ok|ragged|picture \\d+|[0-9A-F]{2}|[0-9A-F]{4}|" +
+  "ax=[0-9A-F]{4} .*|E\\d+ [A-Za-z]+|(?:misc|beam|latches|bda|entry|plane|row) .*)$");
 const LONGEST_FIRST = 4096;
 
 /** Whether bytes begin as a report does. */

@@ -186,10 +186,24 @@ export class Runner {
     if (!points.length) {
       throw new Trouble("There are no breakpoints: click a line's number, or use their tab.");
     }
+    const from = this.goal;
     this.#awaited = null;
     this.#goal = null;
     this.#isSlow = false;
-    this.#search = this.#searchFrom(this.steps, points, isBack, isInclusive);
+    this.#search = this.#searchFrom(from, points, isBack, isInclusive);
+    this.#wake();
+    this.#heard.changed();
+  }
+
+  /**
+   * Goes back to the step that a search finds, and tells `heard` what that is, { steps }, or
+   * { ended: true }: then the page stays where it is. The search has `take(milliseconds)`, which
+   * answers that or null, and `looked`, the step at which it is.
+   */
+  findBy(search, heard) {
+    if (!this.session) return;
+    this.#drop();
+    this.#search = { search, points: [], isBack: true, heard };
     this.#wake();
     this.#heard.changed();
   }
@@ -302,7 +316,7 @@ export class Runner {
   }
 
   #searchOn() {
-    const { search, points, isBack } = this.#search, found = search.take(SLICE_TIME);
+    const { search, points } = this.#search, found = search.take(SLICE_TIME);
     this.#isSlow = !found || Boolean(found.waiting);
     if (!found) return;
     if (found.waiting) {
@@ -310,7 +324,7 @@ export class Runner {
     } else if (found.steps && this.#isLeftOut(found.steps)) {
       this.#search = this.#searchFrom(found.steps, points);
     } else {
-      this.#endSearch(found, points, isBack);
+      this.#endSearch(found, this.#search);
     }
   }
 
@@ -327,8 +341,14 @@ export class Runner {
       pacer.leavesOut(this.#clock.now(), this.#heard.frameTime(this.seen));
   }
 
-  #endSearch({ steps, ended }, points, isBack) {
+  #endSearch(found, { points, isBack, heard }) {
+    const { steps, ended } = found;
     this.#search = null;
+    if (heard) {
+      if (!ended) this.#goal = steps;
+      heard(found);
+      return;
+    }
     this.#goal = steps ?? (isBack ? 0 : this.session.length);
     if (!ended) return;
     this.#pacer = null;

@@ -9,6 +9,7 @@ import { Outline } from "../script/outline.js";
 import { MOST_BYTES } from "../script/grammar.js";
 import { MOST_COMPARED, comparedToRun, digitsTo, sumOfBytes, sumOfText } from "./comparing.js";
 import { Pieces } from "./pieces.js";
+import { Scout } from "./scout.js";
 import { State } from "../module/state.js";
 import { Trouble } from "../common/trouble.js";
 import { counted, grouped } from "../common/bytes.js";
@@ -78,6 +79,7 @@ export class Session {
   spare = null;
   #sinceCheckpoint = 0;
   #sinceNear = 0;
+  #scout = null;
 
   /** `judged` is the text as `judgedText` tells it: then no text is needed. */
   constructor(adapter, fonts, text, judged = judgedText(adapter, text)) {
@@ -106,11 +108,18 @@ export class Session {
   close() {
     this.ahead.close();
     this.card.close();
+    this.#scout?.close();
     this.adapter.giveBack();
   }
 
   get isDone() {
     return this.ran === this.length;
+  }
+
+  /** A card by which searches go through the steps; it is opened once one is asked for. */
+  get scout() {
+    this.#scout ??= new Scout(this);
+    return this.#scout;
   }
 
   /** Runs steps for about so many milliseconds; whether some are left. */
@@ -227,12 +236,12 @@ export class Session {
 
   /** The card's state. */
   state() {
-    return new State(this.card.save());
+    return State.of(this.card);
   }
 
   /** The registers of any card. */
   registersOf(card) {
-    return new State(card.save()).registers;
+    return card.registers();
   }
 
   /**

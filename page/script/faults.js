@@ -4,14 +4,16 @@ import { hex } from "../common/bytes.js";
 import { notAScript } from "./reasons.js";
 import { said } from "./said.js";
 
-const OPCODE_NAMES = ["", "out", "outw", "in", "inw", "put", "putw", "get", "getw", "int", "advance",
+const OPCODE_NAMES = ["", "out", "outw", "in", "inw", "put", "putw", "get", "getw", "int",
+  "advance",
   "frame", "show", "repeat", "end"];
 const SHOW = 12, REPEAT = 13, END = 14, LAST_KIND = 6;
 const UNKNOWN_FAULT = said("lines", "unknown");
 const ofFault = (which, values) => said("faults", which, values);
 
 /** The faults of a run by their statuses (include/zaklimot.h), as docs/REPORT.md names them. */
-export const FAULT_NAMES = { 102: "F2 BadMagic", 103: "F3 BadVersion", 104: "F4 BadStep", 105: "F5 Truncated",
+export const FAULT_NAMES = { 102: "F2 BadMagic", 103: "F3 BadVersion", 104: "F4 BadStep",
+  105: "F5 Truncated",
   106: "F6 TooLong", 107: "F7 BadLine", 111: "F11 TooMany" };
 
 const isTextLike = bytes => bytes.length > 0 && notAScript(bytes) === null;
@@ -20,11 +22,14 @@ function badStep(bytes, place) {
   const opcode = bytes[place];
   if (opcode === undefined) return UNKNOWN_FAULT;
   if ((opcode === REPEAT || opcode === END) && bytes[4] === 2) {
-    return ofFault(opcode === REPEAT ? "bad repeat" : "bad end", { name: OPCODE_NAMES[opcode], place });
+    const which = opcode === REPEAT ? "bad repeat" : "bad end";
+    return ofFault(which, { name: OPCODE_NAMES[opcode], place });
   }
   if (opcode < 1 || opcode > SHOW) return ofFault("no opcode", { place, opcode, last: SHOW });
   const kind = bytes[place + 1];
-  if (opcode === SHOW && kind > LAST_KIND) return ofFault("no kind", { place, kind, last: LAST_KIND });
+  if (opcode === SHOW && kind > LAST_KIND) {
+    return ofFault("no kind", { place, kind, last: LAST_KIND });
+  }
   return opcode === SHOW ? ofFault("bad plane", { place }) : UNKNOWN_FAULT;
 }
 
@@ -37,7 +42,8 @@ function truncated(bytes, place) {
 function badMagic(bytes) {
   const none = notAScript(bytes) ?? said("files", "no script");
   const looks = isTextLike(bytes) ? said("files", "a text") : none;
-  const begins = Array.from(bytes.subarray(0, 4), byte => hex(byte, 2)).join(" ") || ofFault("nothing");
+  const first = Array.from(bytes.subarray(0, 4), byte => hex(byte, 2)).join(" ");
+  const begins = first || ofFault("nothing");
   return ofFault("magic", { begins, looks });
 }
 

@@ -28,6 +28,7 @@ export const SHAPES = {
   advance: [decimalNumber("DOTS", 4294967295)],
   frame: [],
 };
+/** The line that every script with a repeat begins with. */
 export const VERSION_TWO = "version 2";
 /** The lines of version 2: what it begins with, and the ends of a block. */
 export const BLOCK_LINES = { version: [decimalNumber("2", 2, 2)],
@@ -44,9 +45,11 @@ export const SHOWN = {
 };
 /** What stands behind `int`, in this order, and then the block. */
 export const CALL_REGISTERS = ["ax", "bx", "cx", "dx"];
+/** The word before the bytes that a call is handed. */
 export const BLOCK = "block";
 /** The steps that answer a byte or a word. */
 export const READING = ["in", "inw", "get", "getw"];
-/** A script means at most so many steps; it and its text have at most so many bytes. */
+/** A script means at most so many steps. */
 export const MOST_STEPS = 16777216;
+/** A script, and its text, has at most so many bytes. */
 export const MOST_BYTES = 16777216;

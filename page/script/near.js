@@ -23,7 +23,8 @@ function longestMatch(a, b, [aFrom, aTo, bFrom, bTo]) {
 function matching(a, b, [aFrom, aTo, bFrom, bTo] = [0, a.length, 0, b.length]) {
   const [i, j, length] = longestMatch(a, b, [aFrom, aTo, bFrom, bTo]);
   if (!length) return 0;
-  return length + matching(a, b, [aFrom, i, bFrom, j]) + matching(a, b, [i + length, aTo, j + length, bTo]);
+  return length + matching(a, b, [aFrom, i, bFrom, j]) +
+    matching(a, b, [i + length, aTo, j + length, bTo]);
 }
 
 /**
@@ -35,7 +36,8 @@ export function nearest(word, names) {
   for (const name of names) {
     if (word.length > 100) break;
     const ratio = 2 * matching(name, word) / (name.length + word.length);
-    if (ratio > most || (ratio === most && (best === null || name > best))) [best, most] = [name, ratio];
+    const isBetter = ratio > most || (ratio === most && (best === null || name > best));
+    if (isBetter) [best, most] = [name, ratio];
   }
   return best;
 }

@@ -52,6 +52,17 @@ export class Outline extends StepList {
     this.marked = marked.taken;
   }
 
+  /** An outline of these `parts`, which that of the same text has had elsewhere. */
+  static of(text, parts) {
+    return Object.assign(Object.create(Outline.prototype), { text }, parts);
+  }
+
+  /** All of it but its text, in a form that can be sent. */
+  get parts() {
+    const { starts, lines, kinds, marked, runs, length, hasExpected } = this;
+    return { starts, lines, kinds, marked, runs, length, hasExpected };
+  }
+
   /** Takes the line that begins at a place, and tells where the next one does. */
   take(at, line) {
     const { text } = this;

@@ -2,7 +2,8 @@
 // there. Whether a line is a step, the module alone says. Here its answer is explained, by the
 // rules of tools/vga_report/mistakes.py and in the same words; page/tests/reasons.mjs compares the
 // two.
-import { BLOCK, BLOCK_LINES, CALL_REGISTERS, MOST_STEPS, SHAPES, SHOWN, VERSION_TWO } from "./grammar.js";
+import { BLOCK, BLOCK_LINES, CALL_REGISTERS, MOST_STEPS, SHAPES, SHOWN, VERSION_TWO }
+  from "./grammar.js";
 import { digitsNumber } from "./grammar.js";
 import { hex } from "../common/bytes.js";
 import { nearest } from "./near.js";
@@ -71,7 +72,9 @@ function mistakeInStep(words, end) {
   if (name === "version" && !(others.length === 1 && others[0].text === "2")) {
     return wrong(words.at(-1), "no version", { version: VERSION_TWO });
   }
-  if (Object.hasOwn(BLOCK_LINES, name)) return mistakeInNumbers(name, BLOCK_LINES[name], others, end);
+  if (Object.hasOwn(BLOCK_LINES, name)) {
+    return mistakeInNumbers(name, BLOCK_LINES[name], others, end);
+  }
   if (!Object.hasOwn(SHAPES, name)) return unknownStep(words[0]);
   return mistakeInNumbers(name, SHAPES[name], others, end);
 }
@@ -104,7 +107,8 @@ function mistakeInNumbers(form, numbers, words, end) {
     if (found) return found;
   }
   if (words.length < numbers.length) {
-    return { at: end, width: 1, reason: ofLine("lacking", { name: numbers[words.length].name, usage }) };
+    const reason = ofLine("lacking", { name: numbers[words.length].name, usage });
+    return { at: end, width: 1, reason };
   }
   return words.length > numbers.length ? wordTooMany(words[numbers.length], usage) : null;
 }
@@ -142,7 +146,8 @@ function mistakeInDigits(number, word, text = word.text) {
     return wrong(word, "other digits", { digits: digits.toUpperCase() });
   }
   if ("+-".includes(text[0])) return wrong(word, "sign");
-  return wrong(word, "no digit", { name, letter: [...text].find(letter => !HEX_DIGITS.test(letter)) });
+  const letter = [...text].find(one => !HEX_DIGITS.test(one));
+  return wrong(word, "no digit", { name, letter });
 }
 
 /** Why a number is out of its range. */
@@ -160,7 +165,9 @@ function mistakeInDecimal(number, word) {
   const parted = stripped(text, ",;:.").replace(/[,_']/g, "");
   if (/^[0-9]+$/.test(parted)) return wrong(word, "other decimal digits", { name, digits: parted });
   const digits = cleaned(text);
-  if (digits !== null) return wrong(word, "not hexadecimal", { name, digits: BigInt("0x" + digits) });
+  if (digits !== null) {
+    return wrong(word, "not hexadecimal", { name, digits: BigInt("0x" + digits) });
+  }
   return "+-".includes(text[0]) ? wrong(word, "sign") : wrong(word, "no decimal", { name });
 }
 
@@ -205,7 +212,8 @@ function mistakeInRegister(word, behind, last) {
   }
   if (place === last) return wrong(word, "twice", { name });
   if (place < last) return wrong(word, "order");
-  const isNext = behind.length && (/^[0-9A-Fa-f]/.test(behind[0].text) || FOREIGN_HEX.test(behind[0].text));
+  const next = behind[0]?.text ?? "";
+  const isNext = /^[0-9A-Fa-f]/.test(next) || FOREIGN_HEX.test(next);
   if (!found[2] && isNext) return wrong(word, "blank around =", { name, value: behind[0].text });
   return mistakeInDigits(digitsNumber(name, 4), word, found[2]) ?? place;
 }
@@ -219,7 +227,9 @@ function noRegister(word, name, behind) {
     return wrong(word, "blank around =", { name, value });
   }
   if (isRegister) return wrong(word, "no value", { name });
-  if (HEX_DIGITS.test(word.text) || isForeignHex(word.text)) return wrong(word, "always interrupt 10");
+  if (HEX_DIGITS.test(word.text) || isForeignHex(word.text)) {
+    return wrong(word, "always interrupt 10");
+  }
   const hint = nearOf(name, [BLOCK]) || ofLine("words of a call");
   return wrong(word, "no register", { word: shortened(word.text), hint });
 }
@@ -330,8 +340,10 @@ function isUtf16(bytes) {
   const begin = frontIs(bytes, [0xff, 0xfe]) || frontIs(bytes, [0xfe, 0xff]) ? 2 : 0;
   const front = bytes.subarray(begin, begin + LOOKED_AT);
   return [0, 1].some(place => {
-    const high = front.filter((_, i) => i % 2 === place), low = front.filter((_, i) => i % 2 !== place);
-    return high.length > 0 && low.length > 0 && high.every(byte => byte === 0) && !low.some(isControl);
+    const high = front.filter((_, i) => i % 2 === place);
+    const low = front.filter((_, i) => i % 2 !== place);
+    const isSome = high.length > 0 && low.length > 0;
+    return isSome && high.every(byte => byte === 0) && !low.some(isControl);
   });
 }
 
@@ -339,5 +351,6 @@ function isUtf16(bytes) {
 export function reasonOfLine(text, number) {
   const line = lineOfText(text, number), found = mistakeIn(line);
   if (found) return found;
-  return { at: 0, width: line.length, reason: mistakeAmongLines(text, number) ?? ofLine("unknown") };
+  const reason = mistakeAmongLines(text, number) ?? ofLine("unknown");
+  return { at: 0, width: line.length, reason };
 }

@@ -16,8 +16,8 @@ export const SERVICE_ANCHORS = { 0: "00-set-a-mode", 1: "01-set-the-cursors-scan
   2: "02-set-the-cursor-position",
   3: "03-read-the-cursor", 5: "05-show-a-page", 6: "06-and-07-scroll-a-window",
     7: "06-and-07-scroll-a-window",
-  8: "08-read-a-cell", 9: "09-and-0a-write-cells", 10: "09-and-0a-write-cells", 12: "0c-write-a-dot",
-    13: "0d-read-a-dot",
+  8: "08-read-a-cell", 9: "09-and-0a-write-cells", 10: "09-and-0a-write-cells",
+  12: "0c-write-a-dot", 13: "0d-read-a-dot",
   14: "0e-type-a-character", 15: "0f-read-the-mode", 16: "10-palette-and-dac", 17: "11-load-glyphs",
   18: "12-read-the-adapter", 19: "13-write-a-string", 26: "1a-read-the-display" };
 
@@ -43,7 +43,8 @@ function addressNotDecoded(address, registers) {
 }
 
 function notDecoded(name, numbers, registers) {
-  const [place] = numbers, isWord = name.endsWith("w"), places = isWord ? [place, place + 1] : [place];
+  const [place] = numbers, isWord = name.endsWith("w");
+  const places = isWord ? [place, place + 1] : [place];
   if (name.startsWith("put") || name.startsWith("get")) {
     const text = places.map(one => addressNotDecoded(one, registers)).find(one => one);
     return { text, link: link("HOST-PATH.md", "windows", "windows of memory") };
@@ -60,15 +61,16 @@ function notDecoded(name, numbers, registers) {
 function dataPort(port, registers, index) {
   const base = registers.misc & 1 ? 0x3d4 : 0x3b4;
   const groups = {
-    0x3c5: ["sequencer", registers.seqIndex, 5, 7], 0x3cf: ["graphics controller", registers.gfxIndex, 9, 15],
+    0x3c5: ["sequencer", registers.seqIndex, 5, 7],
+    0x3cf: ["graphics controller", registers.gfxIndex, 9, 15],
     [base + 1]: ["CRT controller", registers.crtcIndex, 25, 31],
     0x3c0: ["attribute controller", registers.attrIndex & 31, 21, 31],
-      0x3c1: ["attribute controller", registers.attrIndex & 31, 21, 31],
+    0x3c1: ["attribute controller", registers.attrIndex & 31, 21, 31],
   };
   if (!groups[port]) return null;
   const [group, held, count, mask] = groups[port];
-  return { group, count, index: index === undefined ? held : index & mask, anchor: group.replace(" ", "-")
-    .toLowerCase() };
+  const anchor = group.replace(" ", "-").toLowerCase();
+  return { group, count, index: index === undefined ? held : index & mask, anchor };
 }
 
 function refusedValue({ group, index }, value) {
@@ -106,8 +108,8 @@ function notInProfile(name, numbers, registers) {
   if (!name.endsWith("w")) return portNotInProfile(port, value, registers);
   const low = value === null ? null : value & 255, high = value === null ? null : value >> 8;
   const isIndex = value !== null && [0x3c4, 0x3ce, 0x3b4, 0x3d4].includes(port);
-  return portNotInProfile(port, low, registers) ?? portNotInProfile(port + 1, high, registers, isIndex ? low
-    : undefined);
+  return portNotInProfile(port, low, registers) ??
+    portNotInProfile(port + 1, high, registers, isIndex ? low : undefined);
 }
 
 /** What the refusals of calls mean, E3 to E11 and E13. */
@@ -138,7 +140,8 @@ function registersOfCall(words) {
  * anchor, title } }.
  */
 export function whyRefused(words, answer, state) {
-  const [name, ...others] = words.toLowerCase().split(" "), number = Number(answer.slice(1).split(" ")[0]);
+  const [name, ...others] = words.toLowerCase().split(" ");
+  const number = Number(answer.slice(1).split(" ")[0]);
   const general = { text: "", link: link("REPORT.md", "refusals", "refusals") };
   const numbers = others.map(word => parseInt(word, 16)), { registers } = state;
   if (number === 12) return { ...general, text: why("advance", { most: MOST_ADVANCE }) };

@@ -10,6 +10,7 @@ import { pathToFileURL } from "node:url";
 import { gunzipSync, gzipSync } from "node:zlib";
 import { KEYS } from "../view/keys.js";
 import { Browser } from "./driving.mjs";
+import { TEXT, select, textIs } from "./editing.mjs";
 import { IDLE, LONG, figuresOf, figuresText, fragmentOf, isIdle, jumpsIn } from "./jumps.mjs";
 import { FONTS, PAGE, TOP, pageData, withMemory } from "./loading.mjs";
 
@@ -37,6 +38,13 @@ async function settled() {
 async function stepIs(wanted) {
   const told = wanted ? `After step ${wanted.toLocaleString("en")} of` : "Power-on: no step";
   await browser.until(`document.getElementById("laststep").textContent.startsWith("${told}")`);
+}
+
+/** Pastes a text over the whole script. */
+async function put(script) {
+  await browser.click("#page");
+  await browser.selectAll();
+  await browser.paste(script);
 }
 
 /** Gives a control a value, as a hand would. */
@@ -198,7 +206,7 @@ await check("breakpoints by the form, each kind", async () => {
   await browser.until("document.querySelector('.points [role=alert]').textContent.length > 0");
 });
 
-await check("the picture: pointing, the glass, and a click that goes to the step", async () => {
+await check("the picture: pointing, the glass, and a card that leads to the step", async () => {
   await browser.click("#last");
   await stepIs(14);
   const [left, top, width, height] = await boxOf("#picture");
@@ -209,8 +217,10 @@ await check("the picture: pointing, the glass, and a click that goes to the step
   await browser.click("#framebefore");
   await stepIs(12);
   await browser.clickAt(left + 300.5 * width / 720, top + 1.5 * height / 400);
+  await browser.click("#asked [data-action=drawn]");
   await stepIs(6);
   await browser.clickAt(left + 300.5 * width / 720, top + 200.5 * height / 400);
+  await browser.click("#asked [data-action=drawn]");
   await stepIs(12);
 });
 
@@ -282,12 +292,11 @@ await check("cells, colours, BIOS data", async () => {
 });
 
 await check("typing: a bad line with its reason, and mended", async () => {
-  await browser.click("#text");
-  await set("text", "int ax=3\nout 0x3C4 02 ; = 5\nframe", "input");
+  await put("int ax=3\nout 0x3C4 02 ; = 5\nframe");
   await browser.until(
-    "document.getElementById('why').textContent === 'numbers are hexadecimal digits alone: write 3C4'");
+    "document.querySelector('#why span').textContent === 'numbers are hexadecimal digits alone: write 3C4'");
   await shot("bad-line");
-  await browser.value("document.getElementById('text').setSelectionRange(13, 15)");
+  await select(browser, 13, 15);
   await browser.send("Input.dispatchKeyEvent", { type: "keyDown", key: "Delete", windowsVirtualKeyCode: 46 });
   await browser.until(`document.getElementById('why').hidden && ${IDLE}`);
   assert.equal(await browser.value("document.querySelector('.answer.wrong').textContent"), "✗ ok");
@@ -295,9 +304,8 @@ await check("typing: a bad line with its reason, and mended", async () => {
 
 await check("keys in the script", async () => {
   await open(await fragment(SCRIPT));
-  await browser.click("#text");
-  await browser.value(
-    "(() => { const t = document.getElementById('text'); t.setSelectionRange(60, 60); })()");
+  await browser.click("#page");
+  await select(browser, 60);
   await key("F9");
   await browser.until("document.querySelectorAll('.number.point').length === 1");
   await key("b", { control: true });
@@ -337,7 +345,9 @@ await check("every key that the help tells", async () => {
         await browser.until("document.fullscreenElement !== null");
         await browser.value("document.exitFullscreen()");
       }
-      if (["share", "help"].includes(control)) await browser.value(
+      if (control === "findsteps") await browser.until("!document.getElementById('stepfinder').hidden");
+      if (control === "language") await browser.until("document.getElementById('languagebox').open");
+      if (["share", "help", "language"].includes(control)) await browser.value(
         "document.querySelector('dialog[open]').close()");
       if (control === "savemenu") await browser.value("document.getElementById('savemenu').open = false");
       if (control === "play") {
@@ -366,7 +376,7 @@ await check("a link opens the same script at the same step", async () => {
   const link = await browser.value("document.getElementById('link').value");
   await open("#" + link.split("#")[1]);
   await stepIs(12);
-  assert.equal(await browser.value("document.getElementById('text').value"), SCRIPT);
+  assert.equal(await browser.value(TEXT), SCRIPT);
   assert.equal(await browser.value("document.getElementById('tab2').getAttribute('aria-selected')"), "true");
 });
 
@@ -393,7 +403,7 @@ async function choose(name, bytes) {
 
 await check("files: bytes, fonts, a trace; and one that is dropped", async () => {
   await choose("first-path.bin", readFileSync(`${TOP}examples/first-path.bin`));
-  await browser.until("document.getElementById('text').value.startsWith('out 3C2 02\\nout 3C4 04')");
+  await browser.until(TEXT + ".startsWith('out 3C2 02\\nout 3C4 04')");
   await choose("own.fnt", FONTS.map(byte => byte ^ 255));
   await browser.until("!document.getElementById('ownfonts').hidden");
   await browser.click("#ownfonts");
@@ -401,14 +411,14 @@ await check("files: bytes, fonts, a trace; and one that is dropped", async () =>
   await choose("typed-line.trace", readFileSync(`${TOP}examples/typed-line.trace`));
   await browser.until("document.querySelector('dialog.ask')?.open");
   await browser.press("Enter");
-  await browser.until("document.getElementById('text').value.startsWith('out 3C2 67')");
+  await browser.until(TEXT + ".startsWith('out 3C2 67')");
   await browser.until("document.getElementById('state').textContent.includes('2 of 2 answers as expected')");
   await browser.value(
     `(() => { const files = new DataTransfer(); files.items.add(new File(["frame ; dropped"], "dropped.vga"));
     document.body.dispatchEvent(new DragEvent("dragover", { bubbles: true, dataTransfer: files }));
     document.body.dispatchEvent(new DragEvent("drop", { bubbles: true, dataTransfer: files })); })()`);
   await browser.until(
-    "document.getElementById('text').value === 'frame ; dropped' && document.getElementById('drop').hidden");
+    `${textIs("frame ; dropped")} && document.getElementById('drop').hidden`);
 });
 
 await check("junk is told, and the page goes on", async () => {
@@ -422,7 +432,7 @@ await check("junk is told, and the page goes on", async () => {
   ]) {
     await choose(name, bytes);
     await browser.until(`document.getElementById("notice").textContent.includes(${JSON.stringify(said)})`);
-    assert.equal(await browser.value("document.getElementById('text').value"), "frame ; dropped");
+    assert.equal(await browser.value(TEXT), "frame ; dropped");
   }
   await browser.open(`${ADDRESS}#script=AAAA`);
   await browser.until("document.getElementById('notice').textContent.includes('damaged')");
@@ -438,7 +448,7 @@ await check("a page with a script of a command in it", async () => {
     writeFileSync(`${folder}/own.html`, page.replace('"open":null', `"open":${JSON.stringify(own)}`));
     await open("#step=1", pathToFileURL(`${folder}/own.html`).href);
     await stepIs(1);
-    assert.ok((await browser.value("document.getElementById('text').value")).startsWith(begin));
+    assert.ok((await browser.value(TEXT)).startsWith(begin));
     assert.ok((await text("state")).startsWith(`${wanted} steps`));
     assert.equal(await text("about"), own.name);
   }
@@ -448,7 +458,7 @@ await check("a script of 16 MiB", async () => {
   await open();
   const line = "put A0000 11\n", count = Math.floor((1 << 24) / line.length);
   await choose("large.vga", line.repeat(count));
-  await browser.until("document.getElementById('about').textContent.includes('too long to be edited')");
+  await browser.until("document.getElementById('about').textContent.includes('the page edits no text that long')");
   await browser.until(`document.getElementById("state").textContent.startsWith("1,290,555 steps")`, 120000);
   await browser.until(IDLE);
   assert.equal(count, 1290555);
@@ -486,7 +496,7 @@ await check("frames without an end", async () => {
 
 await check("want of memory in the module", async () => {
   const page = readFileSync(PAGE, "utf-8"), { module } = pageData();
-  for (const [pages, isRun] of [[300, false], [800, true]]) {
+  for (const [pages, isRun] of [[300, false], [600, true]]) {
     const small = gzipSync(withMemory(gunzipSync(Buffer.from(module, "base64")), pages)).toString("base64");
     writeFileSync(`${folder}/small.html`, page.replace(module, small));
     const address = pathToFileURL(`${folder}/small.html`).href;
@@ -547,7 +557,7 @@ await check("while a long run is held, the page goes on; another script ends it"
   await browser.click("#back");
   await stepIs(1000);
   assert.equal(await browser.value("document.getElementById('compared').ariaBusy"), "true");
-  await set("text", SCRIPT, "input");
+  await put(SCRIPT);
   await browser.until("window.ended === 1");
   await browser.until(IDLE);
   assert.match(await text("compared"), /All 14 answers are those of one run by zak_run/);
@@ -662,15 +672,15 @@ await check("a module that traps is opened anew", async () => {
   await browser.click("#back");
   await says("#notice", "The module has stopped (unreachable). It is opened anew");
   assert.equal(await text("state"), "no run");
-  await set("text", "int ax=3\nframe\n", "input");
+  await put("int ax=3\nframe\n");
   await browser.until(IDLE);
   await stepIs(2);
   // Amid a run, too.
-  await set("text", "version 2\nint ax=3\nrepeat 65535\nint ax=E41\nframe\nend\n", "input");
+  await put("version 2\nint ax=3\nrepeat 65535\nint ax=E41\nframe\nend\n");
   await browser.until("document.getElementById('state').textContent.startsWith('running: step')");
   await browser.value("window.traps = true");
   await browser.until("document.getElementById('state').textContent === 'no run'");
-  await set("text", "int ax=3\nframe\n", "input");
+  await put("int ax=3\nframe\n");
   await browser.until(IDLE);
   await stepIs(2);
   await browser.send("Page.removeScriptToEvaluateOnNewDocument", { identifier });

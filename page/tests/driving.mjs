@@ -3,6 +3,7 @@ import { spawn } from "node:child_process";
 import { mkdtempSync, rmSync, statSync } from "node:fs";
 import { createServer } from "node:net";
 import { tmpdir } from "node:os";
+import { pasting } from "./editing.mjs";
 
 const NAMES = ["chromium", "chromium-browser", "google-chrome"];
 /** So many milliseconds something may take, on a machine on which much else runs. */
@@ -191,21 +192,27 @@ export class Browser {
       modifiers = (shift ? 8 : 0) + (control ? 2 : 0);
     const codes = { ArrowLeft: 37, ArrowRight: 39, Home: 36, End: 35, Enter: 13, Escape: 27, Tab: 9, Backspace: 8,
       ArrowUp: 38, ArrowDown: 40, PageUp: 33, PageDown: 34, F8: 119,
-      F9: 120, F10: 121, F12: 123 };
+      F1: 112, F3: 114, F9: 120, F10: 121, F12: 123, Delete: 46, "'": 222, ",": 188, "-": 189, ".": 190, "/": 191 };
     const windowsVirtualKeyCode = codes[key] ?? key.toUpperCase().charCodeAt(0);
     await this.send("Input.dispatchKeyEvent", { type: text ? "keyDown" : "rawKeyDown", key, text, modifiers,
       windowsVirtualKeyCode });
     await this.send("Input.dispatchKeyEvent", { type: "keyUp", key, modifiers, windowsVirtualKeyCode });
   }
 
-  /** Types into the element that has the focus. */
+  /** Types into the element that has the focus, key by key. */
   async type(text) {
-    await this.send("Input.insertText", { text });
+    for (const key of text) await this.press(key);
   }
 
-  /** Puts a text in place of what is selected, as one that is pasted. */
+  /** Puts a text in place of what is selected in the script, as one that is pasted. */
   paste(text) {
-    return this.type(text);
+    return this.value(pasting(text));
+  }
+
+  /** Pastes what the clipboard has, by Ctrl+V. */
+  pressPaste() {
+    return this.send("Input.dispatchKeyEvent", { type: "rawKeyDown", key: "v", code: "KeyV",
+      modifiers: 2, windowsVirtualKeyCode: 86, commands: ["paste"] });
   }
 
   selectAll() {

@@ -15,7 +15,7 @@ import { packed } from "../files/share.js";
 import { Browser } from "./driving.mjs";
 import { PAGE, examples } from "./loading.mjs";
 
-const WIDE = { width: 1280, height: 860 }, TABS = 6, SHARE_IDLE = 0.85;
+const WIDE = { width: 1280, height: 860 }, TABS = 8, SHARE_IDLE = 0.85;
 /** 3,000,001 steps. */
 export const LONG = "version 2\nint ax=13\n" +
   "repeat 60000\nput A0001 12\nget A0002\nout 3C8 3\nput A1234 77\nin 3DA\nend\n".repeat(10);

@@ -7,6 +7,7 @@ import { mkdtempSync, rmSync, writeFileSync } from "node:fs";
 import { tmpdir } from "node:os";
 import { resolve } from "node:path";
 import { pathToFileURL } from "node:url";
+import { TEXT, caretAt as caretIn, pasteOver, textIs as isText } from "./editing.mjs";
 import { begun } from "./engines.mjs";
 import { IDLE, fragmentOf } from "./jumps.mjs";
 import { PAGE } from "./loading.mjs";
@@ -16,7 +17,7 @@ const { browser } = await begun(), seen = [], folder = mkdtempSync(`${tmpdir()}/
 const OWN = "; my own bars\nint ax=3\nin 3DA\nframe\n", OTHER = "; another one\nin 3CC\nin 3DA\n";
 
 const until = condition => browser.until(condition, 40000);
-const value = id => browser.value(`document.getElementById("${id}").value`);
+const value = id => browser.value(id === "text" ? TEXT : `document.getElementById("${id}").value`);
 const text = id => browser.value(`document.getElementById("${id}").textContent`);
 const pause = () => browser.value("new Promise(done => setTimeout(done, 60))");
 
@@ -46,14 +47,10 @@ async function leaving(does) {
 
 const reload = () => leaving("location.reload()");
 
-/** Puts the caret at a place of the text; at its end if none is told. */
-async function caretAt(place) {
-  await browser.value(`(() => { const area = document.getElementById("text"), at = ${place ?? "area.value.length"};
-    area.focus(); area.setSelectionRange(at, at); })()`);
-}
+const caretAt = place => caretIn(browser, place);
 
 async function textIs(wanted) {
-  await until(`document.getElementById("text")?.value === ${JSON.stringify(wanted)}`);
+  await until(isText(wanted));
   await until(IDLE);
 }
 
@@ -64,10 +61,8 @@ async function stepIs(step) {
 
 /** Pastes a text over the one in the page. */
 async function paste(script) {
-  await browser.click("#text");
-  await browser.selectAll();
-  await browser.paste(script);
-  await textIs(script);
+  await pasteOver(browser, script);
+  await until(IDLE);
 }
 
 /**
@@ -111,7 +106,7 @@ async function drop(files) {
 const listed = () => browser.value(`(() => {
   const list = document.getElementById("examples");
   list.dispatchEvent(new PointerEvent("pointerdown", { bubbles: true }));
-  return [...list.querySelectorAll("optgroup:not(:last-child) option")].map(one => one.text);
+  return [...list.querySelectorAll("optgroup[label^=Your] option")].map(one => one.text);
 })()`);
 
 /** Takes away what earlier checks have kept. */
@@ -129,10 +124,10 @@ const CHECKS = {
     await textIs(OWN);
     assert.equal(await text("about"), "");
     await caretAt();
-    await browser.type(";");
+    await browser.press(";");
     // Before the page has run it, too.
     await reload();
-    await until(`document.getElementById("text").value === ${JSON.stringify(`${OWN};`)}`);
+    await until(isText(`${OWN};`));
     await caretAt();
     await browser.press("Backspace");
     await textIs(OWN);
@@ -184,7 +179,7 @@ const CHECKS = {
     await choose("hunt");
     const hunt = await value("text");
     assert.ok(hunt !== OWN && hunt.length > 100);
-    await browser.click("#text");
+    await browser.click("#page");
     await browser.press("z", { control: true });
     await textIs(OWN);
     await browser.press("z", { control: true });
@@ -418,9 +413,14 @@ const CHECKS = {
       data.setData("text/plain", "frame");
       const event = new DragEvent("dragover", { bubbles: true, cancelable: true, dataTransfer: data });
       document.getElementById("text").dispatchEvent(event);
-      return event.defaultPrevented || !document.getElementById("drop").hidden;
+      const isShown = !document.getElementById("drop").hidden;
+      document.getElementById("text").dispatchEvent(new DragEvent("drop", { bubbles: true, cancelable: true,
+        dataTransfer: data, clientX: 200, clientY: 200 }));
+      return isShown || !document.getElementById("drop").hidden;
     })()`);
     assert.equal(isTaken, false);
+    // It is the field's, which puts it where it was dropped.
+    await until(`${TEXT}.split("frame").length === ${(await value("text")).split("frame").length}`);
   },
 
   async "words: what a call hands back, a picture's size, whose palette mode 13 has, the version"() {
@@ -533,7 +533,7 @@ const CHECKS = {
     // third.
     const between = () => browser.value(`(() => {
       const [first, , third] = document.querySelectorAll(".number");
-      const line = parseFloat(getComputedStyle(document.getElementById("text")).lineHeight);
+      const line = document.querySelector(".CodeMirror-line").getBoundingClientRect().height;
       return [third.getBoundingClientRect().top - first.getBoundingClientRect().top, 2 * line]; })()`);
     assert.deepEqual([await high(), await between()], [[18, 18, 18], [36, 36]]);
     await browser.look({ width: 500, height: 860 });

@@ -54,12 +54,13 @@ await check(use => {
         tops.push((await placeOf(`#${id}`)).top);
       }
       assert.deepEqual(tops, [...tops].sort((one, other) => one - other));
-      assert.equal(await use.value("document.querySelectorAll('.splitter:not([hidden])').length"), 0);
+      const splitters = "document.querySelectorAll('.splitter:not([hidden])').length";
+      assert.equal(await use.value(splitters), 0);
       const { width } = await placeOf("#picture");
       near(width, room);
     },
 
-    async "the pointer drags a splitter, which stays after a reload; a double click brings it back"() {
+    async "the pointer drags a splitter, which stays after a reload; two clicks bring it back"() {
       await anew();
       const old = await placeOf("#split-script"), [x, y] = middle(old);
       await browser.drag([x, y], [x + 120, y]);
@@ -176,7 +177,8 @@ await check(use => {
 
     async "a click on a bitmap of memory scrolls to the byte, and marks it"() {
       await use.open("#example=planar-screen&step=150&tab=memory");
-      await use.value("document.querySelector('.planes canvas').scrollIntoView({ block: 'nearest' })");
+      await use.value(`document.querySelector(".planes canvas")
+        .scrollIntoView({ block: "nearest" })`);
       await use.pause();
       const [x, y] = middle(await placeOf(".planes figure:nth-child(1)"));
       await browser.clickAt(x, y);

@@ -4,8 +4,11 @@ import test from "node:test";
 import { Session } from "../run/session.js";
 import { changedPlanes } from "../run/changes.js";
 import { statusOne } from "../panels/registerpanel.js";
-import { State, characterWidth, dacEntry, fetchAddress, frameShape, shownBytes,
+import { shownBytes } from "../explain/walk.js";
+import { State, characterWidth, dacEntry, fetchAddress, frameShape, frameSpeed,
   windowShape } from "../module/state.js";
+import { partsOfSaved } from "./saved.mjs";
+import { Random, stateOf } from "./randomly.mjs";
 import { FONTS, examples, loadAdapter, runWhole } from "./loading.mjs";
 
 const adapter = await loadAdapter();
@@ -27,7 +30,8 @@ function registersOf(card) {
 }
 
 function assertState(card) {
-  const state = new State(card.save()), told = registersOf(card);
+  const state = State.of(card), told = registersOf(card), saved = partsOfSaved(state.bytes);
+  for (const [name, part] of Object.entries(saved)) assert.deepEqual(state[name], part, name);
   for (const [name, value] of Object.entries(told)) assert.deepEqual(state.registers[name], value, name);
   for (let index = 0; index < 256; index++) {
     assert.deepEqual(state.colour(index), [...structOf(card, "zak_read_colour", 3, index)]);
@@ -96,7 +100,7 @@ for (const mode of ["3", "D", "12", "13"]) {
     const text = `int ax=${mode}\n${mode === "3" ? "int ax=100 cx=2000\n" : ""}frame`;
     const session = runWhole(new Session(adapter, FONTS, text)), { card } = session;
     session.seek(session.length);
-    const state = card.save(), shown = shownBytes(new State(state).registers), plain = nextFrame(card);
+    const state = card.save(), shown = shownBytes(card.registers()), plain = nextFrame(card);
     for (let offset = 0; offset < 65536; offset += 251) {
       const other = state.slice();
       for (const plane of mode === "3" ? [1] : [0, 1, 2, 3]) {
@@ -167,5 +171,76 @@ test("the bytes of planes that a step changes are found, each of a word", () => 
     });
   }
   assert.deepEqual(changedPlanes(session.state(), session.state()), [[], [], [], []]);
+  session.close();
+});
+
+/** A card with random registers, which give frames of at least a dot, after some dots. */
+function randomCards(count, seed) {
+  const session = new Session(adapter, FONTS, ""), { card } = session, random = new Random(seed);
+  const first = card.save(), list = [];
+  for (let i = 0; i < count; i++) {
+    const bytes = stateOf(first, random, (group, at) =>
+      (group === "misc" ? random.byte() & 0xf3 | random.below(2) << 2 : random.byte() & (group === "crtc" &&
+        at === 7 && random.below(2) ? 0 : 255)), false);
+    card.restore([bytes]);
+    adapter.calls.zak_advance(card.at, random.below(200000));
+    list.push(card.save());
+  }
+  return { session, card, random, list };
+}
+
+test("line, frame and rate of random registers are those that the module's clock tells", () => {
+  const { session, card, list } = randomCards(300, 41);
+  for (const bytes of list) {
+    card.restore([bytes]);
+    const told = card.clock(), { registers } = State.of(card), { dots, lines } = frameShape(registers);
+    const { dots: frame, rate } = frameSpeed(registers);
+    assert.deepEqual([dots, lines, frame, rate],
+      [told.lineDots, told.lines, told.frameDots, told.rate / told.rateDivisor]);
+  }
+  session.close();
+});
+
+test("input status 1 of random registers is what would be read", () => {
+  const { session, card, list } = randomCards(300, 43), seen = {};
+  for (const bytes of list) {
+    card.restore([bytes]);
+    const state = State.of(card), told = statusOne(state).slice(0, 2), room = adapter.room("status", 16);
+    const status = adapter.calls.zak_in(card.at, state.registers.misc & 1 ? 0x3da : 0x3ba, room.at);
+    assert.deepEqual([status, told], [0, adapter.copied(room, 1)[0].toString(16).padStart(2, "0")]);
+    seen[told] = (seen[told] ?? 0) + 1;
+  }
+  assert.equal(Object.keys(seen).length, 4, JSON.stringify(seen));
+  session.close();
+});
+
+test("bytes that are shown by random registers, panned too, are those that change the picture", () => {
+  const { session, card, random } = randomCards(0, 47), first = card.save();
+  let shows = 0, hides = 0;
+  for (let time = 0; time < 40; time++) {
+    const bytes = stateOf(first, random, (group, at) => ({ "crtc 0": 40, "crtc 1": random.below(40),
+      "crtc 6": 100, "crtc 7": random.byte() & 0x10, "crtc 18": random.below(90), "seq 1": random.below(2),
+      "gfx 6": 1, "gfx 5": 0, "attr 18": 15 }[`${group} ${at}`] ?? random.byte()), false);
+    for (let i = 0; i < 16; i++) bytes[78 + i] = i;
+    bytes[78 + 21] = 0x20;
+    bytes[101 + 772] = 255;
+    for (let i = 0; i < 768; i++) bytes[101 + i] = i * 7 & 63;
+    card.restore([bytes]);
+    const shown = shownBytes(card.registers()), plain = nextFrame(card);
+    for (let trial = 0; trial < 25; trial++) {
+      const from = shown.indexOf(1, random.below(65536)), past = shown.indexOf(0, Math.max(0, from));
+      // Anywhere, at a byte that is shown, or right behind such bytes.
+      const offset = random.one([random.below(65536), from, past + random.below(3)]) & 65535;
+      const other = bytes.slice();
+      for (const plane of [0, 1, 2, 3]) other[894 + 65536 * plane + offset] = 255;
+      card.restore([other]);
+      const isSame = Buffer.compare(nextFrame(card), plain) === 0;
+      // A byte of which a part is beyond the picture's edges may show nothing.
+      if (!isSame) assert.equal(shown[offset], 1, `offset ${offset}`);
+      if (!isSame) shows++;
+      else if (!shown[offset]) hides++;
+    }
+  }
+  assert.ok(shows > 100 && hides > 200, `${shows} ${hides}`);
   session.close();
 });

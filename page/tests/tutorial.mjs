@@ -6,13 +6,14 @@ import assert from "node:assert/strict";
 import { mkdirSync, readFileSync, writeFileSync } from "node:fs";
 import { resolve } from "node:path";
 import { pathToFileURL } from "node:url";
+import { TEXT, pasteOver, select } from "./editing.mjs";
 import { begun } from "./engines.mjs";
 import { IDLE } from "./jumps.mjs";
 import { PAGE, TOP } from "./loading.mjs";
 import { smallShot } from "./shots.mjs";
 
 // The window of the pictures; and one in which each dot has more than a pixel, to be pointed at.
-const WINDOW = { width: 1060, height: 700 }, LARGE = { width: 1900, height: 1500 };
+const WINDOW = { width: 1060, height: 700 }, LARGE = { width: 1580, height: 1500 };
 const tutorial = readFileSync(`${TOP}docs/TUTORIAL.md`, "utf-8");
 // Its scripts; the program in it is told to be of Python.
 const blocks = [...tutorial.matchAll(/^```(\w*)\n([^]*?)^```$/gm)]
@@ -39,10 +40,7 @@ async function stepIs(step, count) {
 
 /** Pastes a script of the tutorial over the one in the page, and shows its last step. */
 async function paste(number, count, told) {
-  await browser.click("#text");
-  await browser.selectAll();
-  await browser.paste(blocks[number]);
-  assert.equal(await browser.value("document.getElementById('text').value"), blocks[number]);
+  await pasteOver(browser, blocks[number]);
   await atTheEnd(count, told);
 }
 
@@ -56,16 +54,16 @@ async function atTheEnd(count, told) {
 
 /** Changes a word of the script, as a hand would. */
 async function change(old, word) {
-  await browser.value(`(() => {
-    const area = document.getElementById("text"), at = area.value.indexOf("${old}");
-    area.focus();
-    area.setSelectionRange(at, at + ${old.length});
-  })()`);
-  await browser.type(word);
+  const at = (await browser.value(TEXT)).indexOf(old);
+  await select(browser, at, at + old.length);
+  await (word.includes("\n") ? browser.paste(word) : browser.type(word));
   await ready();
   await press("Escape");
   await press("End");
 }
+
+/** The card of a dot that was clicked. */
+const CARD = "#asked";
 
 /** Where a dot of the picture is seen. */
 async function placeOf(x, y) {
@@ -164,11 +162,35 @@ const PARTS = {
     await shot("page");
     await press("End");
     await browser.clickAt(...await placeOf(100, 150));
+    await browser.click(`${CARD} [data-action=drawn]`);
     await stepIs(13, 18);
     await change("80000", "80320");
     assert.deepEqual([await colourAt(319, 100), await colourAt(320, 100)],
       ["08 00 18", "3F 18 08"]);
     assert.match(await wrong(), /^✗ beam frame 0/);
+  },
+
+  async wrongDot() {
+    await paste(4, 10, "10 steps, 1 picture, 1 of 1 answers as expected");
+    assert.deepEqual([await colourAt(321, 240), await colourAt(324, 240), await colourAt(328, 240)],
+      ["00 00 00", "3F 3F 3F", "3F 3F 15"]);
+    await browser.clickAt(...await placeOf(321, 240));
+    await browser.until(`!document.querySelector("${CARD}").hidden`);
+    await shot("lost-pixels-card", CARD);
+    await browser.click(`${CARD} [data-action=change]`);
+    await stepIs(9, 10);
+    assert.equal(await text("found"),
+      "This step changed dot 321 of line 240: bits E → 0; colour 3F 3F 15 → 00 00 00.");
+    await press("7");
+    const write = await text("panel");
+    assert.match(write, /Function 0: replace. Bit mask 08\./);
+    assert.match(write, /latch\s+00 0000 0000/);
+    await press("c");
+    await stepIs(5, 10);
+    await press("Escape");
+    await change("outw 3CE 0808", "get A4B28\noutw 3CE 0808");
+    await stepIs(11, 11);
+    assert.deepEqual([await colourAt(321, 240), await colourAt(324, 240)], ["3F 3F 15", "3F 3F 3F"]);
   },
 };
 

@@ -2,10 +2,11 @@
 // firefox.mjs and webkit.mjs tell how a command reaches it. driving.mjs does the same in Chromium,
 // by another protocol.
 import { PATIENCE } from "./driving.mjs";
+import { pasting } from "./editing.mjs";
 
 const PAUSE = 20;
 // WebDriver's numbers of keys.
-const KEY_CODES = { Backspace: 0xe003, Enter: 0xe007, Shift: 0xe008, Control: 0xe009, Escape: 0xe00c,
+const KEY_CODES = { Tab: 0xe004, F1: 0xe031, F3: 0xe033, F9: 0xe039, Delete: 0xe017, Backspace: 0xe003, Enter: 0xe007, Shift: 0xe008, Control: 0xe009, Escape: 0xe00c,
   End: 0xe010, Home: 0xe011, ArrowLeft: 0xe012, ArrowUp: 0xe013, ArrowRight: 0xe014, ArrowDown: 0xe015,
   PageUp: 0xe00e, PageDown: 0xe00f };
 const ELEMENT = "element-6066-11e4-a52e-4f735466cecf";
@@ -115,6 +116,11 @@ export class Driven {
       ...held.reverse().map(one => ["keyUp", one])]));
   }
 
+  /** Pastes what the clipboard has, by Ctrl+V. */
+  pressPaste() {
+    return this.press("v", { control: true });
+  }
+
   selectAll() {
     return this.press("a", { control: true });
   }
@@ -124,11 +130,9 @@ export class Driven {
     await this.act(keys([...text].flatMap(key => [["keyDown", key], ["keyUp", key]])));
   }
 
-  /** Puts a text in place of what is selected, as one that is pasted. */
-  async paste(text) {
-    const words = `"insertText", false, ${JSON.stringify(text)}`;
-    const isDone = await this.value(`document.execCommand(${words})`);
-    if (!isDone) throw new Error("the page takes no text here");
+  /** Puts a text in place of what is selected in the script, as one that is pasted. */
+  paste(text) {
+    return this.value(pasting(text));
   }
 
   /** Chooses a file in an element of the page that takes one. */

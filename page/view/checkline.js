@@ -10,10 +10,12 @@ export class CheckLine {
   #comparer;
   #box = byId("compared");
 
-  /** `module`: the adapter's bytes, of which the worker makes a module of its own. */
-  constructor(module) {
-    const { textContent } = document.querySelector("script[type=module]");
-    this.#comparer = new Comparer(module, textContent);
+  /**
+   * `module`: the adapter's bytes, of which the worker makes a module of its own. `code`: the
+   * page's script.
+   */
+  constructor(module, code) {
+    this.#comparer = new Comparer(module, code);
   }
 
   /** Compares a run that is done. */
@@ -47,8 +49,9 @@ export class CheckLine {
       const all = length === 1 ? "The one answer is that" : `All ${count} answers are those`;
       this.#say(`✓ ${all} of one run by zak_run, of the whole script.`, "right");
     } else {
-      this.#say(`✓ The first ${grouped(comparable.steps)} of ${count} answers are those of one run ` +
-        "by zak_run. The others are not compared: a report of more than " +
+      const steps = grouped(comparable.steps);
+      this.#say(`✓ The first ${steps} of ${count} answers are those of one run by zak_run. ` +
+        "The others are not compared: a report of more than " +
         `${MOST_COMPARED >> 20} MiB is too long for it.`, "right");
     }
   }

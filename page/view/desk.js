@@ -2,10 +2,11 @@
 // one before.
 import { Trouble } from "../common/trouble.js";
 import { byId } from "../common/dom.js";
+import { LONG_TEXT } from "../run/judging.js";
 import { isNewText, linesAfter } from "../editor/history.js";
 
 /** A change of the text is run after so many milliseconds; of a long text, after more. */
-const WAIT = 250, LONG_WAIT = 1000, LONG_TEXT = 100000;
+const WAIT = 250, LONG_WAIT = 1000;
 const isLine = point => point.kind === "line";
 
 /** The script in the editor. */
@@ -29,8 +30,19 @@ export class Desk {
     this.#heard = heard;
   }
 
-  /** Loads what was chosen in the list of scripts. */
-  choose(value) {
+  /** Loads what is chosen in the list of scripts. `guarded` tells what went wrong. */
+  listenTo(list, guarded) {
+    let key = "";
+    list.addEventListener("pointerdown", () => { key = ""; });
+    list.addEventListener("keydown", event => { ({ key } = event); });
+    list.addEventListener("change", () => {
+      guarded(() => this.#choose(list.value));
+      // Whoever goes through the list by arrows goes on; else the page has the keys then.
+      if (!/^Arrow(Up|Down)$/.test(key)) list.blur();
+    });
+  }
+
+  #choose(value) {
     const found = this.#scripts.chosen(value);
     if (found) return this.load(found.text, found.script);
     this.#scripts.fill();
@@ -47,7 +59,7 @@ export class Desk {
     editor.load(text, script);
     if (old.script && old.script !== script) this.#offerBack(old);
     this.#swapPoints(old.script, script);
-    this.#scripts.show(script, editor.text, isAsked);
+    this.#scripts.show(script, editor, isAsked);
     if (editor.isLong) byId("about").textContent = `${script.name}. ${editor.note}`;
     this.run(asked);
   }
@@ -65,22 +77,23 @@ export class Desk {
 
   /** Takes what was typed; which script the text is now. */
   typed(change, old) {
-    const script = this.#scripts.afterChange(this.#editor.text, change, old);
+    const script = this.#scripts.afterChange(this.#editor, change, old);
     this.switched(script, change, old);
     return script;
   }
 
   /** Takes a change of the text, after which it may be another script. */
   switched(script, change, old) {
-    const isNew = change.isWhole || isNewText(old, change), { text } = this.#editor;
+    const isNew = change.isWhole || isNewText(old, change), editor = this.#editor;
     this.#isNew ||= isNew;
     if (isNew) this.#swapPoints(this.#scripts.now, script);
     else this.#movePoints(old, change);
-    this.#scripts.show(script, text);
+    this.#scripts.show(script, editor);
+    if (editor.isLong) byId("about").textContent = `${script.name}. ${editor.note}`;
     this.#heard.changed();
     clearTimeout(this.#timer);
     this.#timer = setTimeout(() => this.run(this.#isNew ? Infinity : undefined),
-      text.length > LONG_TEXT ? LONG_WAIT : WAIT);
+      editor.length > LONG_TEXT ? LONG_WAIT : WAIT);
   }
 
   /** Has the text run, and so many steps shown; undefined for as many as before. */
@@ -101,7 +114,7 @@ export class Desk {
   #movePoints(old, change) {
     const { points } = this.#points;
     if (!points.some(isLine)) return;
-    const lineAfter = linesAfter(old, change);
+    const lineAfter = linesAfter(old.text, change);
     const moved = points.map(point =>
       (isLine(point) ? { ...point, line: lineAfter(point.line) } : point));
     this.#points.change(moved.filter(point => point.line !== null));

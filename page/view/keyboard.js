@@ -16,7 +16,8 @@ export class Keyboard {
   /**
    * `editor`, `tabs` and `menu`, that of Save, hear keys of their own. `goToLine` goes to the step
    * of a line, and `togglePoint` sets a breakpoint at one, or removes it. `orders` has functions by
-   * those names of the table that are no controls.
+   * those names of the table that are no controls, such as `ask`, which asks about what has the
+   * keys, or about a dot, and `again`, for the change before the last one that was found.
    */
   constructor({ editor, tabs, menu, goToLine, togglePoint, orders }) {
     this.#orders = orders;
@@ -29,7 +30,7 @@ export class Keyboard {
   }
 
   #pressed(event) {
-    if (document.querySelector("dialog[open]")) return;
+    if (event.defaultPrevented || document.querySelector("dialog[open]")) return;
     const inText = event.target === this.#editor.area, isTyping = takesText(event.target);
     if ((inText || !isTyping) && this.#pressedUndo(event)) return event.preventDefault();
     if (event.altKey || event.metaKey) return;
@@ -73,7 +74,8 @@ export class Keyboard {
     if (control === "tab") return this.#tabs.openNumber(Number(key));
     if (this.#orders[control]) return this.#orders[control]();
     const made = byId(control);
-    if (control === "gotonumber" || control === "text") return made.focus();
+    if (control === "text") return this.#editor.focus();
+    if (control === "gotonumber") return made.focus();
     if (control === "savemenu") return this.#menu.toggle();
     return made.hidden || made.click();
   }

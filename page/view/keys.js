@@ -13,14 +13,17 @@ export const KEYS = [
   ["", "", ["End"], "last"],
   ["P", "show frame after frame, or stop", ["p"], "play"],
   ["G", "type a step or a line to go to", ["g"], "gotonumber"],
-  ["1 to 6", "registers, memory, cells, colours, BIOS data, breakpoints",
-    ["1", "2", "3", "4", "5", "6"], "tab"],
+  ["1 to 8", "registers, memory, cells, colours, BIOS data, breakpoints, write, watches",
+    ["1", "2", "3", "4", "5", "6", "7", "8"], "tab"],
+  ["W", "ask where a dot comes from, or what changed a byte, register or colour", ["w"], "ask"],
+  ["C", "to the last step that changed what was asked about last", ["c"], "again"],
   ["E, Esc", "into the script, and out of it", ["e"], "text"],
   ["A, X, D, B, Z", "4:3, pixelated, as drawn so far, beam, zoom", ["a"], "aspect"],
   ["", "", ["x"], "sharp"], ["", "", ["d"], "sofar"],
   ["", "", ["b"], "hairs"], ["", "", ["z"], "zoom"],
   ["F", "the picture on the full screen; Esc leaves it", ["f"], "full"],
-  ["+, −, 0", "the picture larger, smaller, or as large as its pane", ["+", "Shift++", "="], "larger"],
+  ["+, −, 0", "the picture larger, smaller, or as large as its pane",
+    ["+", "Shift++", "="], "larger"],
   ["", "", ["-"], "smaller"], ["", "", ["0"], "fill"],
   ["N, Shift+N", "the next difference from another run, the one before", ["n"], "nextdifference"],
   ["", "", ["Shift+N"], "lastdifference"],
@@ -29,6 +32,8 @@ export const KEYS = [
   ["U", "back to the script that stood here before", ["u"], "takeback"],
   ["O, L, S", "open a file, make a link, save", ["o"], "openfile"],
   ["", "", ["l"], "share"], ["", "", ["s"], "savemenu"],
+  ["/ or Ctrl+Shift+F", "find a step by its words or its answer", ["/", "Shift+/"], "findsteps"],
+  ["F1", "the steps of a script, each with an example", ["F1"], "language"],
   ["?", "this help", ["?", "Shift+?"], "help"],
 ];
 /** What keys do in the script. */
@@ -36,6 +41,10 @@ const IN_THE_SCRIPT = [
   ["Ctrl+Enter", "go to the line of the caret"],
   ["F9 or Ctrl+B", "set or remove a breakpoint at the line of the caret"],
   ["Ctrl+Z, Ctrl+Y", "undo a change, also that another script was loaded; do it again"],
+  ["Ctrl+F, F3", "find words in the script; the next find"],
+  ["Ctrl+Space", "what can stand at the caret: Enter or Tab takes it, Esc closes the list"],
+  ["Ctrl+I or Shift+F1", "what the word at the caret means; Esc closes it"],
+  ["Tab", "leaves the script, as Esc does"],
   ["F8, F10", "run, a step forward"],
 ];
 
@@ -53,9 +62,9 @@ export function keyName(event) {
 }
 
 /** Whether keys that are pressed at an element are letters of a text. */
-export function takesText({ tagName, type }) {
+export function takesText({ tagName, type, isContentEditable }) {
   const isText = tagName === "INPUT" && !["checkbox", "button", "range"].includes(type);
-  return tagName === "TEXTAREA" || isText;
+  return tagName === "TEXTAREA" || isText || isContentEditable === true;
 }
 
 /** Whether a key is that of a list of choices, which goes up and down and to letters. */
@@ -70,9 +79,11 @@ export function keyTables() {
   const table = (title, rows) => element("table", {}, element("caption", {}, title),
     element("tbody", {}, ...rows.filter(([keys]) => keys).map(row)));
   const hints = ["Click a line's number to set a breakpoint. " +
-    "Click a dot of the picture to go to the step that draws it.",
+    "Click a dot of the picture to ask where it comes from.",
   "Drop a script, a font or a trace anywhere. " +
-    "A report, a trace or a PNG of another adapter is compared with the run."].map(text => element("p", {}, text));
+    "A report, a trace or a PNG of another adapter is compared with the run. " +
+    "Drag a line between two parts of the page, or go to it by Tab: arrows move it.",
+  ].map(text => element("p", {}, text));
   return [table("Keys", KEYS), table("Keys in the script", IN_THE_SCRIPT),
     table("Keys in the list of steps", IN_THE_STEPS), ...hints];
 }

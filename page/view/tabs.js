@@ -2,7 +2,8 @@
 import { byId, element } from "../common/dom.js";
 
 /** The names of the tabs, in their order: a link may name one, and the keys 1, 2, .. open them. */
-export const TABS = ["registers", "memory", "cells", "colours", "BIOS data", "breakpoints"];
+export const TABS = ["registers", "memory", "cells", "colours", "BIOS data", "breakpoints",
+  "write", "watches"];
 
 /** The tabs. */
 export class Tabs {

@@ -1,5 +1,6 @@
 // The page: its parts, and what each hears of the others.
 import { Adapter } from "../module/adapter.js";
+import { Asking } from "../explain/asking.js";
 import { BiosPanel } from "../panels/biospanel.js";
 import { CellPanel } from "../panels/cellpanel.js";
 import { CheckLine } from "./checkline.js";
@@ -8,6 +9,8 @@ import { Comparison } from "../compare/comparison.js";
 import { Desk } from "./desk.js";
 import { Drafts } from "../editor/drafts.js";
 import { Editor } from "../editor/editor.js";
+import { Fonts } from "../files/fonts.js";
+import { Finder } from "../explain/finder.js";
 import { Keyboard } from "./keyboard.js";
 import { LastStep } from "./laststep.js";
 import { Listing } from "../editor/listing.js";
@@ -20,7 +23,7 @@ import { Panes } from "./panes.js";
 import { PictureSize } from "../picture/size.js";
 import { PointPanel } from "../panels/pointpanel.js";
 import { RegisterPanel } from "../panels/registerpanel.js";
-import { Runner, stateText } from "../run/runner.js";
+import { Runner, TASK, stateText } from "../run/runner.js";
 import { Saver } from "../files/saver.js";
 import { Screen } from "../picture/screen.js";
 import { Scripts } from "../editor/scripts.js";
@@ -29,8 +32,13 @@ import { Settings } from "../common/settings.js";
 import { TABS, Tabs } from "./tabs.js";
 import { Transport } from "./transport.js";
 import { Trouble } from "../common/trouble.js";
+import { WatchPanel } from "../panels/watchpanel.js";
+import { MOST_WATCHES, Watches } from "../explain/watches.js";
+import { WritePanel } from "../panels/writepanel.js";
 import { byId, setText } from "../common/dom.js";
 import { bytesOfBase64, grouped } from "../common/bytes.js";
+import { Helper } from "../help/helper.js";
+import { Judge, LONG_TEXT } from "../run/judging.js";
 import { copyLink, showLink } from "../files/linking.js";
 import { followRowHeight } from "../common/rows.js";
 import { frameSeconds } from "../files/saving.js";
@@ -39,7 +47,7 @@ import { pointText } from "../run/points.js";
 
 /** The time of a frame while none is shown, in milliseconds. */
 const NO_FRAME_TIME = 4;
-const MOST_WORDS = 160;
+const MOST_WORDS = 160, READING = "reading the script …";
 
 /** The page over a module, with the data that it was built with. */
 export class View {
@@ -51,12 +59,12 @@ export class View {
     this.adapter = adapter;
     this.module = module;
     this.data = data;
-    this.ownFonts = bytesOfBase64(data.fonts);
-    this.fonts = this.ownFonts;
+    this.fonts = new Fonts(bytesOfBase64(data.fonts));
     this.guarded = this.guarded.bind(this);
     this.#makeRun();
     this.#makeScript();
     this.#makeState();
+    this.#makeAsking();
     this.#makeFiles();
     this.#makeControls();
     followRowHeight(() => this.#resized());
@@ -75,18 +83,22 @@ export class View {
       frameTime: seen => (seen ? 1000 * frameSeconds(seen.after.registers) : NO_FRAME_TIME),
     });
     this.transport = new Transport(this.runner, () => this.#activePoints, this.guarded);
-    this.checkLine = new CheckLine(this.module);
+    // The script that a worker runs too.
+    const { textContent } = document.querySelector("script[type=module]");
+    this.checkLine = new CheckLine(this.module, textContent);
+    this.judge = new Judge(this.module, textContent);
     this.lastStep = new LastStep(this.data.pages);
     const settings = new Settings();
     this.panes = new Panes(settings);
-    this.screen = new Screen({ clicked: (line, dot) => this.#toDot(line, dot) });
+    this.screen = new Screen({ clicked: (line, dot) => this.asking.askDot(line, dot),
+      asked: () => this.#ask() });
     this.size = new PictureSize(this.screen, settings);
     this.comparison = new Comparison(this.runner, this.screen, this.guarded);
     this.listing = new Listing(steps => this.runner.go(steps), () => this.runner.goal);
   }
 
   #makeScript() {
-    this.scripts = new Scripts(this.data.examples, new Drafts(),
+    this.scripts = new Scripts(this.data.scripts, new Drafts(),
       text => this.notice.tell(text, true));
     this.editor = new Editor({
       typed: (change, old) => this.desk.typed(change, old),
@@ -95,18 +107,78 @@ export class View {
     });
     this.pointPanel = new PointPanel({ changed: points => this.#pointsChanged(points) });
     this.desk = new Desk(this.editor, this.scripts, this.pointPanel, {
-      changed: () => this.checkLine.clear(),
+      changed: () => this.#forget(),
       run: awaited => this.guarded(() => this.#run(awaited)),
     });
+    this.desk.listenTo(byId("examples"), this.guarded);
   }
 
   #makeState() {
     const { pages } = this.data;
     const panels = { registers: new RegisterPanel(pages), memory: new MemoryPanel(),
-      cells: new CellPanel(), colours: new ColourPanel(pages), "BIOS data": new BiosPanel(pages) };
+      cells: new CellPanel(), colours: new ColourPanel(pages), "BIOS data": new BiosPanel(pages),
+      write: new WritePanel(pages), watches: this.#makeWatches() };
     const makers = Object.entries(panels).map(([name, panel]) => [name, seen => panel.made(seen)]);
     this.tabs = new Tabs({ ...Object.fromEntries(makers),
       breakpoints: () => this.pointPanel.box });
+  }
+
+  #makeWatches() {
+    this.watches = new Watches();
+    return new WatchPanel(this.watches, { change: subject => this.#findChange(subject),
+      changed: () => this.#titleWatches() });
+  }
+
+  #titleWatches() {
+    const { length } = this.watches.list;
+    this.tabs.setTitle("watches", length ? `watches (${length})` : "watches");
+  }
+
+  /** What the user asks about a dot, or about what a panel shows. */
+  #makeAsking() {
+    this.finder = new Finder(this.runner, text => this.notice.tell(text));
+    this.asking = new Asking({
+      drawn: (line, dot) => this.#toDot(line, dot),
+      change: subject => this.#findChange(subject),
+      watch: words => this.guarded(() => this.#watch(words)),
+      colourAt: (line, dot) => this.screen.colourAt(line, dot),
+      placeOf: (line, dot) => this.screen.placeOfDot(line, dot),
+      isIdle: () => this.runner.task === TASK.idle && this.runner.isShown,
+    });
+    this.#titleWatches();
+    byId("panel").addEventListener("click", ({ target, clientX, clientY }) => {
+      const own = target.closest("a, input, select, label, button:not([data-subject])");
+      // A button that keys press has no place of its own.
+      const place = clientX || clientY ? { x: clientX, y: clientY } : null;
+      if (!own) this.asking.askAt(target, place);
+    });
+  }
+
+  #watch(words) {
+    if (!this.watches.add(words)) {
+      throw new Trouble(`The list has ${MOST_WATCHES} watches, and no room for more.`);
+    }
+    this.#titleWatches();
+    this.tabs.open("watches");
+  }
+
+  /** Asks about what has the keys, or about the dot under the pointer, or that of the beam. */
+  #ask() {
+    const { seen } = this.runner, { screen, asking } = this;
+    if (!seen || (!screen.pointed && asking.askAt(document.activeElement))) return;
+    const { line, dot } = screen.pointed ?? asking.dot ?? { line: 0, dot: 0 };
+    asking.askDot(line, dot);
+  }
+
+  #findChange(subject) {
+    return this.guarded(() => this.finder.find(subject));
+  }
+
+  /** Goes on to the change before, of what was asked about last. */
+  #findAgain() {
+    const { subject } = this.asking;
+    if (subject) this.#findChange(subject);
+    else this.#ask();
   }
 
   #makeFiles() {
@@ -117,13 +189,13 @@ export class View {
       script: (text, script, asked) => this.desk.load(text, script, asked),
       software: (bytes, name) => this.room.open(bytes, name),
       other: (found, name) => this.comparison.open(found, name),
-      fonts: (fonts, name) => (name ? this.#useFonts(fonts, name) : this.#setFonts(fonts)),
+      fonts: (fonts, name) => (name ? this.#useFonts(fonts, name) : this.fonts.use(fonts)),
       tab: name => this.tabs.open(name),
       step: number => runner.go(number),
     });
     this.room = new MachineRoom(this.data, this.module, {
       adapter: () => this.adapter,
-      fonts: () => this.fonts,
+      fonts: () => this.fonts.bytes,
       show: session => this.#showSession(session),
       steps: () => runner.steps,
       script: (text, name) => this.desk.load(text, this.scripts.made(name, name, true)),
@@ -146,35 +218,23 @@ export class View {
       share: () => this.#showLink(),
       copylink: () => copyLink(),
       help: () => byId("helpbox").showModal(),
-      ownfonts: () => this.#useFonts(this.ownFonts),
+      ownfonts: () => this.#useFonts(null),
       takeback: () => this.desk.takeBack(),
     };
     for (const [name, does] of Object.entries(clicks)) {
       byId(name).addEventListener("click", () => this.guarded(does));
     }
-    this.#makeList();
+    this.helper = new Helper(this.editor, this.runner, this.data);
     this.keyboard = new Keyboard({ editor: this.editor, tabs: this.tabs, menu: this.saver.menu,
       goToLine: line => this.guarded(() => this.transport.goTo("line", String(line))),
       togglePoint: line => this.pointPanel.toggleLine(line),
       orders: { larger: () => this.size.step(1), smaller: () => this.size.step(-1),
-        fill: () => this.size.choose(0) } });
+        fill: () => this.size.choose(0), nextview: () => this.comparison.nextView(), ask: () => this.#ask(),
+        again: () => this.#findAgain() } });
     byId("keys").append(...keyTables());
     byId("version").textContent = `Zaklimot ${this.data.version}.`;
     byId("pagedoc").href = `${this.data.pages}PAGE.md#what-is-proved`;
     addEventListener("hashchange", () => this.#follow());
-  }
-
-  /** The list of scripts. */
-  #makeList() {
-    const list = byId("examples");
-    let key = "";
-    list.addEventListener("pointerdown", () => { key = ""; });
-    list.addEventListener("keydown", event => { ({ key } = event); });
-    list.addEventListener("change", () => {
-      this.guarded(() => this.desk.choose(list.value));
-      // Whoever goes through the list by arrows goes on; else the page has the keys then.
-      if (!/^Arrow(Up|Down)$/.test(key)) list.blur();
-    });
   }
 
   #follow() {
@@ -191,13 +251,22 @@ export class View {
 
   /** Runs the text, and shows so many steps: as many as before, if it is not told, or all. */
   #run(awaited = this.runner.wanted) {
-    const { runner, editor: { text } } = this;
-    this.checkLine.clear();
+    const { runner, editor: { text, length } } = this, here = () => judgedText(this.adapter, text);
+    this.#forget();
     runner.halt();
+    if (length <= LONG_TEXT) return this.#runJudged(text, awaited, here);
+    this.judge.start(text, there =>
+      this.guarded(() => this.#runJudged(text, awaited, there ?? here)));
+    return this.#update();
+  }
+
+  /** Runs a text that was read, or tells why it can't. */
+  #runJudged(text, awaited, judge) {
+    const { runner } = this;
     try {
-      const judged = judgedText(this.adapter, text);
+      const judged = judge();
       runner.close();
-      runner.start(new Session(this.adapter, this.fonts, text, judged), awaited);
+      runner.start(new Session(this.adapter, this.fonts.bytes, text, judged), awaited);
       this.#setStale(false, null);
     } catch (error) {
       const bad = error instanceof Trouble && error.line ? error : null;
@@ -208,10 +277,16 @@ export class View {
 
   /** Shows a session of the machine, whose steps have no text in the editor. */
   #showSession(session) {
-    this.checkLine.clear();
+    this.#forget();
     this.runner.close();
     this.runner.start(session);
     this.#setStale(false, null);
+  }
+
+  /** What is done with the text that stood there goes no further. */
+  #forget() {
+    this.judge.stop();
+    this.checkLine.clear();
   }
 
   /** Tells whether what is shown is of another text than that in the editor, and its bad line. */
@@ -231,6 +306,8 @@ export class View {
     this.listing.show(session, steps);
     session.spare = this.screen.show(seen);
     this.lastStep.show(seen);
+    this.#showFound(seen);
+    this.asking.show(seen);
     this.tabs.show(seen);
     this.comparison.shown();
   }
@@ -238,7 +315,15 @@ export class View {
   /** Shows what the run does. It may tell so before the page is put together. */
   #update() {
     this.transport?.update();
-    setText(byId("state"), stateText(this.runner, { bad: this.bad, drawn: this.saver?.drawn }));
+    const told = { bad: this.bad, drawn: this.saver?.drawn };
+    setText(byId("state"), this.judge.isAtWork ? READING : stateText(this.runner, told));
+  }
+
+  /** Tells why the page is at a step, if a search for a change has found it. */
+  #showFound({ session, steps }) {
+    const text = this.finder.textAt(session, steps), said = byId("found");
+    setText(said, text);
+    said.hidden = !text;
   }
 
   /** All steps are taken: their answers stand there, and are compared with those of zak_run. */
@@ -261,7 +346,7 @@ export class View {
     const { seen, isBusy } = this.runner;
     if (!seen || isBusy) return;
     const isBack = seen.picture.isWhole || dot < seen.picture.drawn[line];
-    const points = [{ kind: "beam", line, dot }];
+    const points = [{ kind: "drawn", line, dot }];
     this.guarded(() => this.runner.find(points, { isBack, isInclusive: true }));
   }
 
@@ -305,7 +390,7 @@ export class View {
 
   async #openAnew({ message }) {
     this.runner.close(true);
-    this.checkLine.clear();
+    this.#forget();
     this.adapter = await Adapter.opened(this.module);
     this.notice.tell(`The module has stopped (${message}). It is opened anew: change the script, ` +
       "and it runs again.");
@@ -313,13 +398,8 @@ export class View {
 
   // Fonts and links.
 
-  #setFonts(fonts) {
-    this.fonts = fonts;
-    byId("ownfonts").hidden = fonts === this.ownFonts;
-  }
-
   #useFonts(fonts, name = "") {
-    this.#setFonts(fonts);
+    this.fonts.use(fonts);
     this.desk.run();
     if (name) this.notice.tell(`Mode sets load the glyphs of ${name} now.`);
   }
@@ -329,6 +409,6 @@ export class View {
     return showLink({ text: this.editor.text,
       step: session && steps < session.length ? steps : undefined,
       tab: selected === TABS[0] ? undefined : selected,
-      fonts: fonts === this.ownFonts ? undefined : fonts });
+      fonts: fonts.isOwn ? undefined : fonts.bytes });
   }
 }

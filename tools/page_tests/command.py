@@ -19,7 +19,7 @@ from vga_library.making import kit_line
 from vga_page.making import MOST_MODULE, check_module, kit_of, made_modules
 from vga_page.machine import is_of_this_compiler, machine_in, made_machine
 from vga_page.packing import unzipped
-from vga_page.page import MOST_BYTES, data_of, page_text, read_sources
+from vga_page.page import MOST_BYTES, data_of, editor_in, page_text, read_sources
 from vga_report import cli
 from vga_report.cases import Case, read_cases
 from vga_report.debugging import MOST_PAGE, PAGE, page_data
@@ -33,7 +33,7 @@ from vga_report.words import SUITE
 
 CHECKS = OF_MODULE, OF_PAGE, OF_SUITE, OF_HEAP, OF_SCRIPTS, OF_OWN = "module", "page", "suite", "heap", "scripts", "own"
 NAME = f"page/{PAGE.name}"
-PACKED = ("examples", "module")
+PACKED = ("examples", "tutorial", "sections", "module")
 ANEW = f"`tools/vga-page make {NAME}` makes it anew"
 NODE, PACKAGE = "node", "nodejs"
 # The first version that tells of its tests in the form below.
@@ -42,9 +42,9 @@ LEAST = 18
 MOST_SECONDS, BROWSER_SECONDS = 300, 900
 TESTS = PAGE.parent / "tests"
 # What is done with the page in a browser: its check of all examples, what the tutorial says, what
-# a person does with keys and pointer, and each of its controls.
+# a person does with keys and pointer, how long keys take, and each of its controls.
 OPENING, TUTORIAL, BROWSER = (TESTS / f"{name}.mjs" for name in ("opening", "tutorial", "browser"))
-BY_HAND = [TESTS / f"{name}.mjs" for name in ("keeping", "panes")]
+BY_HAND = [TESTS / f"{name}.mjs" for name in ("keeping", "writing", "typing", "panes", "sidebyside", "asking")]
 CHROMIUM, FIREFOX, WEBKIT = "chromium", "firefox", "webkit"
 # The browsers: the packages of Debian that each needs, and a package's programs, of which one is
 # in the path.
@@ -110,12 +110,15 @@ def check_machine(page: bytes) -> str:
 def check_built(module: bytes, page: bytes) -> str:
     """Holds the page as built to its sources, and to the module that this kit makes.
 
-    Where another kit has made the page's module, the suite judges it.
+    Where another kit has made the page's module, the suite judges it. An editor that other versions of its packages
+    have made stays as it is.
     """
     own, data = module_in(page), page_data(page.decode("utf-8"))
     if len(page) > MOST_BYTES:
         raise Wrong(f"{NAME} has {len(page):,} bytes, and {MOST_BYTES:,} are the most")
-    wanted = page_text(read_sources(), data).encode("utf-8")
+    sources, editor = read_sources(), editor_in(page.decode("utf-8"))
+    is_other = editor.made != sources.editor.made
+    wanted = page_text(sources._replace(editor=editor) if is_other else sources, data).encode("utf-8")
     if page != wanted:
         line = page.count(b"\n", 0, len(os.path.commonprefix([page, wanted]))) + 1
         raise Wrong(f"{NAME} is not the page that its sources make, from line {line} on; {ANEW}")
@@ -128,6 +131,8 @@ def check_built(module: bytes, page: bytes) -> str:
     if others or list(parts) != list(wanted_parts):
         raise Wrong(f"{NAME} has other data than the repository: {', '.join(others or parts)}; {ANEW}")
     told = f"{NAME} is the page that its sources make, {len(page):,} bytes"
+    if is_other:
+        told += f", around the editor {editor.made}"
     if own == module:
         return f"{told}; its module is the one that the crate makes"
     if kit_of(own) == kit_of(module):

@@ -16,9 +16,11 @@ from unittest import mock
 from urllib.parse import unquote
 
 from page_tests import command as tests_command
-from vga_page import command, making, page
+from vga_page import command, editor, making, page, sections
 from vga_page.making import LAYOUTS, OF_C, OF_PAGE, TRIPLES, check_module, retargeted, with_kit
-from vga_page.page import DATA, SCRIPT, STYLE, Sources, about, joined, make_page, packed, page_text
+from vga_page.page import (
+    DATA, MADE, SCRIPT, STYLE, Sources, about, editor_in, joined, make_page, packed, page_text,
+)
 from vga_report import debugging
 from vga_report.debugging import DOCS, PAGE, data_element, page_data
 from vga_report.trouble import Wrong
@@ -28,8 +30,9 @@ from .test_command import PICTURE, run
 from .test_run import Fake
 from .tools import BLACK, RED, Folder, call, hold, hold_refused, hold_undone, png_rows, ppm, refused
 
-FRAME = f"<!DOCTYPE html>\n{STYLE}\n{DATA}\n{SCRIPT}\n"
+FRAME = f"<!DOCTYPE html>\n{MADE}\n{STYLE}\n{DATA}\n{SCRIPT}\n"
 needs_esbuild = unittest.skipIf(shutil.which(page.ESBUILD) is None, "esbuild is lacking")
+needs_editor = unittest.skipUnless(editor.is_there(), f"{editor.PACKAGE} is lacking")
 TEXT = "; A script.\nint ax=3 ; = ax=0003\nframe ; <!-- </script> \u00e9\n"
 OTHER_FONTS = bytes(9728)
 # Elements that have no end.
@@ -55,12 +58,16 @@ class Joining(Folder):
 
     def test_one_script_of_all_modules(self) -> None:
         script = self.joined({
-            "main.js": 'import { é } from "./one/a.js";\nstart(é);\n',
-            "one/a.js": 'import { b } from "../b.js";\nexport const é = b + "</script>";\n',
-            "b.js": "export const b = 1;\n", "tests/one.js": "",
+            "main.js": 'import { é } from "./one/a.js";\nconsole.log(é);\n',
+            "one/a.js": 'import { b } from "../b.js";\nexport const é = b() + "</script>é";\n',
+            "b.js": "export const b = () => [1, 2].at(-1);\n", "tests/one.js": "",
         })
-        self.assertLess(script.index("var b = 1;"), script.index('var é = b + "<\\/script>";'))
-        self.assertTrue(script.endswith("start(é);\n"))
+        # No character is spelt in ASCII, and nothing ends the page's script.
+        self.assertIn("é", script)
+        self.assertNotIn("</script", script)
+        if shutil.which(tests_command.NODE):
+            path = Path(self.write("joined.mjs", script))
+            self.assertEqual(tests_command.run_node([path]), "2</script>é\n")
 
     def test_what_does_not_fit_together(self) -> None:
         one = 'import { a } from "./a.js";\na();\n'
@@ -74,8 +81,39 @@ class Joining(Folder):
         ))
 
 
+@needs_esbuild
+@needs_editor
+class Editors(Folder):
+    def test_the_editor_of_the_packages(self) -> None:
+        made = editor.joined_editor(page.TARGETS)
+        self.assertRegex(made.made, r"^CodeMirror 5\.[0-9.]+, joined by esbuild [0-9.]+$")
+        self.assertTrue(made.script.startswith("/*! CodeMirror 5."))
+        for words in ("Copyright 2017 Marijn Haverbeke", "Permission is hereby granted, free of charge"):
+            self.assertIn(words, made.script)
+        # No path shows, so that the bytes are the same wherever this clone lies.
+        self.assertNotRegex(made.script + made.style, r"/usr/|/tmp/|node_modules")
+        with mock.patch.object(tempfile, "tempdir", str(self.folder)):
+            self.assertEqual(editor.joined_editor(page.TARGETS), made)
+
+    def test_an_editor_that_other_versions_made(self) -> None:
+        built, module = tests_command.built_page(), b""
+        text = built.decode("utf-8")
+        self.assertEqual(editor_in(text), editor.joined_editor(page.TARGETS))
+        module = tests_command.module_in(built)
+        other = text.replace(editor_in(text).made, "CodeMirror 5.1, joined by esbuild 0.1").replace("/*! CodeMirror", "/*! Other")
+        self.assertRegex(tests_command.check_built(module, other.encode("utf-8")), "around the editor CodeMirror 5.1, joined")
+        told = refused(tests_command.check_built, module, text.replace("/*! CodeMirror", "/*! Other").encode("utf-8"))
+        self.assertRegex(told, "is not the page that its sources make, from line")
+
+    def test_a_package_that_is_lacking(self) -> None:
+        with mock.patch.object(editor, "FOLDER", self.folder):
+            self.assertFalse(editor.is_there())
+            self.assertRegex(refused(editor.joined_editor, page.TARGETS), "install the package libjs-codemirror")
+
+
 class Pages(Folder):
     @needs_esbuild
+    @needs_editor
     def test_the_page_as_built(self) -> None:
         # It holds the order of modules, the place of each part, and what the page is given.
         built = tests_command.built_page()
@@ -86,7 +124,7 @@ class Pages(Folder):
         self.assertEqual(packed(b"module")[4:8], bytes(4))
 
     def test_a_frame_that_lacks_a_place(self) -> None:
-        frames = (FRAME.replace(STYLE, ""), FRAME + DATA, FRAME.replace(SCRIPT, ""))
+        frames = (FRAME.replace(STYLE, ""), FRAME + DATA, FRAME.replace(SCRIPT, ""), FRAME.replace(MADE, ""))
         hold_refused(self, lambda sources: page_text(sources, {}), (
             *((Sources(frame, "", ""), "index.html: <!-- zaklimot:") for frame in frames),
             (small_sources(style="a::after { content: '</Style>' }"), "style.css: "),
@@ -113,6 +151,30 @@ class Pages(Folder):
         status, _, said = call(command.main, "wordings", made)
         self.assertEqual((status, said), (0, ""))
         self.assertEqual(made.read_bytes(), (page.SOURCES / "script" / "wordings.js").read_bytes())
+
+    def test_the_styles_of_the_page(self) -> None:
+        for place, text in {"style.css": "a {}\n", "one/b.css": "b {}\n", "one/a.css": "i {}\n", "tests/c.css": "u {}\n"}.items():
+            path = self.folder / place
+            path.parent.mkdir(exist_ok=True)
+            path.write_text(text, "utf-8")
+        self.assertEqual(page.styles(self.folder), "a {}\ni {}\nb {}\n")
+
+    def test_the_scripts_of_a_tutorial(self) -> None:
+        part = "## 1. One\n\n```\nframe\n```\n\nIn a terminal: `tools/vga-report run examples/tutorial/one.vga`.\n"
+        self.assertEqual(page.tutorial(f"# T\n\n{part}\n## 2. None\n\n```python\nx\n```\n"),
+                         [{"name": "one", "title": "1. One", "about": "", "text": "frame\n"}])
+        told = refused(page.tutorial, part.split("In a")[0])
+        self.assertEqual(told, "TUTORIAL.md: a script of part 1. One has no file")
+
+    def test_the_sections_that_the_page_quotes(self) -> None:
+        text = "# A\n\nOne.\n\n## B c, d\n\nTwo.\n\n### E\n\nThree.\n\n## F\n\n*Defined by x.*\n"
+        found = sections.sections_of(text)
+        self.assertEqual(list(found), ["a", "b-c-d", "e", "f"])
+        self.assertEqual(found["a"]["blocks"], [["p", ["One."]]])
+        self.assertEqual(found["b-c-d"]["blocks"], [["p", ["Two."]], ["h", ["E"]], ["p", ["Three."]]])
+        self.assertEqual(found["f"]["blocks"], [])
+        (self.folder / "SCRIPT.md").write_text("# x\n", "utf-8")
+        self.assertEqual(refused(sections.quoted_sections, self.folder), "SCRIPT.md: it has no section the-text")
 
     def test_what_an_example_is_about(self) -> None:
         hold(self, about, (
@@ -233,7 +295,7 @@ class Tests(Folder):
         data, empty = page_data(made.decode("utf-8")), base64.b64encode(packed(b"[]")).decode("ascii")
         hold_refused(self, tests_command.check_built, (
             (with_kit(module_of(Modules.right, (1, b"\0")), "one"), made, "is not the one that the crate makes"),
-            (module, make_page(module, small_sources("end();\n")), "is not the page that its sources make, from line 7 on"),
+            (module, make_page(module, small_sources("end();\n")), "is not the page that its sources make, from line 12 on"),
             *((module, page_text(small_sources(), {**data, "examples": examples}).encode("utf-8"), told)
               for examples, told in ((empty, "other data .* examples;"), ("AAAA", "is not packed as it"))),
         ))

@@ -39,7 +39,7 @@ CIRCLE = EXAMPLES / "python" / "circle.py"
 # What the page has whole, in its order. The circle's script is too long for it.
 WHOLE = [
     SCRIPTS / "hello.vga", SCRIPTS / "eight-pixels.vga", CIRCLE, SCRIPTS / "going-round.vga",
-    SCRIPTS / "three-bands.vga",
+    SCRIPTS / "three-bands.vga", SCRIPTS / "lost-pixels.vga",
 ]
 BLOCK = re.compile(r"^```\w*\n(.*?)^```$", re.M | re.S)
 # The commands of examples/README.md that make pictures: script, stop, words of `pictures`, file.
@@ -262,7 +262,7 @@ class Tutorial(unittest.TestCase):
         self.assertEqual({path.stem for path in SCRIPTS.iterdir()} & listed, set())
 
     def test_the_check_in_a_browser_does_what_it_says(self) -> None:
-        first, by_hand = ("opening", "tutorial"), ("keeping", "panes")
+        first, by_hand = ("opening", "tutorial"), ("keeping", "writing", "typing", "panes", "sidebyside", "asking")
         told = {engine: "; ".join(f"{name}.mjs {engine}" for name in names)
                 for engine, names in (("chromium", first + by_hand), ("firefox", first + by_hand), ("webkit", first))}
         told["chromium"] += "; browser.mjs"
@@ -317,7 +317,7 @@ class Words(unittest.TestCase):
     def test_each_is_a_step_of_a_script(self) -> None:
         steps = {step for path in SCRIPTS.iterdir() for step in printed(path.read_bytes())}
         written = [step for line in self.lines() for step in printed(line)]
-        self.assertEqual(len(written), 4)
+        self.assertEqual(len(written), 5)
         self.assertEqual([line for line in written if line not in steps], [])
 
 
@@ -337,7 +337,7 @@ class Pictures(Folder):
     def test_each_is_its_scripts(self) -> None:
         want_program()
         commands = MAKING.findall((EXAMPLES / "README.md").read_text("utf-8"))
-        self.assertEqual(len(commands), 4)
+        self.assertEqual(len(commands), 5)
         for script, stop, words, picture in commands:
             with self.subTest(picture):
                 ran = run_program("go", TOP / script, *stop.split(), "--fonts", FONTS)

@@ -14,29 +14,39 @@ from typing import Any, NamedTuple
 
 from vga_library.making import FONTS
 from vga_report import TOP
-from vga_report.debugging import PAGE, data_element
+from vga_report.debugging import DOCS, PAGE, data_element
 from vga_report.processes import check_program, ended_well
 from vga_report.streams import to_read
 from vga_report.trouble import Trouble
 from vga_report.version import version
 from vga_report.wordings import WORDINGS
 
+from .editor import Editor, joined_editor
 from .machine import Machine, programs
 from .packing import about, in_base64, packed
+from .sections import quoted_sections
 
 SOURCES = PAGE.parent
 EXAMPLES = TOP / "examples"
-SCRIPT, STYLE, DATA = (f"<!-- zaklimot:{name} -->" for name in ("script", "style", "data"))
+TUTORIAL = DOCS / "TUTORIAL.md"
+SCRIPT, STYLE, DATA, MADE = (f"<!-- zaklimot:{name} -->" for name in ("script", "style", "data", "made"))
 # The page as built has at most so many bytes.
 MOST_BYTES = 800_000
 # From the page as built, where the documentation's pages lie.
 PAGES = "../docs/"
-ENTRY, STYLES, TESTS = "main.js", "style.css", "tests"
+ENTRY, FIRST_STYLE, TESTS = "main.js", "style.css", "tests"
 ESBUILD = "esbuild"
+# The editor's parts in a page as built.
+EDITOR = tuple(re.compile(form, re.S) for form in (
+    r"<script>\n(.*?)</script>", r"<style>\n(.*?)</style>",
+    r"<!-- The editor of this page is (.*?)\. -->",
+))
 # The oldest browsers in which the page works: the script says nothing that they don't take.
 TARGETS = "chrome103,firefox113,safari16.4"
 # The joining takes a fraction of a second.
 MOST_SECONDS = 60
+SCRIPT_BLOCK = re.compile(r"^```\n(.*?)^```$", re.M | re.S)
+TUTORIAL_FILE = re.compile(r"In a terminal: `tools/vga-report run examples/tutorial/([a-z-]+)\.vga")
 WORDINGS_HEAD = """// Made of tools/vga_report/wordings.json by `tools/vga-page wordings page/script/wordings.js`.
 /** The words of bad lines, faults and refusals, and the registers by name, bit and field. */"""
 # What a browser takes for the end of a page's script, or for a comment that hides it.
@@ -49,8 +59,8 @@ def joined(folder: Path) -> str:
     with tempfile.TemporaryDirectory(prefix="vga-page-") as name:
         made, listed = (Path(name, file) for file in ("joined.js", "listed.json"))
         done = ended_well([
-            ESBUILD, ENTRY, "--bundle", "--format=esm", f"--target={TARGETS}", "--charset=utf8", f"--outfile={made}",
-            f"--metafile={listed}", "--log-level=warning", "--color=false",
+            ESBUILD, ENTRY, "--bundle", "--minify", "--format=esm", f"--target={TARGETS}", "--charset=utf8",
+            f"--outfile={made}", f"--metafile={listed}", "--log-level=warning", "--color=false",
         ], folder, seconds=MOST_SECONDS)
         # A warning tells of what is undefined, or never done.
         if done.errors:
@@ -64,24 +74,25 @@ def joined(folder: Path) -> str:
 
 
 class Sources(NamedTuple):
-    """The texts of a page's sources: the frame, the style, and the script that its modules are joined to."""
+    """The texts of a page's sources: the frame, the style, the script that its modules are joined to, and the editor."""
 
     frame: str
     style: str
     script: str
-
-
-def styles(folder: Path) -> str:
-    """The style sheets of a folder, one after the other: style.css first, and then the others by name."""
-    places = [path.relative_to(folder) for path in folder.rglob("*.css")]
-    others = sorted(place.as_posix() for place in places if TESTS not in place.parts and place != Path(STYLES))
-    return "".join(Path(to_read(str(folder / name))).read_text("utf-8") for name in (STYLES, *others))
+    editor: Editor = Editor("", "", "")
 
 
 def read_sources(folder: Path = SOURCES) -> Sources:
     """The sources of a folder."""
     frame = Path(to_read(str(folder / "index.html"))).read_text("utf-8")
-    return Sources(frame, styles(folder), joined(folder))
+    return Sources(frame, styles(folder), joined(folder), joined_editor(TARGETS))
+
+
+def styles(folder: Path = SOURCES) -> str:
+    """The style sheets of a folder, one after the other: the page's own first, and those of its parts by name."""
+    first = Path(to_read(str(folder / FIRST_STYLE)))
+    others = sorted(path for path in folder.rglob("*.css") if path != first and TESTS not in path.parts)
+    return "".join(path.read_text("utf-8") for path in (first, *others))
 
 
 def wordings_module() -> str:
@@ -96,13 +107,34 @@ def examples(folder: Path = EXAMPLES) -> list[dict[str, str]]:
     return [{"name": name, "about": about(text), "text": text} for name, text in texts.items()]
 
 
+def tutorial(text: str) -> list[dict[str, str]]:
+    """The scripts of the tutorial: each has its part's heading, and the name of its file among the examples."""
+    found = []
+    for part in re.split(r"^## ", text, flags=re.M)[1:]:
+        heading, names = part.split("\n", 1)[0], TUTORIAL_FILE.findall(part)
+        scripts = SCRIPT_BLOCK.findall(part)
+        if scripts and len(names) < len(scripts):
+            raise Trouble(f"a script of part {heading} has no file", TUTORIAL.name)
+        found += [
+            {"name": name, "title": heading, "about": about(script), "text": script}
+            for name, script in zip(names, scripts)
+        ]
+    return found
+
+
+def _packed_json(value: Any) -> str:
+    return in_base64(packed(json.dumps(value, separators=(",", ":")).encode("ascii")))
+
+
 def data_of(module: bytes, machine: Machine) -> dict[str, Any]:
     """What the page is given, beside its sources."""
     return {
         "version": str(version()),
         "pages": PAGES,
         "open": None,
-        "examples": in_base64(packed(json.dumps(examples()).encode("ascii"))),
+        "examples": _packed_json(examples()),
+        "tutorial": _packed_json(tutorial(TUTORIAL.read_text("utf-8"))),
+        "sections": _packed_json(quoted_sections()),
         "fonts": in_base64(FONTS.read_bytes()),
         "module": in_base64(packed(module)),
         "machine": {**machine.packed(), "programs": programs()},
@@ -117,15 +149,28 @@ def _filled(frame: str, mark: str, content: str) -> str:
 
 def page_text(sources: Sources, data: dict[str, Any]) -> str:
     """The whole page."""
-    if "</style" in sources.style.lower():
-        raise Trouble("a page would take </style for the end of the style", STYLES)
-    ending = ENDING.search(sources.script)
-    if ending:
-        raise Trouble(f"a page would take {ending[0]} for the end of a script", ENTRY)
+    editor = sources.editor
+    if "</style" in (sources.style + editor.style).lower():
+        raise Trouble("a page would take </style for the end of the style", FIRST_STYLE)
+    for name, script in ((ENTRY, sources.script), ("the editor", editor.script)):
+        ending = ENDING.search(script)
+        if ending:
+            raise Trouble(f"a page would take {ending[0]} for the end of a script", name)
     # The data come last, since what they hold may look like a mark.
-    text = _filled(sources.frame, STYLE, f"<style>\n{sources.style}</style>")
-    text = _filled(text, SCRIPT, f'<script type="module">\n{sources.script}</script>')
+    text = _filled(sources.frame, MADE, f"<!-- The editor of this page is {editor.made}. -->")
+    styles_of_both = f"<style>\n{editor.style}</style>\n<style>\n{sources.style}</style>"
+    text = _filled(text, STYLE, styles_of_both)
+    scripts = f"<script>\n{editor.script}</script>\n"
+    text = _filled(text, SCRIPT, f'{scripts}<script type="module">\n{sources.script}</script>')
     return _filled(text, DATA, data_element(data))
+
+
+def editor_in(page: str) -> Editor:
+    """The editor that a page has in it."""
+    parts = [found[1] for form in EDITOR if (found := form.search(page))]
+    if len(parts) != len(EDITOR):
+        raise Trouble("it has no editor", PAGE.name)
+    return Editor(*parts)
 
 
 def make_page(module: bytes, sources: Sources, machine: Machine) -> bytes:
