@@ -135,15 +135,16 @@ function setController(steps, { crtc }, port) {
 
 /**
  * The lines of the steps from power-on to a saved state, whose beam is at a frame's first dot.
- * `stateAfter(lines)` is the state after some lines: of memory only what differs from it is written.
+ * `states` tells states: `of(bytes)` that of saved bytes, and `after(lines)` that after some lines.
+ * Of memory only what differs from what a mode set leaves is written.
  */
-export function rebuilding(bytes, stateAfter) {
-  const state = new State(bytes), { registers, beam, latches } = state, steps = new Steps();
+export function rebuilding(bytes, states) {
+  const state = states.of(bytes), { registers, beam, latches } = state, steps = new Steps();
   const controller = registers.misc & 1 ? 0x3d4 : 0x3b4;
   if (beam.frame) steps.step(`advance ${POWER_ON_FRAME * beam.frame}`);
   setMode(steps, state);
   openMemory(steps, registers.misc);
-  const before = stateAfter(steps.lines), numbers = [0, 1, 2, 3];
+  const before = states.after(steps.lines), numbers = [0, 1, 2, 3];
   const planes = numbers.map(plane => state.plane(plane));
   fillMemory(steps, planes, numbers.map(plane => before.plane(plane)));
   fillLatches(steps, latches, planes);
@@ -159,16 +160,22 @@ export function rebuilding(bytes, stateAfter) {
   return steps.lines;
 }
 
-/** What tells the state after some lines from power-on, by a card of the adapter. */
+/** What tells states, by a card of the adapter that is open for as long. */
 export function statesOf(adapter, fonts) {
-  return lines => {
-    const { bytes } = adapter.assembled(new TextEncoder().encode(lines.join("\n")));
+  const told = does => {
     const card = new Card(adapter, fonts);
     try {
-      card.runOn(bytes, 0, lines.length, 1 << 20);
-      return new State(card.save());
+      does(card);
+      return State.of(card);
     } finally {
       card.close();
     }
+  };
+  return {
+    of: bytes => told(card => card.restore([bytes])),
+    after: lines => told(card => {
+      const { bytes } = adapter.assembled(new TextEncoder().encode(lines.join("\n")));
+      card.runOn(bytes, 0, lines.length, 1 << 20);
+    }),
   };
 }
