@@ -7,6 +7,8 @@ import { isNewText } from "./history.js";
 /** The name of a script that has none. */
 export const NAMELESS = "script";
 const KEPT = "kept ", SHORT_TITLE = 30;
+/** What the list's entry of a program begins with, which runs on the machine. */
+export const PROGRAM = "program ";
 // A text of more characters is kept so many milliseconds after it was typed.
 const MUCH_TEXT = 30000, KEPT_AFTER = 500;
 const WHY_LOST = {
@@ -24,7 +26,7 @@ function timeText(time) {
 
 /**
  * The scripts. Each is { name, about, isExample, id }: under its id the user's own is kept, and
- * other scripts have none. `tell` says something that stays.
+ * other scripts have none. `tell` says something that stays. `programs` stand in the list too.
  */
 export class Scripts {
   /** The script that stands in the page. */
@@ -32,8 +34,9 @@ export class Scripts {
   list = byId("examples");
   #warned = new Set();
 
-  constructor(examples, drafts, tell) {
+  constructor(examples, drafts, tell, programs = []) {
     this.examples = examples;
+    this.programs = programs;
     this.drafts = drafts;
     this.tell = tell;
     for (const event of ["pointerdown", "focus"]) {
@@ -56,7 +59,9 @@ export class Scripts {
       group("Tutorial", this.examples.filter(({ title }) => title)
         .map(({ name, title }) => new Option(title, name))),
       group("Examples", this.examples.filter(({ title }) => !title)
-        .map(({ name }) => new Option(name, name))));
+        .map(({ name }) => new Option(name, name))),
+      ...this.programs.length ? [group("Programs that run", this.programs
+        .map(({ name }) => new Option(name, PROGRAM + name)))] : []);
     this.choose();
   }
 

@@ -5,7 +5,7 @@ import { Paused } from "./paused.js";
 import { ROWS, bytesOfKey } from "./pckeys.js";
 import { SPEEDS, compiledModules } from "./machine.js";
 import { byId, element, setText } from "../common/dom.js";
-import { hex } from "../common/bytes.js";
+import { bytesOfBase64, hex } from "../common/bytes.js";
 import { softwareOf } from "./software.js";
 import { unzipped } from "../module/packed.js";
 
@@ -113,6 +113,12 @@ export class MachineRoom {
     this.#live.start({ ...found, rom: this.#rom }, name);
     this.#live.speed = byId("livespeed").value;
     return true;
+  }
+
+  /** Runs one of the page's own programs. */
+  async runProgram(name) {
+    const { bytes } = this.#data.machine.programs.find(one => one.name === name);
+    await this.open(bytesOfBase64(bytes), name);
   }
 
   async #prepare() {

@@ -233,7 +233,8 @@ const CHECKS = {
     const told = await browser.value(`[...document.querySelectorAll("optgroup[label=Tutorial] option")]
       .map(one => [one.value, one.text])`);
     assert.deepEqual(told, [["hello", "1. Text"], ["eight-pixels", "2. A circle"],
-      ["going-round", "3. A palette that goes round"], ["three-bands", "4. A raster effect"]]);
+      ["going-round", "3. A palette that goes round"], ["three-bands", "4. A raster effect"],
+      ["lost-pixels", "5. A wrong dot"]]);
     await open("#example=hello");
     assert.match(await browser.value("document.title"), /^hello:/);
     assert.match(await text("#state"), /2 of 2 answers as expected/);

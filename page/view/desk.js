@@ -1,5 +1,6 @@
 // The script that stands in the editor: which one it is, its breakpoints, and the way back to the
 // one before.
+import { PROGRAM } from "../editor/scripts.js";
 import { Trouble } from "../common/trouble.js";
 import { byId } from "../common/dom.js";
 import { LONG_TEXT } from "../run/judging.js";
@@ -20,8 +21,9 @@ export class Desk {
   #timer = 0;
 
   /**
-   * `points`: the panel of breakpoints. `heard` has `changed()`, the text is another one now, and
-   * `run(awaited)`, it is to be run, and so many steps shown; undefined for as many as before.
+   * `points`: the panel of breakpoints. `heard` has `changed()`, the text is another one now;
+   * `run(awaited)`, it is to be run, and so many steps shown, undefined for as many as before; and
+   * `program(name)`, a program of the list is to run.
    */
   constructor(editor, scripts, points, heard) {
     this.#editor = editor;
@@ -43,6 +45,10 @@ export class Desk {
   }
 
   #choose(value) {
+    if (value.startsWith(PROGRAM)) {
+      this.#scripts.choose();
+      return this.#heard.program(value.slice(PROGRAM.length));
+    }
     const found = this.#scripts.chosen(value);
     if (found) return this.load(found.text, found.script);
     this.#scripts.fill();

@@ -99,7 +99,7 @@ export class View {
 
   #makeScript() {
     this.scripts = new Scripts(this.data.scripts, new Drafts(),
-      text => this.notice.tell(text, true));
+      text => this.notice.tell(text, true), this.data.machine.programs);
     this.editor = new Editor({
       typed: (change, old) => this.desk.typed(change, old),
       switched: (change, old) => this.desk.switched(change.after.script, change, old),
@@ -109,6 +109,7 @@ export class View {
     this.desk = new Desk(this.editor, this.scripts, this.pointPanel, {
       changed: () => this.#forget(),
       run: awaited => this.guarded(() => this.#run(awaited)),
+      program: name => this.room.runProgram(name),
     });
     this.desk.listenTo(byId("examples"), this.guarded);
   }

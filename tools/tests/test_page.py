@@ -23,7 +23,7 @@ from vga_page.page import (
 )
 from vga_report import debugging
 from vga_report.debugging import DOCS, PAGE, data_element, page_data
-from vga_report.trouble import Wrong
+from vga_report.trouble import Trouble, Wrong
 from vga_report.version import HEADER, calls_of
 
 from .test_command import PICTURE, run
@@ -32,6 +32,7 @@ from .tools import BLACK, RED, Folder, call, hold, hold_refused, hold_undone, pn
 
 FRAME = f"<!DOCTYPE html>\n{MADE}\n{STYLE}\n{DATA}\n{SCRIPT}\n"
 needs_esbuild = unittest.skipIf(shutil.which(page.ESBUILD) is None, "esbuild is lacking")
+needs_assembler = unittest.skipIf(shutil.which(machine.ASSEMBLER) is None, "nasm is lacking")
 needs_editor = unittest.skipUnless(editor.is_there(), f"{editor.PACKAGE} is lacking")
 TEXT = "; A script.\nint ax=3 ; = ax=0003\nframe ; <!-- </script> \u00e9\n"
 OTHER_FONTS = bytes(9728)
@@ -39,6 +40,15 @@ OTHER_FONTS = bytes(9728)
 VOID = {"meta", "input", "img", "br"}
 # What would load something, in a script or a style.
 LOADING = re.compile(r"https?:|//[a-z]|\burl\(|@import|\bimport\b|\bfetch\(|XMLHttpRequest|WebSocket|EventSource|\bsrc\s*=")
+
+
+MACHINE = machine.Machine(b"cpu", b"reads")
+
+
+def small_page(module: bytes, sources: Sources) -> bytes:
+    """A page without programs, so that none has to be assembled."""
+    with mock.patch.object(page, "programs", list):
+        return make_page(module, sources, MACHINE)
 
 
 def small_sources(script: str = "start();\n", style: str = "p {}\n") -> Sources:
@@ -83,6 +93,7 @@ class Joining(Folder):
 
 @needs_esbuild
 @needs_editor
+@needs_assembler
 class Editors(Folder):
     def test_the_editor_of_the_packages(self) -> None:
         made = editor.joined_editor(page.TARGETS)
@@ -114,6 +125,7 @@ class Editors(Folder):
 class Pages(Folder):
     @needs_esbuild
     @needs_editor
+    @needs_assembler
     def test_the_page_as_built(self) -> None:
         # It holds the order of modules, the place of each part, and what the page is given.
         built = tests_command.built_page()
@@ -140,10 +152,10 @@ class Pages(Folder):
         self.assertEqual(page.styles(self.folder), "a {}\nc {}\nb {}\n")
 
     def test_a_page_that_is_too_large(self) -> None:
-        length = len(make_page(b"", small_sources("")))
+        length = len(small_page(b"", small_sources("")))
         fits = "x" * (page.MOST_BYTES - length)
-        self.assertEqual(len(make_page(b"", small_sources(fits))), page.MOST_BYTES)
-        told = refused(make_page, b"", small_sources(f"{fits}x"))
+        self.assertEqual(len(small_page(b"", small_sources(fits))), page.MOST_BYTES)
+        told = refused(small_page, b"", small_sources(f"{fits}x"))
         self.assertEqual(told, "zaklimot.html: it would have 800,001 bytes, and 800,000 are the most")
 
     def test_the_words_that_the_page_shares_with_the_tools(self) -> None:
@@ -282,6 +294,8 @@ class Tests(Folder):
 
     def test_a_module_that_was_made_already(self) -> None:
         self.patch(mock.patch.object(command, "read_sources", small_sources))
+        self.patch(mock.patch.object(page, "programs", list))
+        self.patch(mock.patch.object(command, "made_or_kept", lambda *_: MACHINE))
         module, made = Path(self.write("module", with_kit(module_of(Modules.right), "kit 1"))), self.folder / "page"
         status, output, _ = call(command.main, "make", made, "--module", module)
         self.assertEqual((status, tests_command.module_in(made.read_bytes())), (0, module.read_bytes()))
@@ -290,15 +304,33 @@ class Tests(Folder):
     def test_a_page_of_other_sources(self) -> None:
         module, other = (with_kit(module_of(Modules.right), kit) for kit in ("one", "other"))
         self.patch(mock.patch.object(tests_command, "read_sources", small_sources))
-        made = make_page(module, small_sources())
+        self.patch(mock.patch.object(page, "programs", list))
+        made = small_page(module, small_sources())
         self.assertRegex(tests_command.check_built(other, made), "of another kit, one: the suite judges that$")
         data, empty = page_data(made.decode("utf-8")), base64.b64encode(packed(b"[]")).decode("ascii")
         hold_refused(self, tests_command.check_built, (
             (with_kit(module_of(Modules.right, (1, b"\0")), "one"), made, "is not the one that the crate makes"),
-            (module, make_page(module, small_sources("end();\n")), "is not the page that its sources make, from line 12 on"),
+            (module, small_page(module, small_sources("end();\n")), "is not the page that its sources make, from line 12 on"),
             *((module, page_text(small_sources(), {**data, "examples": examples}).encode("utf-8"), told)
               for examples, told in ((empty, "other data .* examples;"), ("AAAA", "is not packed as it"))),
         ))
+
+    def test_the_machine(self) -> None:
+        # A compiler that is another one's makes other bytes, which the tests judge; and sources may not be had.
+        made = small_page(module_of(Modules.right), small_sources())
+        self.assertRegex(tests_command.check_machine(made), "was made by another compiler|is taken as it is")
+        with mock.patch.multiple(tests_command, is_of_this_compiler=lambda _: True, made_machine=lambda: MACHINE):
+            self.assertRegex(tests_command.check_machine(made), "is the one that its sources make, 3 bytes$")
+        with mock.patch.multiple(
+            tests_command, is_of_this_compiler=lambda _: True, made_machine=lambda: MACHINE._replace(cpu=b"other"),
+        ):
+            self.assertRegex(refused(tests_command.check_machine, made), "is not the one that its sources make")
+        told: list[str] = []
+        path = Path(self.write("page.html", ""))
+        path.write_bytes(made)
+        with mock.patch.object(machine, "made_machine", side_effect=Trouble("no network")):
+            self.assertEqual(machine.made_or_kept(path, told.append), MACHINE)
+        self.assertEqual(told, ["the machine stays as it was built before: no network"])
 
     def test_what_is_wrong(self) -> None:
         ways, wrong = {"bytes": 2, tests_command.STEPS: 2}, [{"name": "n", "way": "w", "reason": "r"}]
