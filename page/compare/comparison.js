@@ -47,7 +47,7 @@ export class Comparison {
     element("div", { className: "bar" }, this.#title,
       button("lastdifference", "The difference before (Shift+N)", "◀", () => this.#go(-1)),
       button("nextdifference", "The next difference (N)", "difference ▶", () => this.#go(1)),
-      button("flip", "This run's picture and the other's by turns (C)", "flip", () => this.#flip()),
+      button("flip", "This run's picture and the other's by turns (T)", "flip", () => this.#flip()),
       this.#views,
       button("endcompare", "End the comparison", "×", () => this.close())), this.#text);
     this.#views.addEventListener("change", () => {

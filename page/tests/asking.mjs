@@ -7,6 +7,7 @@ import { mkdirSync, readFileSync, writeFileSync } from "node:fs";
 import { resolve } from "node:path";
 import { pathToFileURL } from "node:url";
 import { begun } from "./engines.mjs";
+import { pasteOver } from "./editing.mjs";
 import { IDLE } from "./jumps.mjs";
 import { PAGE, TOP } from "./loading.mjs";
 
@@ -23,9 +24,7 @@ const isOpen = () => browser.value("!document.getElementById('asked').hidden");
 const stepIs = (step, count) => says("#laststep", `After step ${step} of ${count},`);
 
 async function load(script) {
-  await browser.click("#text");
-  await browser.selectAll();
-  await browser.paste(script);
+  await pasteOver(browser, script);
   await browser.until(IDLE);
   await browser.press("Escape");
   await browser.press("End");

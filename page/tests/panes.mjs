@@ -26,7 +26,7 @@ await check(use => {
       await anew();
       for (const selector of ["#picture", "#transport", "#looks", "#step", "#tabs",
         "#panel .group:nth-child(1) tr", "#panel .group:nth-child(2) tr:nth-child(1)",
-        "#panel .group:nth-child(2) tr:nth-child(2)", "#text", "#listing", "footer p"]) {
+        "#panel .group:nth-child(2) tr:nth-child(2)", "#page", "#listing", "footer p"]) {
         assert.ok(await use.isInSight(selector), selector);
       }
       const { width } = await placeOf("#picture");

@@ -2,6 +2,7 @@
 // through what differs.
 // node page/tests/sidebyside.mjs [ENGINE [WORDS]]: ENGINE is chromium or firefox. With WORDS only
 // the checks are done whose names have them. ZAKLIMOT_PAGE names another page.
+import { pasteOver } from "./editing.mjs";
 import assert from "node:assert/strict";
 import { mkdirSync, writeFileSync } from "node:fs";
 import { Session } from "../run/session.js";
@@ -107,14 +108,14 @@ await check(use => {
       await says("3 dots");
       const own = await dotOf("picture", 7, 5), place = await use.placeOf("#picture");
       assert.equal(await use.value("document.getElementById('other').hidden"), true);
-      await browser.press("c");
+      await browser.press("t");
       assert.equal(await view(), "other");
       assert.deepEqual(await use.placeOf("#other"), place);
       const other = await dotOf("other", 7, 5);
       assert.equal(other[0], own[0] ^ 255);
       assert.deepEqual(await dotOf("other", 9, 5), await dotOf("picture", 9, 5));
       await shot("other");
-      await browser.press("c");
+      await browser.press("t");
       assert.equal(await view(), "own");
       await browser.press("v");
       await browser.press("v");
@@ -137,7 +138,7 @@ await check(use => {
       await use.until("!document.getElementById('other').hidden");
       await browser.click("#endcompare");
       // Its keys do nothing then.
-      for (const key of ["c", "n"]) await browser.press(key);
+      for (const key of ["t", "n"]) await browser.press(key);
       await use.pause();
       await use.stepIs(7);
       assert.equal(await use.value("document.getElementById('compare').hidden"), true);
@@ -148,12 +149,7 @@ await check(use => {
       await use.openScript(SCRIPT);
       await dropped("same.txt", REPORT);
       await titleSays("All answers");
-      await use.value(`(() => { const area = document.getElementById("text");
-        if (!area.setRangeText) return;
-        area.focus(); area.setSelectionRange(area.value.length, area.value.length); })()`);
-      await browser.click("#text");
-      await browser.selectAll();
-      await browser.paste(SCRIPT.replace("1F42", "1F43"));
+      await pasteOver(browser, SCRIPT.replace("1F42", "1F43"));
       await titleSays("1 answer differs");
       await use.stepIs(7);
       await says("dots of 720 × 400 differ.");
@@ -165,12 +161,9 @@ await check(use => {
       await dropped("same.png", await pngOfOther(PICTURE));
       await says("All 720 × 400 dots are the same.");
       // The script is changed, and compared with the same picture.
-      await browser.click("#text");
-      await browser.selectAll();
-      await browser.paste(SCRIPT.replace("1F42", "2F42"));
+      await pasteOver(browser, SCRIPT.replace("1F42", "2F42"));
       await says("dots of 720 × 400 differ.");
-      await browser.selectAll();
-      await browser.paste(SCRIPT);
+      await pasteOver(browser, SCRIPT);
       await browser.press("Escape");
       await browser.press("End");
       await use.stepIs(7);

@@ -27,7 +27,7 @@ export const KEYS = [
   ["", "", ["-"], "smaller"], ["", "", ["0"], "fill"],
   ["N, Shift+N", "the next difference from another run, the one before", ["n"], "nextdifference"],
   ["", "", ["Shift+N"], "lastdifference"],
-  ["C, V", "the other run's picture and this one by turns, the next view", ["c"], "flip"],
+  ["T, V", "the other run's picture and this one by turns, the next view", ["t"], "flip"],
   ["", "", ["v"], "nextview"],
   ["U", "back to the script that stood here before", ["u"], "takeback"],
   ["O, L, S", "open a file, make a link, save", ["o"], "openfile"],

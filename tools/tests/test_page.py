@@ -16,7 +16,7 @@ from unittest import mock
 from urllib.parse import unquote
 
 from page_tests import command as tests_command
-from vga_page import command, editor, making, page, sections
+from vga_page import command, editor, machine, making, page, sections
 from vga_page.making import LAYOUTS, OF_C, OF_PAGE, TRIPLES, check_module, retargeted, with_kit
 from vga_page.page import (
     DATA, MADE, SCRIPT, STYLE, Sources, about, editor_in, joined, make_page, packed, page_text,
