@@ -316,7 +316,7 @@ class Words(unittest.TestCase):
     def test_each_is_a_step_of_a_script(self) -> None:
         steps = {step for path in SCRIPTS.iterdir() for step in printed(path.read_bytes())}
         written = [step for line in self.lines() for step in printed(line)]
-        self.assertEqual(len(written), 4)
+        self.assertEqual(len(written), 5)
         self.assertEqual([line for line in written if line not in steps], [])
 
 
