@@ -10,7 +10,7 @@ import { subjectOf } from "./subjects.js";
 
 /** What the buttons of the cards say. */
 export const ACTIONS = { drawn: "the step that draws it", change: "the last step that changed it",
-  watch: "watch it" };
+  watch: "watch it", stop: "stop when it changes" };
 
 /** So many milliseconds a search for the step that drew a dot goes on at a time, and waits. */
 const SLICE_TIME = 8, WAIT_TIME = 30;
@@ -29,9 +29,9 @@ export class Asking {
   #then = null;
 
   /**
-   * `heard` has `drawn(line, dot)`, `change(subject)` and `watch(words)`; `colourAt(line, dot)`
-   * answers the colour of a dot of the picture, or null; `placeOf(line, dot)` where it stands in
-   * the window; `isIdle()` whether the run searches for nothing.
+   * `heard` has `drawn(line, dot)`, `change(subject)`, `watch(words)` and `stop(points)`;
+   * `colourAt(line, dot)` answers the colour of a dot of the picture, or null; `placeOf(line, dot)`
+   * where it stands in the window; `isIdle()` whether the run searches for nothing.
    */
   constructor(heard) {
     this.#heard = heard;
@@ -98,17 +98,15 @@ export class Asking {
   }
 
   #actions(isDot) {
-    const buttons = [this.#action("change", () => this.#heard.change(this.subject)),
-      this.#action("watch", () => {
-        this.#card.close();
-        this.#heard.watch(this.#words);
-      })];
-    if (isDot) {
-      buttons.unshift(this.#action("drawn", () => {
-        this.#card.close();
-        this.#heard.drawn(this.dot.line, this.dot.dot);
-      }));
-    }
+    const closing = does => () => {
+      this.#card.close();
+      does();
+    };
+    const change = this.#action("change", () => this.#heard.change(this.subject));
+    const watch = this.#action("watch", closing(() => this.#heard.watch(this.#words)));
+    const drawn = () => this.#heard.drawn(this.dot.line, this.dot.dot);
+    const buttons = isDot ? [this.#action("drawn", closing(drawn)), change, watch]
+      : [change, watch, this.#action("stop", closing(() => this.#heard.stop(this.subject.points)))];
     return element("p", { className: "actions" }, ...buttons);
   }
 

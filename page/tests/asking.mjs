@@ -134,6 +134,14 @@ const PARTS = {
     await load(EIGHT);
     await browser.press("1");
     await browser.click("[data-subject='register seq 02'] .value");
+    await browser.click(action("stop"));
+    await says(".points", "Sequencer 02, map mask changes");
+    await browser.press("R", { shift: true });
+    await stepIs(3, 8);
+    await browser.click(".points li button");
+    await browser.press("End");
+    await browser.press("1");
+    await browser.click("[data-subject='register seq 02'] .value");
     await says("#asked h2", "Sequencer 02, map mask");
     await browser.click(action("change"));
     await stepIs(3, 8);

@@ -166,13 +166,25 @@ function randomDot(random, states) {
   }
 }
 
+/** The last step of a text that changed a dot. */
+function last(text, place, isDrawn = true) {
+  const session = runWhole(new Session(adapter, FONTS, text));
+  const told = found(new DotSearch(session, place, session.length, { isDrawn }));
+  session.close();
+  return told?.steps ?? null;
+}
+
+test("each kind of register that shows in a dot is found changed", () => {
+  const place = { line: 0, dot: 3 }, begin = "int ax=12\nput A0000 FF\nin 3DA\n";
+  const wanted = { "out 3C0 32\nout 3C0 7": 5, "out 3C0 33\nout 3C0 1": 5, "out 3C0 34\nout 3C0 C": 5,
+    "out 3C0 11\nout 3C0 3": 5, "out 3C6 0F": 4, "outw 3C4 2101": 4, "outw 3D4 010C": 4,
+    "outw 3CE 0006": 4, "outw 3CE 4005": 4, "outw 3D4 0014\noutw 3D4 E317\noutw 3C4 0102": 2 };
+  for (const [steps, found] of Object.entries(wanted)) {
+    assert.equal(last(begin + steps, place, false), found, steps);
+  }
+});
+
 test("the start address counts as it was taken at the frame's first dot", () => {
-  const last = (text, place, isDrawn = true) => {
-    const session = runWhole(new Session(adapter, FONTS, text));
-    const told = found(new DotSearch(session, place, session.length, { isDrawn }));
-    session.close();
-    return told?.steps ?? null;
-  };
   const place = { line: 12, dot: 3 };
   // Within the frame it shows in the next one only.
   assert.equal(last("int ax=13\nadvance 8000\noutw 3D4 010C\nadvance 8000", place), 1);

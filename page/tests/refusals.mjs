@@ -52,7 +52,7 @@ advance 1000
 in 3DA
 end
 out 3B4 0
-get B8002
+get B8002 ; = 00
 outw 3D4 200A
 frame
 advance 900000
@@ -78,6 +78,12 @@ const POINTS = [
   [{ kind: "beam", line: 400, dot: 0 }, [17, 18]],
   [{ kind: "frame" }, [17, 18]],
   [{ kind: "refusal" }, [14]],
+  [{ kind: "wrong" }, [15]],
+  [{ kind: "bytes", planes: 1, from: 2, to: 2 }, [1, 3]],
+  [{ kind: "bytes", planes: 15, from: 0, to: 1 }, [1, 3]],
+  [{ kind: "colour", index: 1 }, [1, 22]],
+  [{ kind: "drawn", line: 1, dot: 200 }, [8, 18]],
+  [{ kind: "start" }, [4, 18]],
 ];
 for (const [point, wanted] of POINTS) {
   test(`breakpoint: ${pointText(point)}`, () => {

@@ -340,3 +340,49 @@ test("frames are left out while the machine is late, some at most", () => {
   pacer.goOn(1000, 10);
   assert.ok(pacer.isDue(800) && !pacer.isDue(799));
 });
+
+/** A search that looks at some steps a slice each, and then tells what it has found. */
+class SlowSearch {
+  looked = 9;
+
+  constructor(slices, told) {
+    this.slices = slices;
+    this.told = told;
+  }
+
+  take() {
+    this.looked--;
+    return this.slices-- > 0 ? null : this.told;
+  }
+}
+
+test("a search that is handed in is taken slice by slice, and what it finds is heard and shown", () => {
+  const { runner, clock, log, texts, session } = ranText("int ax=3\n".repeat(9)), heard = [];
+  log.length = 0;
+  runner.findBy(new SlowSearch(3, { steps: 4 }), told => heard.push(told));
+  assert.ok(runner.isBusy && runner.task === TASK.searching);
+  clock.settle();
+  assert.deepEqual([heard, log, runner.steps], [[{ steps: 4 }], ["shown 4"], 4]);
+  assert.ok(texts.includes("looking at step 8 of 9"), texts.join());
+  // One that finds nothing leaves the page where it is, and one that is stopped shows where it was.
+  runner.findBy(new SlowSearch(1, { ended: true }), told => heard.push(told));
+  clock.settle();
+  assert.deepEqual([heard.length, runner.steps, runner.task], [2, 4, TASK.idle]);
+  runner.findBy(new SlowSearch(99, { ended: true }), told => heard.push(told));
+  clock.turn();
+  runner.stop();
+  clock.settle();
+  assert.deepEqual([heard.length, runner.steps], [2, 8]);
+  session.close();
+});
+
+test("a search begins at the step that was asked for, though another is still shown", () => {
+  const { runner, clock, session } = ranText("out 3C4 2\nout 3C5 1\nout 3C5 2\nout 3C5 3");
+  runner.go(0);
+  clock.settle();
+  runner.toEnd();
+  runner.find([{ kind: "port", place: 0x3c5, way: "written" }], { isBack: true });
+  clock.settle();
+  assert.equal(runner.steps, 3);
+  session.close();
+});

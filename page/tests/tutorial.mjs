@@ -176,7 +176,7 @@ const PARTS = {
       ["00 00 00", "3F 3F 3F", "3F 3F 15"]);
     await browser.clickAt(...await placeOf(321, 240));
     await browser.until(`!document.querySelector("${CARD}").hidden`);
-    await shot("lost-pixels-card", CARD);
+    await shot("card", CARD);
     await browser.click(`${CARD} [data-action=change]`);
     await stepIs(9, 10);
     assert.equal(await text("found"),

@@ -142,6 +142,11 @@ export class View {
       drawn: (line, dot) => this.#toDot(line, dot),
       change: subject => this.#findChange(subject),
       watch: words => this.guarded(() => this.#watch(words)),
+      stop: points => {
+        const { pointPanel } = this, made = points.map(point => ({ ...point, isOn: true }));
+        pointPanel.change([...pointPanel.points, ...made]);
+        this.tabs.open("breakpoints");
+      },
       colourAt: (line, dot) => this.screen.colourAt(line, dot),
       placeOf: (line, dot) => this.screen.placeOfDot(line, dot),
       isIdle: () => this.runner.task === TASK.idle && this.runner.isShown,
