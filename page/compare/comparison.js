@@ -15,6 +15,18 @@ const VIEWS = [["own", "this run"], ["other", "the other"], ["difference", "what
 /** So many milliseconds answers are compared before the page hears keys again. */
 const SLICE_TIME = 15;
 
+/** Takes all turns of a generator, some at a time; whether they were wanted to the end. */
+async function inSlices(turns, isWanted) {
+  let until = performance.now() + SLICE_TIME;
+  while (!turns.next().done) {
+    if (performance.now() < until) continue;
+    await new Promise(resolve => setTimeout(resolve));
+    if (!isWanted()) return false;
+    until = performance.now() + SLICE_TIME;
+  }
+  return true;
+}
+
 /** The comparison of the page's run with another one. */
 export class Comparison {
   #runner;
@@ -27,6 +39,7 @@ export class Comparison {
   /** The line of the picture's difference that was gone to last. */
   #line = -1;
   #isDone = false;
+  #openings = 0;
   #canvas = element("canvas", { id: "other", hidden: true });
   #title = element("output", { id: "comparetitle", "aria-live": "polite" });
   #text = element("output", { id: "comparetext", "aria-live": "polite" });
@@ -63,8 +76,11 @@ export class Comparison {
     if (!this.#runner.session) {
       throw new Trouble("There is no run to compare with: mend the script first.");
     }
-    const other = report ? new OtherReport(name, report)
+    const number = ++this.#openings, other = report ? new OtherReport(name)
       : png ? await OtherPicture.opened(name, png) : new OtherTrace(name, trace);
+    const isWanted = () => number === this.#openings;
+    if (report && !await inSlices(other.read(report), isWanted)) return;
+    if (!isWanted()) return;
     this.#other = other;
     this.#session = null;
     this.#isDone = false;
@@ -88,15 +104,9 @@ export class Comparison {
     if (!other) return;
     this.#session = session;
     this.#isDone = false;
-    let until = performance.now() + SLICE_TIME;
-    for (const turns = other.compare(session); !turns.next().done;) {
-      if (performance.now() < until) continue;
-      this.#setText("Comparing …");
-      await new Promise(resolve => setTimeout(resolve));
-      // Another run, or another file, has come meanwhile.
-      if (this.#other !== other || this.#session !== session) return;
-      until = performance.now() + SLICE_TIME;
-    }
+    // Another run, or another file, may come meanwhile.
+    const isWanted = () => this.#other === other && this.#session === session;
+    if (!await inSlices(other.compare(session), isWanted)) return;
     this.#isDone = true;
     this.shown();
     if (isFirst) this.#goToFirst();
