@@ -31,7 +31,7 @@ async function inSlices(turns, isWanted) {
 export class Comparison {
   #runner;
   #screen;
-  #outcome;
+  #isStale;
   #other = null;
   #session = null;
   #view = "own";
@@ -49,13 +49,17 @@ export class Comparison {
   #names = element("div", { id: "comparenames", hidden: true }, element("span"), element("span"));
   #bar;
 
-  /** `guarded` calls what a control does, and tells what went wrong. */
-  constructor(runner, screen, guarded) {
+  /**
+   * `isStale` tells whether the run is of another text than the editor's. `guarded` calls what a
+   * control does, and tells what went wrong.
+   */
+  constructor(runner, screen, isStale, guarded) {
     this.#runner = runner;
     this.#screen = screen;
+    this.#isStale = isStale;
     const button = (id, title, text, does) => element("button", { type: "button", id, title,
       ariaLabel: title, onclick: () => guarded(() => this.#other && does()) }, text);
-    this.#bar = element("div", { id: "compare", hidden: true, role: "group",
+    this.#bar = element("div", { id: "compare", className: "shows-run", hidden: true, role: "group",
       "aria-label": "comparison with another run" },
     element("div", { className: "bar" }, this.#title,
       button("lastdifference", "The difference before (Shift+N)", "◀", () => this.#go(-1)),
@@ -73,7 +77,7 @@ export class Comparison {
 
   /** Compares a file: { report }, { png } or { trace }, as contentsOf tells them. */
   async open({ report, png, trace }, name) {
-    if (!this.#runner.session) {
+    if (!this.#runner.session || this.#isStale()) {
       throw new Trouble("There is no run to compare with: mend the script first.");
     }
     const number = ++this.#openings, other = report ? new OtherReport(name)

@@ -260,6 +260,16 @@ await check(use => {
       await notice("This PNG is cut off or damaged.");
       await browser.press("Home");
       await use.stepIs(0);
+      await browser.click("#text");
+      await browser.selectAll();
+      await browser.paste("no step\n");
+      await use.until("document.body.classList.contains('stale')");
+      await dropped("same.txt", REPORT);
+      await notice("There is no run to compare with: mend the script first.");
+      assert.equal(await use.value("document.getElementById('compare').hidden"), true);
+      await browser.selectAll();
+      await browser.paste(SCRIPT);
+      await browser.press("Escape");
     },
 
     async "a trace is opened as the script by Enter, compared by a click, and by Escape neither"() {

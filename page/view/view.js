@@ -80,7 +80,8 @@ export class View {
     this.panes = new Panes(settings);
     this.screen = new Screen({ clicked: (line, dot) => this.#toDot(line, dot) });
     this.size = new PictureSize(this.screen, settings);
-    this.comparison = new Comparison(this.runner, this.screen, this.guarded);
+    this.comparison = new Comparison(this.runner, this.screen, () => this.editor.isStale,
+      this.guarded);
     this.listing = new Listing(steps => this.runner.go(steps), () => this.runner.goal);
   }
 
