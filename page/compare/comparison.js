@@ -15,11 +15,23 @@ const VIEWS = [["own", "this run"], ["other", "the other"], ["difference", "what
 /** So many milliseconds answers are compared before the page hears keys again. */
 const SLICE_TIME = 15;
 
+/** Takes all turns of a generator, some at a time; whether they were wanted to the end. */
+async function inSlices(turns, isWanted) {
+  let until = performance.now() + SLICE_TIME;
+  while (!turns.next().done) {
+    if (performance.now() < until) continue;
+    await new Promise(resolve => setTimeout(resolve));
+    if (!isWanted()) return false;
+    until = performance.now() + SLICE_TIME;
+  }
+  return true;
+}
+
 /** The comparison of the page's run with another one. */
 export class Comparison {
   #runner;
   #screen;
-  #outcome;
+  #isStale;
   #other = null;
   #session = null;
   #view = "own";
@@ -27,6 +39,7 @@ export class Comparison {
   /** The line of the picture's difference that was gone to last. */
   #line = -1;
   #isDone = false;
+  #openings = 0;
   #canvas = element("canvas", { id: "other", hidden: true });
   #title = element("output", { id: "comparetitle", "aria-live": "polite" });
   #text = element("output", { id: "comparetext", "aria-live": "polite" });
@@ -36,13 +49,17 @@ export class Comparison {
   #names = element("div", { id: "comparenames", hidden: true }, element("span"), element("span"));
   #bar;
 
-  /** `guarded` calls what a control does, and tells what went wrong. */
-  constructor(runner, screen, guarded) {
+  /**
+   * `isStale` tells whether the run is of another text than the editor's. `guarded` calls what a
+   * control does, and tells what went wrong.
+   */
+  constructor(runner, screen, isStale, guarded) {
     this.#runner = runner;
     this.#screen = screen;
+    this.#isStale = isStale;
     const button = (id, title, text, does) => element("button", { type: "button", id, title,
       ariaLabel: title, onclick: () => guarded(() => this.#other && does()) }, text);
-    this.#bar = element("div", { id: "compare", hidden: true, role: "group",
+    this.#bar = element("div", { id: "compare", className: "shows-run", hidden: true, role: "group",
       "aria-label": "comparison with another run" },
     element("div", { className: "bar" }, this.#title,
       button("lastdifference", "The difference before (Shift+N)", "◀", () => this.#go(-1)),
@@ -60,11 +77,14 @@ export class Comparison {
 
   /** Compares a file: { report }, { png } or { trace }, as contentsOf tells them. */
   async open({ report, png, trace }, name) {
-    if (!this.#runner.session) {
+    if (!this.#runner.session || this.#isStale()) {
       throw new Trouble("There is no run to compare with: mend the script first.");
     }
-    const other = report ? new OtherReport(name, report)
+    const number = ++this.#openings, other = report ? new OtherReport(name)
       : png ? await OtherPicture.opened(name, png) : new OtherTrace(name, trace);
+    const isWanted = () => number === this.#openings;
+    if (report && !await inSlices(other.read(report), isWanted)) return;
+    if (!isWanted()) return;
     this.#other = other;
     this.#session = null;
     this.#isDone = false;
@@ -88,15 +108,9 @@ export class Comparison {
     if (!other) return;
     this.#session = session;
     this.#isDone = false;
-    let until = performance.now() + SLICE_TIME;
-    for (const turns = other.compare(session); !turns.next().done;) {
-      if (performance.now() < until) continue;
-      this.#setText("Comparing …");
-      await new Promise(resolve => setTimeout(resolve));
-      // Another run, or another file, has come meanwhile.
-      if (this.#other !== other || this.#session !== session) return;
-      until = performance.now() + SLICE_TIME;
-    }
+    // Another run, or another file, may come meanwhile.
+    const isWanted = () => this.#other === other && this.#session === session;
+    if (!await inSlices(other.compare(session), isWanted)) return;
     this.#isDone = true;
     this.shown();
     if (isFirst) this.#goToFirst();

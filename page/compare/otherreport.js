@@ -16,6 +16,12 @@ export function shortened(text) {
   return line.length > MOST_TEXT || more.length ? `${line.slice(0, MOST_TEXT)} …` : line;
 }
 
+/** Whether all bytes are levels of the DAC. A loop: a report may have a hundred million of them. */
+function areLevels(bytes) {
+  for (let at = 0; at < bytes.length; at++) if (bytes[at] > MOST_LEVEL) return false;
+  return true;
+}
+
 /** The report of another run. */
 export class OtherReport {
   /** The steps that differ, from 0, as { step, text }. */
@@ -27,10 +33,14 @@ export class OtherReport {
   #answers = new Answers();
   #pictures = new Map();
 
-  /** A Trouble if the bytes are no whole report. */
-  constructor(name, bytes) {
+  constructor(name) {
     this.name = name;
+  }
+
+  /** Reads the bytes of the report; yields now and then. A Trouble if they are no whole report. */
+  * read(bytes) {
     for (let at = 0, step = 0; at < bytes.length; step++) {
+      if (step % CHUNK === CHUNK - 1 || this.#pictures.has(step - 1)) yield;
       at = readLine(bytes, at, step + 1, step, (_, answer, picture) => {
         this.#answers.push(answer);
         if (picture) this.#addPicture(step, picture);
@@ -43,7 +53,7 @@ export class OtherReport {
 
   #addPicture(step, picture) {
     const { width, height, rgb } = picture, size = 3 * width * height;
-    if (!(size > 0) || rgb.length !== size || rgb.some(part => part > MOST_LEVEL)) {
+    if (!(size > 0) || rgb.length !== size || !areLevels(rgb)) {
       throw new Trouble(`The picture of step ${grouped(step + 1)} in this report is none, ` +
         "or is cut off.");
     }

@@ -15,8 +15,15 @@ import { FONTS, TOP, examples, loadAdapter, runWhole } from "./loading.mjs";
 
 const adapter = await loadAdapter();
 const sessionOf = text => runWhole(new Session(adapter, FONTS, text));
-const reportOf = session => adapter.run(session.script, FONTS, session.reported).report;
+const bytesOfRun = session => adapter.run(session.script, FONTS, session.reported).report;
 const example = name => examples().find(one => one.name === name).text;
+
+/** The report of some bytes, read to its end. */
+function reportOf(bytes, name = "a.txt") {
+  const other = new OtherReport(name);
+  for (const turn of other.read(bytes)) assert.equal(turn, undefined);
+  return other;
+}
 
 /** Compares another run with a session: what it has found. */
 function compared(other, session) {
@@ -27,7 +34,7 @@ function compared(other, session) {
 
 for (const { name, text } of examples()) {
   test(`${name} is the same as its own report`, () => {
-    const session = sessionOf(text), other = new OtherReport("a.txt", reportOf(session));
+    const session = sessionOf(text), other = reportOf(bytesOfRun(session));
     const { count, note } = compared(other, session);
     assert.deepEqual([count, note, other.summary], [0, "", "All answers are the same."]);
     session.close();
@@ -35,10 +42,10 @@ for (const { name, text } of examples()) {
 }
 
 test("answers that were changed in a report are found, each at its step", () => {
-  const session = sessionOf(example("driver-test.vga")), report = reportOf(session);
+  const session = sessionOf(example("driver-test.vga")), report = bytesOfRun(session);
   const text = Buffer.from(report).toString("latin1");
   const planted = text.replace(/^2 .*$/m, "2 5A").replace(/^34 .*$/m, "34 E1 NotDecoded");
-  const other = new OtherReport("a.txt", Buffer.from(planted, "latin1"));
+  const other = reportOf(Buffer.from(planted, "latin1"));
   const { steps, differences } = compared(other, session);
   assert.deepEqual(steps, [1, 33]);
   assert.match(differences[0].text, / here, 5A there$/);
@@ -47,12 +54,12 @@ test("answers that were changed in a report are found, each at its step", () => 
 });
 
 test("a dot that was changed in a picture of a report is found, and no other", () => {
-  const session = sessionOf(example("raster-bands.vga")), report = reportOf(session).slice();
-  const step = session.length - 1, old = new OtherReport("a.txt", report).pictureAt(step);
+  const session = sessionOf(example("raster-bands.vga")), report = bytesOfRun(session).slice();
+  const step = session.length - 1, old = reportOf(report).pictureAt(step);
   assert.ok(session.isFrame(step) && old);
   const dot = 100 * old.width + 17;
   report[old.rgb.byteOffset - report.byteOffset + 3 * dot + 1] ^= 1;
-  const other = new OtherReport("a.txt", report);
+  const other = reportOf(report);
   assert.deepEqual(compared(other, session).steps, [step]);
   session.seek(step);
   const { picture } = session.seen(step + 1);
@@ -67,18 +74,18 @@ test("a dot that was changed in a picture of a report is found, and no other", (
 test("reports of other lengths are compared as far as both go", () => {
   const short = sessionOf("int ax=3\nin 3CC\n");
   const long = sessionOf("int ax=3\nin 3CC\nframe\nin 3DA\n");
-  const other = new OtherReport("a.txt", reportOf(long));
+  const other = reportOf(bytesOfRun(long));
   assert.equal(compared(other, short).note, "It has 4 answers, and this run 2.");
   assert.equal(other.count, 0);
-  assert.equal(compared(new OtherReport("b.txt", reportOf(short)), long).note,
+  assert.equal(compared(reportOf(bytesOfRun(short)), long).note,
     "It has 2 answers, and this run 4.");
   for (const session of [short, long]) session.close();
 });
 
 test("a long report is compared in turns, and the first differences are listed", () => {
   const session = sessionOf("version 2\nrepeat 60000\nin 3CC\nin 3C4\nend\n");
-  const changed = Buffer.from(reportOf(session)).toString("latin1").replaceAll(/ 00$/gm, " 01");
-  const other = new OtherReport("a.txt", Buffer.from(changed, "latin1"));
+  const changed = Buffer.from(bytesOfRun(session)).toString("latin1").replaceAll(/ 00$/gm, " 01");
+  const other = reportOf(Buffer.from(changed, "latin1"));
   const { turns, count, differences } = compared(other, session);
   assert.ok(turns >= 20 && count === 120000 && differences.length === 100000,
     `${turns}, ${count}, ${differences.length}`);
@@ -86,15 +93,15 @@ test("a long report is compared in turns, and the first differences are listed",
 });
 
 test("what is cut off or none is told", () => {
-  const session = sessionOf("int ax=3\nin 3CC\nframe\n"), report = reportOf(session);
+  const session = sessionOf("int ax=3\nin 3CC\nframe\n"), report = bytesOfRun(session);
   for (const bytes of ["1 ok\n3 ok\n", "1 ok\nx\n", "2 ok\n"]) {
-    assert.throws(() => new OtherReport("a.txt", Buffer.from(bytes)), /has no answer of step/);
+    assert.throws(() => reportOf(Buffer.from(bytes)), /has no answer of step/);
   }
   for (const length of [report.length - 1000, report.length - 1, 10]) {
-    assert.throws(() => new OtherReport("a.txt", report.slice(0, length)), /cut off/);
+    assert.throws(() => reportOf(report.slice(0, length)), /cut off/);
   }
   const broken = Buffer.from(report).toString("latin1").replace("720 400", "999 999");
-  assert.throws(() => new OtherReport("a.txt", Buffer.from(broken, "latin1")),
+  assert.throws(() => reportOf(Buffer.from(broken, "latin1")),
     /The picture of step 3 in this report is none, or is cut off/);
   session.close();
 });

@@ -169,6 +169,12 @@ await check(use => {
       assert.ok(width > old.width && height > old.height, `${width}, ${height}`);
       await browser.press("ArrowRight");
       await use.stepIs(101);
+      // Who goes into the script sees it.
+      await browser.press("e");
+      await use.until("document.fullscreenElement === null && document.activeElement.id === 'text'");
+      await browser.press("Escape");
+      await browser.press("f");
+      await use.until("document.fullscreenElement?.id === 'stage'");
       await browser.press("f");
       await use.until("document.fullscreenElement === null");
       await use.pause();

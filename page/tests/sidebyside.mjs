@@ -5,6 +5,7 @@
 import { pasteOver } from "./editing.mjs";
 import assert from "node:assert/strict";
 import { mkdirSync, writeFileSync } from "node:fs";
+import { deflateSync } from "node:zlib";
 import { Session } from "../run/session.js";
 import { crcOf, pngOf } from "../picture/png.js";
 import { FONTS, examples, loadAdapter, runWhole } from "./loading.mjs";
@@ -48,6 +49,31 @@ async function pngOfOther({ width, height, rgb }, times = 1, change = () => {}) 
   }
   change(wide);
   return pngOf({ width: width * times, height: height * times, rgb: wide });
+}
+
+/** A chunk of a PNG. */
+function chunk(kind, data) {
+  const whole = Buffer.alloc(data.length + 12);
+  whole.writeUInt32BE(data.length, 0);
+  whole.write(kind, 4, "latin1");
+  whole.set(data, 8);
+  whole.writeUInt32BE(crcOf(whole.subarray(4, data.length + 8)), data.length + 8);
+  return whole;
+}
+
+/** A PNG of a picture as another program writes it: by its own widening, and with a gamma of 1. */
+function foreignPng({ width, height, rgb }, widen) {
+  const head = Buffer.alloc(13), rows = Buffer.alloc((3 * width + 1) * height);
+  head.writeUInt32BE(width, 0);
+  head.writeUInt32BE(height, 4);
+  head.set([8, 2], 8);
+  for (let y = 0; y < height; y++) {
+    const line = rgb.subarray(3 * width * y, 3 * width * (y + 1));
+    rows.set(line.map(widen), (3 * width + 1) * y + 1);
+  }
+  return Buffer.concat([Buffer.from("\x89PNG\r\n\x1a\n", "latin1"), chunk("IHDR", head),
+    chunk("gAMA", Buffer.from([0, 1, 0x86, 0xa0])), chunk("IDAT", deflateSync(rows)),
+    chunk("IEND", Buffer.alloc(0))]);
 }
 
 /** In the page: a file of bytes in base64. */
@@ -197,6 +223,20 @@ await check(use => {
       await says("dots of 720 × 400 differ.");
     },
 
+    async "a PNG that widens otherwise and has a gamma is compared in the bits of the DAC"() {
+      const { picture } = ran(examples().find(({ name }) => name === "raster-bands.vga").text, 163);
+      await use.open("#example=raster-bands");
+      await dropped("bochs.png", foreignPng(picture, six => six << 2));
+      await says("All 320 × 400 dots are the same.");
+      await says("It widens six bits to eight by c<<2, and this page by c<<2 | c>>4.");
+      const other = { ...picture, rgb: picture.rgb.slice() };
+      other.rgb[3 * (320 * 77 + 5) + 1] ^= 1;
+      await dropped("qemu.png", foreignPng(other, six => Math.round(six * 255 / 63)));
+      await says("1 dot of 320 × 400 differs.");
+      await says("Dot 5 of line 77: ");
+      await says("by 255·c/63");
+    },
+
     async "what is no report, too large or cut off is refused, and the page goes on"() {
       await use.openScript(SCRIPT);
       await dropped("cut.txt", REPORT.subarray(0, REPORT.length - 9));
@@ -213,6 +253,16 @@ await check(use => {
       await notice("This PNG is cut off or damaged.");
       await browser.press("Home");
       await use.stepIs(0);
+      await browser.click("#text");
+      await browser.selectAll();
+      await browser.paste("no step\n");
+      await use.until("document.body.classList.contains('stale')");
+      await dropped("same.txt", REPORT);
+      await notice("There is no run to compare with: mend the script first.");
+      assert.equal(await use.value("document.getElementById('compare').hidden"), true);
+      await browser.selectAll();
+      await browser.paste(SCRIPT);
+      await browser.press("Escape");
     },
 
     async "a trace is opened as the script by Enter, compared by a click, and by Escape neither"() {

@@ -3,6 +3,8 @@ import { KEYS, isOfList, keyName, takesText } from "./keys.js";
 import { byId } from "../common/dom.js";
 
 const UNDO_KEYS = { z: "undo", y: "redo" };
+/** What is not seen while the picture has the full screen: who asks for it leaves that first. */
+const OUTSIDE = ["tab", "gotonumber", "text", "savemenu"];
 
 /** The page's keys. */
 export class Keyboard {
@@ -70,7 +72,8 @@ export class Keyboard {
     return true;
   }
 
-  #press(control, key) {
+  async #press(control, key) {
+    if (document.fullscreenElement && OUTSIDE.includes(control)) await document.exitFullscreen();
     if (control === "tab") return this.#tabs.openNumber(Number(key));
     if (this.#orders[control]) return this.#orders[control]();
     const made = byId(control);

@@ -93,7 +93,8 @@ export class View {
     this.screen = new Screen({ clicked: (line, dot) => this.asking.askDot(line, dot),
       asked: () => this.#ask() });
     this.size = new PictureSize(this.screen, settings);
-    this.comparison = new Comparison(this.runner, this.screen, this.guarded);
+    this.comparison = new Comparison(this.runner, this.screen, () => this.editor.isStale,
+      this.guarded);
     this.listing = new Listing(steps => this.runner.go(steps), () => this.runner.goal);
   }
 
