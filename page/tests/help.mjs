@@ -159,8 +159,8 @@ test("a text that a worker reads comes out as one that the page reads", async ()
     return true;
   });
   await assert.rejects(there(";".repeat((1 << 24) + 1)), /more than 16,777,216 bytes/);
-  await assert.rejects(async () => judgedOfSent(await judgedToSend(withMemory(module, 300), "put A0000 11\n".repeat(1290555))),
-    RangeError);
+  const small = withMemory(module, 300), long = "put A0000 11\n".repeat(1290555);
+  await assert.rejects(async () => judgedOfSent(await judgedToSend(small, long), long), /no memory left/);
   await assert.rejects(async () => judgedOfSent(await judgedToSend(module.subarray(0, 99), "frame")), Error);
 });
 

@@ -83,6 +83,11 @@ const CHECKS = {
     await browser.type("frame");
     await says("#textfinder output", "2");
     await until("document.querySelectorAll('.cm-found').length === 2");
+    await browser.press("F3");
+    await says("#textfinder output", "1 of 2");
+    await browser.press("F3", { shift: true });
+    await says("#textfinder output", "2 of 2");
+    assert.equal(await here(), "text");
     await browser.click("#textfinder button[aria-label='The find before']");
     await says("#textfinder output", "of 2");
     await browser.click("#textfinder button[aria-label='End the search']");
