@@ -274,6 +274,24 @@ const CHECKS = {
     assert.equal(await here(), "text");
   },
 
+  async "on a phone the script has its height, and the buttons do what keys do"() {
+    await browser.look({ width: 500, height: 844 });
+    await open("#example=driver-test&step=1");
+    const high = await browser.value("document.getElementById('editor').getBoundingClientRect().height");
+    assert.ok(high > 290 && high < 310, `${high} pixels`);
+    await browser.click("#findsteps");
+    await browser.type("3c9");
+    await browser.click("#stepfinder button[aria-label='The next find']");
+    await stepIs(25);
+    await browser.click("#stepfinder button[aria-label='End the search']");
+    await browser.click("#findtext");
+    await browser.type("out 3c0");
+    await says("#textfinder output", "1 of 3");
+    await browser.press("Escape");
+    await browser.look(WINDOW);
+    await open();
+  },
+
   async "a file that is dropped on the text is opened, and not typed into it"() {
     await browser.value(`(() => {
       const data = new DataTransfer();
