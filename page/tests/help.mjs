@@ -109,7 +109,7 @@ test("what can stand at the caret", () => {
   assert.deepEqual(choices("int ax=1301 ^"), ["bx=", "cx=", "dx=", "block "]);
   assert.deepEqual(choices("int ax=1301 cx=5 ^"), ["dx=", "block "]);
   assert.deepEqual(choices("show ^").length, Object.keys(SHOWN).length);
-  assert.deepEqual([choices("frame ; fr^"), choices("frame ^"), choices("xyz^")], [null, null, null]);
+  assert.deepEqual(["frame ; fr^", "int ax=3 ; ^", "frame ^", "xyz^"].map(choices), [null, null, null, null]);
   assert.deepEqual(["int ", "out  ", "frame ", "int ax=3 ", "; int "].map(line => opensItself(line, line.length)),
     [true, true, false, false, false]);
 });

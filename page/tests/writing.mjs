@@ -54,7 +54,6 @@ const hints = () => browser.value("[...document.querySelectorAll('.CodeMirror-hi
 
 const CHECKS = {
   async "words are found in the script, by keys"() {
-    await open();
     await write(BARS, 0);
     await browser.press("f", { control: true });
     assert.equal(await here(), "INPUT");
@@ -74,9 +73,8 @@ const CHECKS = {
   },
 
   async "words are found in the script, by the pointer; and in what is typed since then"() {
-    await browser.press("Escape");
+    await write(BARS, 0);
     await browser.click("#findtext");
-    await browser.selectAll();
     await browser.type("frame");
     await says("#textfinder output", "1 of 1");
     await caretAt(browser);
@@ -260,7 +258,7 @@ const CHECKS = {
   },
 
   async "Tab and Escape leave the script"() {
-    await caretAt(browser, 0);
+    await write(BARS, 0);
     await browser.press("Tab");
     assert.notEqual(await here(), "text");
     await caretAt(browser, 0);
@@ -289,7 +287,6 @@ const CHECKS = {
     await says("#textfinder output", "1 of 3");
     await browser.press("Escape");
     await browser.look(WINDOW);
-    await open();
   },
 
   async "a file that is dropped on the text is opened, and not typed into it"() {
@@ -308,7 +305,7 @@ const CHECKS = {
 
   async "a text of too many lines is shown, and Ctrl+Z gives back the one before"() {
     const lines = "frame ; one of many\n".repeat(300001);
-    await browser.click("#page");
+    await write("in 3CC\nframe\n");
     await browser.selectAll();
     await browser.paste(lines);
     await says("#about", "has 300,002 lines, and the page edits no text that long; it runs all the same.");
@@ -323,6 +320,7 @@ const CHECKS = {
 
 async function check(name, does) {
   try {
+    await open("#example=driver-test");
     await does();
     assert.deepEqual(await browser.heard(), [], "the console");
     seen.push(name);
