@@ -20,7 +20,7 @@ export class TextFinder {
     this.#editor = editor;
     this.bar = new SearchBar(byId("textfinder"), "find in the script", {
       typed: () => this.#soon({ from: this.#editor.place }),
-      asked: (_, isBack) => this.#go(isBack),
+      asked: (_, isBack) => this.go(isBack),
       closed: () => this.#end(),
     });
     editor.listeners.push(() => this.bar.isOpen && this.#soon(null));
@@ -64,7 +64,7 @@ export class TextFinder {
   }
 
   /** Goes to the next find, or the last. */
-  #go(isBack) {
+  go(isBack) {
     const search = this.#search, { place } = this.#editor;
     if (!this.bar.words) return;
     const from = isBack ? place : place + (this.#at < 0 ? 0 : 1);

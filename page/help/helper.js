@@ -55,6 +55,7 @@ export class Helper {
     const isTip = (ctrlKey && key.toLowerCase() === "i") || (shiftKey && key === "F1");
     if (ctrlKey && key === " ") completion.open();
     else if (isTip) tip.showAtCaret();
+    else if (key === "F3" && this.textFinder.bar.isOpen) this.textFinder.go(shiftKey);
     else return false;
     return true;
   }

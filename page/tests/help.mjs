@@ -109,7 +109,7 @@ test("what can stand at the caret", () => {
   assert.deepEqual(choices("int ax=1301 ^"), ["bx=", "cx=", "dx=", "block "]);
   assert.deepEqual(choices("int ax=1301 cx=5 ^"), ["dx=", "block "]);
   assert.deepEqual(choices("show ^").length, Object.keys(SHOWN).length);
-  assert.deepEqual([choices("frame ; fr^"), choices("frame ^"), choices("xyz^")], [null, null, null]);
+  assert.deepEqual(["frame ; fr^", "int ax=3 ; ^", "frame ^", "xyz^"].map(choices), [null, null, null, null]);
   assert.deepEqual(["int ", "out  ", "frame ", "int ax=3 ", "; int "].map(line => opensItself(line, line.length)),
     [true, true, false, false, false]);
 });
@@ -159,8 +159,8 @@ test("a text that a worker reads comes out as one that the page reads", async ()
     return true;
   });
   await assert.rejects(there(";".repeat((1 << 24) + 1)), /more than 16,777,216 bytes/);
-  await assert.rejects(async () => judgedOfSent(await judgedToSend(withMemory(module, 300), "put A0000 11\n".repeat(1290555))),
-    /no memory left/);
+  const small = withMemory(module, 300), long = "put A0000 11\n".repeat(1290555);
+  await assert.rejects(async () => judgedOfSent(await judgedToSend(small, long), long), /no memory left/);
   await assert.rejects(async () => judgedOfSent(await judgedToSend(module.subarray(0, 99), "frame")), Error);
 });
 

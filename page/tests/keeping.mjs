@@ -192,6 +192,30 @@ const CHECKS = {
     await browser.press("Escape");
     await browser.press("z", { control: true });
     await textIs(OWN);
+    // What is typed then is the own script's, and so it is after it is undone.
+    await caretAt();
+    await browser.press("1");
+    await until(isText(`${OWN}1`));
+    await browser.press("z", { control: true });
+    await textIs(OWN);
+    assert.match(await browser.value("document.title"), /^script:/);
+  },
+
+  async "a longer script is kept a moment after a key, and when the page is left"() {
+    await forget();
+    await open("#example=hunt");
+    const longer = OWN + "; one of many lines\n".repeat(2000);
+    await paste(longer);
+    await caretAt();
+    await browser.press(";");
+    await until(`Object.values(localStorage).some(text => text.endsWith("lines\\n;"))`);
+    await browser.press("x");
+    await reload();
+    await until(isText(`${longer};x`));
+    await browser.value("(() => { localStorage.clear(); history.replaceState(null, ''); })()");
+    await open();
+    await paste(OWN);
+    await choose("hunt");
   },
 
   async "the list has the last scripts by their first comment, with a way back to each"() {

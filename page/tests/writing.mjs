@@ -54,7 +54,6 @@ const hints = () => browser.value("[...document.querySelectorAll('.CodeMirror-hi
 
 const CHECKS = {
   async "words are found in the script, by keys"() {
-    await open();
     await write(BARS, 0);
     await browser.press("f", { control: true });
     assert.equal(await here(), "INPUT");
@@ -74,15 +73,19 @@ const CHECKS = {
   },
 
   async "words are found in the script, by the pointer; and in what is typed since then"() {
-    await browser.press("Escape");
+    await write(BARS, 0);
     await browser.click("#findtext");
-    await browser.selectAll();
     await browser.type("frame");
     await says("#textfinder output", "1 of 1");
     await caretAt(browser);
     await browser.type("frame");
     await says("#textfinder output", "2");
     await until("document.querySelectorAll('.cm-found').length === 2");
+    await browser.press("F3");
+    await says("#textfinder output", "1 of 2");
+    await browser.press("F3", { shift: true });
+    await says("#textfinder output", "2 of 2");
+    assert.equal(await here(), "text");
     await browser.click("#textfinder button[aria-label='The find before']");
     await says("#textfinder output", "of 2");
     await browser.click("#textfinder button[aria-label='End the search']");
@@ -256,7 +259,7 @@ const CHECKS = {
   },
 
   async "Tab and Escape leave the script"() {
-    await caretAt(browser, 0);
+    await write(BARS, 0);
     await browser.press("Tab");
     assert.notEqual(await here(), "text");
     await caretAt(browser, 0);
@@ -268,6 +271,23 @@ const CHECKS = {
     assert.equal(await browser.value(TEXT), BARS);
     await browser.press("e");
     assert.equal(await here(), "text");
+  },
+
+  async "on a phone the script has its height, and the buttons do what keys do"() {
+    await browser.look({ width: 500, height: 844 });
+    await open("#example=driver-test&step=1");
+    const high = await browser.value("document.getElementById('editor').getBoundingClientRect().height");
+    assert.ok(high > 290 && high < 310, `${high} pixels`);
+    await browser.click("#findsteps");
+    await browser.type("3c9");
+    await browser.click("#stepfinder button[aria-label='The next find']");
+    await stepIs(25);
+    await browser.click("#stepfinder button[aria-label='End the search']");
+    await browser.click("#findtext");
+    await browser.type("out 3c0");
+    await says("#textfinder output", "1 of 3");
+    await browser.press("Escape");
+    await browser.look(WINDOW);
   },
 
   async "a file that is dropped on the text is opened, and not typed into it"() {
@@ -286,7 +306,7 @@ const CHECKS = {
 
   async "a text of too many lines is shown, and Ctrl+Z gives back the one before"() {
     const lines = "frame ; one of many\n".repeat(300001);
-    await browser.click("#page");
+    await write("in 3CC\nframe\n");
     await browser.selectAll();
     await browser.paste(lines);
     await says("#about", "has 300,002 lines, and the page edits no text that long; it runs all the same.");
@@ -301,6 +321,7 @@ const CHECKS = {
 
 async function check(name, does) {
   try {
+    await open("#example=driver-test");
     await does();
     assert.deepEqual(await browser.heard(), [], "the console");
     seen.push(name);
