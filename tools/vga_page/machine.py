@@ -27,6 +27,8 @@ SHA256 = "91da55f5da55017d5a80e2364de30f9520aa8df2744ff587a09ba58d6e3536c8"
 # Where apt finds it, with lists of its own: nothing of the system's is changed.
 SUITE, KEYRING = "http://deb.debian.org/debian bookworm main", Path("/usr/share/keyrings/debian-archive-keyring.gpg")
 MACHINE, PROGRAMS = TOP / "machine", TOP / "examples" / "machine"
+# The notice of libx86emu's licence, which goes with the module.
+NOTICE = MACHINE / "NOTICE"
 CLANG, LINKER, APT, PATCH, ASSEMBLER = "clang", "wasm-ld", "apt-get", "patch", "nasm"
 # Seconds that a fetch may take, and a compilation.
 FETCHING, MAKING = 120, 300
@@ -149,6 +151,8 @@ def made_machine() -> Machine:
     with tempfile.TemporaryDirectory(prefix="vga-page-") as name:
         folder = Path(name)
         top = patched(folder)
+        if (top / "LICENSE").read_bytes() != NOTICE.read_bytes():
+            raise Trouble("it is not the licence of the source", str(NOTICE))
         include = [word for path in ("shim", "cpu", "pc") for word in ("-I", MACHINE / path)]
         include += ["-I", top / "include", "-I", top]
         objects = _compiled([top / f"{part}.c" for part in PROCESSOR], folder, "-w", *DEFINED, *include)

@@ -22,7 +22,7 @@ from vga_report.version import version
 from vga_report.wordings import WORDINGS
 
 from .editor import Editor, joined_editor
-from .machine import Machine, programs
+from .machine import NOTICE, Machine, programs
 from .packing import about, in_base64, packed
 from .sections import quoted_sections
 
@@ -49,6 +49,7 @@ SCRIPT_BLOCK = re.compile(r"^```\n(.*?)^```$", re.M | re.S)
 TUTORIAL_FILE = re.compile(r"In a terminal: `tools/vga-report run examples/tutorial/([a-z-]+)\.vga")
 WORDINGS_HEAD = """// Made of tools/vga_report/wordings.json by `tools/vga-page wordings page/script/wordings.js`.
 /** The words of bad lines, faults and refusals, and the registers by name, bit and field. */"""
+MACHINE_MADE = "The processor of the machine in this page is libx86emu's, changed (machine/patches/). Its licence:"
 # What a browser takes for the end of a page's script, or for a comment that hides it.
 ENDING = re.compile(r"</script|<!--", re.I)
 
@@ -157,7 +158,9 @@ def page_text(sources: Sources, data: dict[str, Any]) -> str:
         if ending:
             raise Trouble(f"a page would take {ending[0]} for the end of a script", name)
     # The data come last, since what they hold may look like a mark.
-    text = _filled(sources.frame, MADE, f"<!-- The editor of this page is {editor.made}. -->")
+    notice = NOTICE.read_text("ascii").strip()
+    made = f"<!-- The editor of this page is {editor.made}. -->\n<!-- {MACHINE_MADE}\n\n{notice}\n-->"
+    text = _filled(sources.frame, MADE, made)
     styles_of_both = f"<style>\n{editor.style}</style>\n<style>\n{sources.style}</style>"
     text = _filled(text, STYLE, styles_of_both)
     scripts = f"<script>\n{editor.script}</script>\n"
