@@ -310,7 +310,7 @@ class Tests(Folder):
         data, empty = page_data(made.decode("utf-8")), base64.b64encode(packed(b"[]")).decode("ascii")
         hold_refused(self, tests_command.check_built, (
             (with_kit(module_of(Modules.right, (1, b"\0")), "one"), made, "is not the one that the crate makes"),
-            (module, small_page(module, small_sources("end();\n")), "is not the page that its sources make, from line 12 on"),
+            (module, small_page(module, small_sources("end();\n")), "is not the page that its sources make, from line 37 on"),
             *((module, page_text(small_sources(), {**data, "examples": examples}).encode("utf-8"), told)
               for examples, told in ((empty, "other data .* examples;"), ("AAAA", "is not packed as it"))),
         ))

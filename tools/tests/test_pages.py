@@ -337,7 +337,7 @@ class Pictures(Folder):
     def test_each_is_its_scripts(self) -> None:
         want_program()
         commands = MAKING.findall((EXAMPLES / "README.md").read_text("utf-8"))
-        self.assertEqual(len(commands), 5)
+        self.assertEqual(len(commands), 4)
         for script, stop, words, picture in commands:
             with self.subTest(picture):
                 ran = run_program("go", TOP / script, *stop.split(), "--fonts", FONTS)

@@ -4,6 +4,7 @@ from __future__ import annotations
 
 import argparse
 import sys
+from typing import Optional
 
 from vga_report import cli
 from vga_report.debugging import PAGE
@@ -15,7 +16,7 @@ from vga_report.words import number_to
 
 from .machine import made_or_kept
 from .making import MOST_MODULE, check_module, made_modules
-from .page import MOST_BYTES, examples, make_page, read_sources, wordings_module
+from .page import MOST_BYTES, make_page, protect_sources, read_sources, wordings_module
 
 MOST_MEBIBYTES = 4096
 
@@ -45,16 +46,17 @@ def _parser() -> argparse.ArgumentParser:
     return parser
 
 
-def _made_module(words: argparse.Namespace, progress: Progress) -> bytes:
+def _given_module(words: argparse.Namespace) -> Optional[bytes]:
+    """The module that the words name; none where one is to be made. Here all is refused that can be at once."""
     cli.refuse_to_check(words)
     if words.module is not None and words.gated:
         raise Trouble("--module takes a module as it is, so --gated proves nothing")
     check_file(words.file)
-    if words.module is not None:
-        module = read_at_most(words.module, MOST_MODULE)
-        check_module(module)
-        return module
-    return made_modules(words, progress, [words.memory])[0][0]
+    if words.module is None:
+        return None
+    module = read_at_most(words.module, MOST_MODULE)
+    check_module(module)
+    return module
 
 
 def _write(path: str, data: bytes, told: str) -> None:
@@ -65,16 +67,20 @@ def _write(path: str, data: bytes, told: str) -> None:
 
 
 def _make(words: argparse.Namespace, progress: Progress) -> None:
-    # What is wrong with the sources is told before the long work; none of them is written.
-    sources, _ = read_sources(), examples()
+    protect_sources()
+    module = _given_module(words)
+    # What is wrong with the sources is told before the long work.
+    sources = read_sources()
     machine = made_or_kept(PAGE, lambda told: print(told, file=sys.stderr))
-    module = _made_module(words, progress)
+    if module is None:
+        module = made_modules(words, progress, [words.memory])[0][0]
     page = make_page(module, sources, machine)
     _write(words.file, page, f"{len(page):,} bytes; its module has {check_module(module)}")
 
 
 def _module(words: argparse.Namespace, progress: Progress) -> None:
-    module = _made_module(words, progress)
+    _given_module(words)
+    module = made_modules(words, progress, [words.memory])[0][0]
     _write(words.file, module, check_module(module))
 
 

@@ -83,6 +83,13 @@ class Sources(NamedTuple):
     editor: Editor = Editor("", "", "")
 
 
+def protect_sources(folder: Path = SOURCES) -> None:
+    """Names the files that a page is made of as files that are read, so that none of them is written."""
+    sources = [folder / "index.html", *folder.rglob("*.js"), *folder.rglob("*.css"), *EXAMPLES.glob("*.vga")]
+    for path in sources:
+        to_read(str(path))
+
+
 def read_sources(folder: Path = SOURCES) -> Sources:
     """The sources of a folder."""
     frame = Path(to_read(str(folder / "index.html"))).read_text("utf-8")
