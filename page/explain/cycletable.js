@@ -18,7 +18,8 @@ export function addressText({ address, place }) {
   const { spread, offset } = place, isCut = offset !== place.place;
   const cut = !isCut ? "" : spread === "chain 4" ? ", with its two low bits 0 by chain 4"
     : ", with bit 0 cleared by chain odd/even";
-  return `${at} − ${hex(place.start, 5)} = ${hex(place.place, 4)} in the window ${range(place)}: ` +
+  const reckoned = `${at} − ${hex(place.start, 5)} = ${hex(place.place, 4)}`;
+  return `${reckoned} in the window ${range(place)}: ` +
     `offset ${hex(offset, 4)} of each plane${cut}.`;
 }
 
@@ -59,13 +60,13 @@ const row = (title, planes, bytes, marks = () => 0) => ({ title,
   }) });
 
 /** The name of a function's row. */
-const FUNCTION_ROWS = ["data, as it is", "data AND latch", "data OR latch", "data XOR latch"];
+const FUNCTION_ROWS = ["data as it is", "data AND latch", "data OR latch", "data XOR latch"];
 
 function writeRows({ planes, mode, select }) {
   const changes = ({ before, after }) => before ^ after;
   const stages = mode === 1 ? [] : [
     row(FUNCTION_ROWS[select], planes, ({ joined }) => joined),
-    row("mask: 1 takes it, 0 the latch", planes, ({ mask }) => mask)];
+    row("mask, 0: latch", planes, ({ mask }) => mask)];
   return [
     ...mode === 1 ? [] : [row("data", planes, ({ data }) => data)],
     row("latch", planes, ({ latch }) => latch),
@@ -84,8 +85,8 @@ function readSentences({ mode, picked, value }) {
 
 function readRows({ planes, mode }) {
   const compared = mode ? [
-    row("wanted, colour compare", planes, one => (one.isCompared ? 255 * one.wanted : null)),
-    row("equal, of those compared", planes, one => (one.isCompared ? one.equal : null))] : [];
+    row("colour compare", planes, one => (one.isCompared ? 255 * one.wanted : null)),
+    row("equal", planes, one => (one.isCompared ? one.equal : null))] : [];
   return [row("byte", planes, ({ byte }) => byte), ...compared,
     row("latch before", planes, ({ latch }) => latch),
     row("latch after", planes, ({ after }) => after, ({ latch, after }) => latch ^ after)];

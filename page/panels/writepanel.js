@@ -26,17 +26,17 @@ function cellOf(cell, isUsed) {
 /** A cycle as an element. */
 function cycleOf(cycle) {
   const { title, sentences, heads, rows } = tableOfCycle(cycle);
-  const said = sentences.map(text => element("p", {}, text));
-  if (!rows.length) return element("div", {}, element("h3", {}, title), ...said);
+  const [address, ...more] = sentences.map(text => element("p", {}, text));
+  if (!rows.length) return element("div", {}, element("h3", {}, title), address);
   const head = heads.map(({ plane, isUsed, source }) => element("th", { scope: "col",
-    className: classesOf(!isUsed && "unused") }, `plane ${plane}${source ? `: ${source}` : ""}`));
+    className: classesOf(!isUsed && "unused") }, `plane ${plane}`, element("small", {}, source)));
   const body = rows.map(row => element("tr", {}, element("th", { scope: "row" }, row.title),
     ...row.cells.map((cell, i) => cellOf(cell, heads[i].isUsed))));
   const table = element("table", { className: "cycle" },
     element("thead", {}, element("tr", {}, element("td"), ...head)),
     element("tbody", {}, ...body));
-  return element("div", {}, element("h3", {}, title), ...said,
-    element("div", { className: "scroll" }, table));
+  return element("div", {}, element("h3", {}, title), address,
+    element("div", { className: "scroll" }, table), ...more);
 }
 
 /** What to say where the last step has no cycle of memory that could be shown. */

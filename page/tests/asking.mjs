@@ -12,14 +12,17 @@ import { IDLE } from "./jumps.mjs";
 import { PAGE, TOP } from "./loading.mjs";
 
 const LARGE = { width: 1900, height: 1500 };
-const SIZES = [{ width: 1366, height: 768 }, { width: 1920, height: 1080 }, { width: 390, height: 844 }];
+const SIZES = [{ width: 1366, height: 768 }, { width: 1920, height: 1080 },
+  { width: 390, height: 844 }];
 const { browser, folder } = await begun(), done = [];
 const EIGHT = readFileSync(`${TOP}examples/tutorial/eight-pixels.vga`, "utf-8");
 const HELLO = readFileSync(`${TOP}examples/tutorial/hello.vga`, "utf-8");
 
-const text = selector => browser.value(`document.querySelector(${JSON.stringify(selector)})?.innerText ?? ""`);
+const text = selector => browser.value(
+  `document.querySelector(${JSON.stringify(selector)})?.innerText ?? ""`);
 const says = (selector, words) => browser.until(
-  `(document.querySelector(${JSON.stringify(selector)})?.innerText ?? "").includes(${JSON.stringify(words)})`, 20000);
+  `(document.querySelector(${JSON.stringify(selector)})?.innerText ?? "")` +
+  `.includes(${JSON.stringify(words)})`, 20000);
 const isOpen = () => browser.value("!document.getElementById('asked').hidden");
 const stepIs = (step, count) => says("#laststep", `After step ${step} of ${count},`);
 
@@ -58,14 +61,17 @@ const PARTS = {
   async "a dot is asked about by pointer, and its two changes found"() {
     await load(EIGHT);
     await point(327, 240);
-    assert.match(await text("#dot"), /offset 4B28, planes 0:FF 1:FF 2:F0 3:FF · B → palette 3B → DAC 3B/);
+    assert.match(await text("#dot"),
+      /offset 4B28, planes 0:FF 1:FF 2:F0 3:FF · B → palette 3B → DAC 3B/);
     await browser.clickAt(...await placeOf(327, 240));
     await browser.until("!document.getElementById('asked').hidden");
-    await says("#asked", "plane 0 FF, bit 0, plane 1 FF, bit 0, plane 2 F0, bit 0, plane 3 FF, bit 0");
+    await says("#asked",
+      "plane 0 FF, bit 0, plane 1 FF, bit 0, plane 2 F0, bit 0, plane 3 FF, bit 0");
     await shot("dot");
     await browser.click(action("change"));
     await stepIs(7, 8);
-    assert.match(await text("#found"), /^This step changed dot 327 of line 240: bits F → B; colour 3F 3F 3F → 15 3F 3F\.$/);
+    assert.match(await text("#found"),
+      /^This step changed dot 327 of line 240: bits F → B; colour 3F 3F 3F → 15 3F 3F\.$/);
     assert.ok(await isOpen());
     await browser.press("Enter");
     await stepIs(2, 8);
@@ -117,7 +123,8 @@ const PARTS = {
     await browser.press("7");
     await says(".write", "Write of 00 to A4B28");
     await says(".write", "the map mask 4 lets through 2: written are 2.");
-    const cells = await browser.value(`[...document.querySelectorAll(".cycle tr")].at(-1).innerText`);
+    const cells = await browser.value(
+      `[...document.querySelectorAll(".cycle tr")].at(-1).innerText`);
     assert.match(cells, /byte after\s+FF 1111 1111\s+FF 1111 1111\s+F0 1111 0000\s+FF 1111 1111/);
     await shot("write");
     await browser.press("ArrowLeft");
@@ -148,7 +155,9 @@ const PARTS = {
     await browser.press("Escape");
     await browser.press("End");
     await browser.press("2");
-    await browser.value(`(() => { const place = document.getElementById("offset"); place.value = "4B20";
+    await browser.value(`(() => {
+      const place = document.getElementById("offset");
+      place.value = "4B20";
       place.dispatchEvent(new Event("change")); document.querySelector("#plane").value = "2";
       document.querySelector("#plane").dispatchEvent(new Event("change"));
       document.querySelector(".hex td").focus(); })()`);
@@ -190,7 +199,8 @@ const PARTS = {
     await browser.click(action("watch"));
     await says(".watches", "dot 327 of line 240");
     await browser.press("1");
-    await browser.click("[data-subject='field gfx 08 7-0'], [data-subject='register gfx 08'] .value");
+    await browser.click(
+      "[data-subject='field gfx 08 7-0'], [data-subject='register gfx 08'] .value");
     await browser.click(action("watch"));
     await says(".watches", "Graphics controller 08, bit mask");
     await browser.press("ArrowLeft");
@@ -209,7 +219,8 @@ const PARTS = {
   },
 
   async "breakpoints of bytes, refusals and answers, forward and back"() {
-    await load("int ax=12\nput A0010 FF\nget A0010 ; = 00\nput A0011 1\nput 0 0\nget A0011 ; = 01\n");
+    await load(
+      "int ax=12\nput A0010 FF\nget A0010 ; = 00\nput A0011 1\nput 0 0\nget A0011 ; = 01\n");
     await browser.press("6");
     const kind = value => browser.value(`(() => { const made = document.getElementById("pointkind");
       made.value = "${value}"; made.dispatchEvent(new Event("change")); })()`);

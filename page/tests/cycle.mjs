@@ -10,7 +10,8 @@ import { FONTS, loadAdapter } from "./loading.mjs";
 
 const adapter = await loadAdapter(), NAMES = ["put", "putw", "get", "getw"], TRIALS = 40000;
 /** The registers that the way of a byte depends on, with the bits that a port takes. */
-const USED = { seq: [0, 0, 0x0f, 0, 0x0e], gfx: keptBits("gfx").map((kept, i) => (i === 5 ? kept & ~0x20 : kept)) };
+const USED = { seq: [0, 0, 0x0f, 0, 0x0e], gfx: keptBits("gfx").map((kept, i) =>
+  (i === 5 ? kept & ~0x20 : kept)) };
 const CALLS = { put: "zak_put", putw: "zak_put_word", get: "zak_get", getw: "zak_get_word" };
 
 /** A card with random memory, and the bytes that its planes should have. */
@@ -27,7 +28,8 @@ class Bench {
   /** Writes some of the registers by chance; the others stay. */
   write() {
     const { random, card } = this, { calls } = adapter;
-    if (!random.below(8)) calls.zak_out(card.at, 0x3c2, random.below(6) ? 3 | random.byte() : random.byte());
+    if (!random.below(8)) calls.zak_out(card.at, 0x3c2, random.below(6) ? 3 | random.byte()
+      : random.byte());
     for (const [group, port] of [["seq", 0x3c4], ["gfx", 0x3ce]]) {
       const i = random.below(USED[group].length);
       calls.zak_out(card.at, port, i);
@@ -40,25 +42,30 @@ class Bench {
    */
   step() {
     const { random, card, planes } = this, name = random.one(NAMES);
-    const place = random.below(50) ? random.one([0xa0000, 0xb0000, 0xb8000, 0xa8000]) + random.below(0x8000)
+    const place = random.below(50) ? random.one([0xa0000, 0xb0000, 0xb8000, 0xa8000]) +
+      random.below(0x8000)
       : random.one([0xbffff, 0xc0000, 0x9ffff, 0xb7fff, 0xafffe, 0xffffffff, 0]);
     const value = name.endsWith("w") ? random.below(65536) : random.byte();
     const memory = { registers: card.registers(), latches: card.latches(),
       byteAt: (plane, offset) => planes[plane][offset] };
     const { cycles, isRefused } = cyclesOfStep(memory, { name, place, value });
-    const status = adapter.calls[CALLS[name]](card.at, place, name.startsWith("put") ? value : this.out.at);
+    const status = adapter.calls[CALLS[name]](card.at, place, name.startsWith("put") ? value
+      : this.out.at);
     assert.equal(status !== 0, isRefused, `${name} ${place.toString(16)}`);
     const said = () => JSON.stringify({ name, place, value, cycles });
     if (isRefused) assert.deepEqual(card.latches(), memory.latches);
     else this.hold(name, cycles, said);
-    return isRefused ? "refused" : `${name}, write mode ${cycles[0].kind === "write" ? cycles[0].mode : "-"}, ` +
+    return isRefused ? "refused"
+      : `${name}, write mode ${cycles[0].kind === "write" ? cycles[0].mode : "-"}, ` +
       `read mode ${cycles[0].kind === "read" ? cycles[0].mode : "-"}, ${cycles[0].place.spread}`;
   }
 
   hold(name, cycles, said) {
     const { card, planes } = this;
     if (name.startsWith("put")) {
-      for (const { place, planes: told } of cycles) for (const one of told) planes[one.plane][place.offset] = one.after;
+      for (const { place, planes: told } of cycles) {
+        for (const one of told) planes[one.plane][place.offset] = one.after;
+      }
       for (const { place } of cycles) {
         const found = [0, 1, 2, 3].map(plane => card.plane(plane, place.offset, 1)[0]);
         assert.deepEqual(found, planes.map(bytes => bytes[place.offset]), said());
@@ -78,7 +85,8 @@ test(`${TRIALS} random reads and writes go as the module's own`, () => {
     const kind = bench.step();
     kinds.set(kind, (kinds.get(kind) ?? 0) + 1);
   }
-  bench.planes.forEach((bytes, plane) => assert.deepEqual(bench.card.plane(plane), bytes, `plane ${plane}`));
+  bench.planes.forEach((bytes, plane) => assert.deepEqual(bench.card.plane(plane), bytes,
+    `plane ${plane}`));
   // Four write modes and two read modes, each of byte and word, in three ways of spreading; and
   // refusals.
   assert.equal(kinds.size, 2 * (4 + 2) * 3 + 1, [...kinds.keys()].sort().join("\n"));
@@ -98,7 +106,8 @@ test("the tables of HOST-PATH.md: write mode 0 to 3 of the byte 81", () => {
 });
 
 test("why an address is not decoded is told", () => {
-  const registers = (misc, map) => ({ misc, seq: [0, 0, 0, 0, 0], gfx: [0, 0, 0, 0, 0, 0, map << 2, 0, 0] });
+  const registers = (misc, map) => (
+    { misc, seq: [0, 0, 0, 0, 0], gfx: [0, 0, 0, 0, 0, 0, map << 2, 0, 0] });
   assert.match(placeOfAddress(registers(0, 0), 0xa0000).why, /enable RAM/);
   assert.match(placeOfAddress(registers(2, 3), 0xa0000).why, /outside/);
   assert.equal(placeOfAddress(registers(2, 3), 0xb8000).why, "");

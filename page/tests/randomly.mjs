@@ -37,7 +37,8 @@ export class Random {
 }
 
 /** The bits that the registers of a group keep. */
-export const keptBits = group => GROUPS.find(({ id }) => id === group).registers.map(({ kept }) => kept);
+export const keptBits = group => GROUPS.find(({ id }) => id === group).registers.map(({ kept }) =>
+  kept);
 
 /**
  * The length of a whole saved state before the dots of its frame, and where its parts begin

@@ -6,7 +6,7 @@ import { tmpdir } from "node:os";
 import { pathToFileURL } from "node:url";
 import { begun } from "./engines.mjs";
 import { IDLE } from "./jumps.mjs";
-import { LONG_SCRIPTS } from "./searching.mjs";
+import { LONG_SCRIPTS } from "./longsearches.mjs";
 import { PAGE } from "./loading.mjs";
 
 const [engine = "chromium", rounds = "3"] = process.argv.slice(2);
@@ -14,11 +14,12 @@ const [engine = "chromium", rounds = "3"] = process.argv.slice(2);
 const SUBJECTS = { "a byte": ["2", "[data-subject='byte 0 0000']"],
   "map mask": ["1", "[data-subject='register seq 02'] .value"],
   "an entry of the DAC": ["4", "[data-subject='colour 09']"], "a dot": ["1", null] };
-/** In the page: presses the button of the card, and tells how long it takes until a step is found. */
+/** In the page: presses the button of the card, and tells the time until a step is found. */
 const TIMED = `new Promise(done => {
   const begun = performance.now();
   document.querySelector("#asked [data-action=change]").click();
-  const look = () => (document.getElementById("found").hidden && document.getElementById("notice").hidden
+  const look = () => (document.getElementById("found").hidden &&
+    document.getElementById("notice").hidden
     ? setTimeout(look) : done(performance.now() - begun));
   setTimeout(look);
 })`;
@@ -50,7 +51,8 @@ try {
     const title = `${name.replace(/\W+/g, "-")}.vga`, file = `${folder}/${title}`, times = [];
     writeFileSync(file, text);
     await browser.choose("#file", file);
-    const isLoaded = `document.getElementById("about").textContent.includes("${title.slice(0, -4)}")`;
+    const about = "document.getElementById('about').textContent";
+    const isLoaded = `${about}.includes("${title.slice(0, -4)}")`;
     await browser.until(`${isLoaded} && ${IDLE}`);
     await browser.moveTo(1, 1);
     // That a script is too long to be kept stays until it is closed.

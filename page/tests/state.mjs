@@ -180,7 +180,8 @@ function randomCards(count, seed) {
   const first = card.save(), list = [];
   for (let i = 0; i < count; i++) {
     const bytes = stateOf(first, random, (group, at) =>
-      (group === "misc" ? random.byte() & 0xf3 | random.below(2) << 2 : random.byte() & (group === "crtc" &&
+      (group === "misc" ? random.byte() & 0xf3 | random.below(2) << 2
+        : random.byte() & (group === "crtc" &&
         at === 7 && random.below(2) ? 0 : 255)), false);
     card.restore([bytes]);
     adapter.calls.zak_advance(card.at, random.below(200000));
@@ -193,7 +194,8 @@ test("line, frame and rate of random registers are those that the module's clock
   const { session, card, list } = randomCards(300, 41);
   for (const bytes of list) {
     card.restore([bytes]);
-    const told = card.clock(), { registers } = State.of(card), { dots, lines } = frameShape(registers);
+    const told = card.clock(), { registers } = State.of(card),
+      { dots, lines } = frameShape(registers);
     const { dots: frame, rate } = frameSpeed(registers);
     assert.deepEqual([dots, lines, frame, rate],
       [told.lineDots, told.lines, told.frameDots, told.rate / told.rateDivisor]);
@@ -205,7 +207,8 @@ test("input status 1 of random registers is what would be read", () => {
   const { session, card, list } = randomCards(300, 43), seen = {};
   for (const bytes of list) {
     card.restore([bytes]);
-    const state = State.of(card), told = statusOne(state).slice(0, 2), room = adapter.room("status", 16);
+    const state = State.of(card), told = statusOne(state).slice(0, 2),
+      room = adapter.room("status", 16);
     const status = adapter.calls.zak_in(card.at, state.registers.misc & 1 ? 0x3da : 0x3ba, room.at);
     assert.deepEqual([status, told], [0, adapter.copied(room, 1)[0].toString(16).padStart(2, "0")]);
     seen[told] = (seen[told] ?? 0) + 1;
@@ -214,12 +217,14 @@ test("input status 1 of random registers is what would be read", () => {
   session.close();
 });
 
-test("bytes that are shown by random registers, panned too, are those that change the picture", () => {
+test("bytes that are shown by random registers, panned too, are those that change the picture",
+  () => {
   const { session, card, random } = randomCards(0, 47), first = card.save();
   let shows = 0, hides = 0;
   for (let time = 0; time < 40; time++) {
     const bytes = stateOf(first, random, (group, at) => ({ "crtc 0": 40, "crtc 1": random.below(40),
-      "crtc 6": 100, "crtc 7": random.byte() & 0x10, "crtc 18": random.below(90), "seq 1": random.below(2),
+      "crtc 6": 100, "crtc 7": random.byte() & 0x10, "crtc 18": random.below(90),
+        "seq 1": random.below(2),
       "gfx 6": 1, "gfx 5": 0, "attr 18": 15 }[`${group} ${at}`] ?? random.byte()), false);
     for (let i = 0; i < 16; i++) bytes[78 + i] = i;
     bytes[78 + 21] = 0x20;
@@ -228,7 +233,8 @@ test("bytes that are shown by random registers, panned too, are those that chang
     card.restore([bytes]);
     const shown = shownBytes(card.registers()), plain = nextFrame(card);
     for (let trial = 0; trial < 25; trial++) {
-      const from = shown.indexOf(1, random.below(65536)), past = shown.indexOf(0, Math.max(0, from));
+      const from = shown.indexOf(1, random.below(65536)),
+        past = shown.indexOf(0, Math.max(0, from));
       // Anywhere, at a byte that is shown, or right behind such bytes.
       const offset = random.one([random.below(65536), from, past + random.below(3)]) & 65535;
       const other = bytes.slice();

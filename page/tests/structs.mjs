@@ -34,7 +34,8 @@ for (const [name, fields] of Object.entries(STRUCTS)) {
 test("what the module's readers tell is what a saved state tells, of random states", async () => {
   const card = new Card(await loadAdapter(), FONTS), random = new Random(1), first = card.save();
   for (let time = 0; time < 50; time++) {
-    card.restore([stateOf(first, random, (group, i) => (group === "crtc" && i === 0 ? 80 : random.byte()))]);
+    card.restore(
+      [stateOf(first, random, (group, i) => (group === "crtc" && i === 0 ? 80 : random.byte()))]);
     card.adapter.calls.zak_advance(card.at, random.below(100000));
     const state = State.of(card), { rows, ...beam } = card.beam();
     const { registers, latches, bda, beam: saved } = partsOfSaved(card.save());
