@@ -12,7 +12,7 @@ struct record {
     u32 dots, what, value, place;
 };
 
-/* What follows is not in a snapshot: it is how the host looks at the machine. */
+/* How the host looks at the machine. The host sets all of it again when it has restored a snapshot. */
 static struct record *records;
 static u32 record_count, has_wrapped, is_recording, dots_before;
 static u32 told_places[TOLD], told_sums[TOLD];

@@ -10,8 +10,17 @@ static u64 model_registers[X86EMU_MSRS];
 static u8 model_permissions[X86EMU_MSRS];
 static enum stopped stopped;
 static u8 is_waiting, is_halted;
+/* The processor was stopped before it had done what it was to do. When the machine goes on it does that first, so a
+ * run with stops does what a run without them does. */
+static u8 is_amid;
+static u64 work_end;
 
 /* What the host wants to know of the machine. */
+SHOWN("is_amid") u32 was_stopped_amid(void)
+{
+    return is_amid;
+}
+
 SHOWN("now") double now_shown(void)
 {
     return (double)now();
@@ -116,6 +125,12 @@ SHOWN("add_place") void add_place(u32 place)
 {
     if (place_count < MOST_PLACES) places[place_count++] = place;
     processor.code_check = check_place;
+}
+
+/* Goes on at the instruction that comes next, even if the machine stops there. */
+SHOWN("pass_place") void pass_place(void)
+{
+    passed_place = (u32)processor.x86.R_CS << 16 | (processor.x86.R_EIP & 0xFFFF);
 }
 
 static void no_register(x86emu_t *emu)
@@ -243,7 +258,7 @@ void begin_machine(void)
     begin_store();
     clear_places();
     stopped = RUNS;
-    is_waiting = is_halted = 0;
+    is_waiting = is_halted = is_amid = 0;
     inputs = 0;
 }
 
@@ -294,20 +309,29 @@ static u64 sooner(u64 one, u64 other)
     return one < other ? one : other;
 }
 
+static void run_processor(void)
+{
+    u32 ended = x86emu_run(&processor, X86EMU_RUN_MAX_INSTR) & X86EMU_RUN_MAX_INSTR;
+    is_amid = !ended && stopped != RUNS && !is_waiting;
+    if (!ended && stopped == RUNS && !is_waiting) is_halted = 1;
+}
+
 static void work(u64 end)
 {
-    while (now() < end && stopped == RUNS) {
-        attend();
-        u64 until = sooner(end, next_tick_time()), time = now();
-        if (is_waiting || is_halted) {
-            skip_to(until);
-            continue;
+    if (!is_amid) work_end = end;
+    while ((is_amid || now() < work_end) && stopped == RUNS) {
+        if (!is_amid) {
+            attend();
+            u64 until = sooner(work_end, next_tick_time()), time = now();
+            if (is_waiting || is_halted) {
+                skip_to(until);
+                continue;
+            }
+            processor.max_instr = processor.x86.R_TSC + (until > time ? instructions_in(until - time) : 1);
         }
-        processor.max_instr = processor.x86.R_TSC + (until > time ? instructions_in(until - time) : 1);
-        u32 ended = x86emu_run(&processor, X86EMU_RUN_MAX_INSTR);
-        if (!(ended & X86EMU_RUN_MAX_INSTR) && stopped == RUNS && !is_waiting) is_halted = 1;
+        run_processor();
     }
-    settle();
+    if (!is_amid) settle();
 }
 
 static u64 next_quantum(void)
@@ -318,7 +342,7 @@ static u64 next_quantum(void)
 /* Runs whole quanta until a time has come; whether it goes on. */
 SHOWN("run") u32 run(double until)
 {
-    while ((double)now() < until && stopped == RUNS) work(next_quantum());
+    while ((is_amid || (double)now() < until) && stopped == RUNS) work(next_quantum());
     return stopped == RUNS;
 }
 

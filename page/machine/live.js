@@ -1,6 +1,7 @@
 // The machine as it runs in real time: its picture, its keys, and the snapshots on its way.
 import { Machine, SPEEDS } from "./machine.js";
 import { bytesOfKey, placeOfKey } from "./pckeys.js";
+import { stopOf } from "./stops.js";
 import { byId, setText } from "../common/dom.js";
 import { grouped } from "../common/bytes.js";
 
@@ -13,9 +14,10 @@ const SNAPSHOT_FRAMES = 35, MOST_SNAPSHOTS = 1 << 28;
 const TELLING = 500;
 const PIXELS_A_LINE = 2304;
 /** What is said of each reason why the machine stopped. */
-const REASONS = { ended: "The program has ended.", watch: "The cycle that was watched for has come.",
-  place: "The instruction that was watched for comes next.", mode: "A mode was set.",
+const REASONS = { ended: "The program has ended.", watch: "The cycle that you asked for has come.",
+  place: "The instruction that you asked for comes next.", mode: "A mode was set.",
   refusal: "A cycle was refused.", restarted: "The software asked for a restart." };
+const NO_STOP = stopOf("nothing", "");
 const MISSING = { 0x00: "divides by zero", 0x06: "has an instruction that this processor lacks",
   0x0d: "reaches past the end of a segment", 0x10: "asks for a video function that is refused",
   0x21: "asks for a function of DOS that is missing" };
@@ -37,6 +39,8 @@ function missingText({ number, value }) {
 export class Live {
   /** "off", "running" or "paused". */
   state = "off";
+  /** Why it paused, where it did so by itself. */
+  reason = "";
   snapshots = [];
   #modules;
   #fonts;
@@ -44,6 +48,7 @@ export class Live {
   #machine = null;
   #lastTime = 0;
   #told = { at: 0, instructions: 0, frames: 0 };
+  #stop = NO_STOP;
   #drawn = -1;
   #canvas = byId("live");
   #image = null;
@@ -70,6 +75,7 @@ export class Live {
     this.#machine ??= new Machine(this.#modules, this.#fonts);
     this.#machine.boot(software);
     this.snapshots = [this.#machine.snapshot(null)];
+    this.#machine.stopAt(this.#stop.machine);
     this.#go();
     this.#canvas.focus();
   }
@@ -85,8 +91,23 @@ export class Live {
     this.snapshots = this.snapshots.filter(({ time }) => time <= now);
     machine.record(false);
     machine.cpu.go_on();
+    this.#arm();
+    // Keys come at the end of a quantum alone, so that they can come there again.
+    if (machine.moment.isAmid) machine.run(now);
     this.#go();
     this.#canvas.focus();
+  }
+
+  /** What it stops at: see stopOf. */
+  set stop(stop) {
+    this.#stop = stop;
+    if (this.state === "running") this.#arm();
+  }
+
+  /** The machine stops at what was asked for, but not where it is now. */
+  #arm() {
+    this.#machine.stopAt(this.#stop.machine);
+    this.#machine.cpu.pass_place();
   }
 
   #go() {
@@ -101,6 +122,7 @@ export class Live {
   pause() {
     if (this.state !== "running") return;
     this.state = "paused";
+    this.#machine.stopAt();
     this.#keepSnapshot();
     this.#heard.changed();
   }
@@ -128,7 +150,8 @@ export class Live {
       this.#heard.failed(error);
       return;
     }
-    if (this.#machine.stopped !== "runs") this.#stopped();
+    if (this.reason) this.pause();
+    else if (this.#machine.stopped !== "runs") this.#stopped();
     else requestAnimationFrame(() => this.#turn());
   }
 
@@ -139,10 +162,27 @@ export class Live {
     const until = machine.cpu.now() + passed * MILLISECOND, end = now + TURN;
     this.#lastTime = now;
     while (machine.cpu.now() < until && performance.now() < end && machine.stopped === "runs") {
+      const frame = machine.cpu.frames();
       machine.cpu.run_frame(until);
+      if (this.#isPassed()) this.#goPast();
       this.#keepSnapshot();
+      if (frame < this.#stop.frame && machine.cpu.frames() >= this.#stop.frame) {
+        this.reason = "The frame that you asked for has come.";
+        return;
+      }
     }
   }
+
+  /** Whether it stopped at what was asked for, but the conditions do not hold. */
+  #isPassed() {
+    return ["watch", "place"].includes(this.#machine.stopped) && !this.#stop.holds(this.#machine.processor);
+  }
+
+  #goPast() {
+    this.#machine.cpu.pass_place();
+    this.#machine.cpu.go_on();
+  }
+
 
   #keepSnapshot() {
     const machine = this.#machine, last = this.snapshots.at(-1);

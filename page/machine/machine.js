@@ -15,6 +15,13 @@ export const SPEEDS = { 8088: 3000, 286: 700, 386: 160, fastest: 60 };
 const WASM_PAGE = 65536, ROOM_BYTES = 64, MOST_BLOCK = 0x20000, TABLE_BYTES = 1024;
 const WITH_ALPHA = 1, BOOT = 1, PROGRAM = 0;
 const BIOS_DATA = 0x400, MOST_FRAMES = 4096;
+/** The registers of the processor, as machine/pc/run.c tells them. */
+const PROCESSOR = ["EAX", "ECX", "EDX", "EBX", "ESP", "EBP", "ESI", "EDI", "EIP", "FLAGS",
+  "ES", "CS", "SS", "DS", "FS", "GS"];
+/** The calls of the video BIOS that set a mode have AH 0; a call counts as so many cycles. */
+const SET_MODE = 0, CALL_CYCLES = 2;
+/** Nanoseconds in which the machine looks at nothing else: QUANTUM of machine/pc/run.c. */
+const QUANTUM = 50000;
 const decoder = new TextDecoder("latin1");
 
 /** The modules, compiled from their bytes. */
@@ -39,6 +46,8 @@ export class Machine {
   shown = 0;
   /** What the software asked for that is missing: { number, value }. */
   missing = [];
+  /** When modes were set by interrupt 10: the cycles of the display and the nanoseconds until then. */
+  modes = [];
   /** How many cycles of the display there were at the end of each of the last frames, by its number. */
   #frameCycles = new Map();
 
@@ -135,6 +144,9 @@ export class Machine {
     const slot = disks.findIndex(bytes => bytes);
     if (software.program) this.#start(PROGRAM, 0, this.#stored(software.program), software.program);
     else this.#start(BOOT, slot === 2 ? 0x80 : slot, places[slot], disks[slot]);
+    // The start counts as the end of a frame, so a window can begin there; its own mode is none of the software's.
+    this.#frameCycles.set(0, cpu.cycles());
+    this.modes = [];
   }
 
   #start(kind, drive, place, bytes) {
@@ -225,11 +237,33 @@ export class Machine {
 
   /** Forgets what comes after now: the machine goes on from here another way. */
   forgetLater() {
+    const cycles = this.cpu.cycles();
     this.#inputs.length = this.cpu.inputs();
+    this.modes = this.modes.filter(set => set.cycles <= cycles);
   }
 
   get stopped() {
     return STOPPED[this.cpu.stopped()];
+  }
+
+  /**
+   * Stops behind an instruction that reaches one of the `addresses` (ports, or places of the display's
+   * memory), sets a mode, or makes a cycle that is refused; and before one at one of the `places`
+   * (segment and offset in one). A snapshot that is restored takes all stops away.
+   */
+  stopAt({ addresses = [], places = [], isMode = false, isRefusal = false } = {}) {
+    const { cpu } = this;
+    cpu.clear_watches();
+    cpu.set_places();
+    for (const address of addresses) cpu.watch(address);
+    for (const place of places) cpu.add_place(place);
+    cpu.stop_on(Number(isMode), Number(isRefusal));
+  }
+
+  /** The registers of the processor, by their names. */
+  get processor() {
+    const words = new Uint32Array(this.cpu.memory.buffer, this.cpu.registers(), PROCESSOR.length);
+    return Object.fromEntries(PROCESSOR.map((name, i) => [name, words[i]]));
   }
 
   #missing(number, value) {
@@ -251,21 +285,37 @@ export class Machine {
     return found;
   }
 
+  /** The moment that has come: nanoseconds, cycles of the display, whether it is amid a quantum. */
+  get moment() {
+    return { time: this.cpu.now(), cycles: this.cpu.cycles(), isAmid: this.cpu.is_amid() !== 0 };
+  }
+
+  /** Runs as it ran before, until a moment that it has seen; amid a quantum, to the last cycle before it. */
+  runAgainTo({ time, cycles, isAmid }) {
+    this.runAgain(isAmid ? time - time % QUANTUM : time);
+    if (isAmid && this.cpu.cycles() < cycles) this.runAgainToCycle(cycles, time);
+  }
+
+  /** Runs as it ran before, until there were so many cycles of the display, or a time has come. */
+  runAgainToCycle(cycles, time) {
+    this.cpu.stop_at_cycle(cycles);
+    this.runAgain(time);
+    this.cpu.stop_at_cycle(Infinity);
+    this.cpu.go_on();
+  }
+
   /**
-   * Runs again from a snapshot to a time, or to a number of cycles, and records from the end of a frame
-   * on: `frame` is the number of frames until then. The state of the display at that moment is kept.
+   * Runs again from a snapshot to a moment, and records from the end of a frame on: `frame` is the number
+   * of frames until then. The state of the display at that moment is kept.
    */
-  runWindow(snapshot, frame, until, cycle = Infinity) {
+  runWindow(snapshot, frame, moment) {
     const wasShowing = this.isShowing;
     this.restore(snapshot);
     this.record(false);
     this.isShowing = false;
     this.#window = { frame, state: null };
     if (this.cpu.frames() === frame) this.#beginWindow();
-    this.cpu.stop_at_cycle(cycle);
-    this.runAgain(until);
-    this.cpu.stop_at_cycle(Infinity);
-    this.cpu.go_on();
+    this.runAgainTo(moment);
     this.isShowing = wasShowing;
     return this.#window.state;
   }
@@ -330,6 +380,13 @@ export class Machine {
     const made = view.getUint32(room + 16, true);
     if (made) this.#write(16 * given[4] + given[3], this.adapterBytes.subarray(this.table, this.table + made));
     this.#writeBiosData();
+    if (given[0] >> 8 === SET_MODE) this.#noteMode();
+  }
+
+  #noteMode() {
+    const set = { cycles: this.cpu.cycles() + CALL_CYCLES, time: this.cpu.now() };
+    // What runs again sets the same modes.
+    if (set.cycles > (this.modes.at(-1)?.cycles ?? 0)) this.modes.push(set);
   }
 
   #write(place, bytes) {
@@ -430,6 +487,7 @@ export class Machine {
   restore(snapshot) {
     snapshot.restore(this, this.latest);
     this.latest = snapshot;
+    this.stopAt();
   }
 }
 

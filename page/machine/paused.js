@@ -8,8 +8,6 @@ import { rebuilding, statesOf } from "./rebuilding.js";
 /** The cycles and frames that a window has at most, unless its last frame alone has more. */
 const WINDOW_CYCLES = 200000, WINDOW_FRAMES = 70, MOST_WINDOW = 1000000;
 const SECOND = 1e9;
-/** The calls of the video BIOS that set a mode have AH 0. */
-const SET_MODE = 0;
 
 /** The last frames of a live machine, and how to go on from each of their steps. */
 export class Paused {
@@ -18,8 +16,9 @@ export class Paused {
   #adapter;
   #fonts;
   #states;
-  /** Cycles of the display when the window begins. */
+  /** Cycles of the display when the window begins; and the moment of its end: see Machine.moment. */
   #cycle = 0;
+  #end = { time: 0, cycles: 0, isAmid: false };
 
   constructor(live, adapter, fonts) {
     this.#live = live;
@@ -32,9 +31,9 @@ export class Paused {
     return this.#live.machine;
   }
 
-  /** Seconds of the machine's time. */
+  /** Seconds of the machine's time at the window's end. */
   get time() {
-    return this.#machine.cpu.now() / SECOND;
+    return this.#end.time / SECOND;
   }
 
   /** The last frames before now, as a session. */
@@ -45,11 +44,11 @@ export class Paused {
     if (frame === null) {
       throw new Trouble("No frame has ended yet, or the last one has more than a million cycles.");
     }
-    const end = machine.cpu.now(), cycles = machine.cpu.cycles();
+    this.#end = machine.moment;
     const before = this.#snapshotBefore(({ frames }) => frames <= frame);
-    const state = machine.runWindow(before, frame, end, cycles);
+    const state = machine.runWindow(before, frame, this.#end);
     this.recording = new Recording(rebuilding(state, this.#states), machine);
-    this.#cycle = cycles - this.recording.words.length / 4;
+    this.#cycle = this.#end.cycles - this.recording.words.length / 4;
     return new Session(this.#adapter, this.#fonts, "", judgedRecording(this.#adapter, this.recording));
   }
 
@@ -59,56 +58,44 @@ export class Paused {
     return found;
   }
 
-  /** Brings the machine to a moment: a time in nanoseconds, or a number of cycles. */
-  #seek(snapshot, until, cycle = Infinity) {
+  /** Runs again from a snapshot, unseen, as `does` tells. */
+  #again(snapshot, does) {
     const machine = this.#machine;
     machine.restore(snapshot);
     machine.record(false);
     machine.isShowing = false;
-    machine.cpu.stop_at_cycle(cycle);
-    machine.runAgain(until);
-    machine.cpu.stop_at_cycle(Infinity);
-    machine.cpu.go_on();
+    does(machine);
     machine.isShowing = true;
   }
 
-  /** Goes back by so many seconds, or as far as the start. */
-  back(seconds) {
-    const until = Math.max(0, this.#machine.cpu.now() - seconds * SECOND);
-    this.#seek(this.#snapshotBefore(({ time }) => time <= until), until);
+  /** Brings the machine to where it was after so many cycles of the display. */
+  #seekCycle(wanted) {
+    const [first] = this.#live.snapshots;
+    const before = this.#live.snapshots.findLast(({ cycles }) => cycles < wanted);
+    if (before) this.#again(before, machine => machine.runAgainToCycle(wanted, this.#end.time));
+    else this.#machine.restore(first);
   }
 
-  /** Goes back to the start. */
-  start() {
-    this.#machine.restore(this.#live.snapshots[0]);
+  /** Goes back by so many seconds from the window's end, or as far as the start. */
+  back(seconds) {
+    const until = Math.max(0, this.#end.time - seconds * SECOND);
+    this.#again(this.#snapshotBefore(({ time }) => time <= until), machine => machine.runAgain(until));
+  }
+
+  /** Goes back to the moment at which a mode was set last before the window's end. */
+  backToMode() {
+    const set = this.#machine.modes.findLast(({ cycles }) => cycles < this.#end.cycles);
+    if (!set) throw new Trouble("The video BIOS of this page set no mode before this moment.");
+    this.#seekCycle(set.cycles);
+  }
+
+  /** Brings the machine to where it was paused. */
+  seekEnd() {
+    this.#machine.restore(this.#live.snapshots.at(-1));
   }
 
   /** Brings the machine to where it was after so many steps of the window. */
   seekStep(steps) {
-    const record = steps ? this.recording.recordsBefore(steps) : 0;
-    const cycle = this.#cycle + record;
-    const before = this.#snapshotBefore(({ cycles }) => cycles < Math.max(1, cycle));
-    const end = this.#machine.cpu.now();
-    if (record) this.#seek(before, end, cycle);
-    else this.#seek(before, end, Math.max(1, this.#cycle));
-  }
-
-  /** The registers of the processor, by their names. */
-  get registers() {
-    const { cpu } = this.#machine, at = cpu.registers();
-    const words = new Uint32Array(cpu.memory.buffer, at, 16);
-    const names = ["EAX", "ECX", "EDX", "EBX", "ESP", "EBP", "ESI", "EDI", "EIP", "FLAGS",
-      "ES", "CS", "SS", "DS", "FS", "GS"];
-    return Object.fromEntries(names.map((name, i) => [name, words[i]]));
-  }
-
-  /** The step that set the mode last, before so many; 0 where none did in this window. */
-  modeBefore(steps) {
-    const { recording } = this;
-    for (let step = steps - 1; step >= 0; step--) {
-      const words = recording.wordsOf(recording.entryOf(step));
-      if (words.startsWith("int ") && parseInt(words.slice(7, 11), 16) >> 8 === SET_MODE) return step + 1;
-    }
-    return 0;
+    this.#seekCycle(this.#cycle + (steps ? this.recording.recordsBefore(steps) : 0));
   }
 }

@@ -6,6 +6,7 @@ import { ROWS, bytesOfKey } from "./pckeys.js";
 import { SPEEDS, compiledModules } from "./machine.js";
 import { byId, element, setText } from "../common/dom.js";
 import { bytesOfBase64, hex } from "../common/bytes.js";
+import { STOPS, stopOf } from "./stops.js";
 import { softwareOf } from "./software.js";
 import { unzipped } from "../module/packed.js";
 
@@ -53,6 +54,7 @@ export class MachineRoom {
       pausedstep: () => this.#goOnFromStep(),
       pausedback: () => this.#back(1),
       pausedfar: () => this.#back(10),
+      pausedmode: () => this.#backToMode(),
       pausedstart: () => this.#toStart(),
       pausedscript: () => this.#openScript(),
       pausedclose: () => this.#close(),
@@ -61,6 +63,7 @@ export class MachineRoom {
       byId(name).addEventListener("click", () => heard.guarded(does));
     }
     this.#makeSpeeds();
+    this.#makeStops();
     this.#makeKeyboard();
   }
 
@@ -72,6 +75,30 @@ export class MachineRoom {
       this.#live.speed = list.value;
       byId("live").focus();
     });
+  }
+
+  #makeStops() {
+    const list = byId("stopkind"), words = byId("stopwords");
+    list.append(...Object.keys(STOPS).map(name => element("option", { value: name }, name)));
+    list.addEventListener("change", () => {
+      const { example } = STOPS[list.value];
+      Object.assign(words, { hidden: !example, placeholder: example, value: "" });
+      if (example) words.focus();
+      else this.#heard.guarded(() => this.#takeStop());
+    });
+    words.addEventListener("change", () => this.#heard.guarded(() => this.#takeStop()));
+    words.addEventListener("keydown", event => {
+      if (event.key !== "Enter" || this.#live?.state !== "running") return;
+      words.blur();
+      byId("live").focus();
+    });
+  }
+
+  /** Stops at what was chosen and typed; at nothing as long as nothing is typed. */
+  #takeStop() {
+    const kind = byId("stopkind").value, words = byId("stopwords").value.trim();
+    const isWhole = words || !STOPS[kind].example;
+    if (this.#live) this.#live.stop = stopOf(isWhole ? kind : "nothing", words);
   }
 
   #makeKeyboard() {
@@ -110,6 +137,7 @@ export class MachineRoom {
     }
     await this.#prepare();
     this.#end();
+    this.#takeStop();
     this.#live.start({ ...found, rom: this.#rom }, name);
     this.#live.speed = byId("livespeed").value;
     return true;
@@ -140,6 +168,7 @@ export class MachineRoom {
     byId("machine").hidden = state !== "running";
     byId("pausedbar").hidden = state !== "paused";
     document.body.classList.toggle("paused", state === "paused");
+    byId(state === "paused" ? "pausedstop" : "livestop").append(byId("stops"));
     setText(byId("livename"), this.#live.name ?? "");
     if (state === "paused") this.#heard.guarded(() => this.#showWindow());
   }
@@ -185,7 +214,7 @@ export class MachineRoom {
   #showProcessor(steps) {
     const paused = this.#paused;
     paused.seekStep(steps);
-    const { registers } = paused, line = names => names.split(" ")
+    const { processor: registers } = this.#live.machine, line = names => names.split(" ")
       .map(name => `${name} ${hex(registers[name], name.length === 2 ? 4 : 8)}`).join("  ");
     byId("liveregisters").replaceChildren(...REGISTER_LINES.map(names => element("div", {}, line(names))));
     const next = this.#live.machine.disassembled(registers.CS, registers.EIP, AFTER);
@@ -193,17 +222,24 @@ export class MachineRoom {
   }
 
   #goOn() {
+    this.#paused.seekEnd();
     this.#end();
     this.#live.goOn();
   }
 
   #goOnFromStep() {
     this.#paused.seekStep(this.#heard.steps());
-    this.#goOn();
+    this.#end();
+    this.#live.goOn();
   }
 
   #back(seconds) {
     this.#paused.back(seconds);
+    this.#showWindow();
+  }
+
+  #backToMode() {
+    this.#paused.backToMode();
     this.#showWindow();
   }
 

@@ -8,6 +8,7 @@ import { Recording, judgedRecording } from "../machine/recording.js";
 import { Session, judgedText } from "../run/session.js";
 import { bytesOfKey } from "../machine/pckeys.js";
 import { rebuilding, statesOf } from "../machine/rebuilding.js";
+import { stopOf } from "../machine/stops.js";
 import { softwareOf } from "../machine/software.js";
 import { FONTS, loadAdapter, machineParts, runWhole } from "./loading.mjs";
 
@@ -56,9 +57,9 @@ const adapter = await loadAdapter();
 
 /** The last frames of a machine that has run on from a snapshot, as a recording. */
 function recordingOf(machine, snapshot, cycles) {
-  const frame = machine.frameBefore(cycles, 70), end = machine.cpu.now();
+  const frame = machine.frameBefore(cycles, 70), { moment } = machine;
   assert.ok(frame !== null && frame >= snapshot.frames, `frame ${frame}`);
-  const state = machine.runWindow(snapshot, frame, end);
+  const state = machine.runWindow(snapshot, frame, moment);
   return new Recording(rebuilding(state, statesOf(adapter, FONTS)), machine);
 }
 
@@ -115,6 +116,81 @@ test("each step has its instruction, and the machine comes to it", () => {
     assert.ok(offset > place.offset && offset < place.offset + 8, `${offset} after ${place.offset}`);
   }
   assert.ok(names.size >= 2, [...names].join(" "));
+});
+
+/** Runs to a time past each stop; how many there were, by their reasons. */
+function runPast(machine, until) {
+  const stops = {};
+  while (!machine.run(until) && machine.stopped !== "ended") {
+    stops[machine.stopped] = (stops[machine.stopped] ?? 0) + 1;
+    machine.cpu.pass_place();
+    machine.cpu.go_on();
+  }
+  return stops;
+}
+
+for (const { name, bytes } of programs) {
+  test(`${name} with stops runs as it does without`, () => {
+    const machine = started({ program: bytes }), begin = machine.snapshot(null);
+    machine.run(HALF);
+    const wanted = stateOf(machine), { moment } = machine;
+    // The instruction that reaches one of these is one to stop at, too.
+    const addresses = [0x3da, 0x3c9, 0x3d5, 0xa0140, 0xa7d00, 0xb8010];
+    machine.restore(begin);
+    machine.stopAt({ addresses, isMode: true, isRefusal: true });
+    machine.run(HALF);
+    const { CS, EIP } = machine.processor, amid = machine.moment;
+    assert.notEqual(machine.stopped, "runs");
+    machine.stopAt({ addresses, places: [CS << 16 | EIP], isMode: true });
+    machine.cpu.pass_place();
+    machine.cpu.go_on();
+    const stops = runPast(machine, HALF);
+    assert.equal(stateOf(machine), wanted, JSON.stringify(stops));
+    machine.restore(begin);
+    machine.runAgainTo(moment);
+    assert.equal(stateOf(machine), wanted);
+    machine.restore(begin);
+    machine.runAgainTo(amid);
+    assert.equal(machine.cpu.cycles(), amid.cycles);
+  });
+}
+
+test("a window can begin where the machine does, and end at a stop", () => {
+  const { bytes } = programs.find(({ name }) => name === "plasma.com");
+  const machine = started({ program: bytes }), begin = machine.snapshot(null);
+  machine.stopAt({ isMode: true });
+  machine.run(HALF);
+  assert.equal(machine.stopped, "mode");
+  assert.deepEqual(machine.modes.map(({ cycles }) => cycles), [machine.cpu.cycles()]);
+  machine.stopAt();
+  const recording = recordingOf(machine, begin, 100000);
+  const session = runWhole(new Session(adapter, FONTS, "", judgedRecording(adapter, recording)));
+  assert.equal(session.wrong, 0);
+  const last = recording.entryOf(recording.length - 1);
+  assert.match(recording.wordsOf(last), /^int ax=0?0?13/);
+  session.close();
+});
+
+test("what a machine stops at, as it is typed", () => {
+  const registers = { EAX: 0x12345678, EBX: 0, ECX: 0, EDX: 0, ESI: 0, EDI: 0xffff0007, EBP: 0, ESP: 0,
+    EIP: 0x103, CS: 0x1010, DS: 0xa000, ES: 0, SS: 0, FS: 0, GS: 0 };
+  const holds = words => stopOf("an instruction", `1010:103 if ${words}`).holds(registers);
+  assert.deepEqual(stopOf("a port or an address", "3da").machine, { addresses: [0x3da] });
+  assert.deepEqual(stopOf("a port or an address", " A000:0140 ").machine, { addresses: [0xa0140] });
+  assert.deepEqual(stopOf("an instruction", "1010:0103").machine, { places: [0x10100103] });
+  assert.equal(stopOf("a frame", "350").frame, 350);
+  assert.deepEqual([stopOf("a mode that is set", ""), stopOf("a refused cycle", "")].map(({ machine }) => machine),
+    [{ isMode: true }, { isRefusal: true }]);
+  for (const words of ["AX=5678", "al=78 and AH=56", "EAX=12345678", "DI<8", "DI>6", "ds!=0", "IP=103"]) {
+    assert.ok(holds(words), words);
+  }
+  for (const words of ["AX=5679", "AX=5678 and DI=8", "DI<7", "CS!=1010"]) assert.ok(!holds(words), words);
+  for (const words of ["AX", "AX=G", "XX=1", "SL=1", "AX==1", ""]) {
+    assert.throws(() => holds(words), /is no condition/, words);
+  }
+  assert.throws(() => stopOf("a port or an address", "100000"), /no port or address/);
+  assert.throws(() => stopOf("an instruction", "1010"), /no instruction's place/);
+  assert.throws(() => stopOf("a frame", "-1"), /no number of a frame/);
 });
 
 test("a program of DOS writes a file, which snapshots keep", () => {
