@@ -5,7 +5,7 @@ import { grouped } from "../common/bytes.js";
 const SECTOR = 512, SIGNATURE_AT = 510, MOST_FLOPPY = 2949120, MOST_DISK = 1 << 26;
 const MOST_PROGRAM = 0x90000, MOST_ROM = 0x10000;
 const FLOPPIES = [163840, 184320, 327680, 368640, 737280, 1228800, 1474560, 1720320, MOST_FLOPPY];
-const PROGRAM_NAME = /\.(com|exe)$/i, IMAGE_NAME = /\.(img|ima|dsk|flp|vfd|bin|hdd|raw)$/i;
+const PROGRAM_NAME = /\.(com|exe)$/i, IMAGE_NAME = /\.(img|ima|dsk|flp|vfd|hdd)$/i;
 const startsWith = (bytes, ...front) => front.every((byte, i) => bytes[i] === byte);
 const isBootable = bytes => bytes.length >= SECTOR && bytes[SIGNATURE_AT] === 0x55 &&
   bytes[SIGNATURE_AT + 1] === 0xaa;

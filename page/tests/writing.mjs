@@ -291,6 +291,7 @@ const CHECKS = {
   },
 
   async "a file that is dropped on the text is opened, and not typed into it"() {
+    const before = await browser.value(TEXT);
     await browser.value(`(() => {
       const data = new DataTransfer();
       data.items.add(new File(["in 3CC\\nframe\\n"], "dropped.vga"));
@@ -302,6 +303,10 @@ const CHECKS = {
     await pause(300);
     assert.equal(await browser.value(TEXT), "in 3CC\nframe\n");
     await until("document.title.startsWith('dropped:')");
+    // Loading it was the one change.
+    await browser.press("Escape");
+    await browser.press("z", { control: true });
+    await textBecomes(before);
   },
 
   async "a text of too many lines is shown, and Ctrl+Z gives back the one before"() {

@@ -50,12 +50,12 @@ def licence() -> str:
     holder, terms = HOLDER.search(text), TERMS.search(text)
     if not holder or not terms:
         raise Trouble("it has no copyright or no licence of all files", str(COPYRIGHT))
-    lines = [line[1:] for line in terms[1].splitlines()]
-    return "\n".join([f"Copyright {holder[1]}", "", *("" if line == "." else line for line in lines)])
+    lines = [line[1:].removeprefix(".") for line in terms[1].splitlines()]
+    return "\n".join([f"Copyright {holder[1]}", "", *lines])
 
 
 def _minified(text: str, *words: str) -> str:
-    """What esbuild makes of a text whose files lie in the package: the same wherever this clone lies."""
+    """What esbuild makes of a text whose files lie in the package, wherever this clone lies."""
     done = ended_well(
         [ESBUILD, "--minify", "--charset=utf8", "--log-level=warning", "--color=false", *words],
         FOLDER, given=text.encode("utf-8"), seconds=MOST_SECONDS,

@@ -1,4 +1,4 @@
-"""The sections of the documentation that the page shows, in a plain form that it can make elements of.
+"""The sections of the documentation that the page shows, in a form that it can make elements of.
 
 A block is a list that begins with its kind: `["p", INLINE]`, `["h", INLINE]`, `["pre", TEXT]`,
 `["ul", ITEM, ..]` and `["ol", ITEM, ..]`, whose items are INLINE, and `["table", ROW, ..]`, whose
@@ -30,7 +30,8 @@ HEADING = re.compile(r"^(#{1,4}) (.+)$")
 # Where a section is defined and tested is left out: these links lead into the repository.
 LEFT_OUT = ("*Defined by ", "*Shown by", "![")
 INLINE = re.compile(
-    r"`(?P<code>[^`]+)`|\*\*(?P<b>.+?)\*\*|\*(?P<i>[^*\s][^*]*?)\*|\[(?P<text>[^\]]+)\]\((?P<to>[^)\s]+)\)"
+    r"`(?P<code>[^`]+)`|\*\*(?P<b>.+?)\*\*|\*(?P<i>[^*\s][^*]*?)\*"
+    r"|\[(?P<text>[^\]]+)\]\((?P<to>[^)\s]+)\)"
 )
 ITEM = re.compile(r"^(?:[-*]|\d+\.) +(.*)$")
 CELL = re.compile(r"(?<!\\)\|")
@@ -109,18 +110,22 @@ def _groups(lines: list[str]) -> Iterator[list[str]]:
 def blocks(text: str) -> list[Any]:
     """The blocks of a text in Markdown."""
     found = [group for group in _groups(text.splitlines()) if not group[0].startswith(LEFT_OUT)]
-    return [["pre", "\n".join(group[1:])] if group[0] == "```" else _block(group) for group in found]
+    return [
+        ["pre", "\n".join(group[1:])] if group[0] == "```" else _block(group) for group in found
+    ]
 
 
 def sections_of(text: str) -> dict[str, dict[str, Any]]:
     """The sections of a page by their anchors: `{"title": TEXT, "blocks": [BLOCK, ..]}`."""
-    heads = [(at, found) for at, line in enumerate(text.splitlines()) if (found := HEADING.match(line))]
     lines, sections = text.splitlines(), {}
+    heads = [(at, found) for at, line in enumerate(lines) if (found := HEADING.match(line))]
     for number, (at, found) in enumerate(heads):
         ends = (begin for begin, other in heads[number + 1:] if len(other[1]) <= len(found[1]))
         # A page's own heading has only what stands before the first section.
-        end = next(ends, len(lines)) if found[1] != "#" else next((at for at, _ in heads[1:]), len(lines))
-        sections[anchor_of(found[2])] = {"title": found[2], "blocks": blocks("\n".join(lines[at + 1:end]))}
+        if found[1] == "#":
+            ends = (begin for begin, _ in heads[1:])
+        inside = "\n".join(lines[at + 1:next(ends, len(lines))])
+        sections[anchor_of(found[2])] = {"title": found[2], "blocks": blocks(inside)}
     return sections
 
 
