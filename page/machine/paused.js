@@ -45,7 +45,8 @@ export class Paused {
       throw new Trouble("No frame has ended yet, or the last one has more than a million cycles.");
     }
     this.#end = machine.moment;
-    const before = this.#snapshotBefore(({ frames }) => frames <= frame);
+    // The window begins as its frame does; so a snapshot within that frame is too late.
+    const before = frame ? this.#snapshotBefore(({ frames }) => frames < frame) : this.#live.snapshots[0];
     const state = machine.runWindow(before, frame, this.#end);
     this.recording = new Recording(rebuilding(state, this.#states), machine);
     this.#cycle = this.#end.cycles - this.recording.words.length / 4;
@@ -78,7 +79,7 @@ export class Paused {
 
   /** Goes back by so many seconds from the window's end, or as far as the start. */
   back(seconds) {
-    const until = Math.max(0, this.#end.time - seconds * SECOND);
+    const until = Math.max(this.#live.snapshots[0].time, this.#end.time - seconds * SECOND);
     this.#again(this.#snapshotBefore(({ time }) => time <= until), machine => machine.runAgain(until));
   }
 

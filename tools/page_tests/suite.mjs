@@ -47,7 +47,7 @@ function faultLine(status, place) {
 
 /** The bytes of a text, or the line of its fault. */
 function assembled(adapter, text) {
-  const given = adapter.given("text", text), told = adapter.told.at;
+  const given = adapter.given("text", text), told = adapter.lengths.at;
   const { status, bytes } = adapter.written("script", 1024, room =>
     adapter.calls.zak_assemble(given.at, given.length, room.at, room.length, told, told + 8));
   const line = status === BAD_LINE ? adapter.number(1) : 0;
@@ -78,7 +78,7 @@ class SlicedCard {
 
   /** Takes so many steps after the first ones: { status, place, taken, report }. */
   take(first, most, size) {
-    const { adapter, given } = this, report = adapter.room("answers", size), told = adapter.told.at;
+    const { adapter, given } = this, report = adapter.room("answers", size), told = adapter.lengths.at;
     const status = adapter.calls.zak_run_on(this.at, given.at, given.length, first, most,
       report.at, report.length, told, told + 8, told + 16);
     const length = status === OK ? adapter.number(0) : 0;
