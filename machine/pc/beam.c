@@ -49,8 +49,10 @@ void pass_cycle(void)
     passed += instruction_time;
 }
 
+/* It comes from outside, as a key does. */
 SHOWN("set_instruction_time") void set_instruction_time(u32 nanoseconds)
 {
+    note_input();
     passed = now() - processor.x86.R_TSC * nanoseconds;
     instruction_time = nanoseconds;
 }

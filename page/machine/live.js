@@ -1,5 +1,5 @@
 // The machine as it runs in real time: its picture, its keys, and the snapshots on its way.
-import { Machine, SPEEDS } from "./machine.js";
+import { Machine, SPEEDS, USUAL_SPEED } from "./machine.js";
 import { bytesOfKey, placeOfKey } from "./pckeys.js";
 import { stopOf } from "./stops.js";
 import { byId, setText } from "../common/dom.js";
@@ -48,7 +48,9 @@ export class Live {
   #machine = null;
   #lastTime = 0;
   #told = { at: 0, instructions: 0, frames: 0 };
+  #asked = 0;
   #stop = NO_STOP;
+  #speed = USUAL_SPEED;
   #drawn = -1;
   #canvas = byId("live");
   #image = null;
@@ -71,9 +73,26 @@ export class Live {
 
   /** Starts software: see Machine.boot. */
   start(software, name) {
+    this.#boot(software, name);
+    this.#machine.setSpeed(SPEEDS[this.#speed]);
+    this.#begin();
+  }
+
+  /** Starts a run that was saved. What comes from outside comes again, until the user does something. */
+  startSaved({ name, software, inputs }) {
+    this.#boot(software, name);
+    this.#machine.inputs = inputs;
+    this.#begin();
+  }
+
+  #boot(software, name) {
     this.name = name;
+    this.reason = "";
     this.#machine ??= new Machine(this.#modules, this.#fonts);
     this.#machine.boot(software);
+  }
+
+  #begin() {
     this.snapshots = [this.#machine.snapshot(null)];
     this.#machine.stopAt(this.#stop.machine);
     this.#go();
@@ -116,7 +135,13 @@ export class Live {
     this.#drawn = -1;
     this.#machine.isShowing = true;
     this.#heard.changed();
-    requestAnimationFrame(() => this.#turn());
+    this.#askTurn();
+  }
+
+  /** One turn is asked for at a time. */
+  #askTurn() {
+    cancelAnimationFrame(this.#asked);
+    this.#asked = requestAnimationFrame(() => this.#turn());
   }
 
   pause() {
@@ -134,9 +159,10 @@ export class Live {
     this.#heard.changed();
   }
 
-  /** Nanoseconds of an instruction. */
+  /** The processor whose speed it has: see SPEEDS. */
   set speed(name) {
-    this.#machine?.cpu.set_instruction_time(SPEEDS[name]);
+    this.#speed = name;
+    if (this.state === "running") this.#machine.setSpeed(SPEEDS[name]);
   }
 
   #turn() {
@@ -152,7 +178,7 @@ export class Live {
     }
     if (this.reason) this.pause();
     else if (this.#machine.stopped !== "runs") this.#stopped();
-    else requestAnimationFrame(() => this.#turn());
+    else this.#askTurn();
   }
 
   /** Runs as long as the time that has passed, for at most a turn. */
@@ -163,7 +189,7 @@ export class Live {
     this.#lastTime = now;
     while (machine.cpu.now() < until && performance.now() < end && machine.stopped === "runs") {
       const frame = machine.cpu.frames();
-      machine.cpu.run_frame(until);
+      machine.runFrame(until);
       if (this.#isPassed()) this.#goPast();
       this.#keepSnapshot();
       if (frame < this.#stop.frame && machine.cpu.frames() >= this.#stop.frame) {
@@ -253,7 +279,8 @@ export class Live {
     const seconds = (machine.cpu.now() / SECOND).toFixed(1);
     const told = `${seconds} s · ${mips.toFixed(1)} million instructions and ${Math.round(rate)} frames a second`;
     const refused = machine.cpu.refusals();
-    const more = refused ? ` · ${grouped(refused)} cycles refused` : "";
+    const more = (refused ? ` · ${grouped(refused)} cycles refused` : "") +
+      (machine.isReplaying ? " · the saved keys come; a key of yours takes over" : "");
     return `${told}${more}${last ? ` · ${missingText(last)}` : ""}`;
   }
 
@@ -279,7 +306,8 @@ export class Live {
   }
 
   #mouse(event) {
-    if (this.state !== "running") return;
+    // A pointer that passes by does not end a run that was saved.
+    if (this.state !== "running" || (this.#machine.isReplaying && !event.buttons)) return;
     const box = this.#canvas.getBoundingClientRect();
     const at = (place, from, length, most) =>
       Math.max(0, Math.min(most, Math.floor((place - from) / length * (most + 1))));

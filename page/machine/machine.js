@@ -12,6 +12,7 @@ export const STOPPED = ["runs", "ended", "cycle", "watch", "place", "mode", "ref
 export const RECORD_BYTES = 16, MOST_RECORDS = 1 << 20;
 /** Nanoseconds of an instruction: of an 8088, a 286 and a 386 as they were sold, and of a fast 486. */
 export const SPEEDS = { 8088: 3000, 286: 700, 386: 160, fastest: 60 };
+export const USUAL_SPEED = "386";
 const WASM_PAGE = 65536, ROOM_BYTES = 64, MOST_BLOCK = 0x20000, TABLE_BYTES = 1024;
 const WITH_ALPHA = 1, BOOT = 1, PROGRAM = 0;
 const BIOS_DATA = 0x400, MOST_FRAMES = 4096;
@@ -38,6 +39,7 @@ export class Machine {
   #window = null;
   #listed = null;
   #inputs = [];
+  #disks = {};
   /** Whether frames are drawn as they end. */
   isShowing = true;
   /** The last frame that was drawn: its width and height, and how many there were. */
@@ -134,6 +136,8 @@ export class Machine {
     for (const { name, bytes } of software.files ?? []) this.#addFile(name, bytes);
     const disks = ["a", "b", "c"].map(name => software[name] ?? null);
     const places = disks.map((bytes, slot) => this.#insert(slot, bytes));
+    this.#disks = Object.fromEntries(["a", "b", "c"].map((name, slot) =>
+      [name, { place: places[slot], length: disks[slot]?.length }]).filter(([, { length }]) => length));
     cpu.set_rom(software.rom ? this.#stored(software.rom) : 0, software.rom?.length ?? 0);
     this.#writeText(cpu.arguments(), software.words ? ` ${software.words}` : "", 127);
     this.#inputs = [];
@@ -188,6 +192,15 @@ export class Machine {
     return found;
   }
 
+  /** The disks of which the software has written a sector: { name, bytes }. */
+  changedDisks() {
+    return Object.entries(this.#disks).flatMap(([name, { place, length }]) => {
+      const at = this.cpu.store_at(place), bytes = this.bytes.slice(at, at + length);
+      const given = this.software[name];
+      return bytes.every((byte, i) => byte === given[i]) ? [] : [{ name: `disk-${name}.img`, bytes }];
+    });
+  }
+
   // What comes from outside, and how it goes on.
 
   /** A byte of the keyboard with the BIOS' word for it; kept with its time. */
@@ -200,7 +213,14 @@ export class Machine {
     this.#take({ time: this.cpu.now(), does: "mouse", values: [x, y, buttons] });
   }
 
+  /** The time of an instruction from here on, in nanoseconds; kept with its time too. */
+  setSpeed(nanoseconds) {
+    this.#take({ time: this.cpu.now(), does: "set_instruction_time", values: [nanoseconds] });
+  }
+
+  /** What comes from outside is the last thing to come: what would have come again does not. */
   #take(input) {
+    this.#inputs.length = this.cpu.inputs();
     this.#inputs.push(input);
     this.#give(input);
   }
@@ -214,9 +234,25 @@ export class Machine {
     return this.#inputs;
   }
 
-  /** Takes inputs of a saved session, which come when their time has come. */
+  /** Takes the inputs of a saved run, which come when their time has come. */
   set inputs(inputs) {
-    this.#inputs = inputs;
+    this.#inputs = [...inputs];
+  }
+
+  /** Whether inputs are there that have not come yet. */
+  get isReplaying() {
+    return this.#inputs.length > this.cpu.inputs();
+  }
+
+  /** Runs to the end of a frame, or until a time has come. Inputs that are there come at their time. */
+  runFrame(until) {
+    const next = this.#inputs[this.cpu.inputs()];
+    if (!next || next.time > until) {
+      this.cpu.run_frame(until);
+      return;
+    }
+    if (this.cpu.now() < next.time) this.cpu.run_frame(next.time);
+    if (this.cpu.now() >= next.time && this.stopped === "runs") this.#give(next);
   }
 
   /** Runs until a time, in nanoseconds of the machine; whether it goes on. */

@@ -3,7 +3,9 @@
 import { Live } from "./live.js";
 import { Paused } from "./paused.js";
 import { ROWS, bytesOfKey } from "./pckeys.js";
-import { SPEEDS, compiledModules } from "./machine.js";
+import { SPEEDS, USUAL_SPEED, compiledModules } from "./machine.js";
+import { isSavedRun, savedRunOf, savedRunText } from "./savedrun.js";
+import { saveFile } from "../files/saving.js";
 import { byId, element, setText } from "../common/dom.js";
 import { bytesOfBase64, hex } from "../common/bytes.js";
 import { STOPS, stopOf } from "./stops.js";
@@ -15,7 +17,6 @@ const BEFORE = 12, AFTER = 24;
 const REGISTER_LINES = ["EAX EBX ECX EDX", "ESI EDI EBP ESP", "CS DS ES SS FS GS", "EIP FLAGS"];
 /** So many milliseconds after a step is shown, the processor's registers are. */
 const REGISTERS_SOON = 250;
-const USUAL_SPEED = "386";
 const TO_RESTART = [0x1d, 0x38, 0x53, 0xd3, 0xb8, 0x9d];
 
 const placeText = ({ segment, offset, text }) => `${hex(segment, 4)}:${hex(offset, 4)}  ${text}`;
@@ -55,6 +56,8 @@ export class MachineRoom {
       pausedback: () => this.#back(1),
       pausedfar: () => this.#back(10),
       pausedmode: () => this.#backToMode(),
+      pausedsave: () => this.#saveRun(),
+      pausedfiles: () => this.#saveWritten(),
       pausedstart: () => this.#toStart(),
       pausedscript: () => this.#openScript(),
       pausedclose: () => this.#close(),
@@ -128,6 +131,7 @@ export class MachineRoom {
 
   /** Takes a file if it is software; whether it is. */
   async open(bytes, name) {
+    if (isSavedRun(bytes)) return this.#openSaved(bytes);
     const found = softwareOf(bytes, name);
     if (!found) return false;
     if (found.rom) {
@@ -138,9 +142,38 @@ export class MachineRoom {
     await this.#prepare();
     this.#end();
     this.#takeStop();
-    this.#live.start({ ...found, rom: this.#rom }, name);
     this.#live.speed = byId("livespeed").value;
+    this.#live.start({ ...found, rom: this.#rom }, name);
     return true;
+  }
+
+  async #openSaved(bytes) {
+    const run = await savedRunOf(bytes);
+    await this.#prepare();
+    this.#end();
+    this.#takeStop();
+    this.#live.startSaved(run);
+    return true;
+  }
+
+  /** Saves the software and what came from outside, up to where it was paused. */
+  async #saveRun() {
+    const { machine, name } = this.#live;
+    this.#paused.seekEnd();
+    const inputs = machine.inputs.slice(0, machine.cpu.inputs());
+    const text = await savedRunText(name, machine.software, inputs);
+    saveFile(`${name}.run.json`, text, "application/json");
+  }
+
+  /** Saves the files and disks that the software has written. */
+  #saveWritten() {
+    this.#paused.seekEnd();
+    const { machine } = this.#live, files = [...machine.changedFiles(), ...machine.changedDisks()];
+    if (!files.length) {
+      this.#heard.tell(`${this.#live.name} has written no file, and no sector of a disk.`);
+      return;
+    }
+    for (const { name, bytes } of files) saveFile(name, bytes, "application/octet-stream");
   }
 
   /** Runs one of the page's own programs. */

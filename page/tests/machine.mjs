@@ -3,11 +3,12 @@
 import assert from "node:assert/strict";
 import { createHash } from "node:crypto";
 import test from "node:test";
-import { Machine } from "../machine/machine.js";
+import { Machine, SPEEDS } from "../machine/machine.js";
 import { Recording, judgedRecording } from "../machine/recording.js";
 import { Session, judgedText } from "../run/session.js";
 import { bytesOfKey } from "../machine/pckeys.js";
 import { rebuilding, statesOf } from "../machine/rebuilding.js";
+import { isSavedRun, savedRunOf, savedRunText } from "../machine/savedrun.js";
 import { stopOf } from "../machine/stops.js";
 import { softwareOf } from "../machine/software.js";
 import { FONTS, loadAdapter, machineParts, runWhole } from "./loading.mjs";
@@ -155,6 +156,51 @@ for (const { name, bytes } of programs) {
   });
 }
 
+test("a run that is saved runs as it ran, at each of its speeds", async () => {
+  const { bytes } = programs.find(({ name }) => name === "plasma.com");
+  const machine = started({ program: bytes }), begin = machine.snapshot(null);
+  machine.setSpeed(SPEEDS["386"]);
+  machine.run(HALF / 4);
+  // Shift, at which the program does not end.
+  machine.key(0x2a, 0);
+  machine.run(HALF / 2);
+  machine.setSpeed(SPEEDS[8088]);
+  machine.run(HALF);
+  const wanted = stateOf(machine);
+  machine.restore(begin);
+  machine.runAgain(HALF);
+  assert.equal(stateOf(machine), wanted);
+  const text = await savedRunText("plasma.com", machine.software, machine.inputs);
+  assert.ok(isSavedRun(Buffer.from(text)));
+  const { software, inputs, name } = await savedRunOf(Buffer.from(text)), other = started(software);
+  other.inputs = inputs;
+  while (other.cpu.now() < HALF && other.stopped === "runs") other.runFrame(HALF);
+  assert.equal(name, "plasma.com");
+  assert.equal(stateOf(other), wanted);
+  assert.ok(!other.isReplaying);
+});
+
+test("a run that is damaged is refused with a reason", async () => {
+  const good = JSON.parse(await savedRunText("a.com", { program: code("CD20") }, [
+    { time: 10, does: "key", values: [0x1e, 0x1e61] }]));
+  const refused = async (change, reason) => {
+    const text = JSON.stringify({ ...good, ...change });
+    await assert.rejects(() => savedRunOf(Buffer.from(text)), reason, text.slice(0, 200));
+  };
+  await savedRunOf(Buffer.from(JSON.stringify(good)));
+  await assert.rejects(() => savedRunOf(Buffer.from('{"is":"zaklimot run"')), /no JSON/);
+  await refused({ version: 2 }, /another version/);
+  await refused({ software: null }, /damaged/);
+  await refused({ software: {} }, /no software/);
+  await refused({ software: { program: "AAAA" } }, /software in this run is damaged/);
+  await refused({ inputs: {} }, /damaged/);
+  for (const input of [null, [], [-1, "key", 1, 2], [1, "key", 1], [1, "key", 1, 1.5], [1, "boot", 1, 2],
+    [1, "set_instruction_time", 0], [1, "toString"], [1, "mouse", 1, 2, 70000]]) {
+    await refused({ inputs: [input] }, /an input is damaged/);
+  }
+  await refused({ inputs: [[20, "key", 1, 1], [10, "key", 1, 1]] }, /an input is damaged/);
+});
+
 test("a window can begin where the machine does, and end at a stop", () => {
   const { bytes } = programs.find(({ name }) => name === "plasma.com");
   const machine = started({ program: bytes }), begin = machine.snapshot(null);
@@ -222,7 +268,11 @@ test("a boot sector writes its floppy", () => {
   machine.run(HALF);
   const sector = () => Buffer.from(machine.bytes.subarray(machine.cpu.store_at(512), machine.cpu.store_at(1024)));
   assert.equal(Buffer.compare(sector(), Buffer.from(image.subarray(0, 512))), 0);
+  const [{ name, bytes }] = machine.changedDisks();
+  assert.deepEqual([name, bytes.length], ["disk-a.img", image.length]);
+  assert.equal(Buffer.compare(bytes.subarray(512, 1024), image.subarray(0, 512)), 0);
   machine.restore(before);
+  assert.deepEqual(machine.changedDisks(), []);
   assert.ok(sector().every(byte => byte === 0));
 });
 

@@ -1,0 +1,81 @@
+// A run of a machine as a file: the software, and all that came from outside with its time. Since the
+// same inputs give the same cycles, that is the whole run.
+import { SPEEDS } from "./machine.js";
+import { Trouble } from "../common/trouble.js";
+import { bytesOfBase64, throughStream } from "../common/bytes.js";
+import { packed } from "../files/share.js";
+
+const MARK = "zaklimot run", VERSION = 1;
+const PARTS = { program: 0x90000, a: 2949120, b: 2949120, c: 1 << 26, rom: 0x10000 };
+const MOST_INPUTS = 1000000, MOST_TIME = 1e15, MOST_NAME = 200;
+/** What comes from outside, and whether its values are right. */
+const INPUTS = {
+  key: values => values.length === 2 && values.every(isWord),
+  mouse: values => values.length === 3 && values.every(isWord),
+  set_instruction_time: ([time, ...more]) => !more.length && Object.values(SPEEDS).includes(time),
+};
+
+function isWord(value) {
+  return Number.isInteger(value) && value >= 0 && value <= 0xffff;
+}
+
+/** Whether some bytes are a run that was saved. */
+export function isSavedRun(bytes) {
+  const front = `{"is":"${MARK}"`;
+  return bytes.length > front.length && [...front].every((letter, i) => bytes[i] === letter.charCodeAt(0));
+}
+
+/** The text of a run: its name, its software as Machine.boot takes it, and its inputs. */
+export async function savedRunText(name, software, inputs) {
+  const parts = {};
+  for (const part of Object.keys(PARTS)) if (software[part]) parts[part] = await packed(software[part]);
+  const listed = inputs.map(({ time, does, values }) => [time, does, ...values]);
+  return JSON.stringify({ is: MARK, version: VERSION, name, software: parts, inputs: listed });
+}
+
+function inputOf(given, before) {
+  const [time, does, ...values] = Array.isArray(given) ? given : [];
+  const isTime = Number.isFinite(time) && time >= before && time <= MOST_TIME;
+  if (!isTime || !Object.hasOwn(INPUTS, does) || !INPUTS[does](values)) {
+    throw new Trouble("In this run an input is damaged.");
+  }
+  return { time, does, values };
+}
+
+function parsed(bytes) {
+  try {
+    return JSON.parse(new TextDecoder().decode(bytes));
+  } catch {
+    throw new Trouble("This run is damaged: it is no JSON.");
+  }
+}
+
+async function partOf(text, most) {
+  try {
+    return await throughStream(bytesOfBase64(text), new DecompressionStream("deflate-raw"), most);
+  } catch {
+    throw new Trouble("The software in this run is damaged.");
+  }
+}
+
+/** The run of a file: { name, software, inputs }; a Trouble where it is damaged. */
+export async function savedRunOf(bytes) {
+  const { version, name, software, inputs } = parsed(bytes);
+  if (version !== VERSION) throw new Trouble("This run is of another version of Zaklimot.");
+  if (!Array.isArray(inputs) || inputs.length > MOST_INPUTS || typeof name !== "string" ||
+    typeof software !== "object" || !software) throw new Trouble("This run is damaged.");
+  const parts = {};
+  for (const [part, most] of Object.entries(PARTS)) {
+    if (typeof software[part] === "string") parts[part] = await partOf(software[part], most);
+  }
+  if (!["program", "a", "b", "c"].some(part => parts[part]?.length)) {
+    throw new Trouble("This run has no software.");
+  }
+  let before = 0;
+  const found = inputs.map(given => {
+    const input = inputOf(given, before);
+    before = input.time;
+    return input;
+  });
+  return { name: name.slice(0, MOST_NAME), software: parts, inputs: found };
+}
