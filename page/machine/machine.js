@@ -7,14 +7,17 @@ import { Snapshot } from "./snapshot.js";
 import { Trouble } from "../common/trouble.js";
 
 /** What the processor's module tells of why it stopped, by the number that it answers. */
-export const STOPPED = ["runs", "ended", "cycle", "watch", "place", "mode", "refusal", "restarted"];
+export const STOPPED = ["runs", "ended", "cycle", "watch", "place", "mode", "refusal", "restarted",
+  "halted"];
 /** The bytes of a record, and how many records there is room for: of more the last are kept. */
 export const RECORD_BYTES = 16, MOST_RECORDS = 1 << 20;
 /** Nanoseconds of an instruction: of an 8088, a 286 and a 386 as they were sold, and of a fast 486. */
 export const SPEEDS = { 8088: 3000, 286: 700, 386: 160, fastest: 60 };
 const WASM_PAGE = 65536, ROOM_BYTES = 64, MOST_BLOCK = 0x20000, TABLE_BYTES = 1024;
 const WITH_ALPHA = 1, BOOT = 1, PROGRAM = 0;
-const BIOS_DATA = 0x400, MOST_FRAMES = 4096;
+const BIOS_DATA = 0x400, MOST_FRAMES = 4096, MOST_MISSING = 64;
+/** Memory that isn't plain: the windows of the display, and the BIOS. */
+const LOW_END = 0xa0000, HIGH_BEGIN = 0x100000;
 const decoder = new TextDecoder("latin1");
 
 /** The modules, compiled from their bytes. */
@@ -31,13 +34,14 @@ export class Machine {
   #window = null;
   #listed = null;
   #inputs = [];
+  #isRecording = false;
   /** Whether frames are drawn as they end. */
   isShowing = true;
   /** The last frame that was drawn: its width and height, and how many there were. */
   width = 0;
   height = 0;
   shown = 0;
-  /** What the software asked for that is missing: { number, value }. */
+  /** The last things that the software asked for and that are missing: { number, value }. */
   missing = [];
   /** How many cycles of the display there were at the end of each of the last frames, by its number. */
   #frameCycles = new Map();
@@ -233,6 +237,7 @@ export class Machine {
   }
 
   #missing(number, value) {
+    if (this.missing.length === MOST_MISSING) this.missing.shift();
     this.missing.push({ number, value });
     this.#heard.missing?.(number, value);
   }
@@ -320,7 +325,7 @@ export class Machine {
     this.adapterBytes.set(block, this.block);
     const status = calls.zak_int10(this.card, room, this.block, block.length, this.table, 768,
       room + 16);
-    this.blocks.push(block);
+    if (this.#isRecording) this.blocks.push(block);
     if (status) {
       this.#missing(0x10, given[0]);
       return;
@@ -332,7 +337,10 @@ export class Machine {
     this.#writeBiosData();
   }
 
-  #write(place, bytes) {
+  #write(place, given) {
+    const isPlain = place < LOW_END || place >= HIGH_BEGIN;
+    const bytes = place < LOW_END ? given.subarray(0, LOW_END - place) : given;
+    if (!isPlain) return;
     const marks = this.cpu.ram_marks();
     this.ram.set(bytes, place);
     this.bytes.fill(1, marks + (place >> 12), marks + (place + bytes.length - 1 >> 12) + 1);
@@ -384,6 +392,7 @@ export class Machine {
 
   /** Records from here on, or no longer. */
   record(isOn) {
+    this.#isRecording = isOn;
     this.blocks = [];
     this.instructions = new Map();
     this.cpu.set_recording(isOn ? 2 : 0, this.recordsAt);
