@@ -1,6 +1,6 @@
 // Hostile software for the machine: programs that random numbers make, the same ones for the same seed.
 
-const PROGRAM_SIZE = 496, BOOT_SIZE = 510, SECTOR = 512, NEAR_HERE = 4;
+const PROGRAM_SIZE = 496, LARGEST_PIECE = 160, BOOT_SIZE = 510, SECTOR = 512, NEAR_HERE = 4;
 /** Ports that have something behind them; interrupts that are served. */
 const PORTS = [0x20, 0x21, 0x40, 0x41, 0x42, 0x43, 0x60, 0x61, 0x64, 0x70, 0x71, 0x92, 0xa0, 0xa1,
   0xf1, 0xf2, 0xf3, 0x201, 0x3ba, 0x3c0, 0x3c2, 0x3c4, 0x3c5, 0x3c8, 0x3c9, 0x3ce, 0x3cf, 0x3d4,
@@ -11,8 +11,8 @@ const SEGMENTS = [0x0000, 0x0040, 0x0050, 0x1000, 0x8fff, 0xa000, 0xb800, 0xc000
 const FUNCTIONS = [0x00, 0x02, 0x03, 0x06, 0x08, 0x09, 0x0a, 0x0c, 0x10, 0x11, 0x12, 0x13, 0x1a,
   0x1b, 0x25, 0x3c, 0x3d, 0x3f, 0x40, 0x42, 0x43, 0x48, 0x49, 0x4a, 0x4e, 0x4f, 0x56, 0x86, 0x87];
 const STRINGS = [0xa4, 0xa5, 0xa6, 0xa7, 0xaa, 0xab, 0xac, 0xad, 0xae, 0xaf, 0x6c, 0x6d, 0x6e, 0x6f];
-/** The vector of an interrupt, and the mark of an .EXE. */
-const word = value => [value & 255, value >> 8 & 255];
+/** The two bytes of a word. */
+export const word = value => [value & 255, value >> 8 & 255];
 
 /** Random numbers: those of a seed are always the same. */
 export class Random {
@@ -133,10 +133,10 @@ const KINDS = {
   mixed: PIECES,
 };
 
-/** The code of a program: pieces until it is full, then a jump back to its begin. */
+/** The code of a program: pieces until it is full, then a jump back to its start. */
 function codeOf(random, pieces, size) {
   const code = [0x8c, 0xc8, 0x8e, 0xd8];
-  while (code.length < size - 60) code.push(...random.of(pieces)(random));
+  while (code.length < size - LARGEST_PIECE) code.push(...random.of(pieces)(random));
   const back = -(code.length + 3);
   return Uint8Array.from([...code.slice(0, size - 3), 0xe9, ...word(back)]);
 }
