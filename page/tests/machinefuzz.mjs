@@ -170,7 +170,7 @@ test("a program that fills all memory", async () => {
   for (const value of ["00", "90", "CC", "F4", "FF", "CD"]) {
     // xor ax, ax; l: mov es, ax; xor di, di; mov cx, 8000; push ax; mov ax, value; rep stosw; pop ax;
     // add ax, 1000; jmp l
-    await runCode(`31C08EC031FFB9008050B8${value}${value}F3AB58050010EBEE`, { nanoseconds: 4e7 });
+    await runCode(`31C08EC031FFB9008050B8${value}${value}F3AB58050010EBED`, { nanoseconds: 4e7 });
   }
 });
 
@@ -203,9 +203,8 @@ function everyRegister(value) {
     // The attribute controller: in al, 3DA; its index and its value at 3C0.
     made.push(0xba, ...word(0x3da), 0xec, 0xba, ...word(0x3c0), 0xb0, index, 0xee, 0xb0, value, 0xee, 0x42, 0xec);
     made.push(0xba, ...word(0x3b0 + index % 48), 0xb0, value ^ index, 0xee, 0xef, 0xec, 0xed);
-    // A byte of memory, at A000:index and B800:index.
-    made.push(...["A0", "B8"].flatMap(segment => [...code(`B800${segment}8EC026860600${segment}26FF0700`
-      .slice(0, 16))]), 0x90);
+    // A byte of memory at A000:index and B800:index: mov ax, segment; mov es, ax; xchg es:[index], al.
+    for (const segment of [0xa0, 0xb8]) made.push(0xb8, 0, segment, 0x8e, 0xc0, 0x26, 0x86, 0x06, index, 0);
   }
   return Uint8Array.from([...made, 0xfb, 0xf4, 0xeb, 0xfd]);
 }
@@ -257,7 +256,7 @@ test("calls of DOS and of the BIOS that went on without end", async t => {
 
 test("what takes long ends a slice soon", async () => {
   // l: mov ax, 027F; mov cx, 1; mov dx, 80; mov bx, 8000; mov es, bx; xor bx, bx; int 13; jmp l
-  const disk = image(MIB, code("B87F02B90100BA8000BB00808EC331DBCD13EBED"));
+  const disk = image(MIB, code("B87F02B90100BA8000BB00808EC331DBCD13EBEC"));
   // An interrupt lasts 127 sectors of two milliseconds.
   assert.ok((await runOne({ c: disk })).now < 300 * MILLISECOND);
   // l: mov ah, 87; mov cx, 8000; xor si, si; int 15; jmp l. A call moves 32,768 words in 6.5 milliseconds.
