@@ -1,4 +1,4 @@
-// Runs software on machines in a thread of its own, which the test ends where a slice does not return.
+// Runs software on machines in a thread of its own, which the test ends where a slice hangs.
 import { parentPort, workerData } from "node:worker_threads";
 import { Machine } from "../machine/machine.js";
 import { hostileProgram } from "./hostile.mjs";
@@ -47,8 +47,8 @@ function runWhole(one, software, nanoseconds, inMiddle = () => {}) {
 const endOf = one => one.stopped === "runs" && one.cpu.is_idle() ? "waits" : one.stopped;
 
 /**
- * Runs the program of a seed. Some run once more on another machine (`again`), and some from a snapshot of
- * their middle (`back`): each tells what differs then.
+ * Runs the program of a seed. Some run once more on another machine (`again`), and some from a
+ * snapshot of their middle (`back`): each tells what differs then.
  */
 function runSeed(seed) {
   const { kind, software } = hostileProgram(seed);
@@ -86,7 +86,8 @@ function runSeeds({ from, to }) {
 }
 
 /** Runs one software, and tells of its end. `isFresh` takes a new machine. */
-function runOne({ software, nanoseconds = BUDGET, isShowing = false, isFresh = false, look = [0, 0] }) {
+function runOne({ software, nanoseconds = BUDGET, isShowing = false, isFresh = false,
+  look = [0, 0] }) {
   const one = isFresh ? new Machine(modules, FONTS) : machine;
   one.isShowing = isShowing;
   runWhole(one, software, nanoseconds);

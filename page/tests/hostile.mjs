@@ -1,4 +1,4 @@
-// Hostile software for the machine: programs that random numbers make, the same ones for the same seed.
+// Hostile software for the machine: programs that random numbers make, the same for the same seed.
 
 const PROGRAM_SIZE = 496, LARGEST_PIECE = 160, BOOT_SIZE = 510, SECTOR = 512, NEAR_HERE = 4;
 /** Ports that have something behind them; interrupts that are served. */
@@ -10,7 +10,8 @@ const INTERRUPTS = [0x08, 0x09, 0x10, 0x10, 0x11, 0x12, 0x13, 0x13, 0x15, 0x16, 
 const SEGMENTS = [0x0000, 0x0040, 0x0050, 0x1000, 0x8fff, 0xa000, 0xb800, 0xc000, 0xf000, 0xffff];
 const FUNCTIONS = [0x00, 0x02, 0x03, 0x06, 0x08, 0x09, 0x0a, 0x0c, 0x10, 0x11, 0x12, 0x13, 0x1a,
   0x1b, 0x25, 0x3c, 0x3d, 0x3f, 0x40, 0x42, 0x43, 0x48, 0x49, 0x4a, 0x4e, 0x4f, 0x56, 0x86, 0x87];
-const STRINGS = [0xa4, 0xa5, 0xa6, 0xa7, 0xaa, 0xab, 0xac, 0xad, 0xae, 0xaf, 0x6c, 0x6d, 0x6e, 0x6f];
+const STRINGS = [0xa4, 0xa5, 0xa6, 0xa7, 0xaa, 0xab, 0xac, 0xad, 0xae, 0xaf, 0x6c, 0x6d, 0x6e,
+  0x6f];
 /** The two bytes of a word. */
 export const word = value => [value & 255, value >> 8 & 255];
 
@@ -50,7 +51,7 @@ export class Random {
 
 // Pieces of programs: each answers the bytes of a few instructions.
 
-/** mov of a random word to AX, BX, CX, DX, BP, SI and DI; the function in AH is often one there is. */
+/** mov of random words to AX, BX, CX, DX, BP, SI and DI; the function in AH is often one there is. */
 function registers(random) {
   const code = [0, 3, 1, 2, 5, 6, 7].flatMap(number => [0xb8 + number, ...random.word()]);
   if (random.below(4)) code[2] = random.of(FUNCTIONS);
@@ -60,7 +61,8 @@ function registers(random) {
 /** mov ax, segment; mov ds, es or ss, ax. */
 function segment(random) {
   const places = random.below(6) ? [0xd8, 0xc0] : [0xd0];
-  return [0xb8, ...word(random.below(3) ? random.of(SEGMENTS) : random.next()), 0x8e, random.of(places)];
+  const found = random.below(3) ? random.of(SEGMENTS) : random.next();
+  return [0xb8, ...word(found), 0x8e, random.of(places)];
 }
 
 function port(random) {
@@ -76,7 +78,8 @@ function interrupt(random) {
 
 /** A far jump, a far call, a return or a return from an interrupt to anywhere. */
 function farJump(random) {
-  const to = [...word(random.next()), ...word(random.below(2) ? random.of(SEGMENTS) : random.next())];
+  const found = random.below(2) ? random.of(SEGMENTS) : random.next();
+  const to = [...word(random.next()), ...word(found)];
   const pushed = [0x68, to[2], to[3], 0x68, to[0], to[1]];
   return random.of([[0xea, ...to], [0x9a, ...to], [...pushed, 0xcb], [0x9c, ...pushed, 0xcf],
     [0xff, 0x2e, ...random.word()]]);
@@ -90,17 +93,18 @@ function lowStore(random) {
 }
 
 function halt(random) {
-  return random.of([[0xfb], [0xfa], [0xf4], [0xfb, 0xf4], [0xfa, 0xf4], [0x9d], [0x9c], [0xcc], [0xce],
-    [0xb0, random.below(256), 0xe6, 0x21], [0xb0, random.of([0x34, 0x30, 0x36, 0x14]), 0xe6, 0x43,
+  return random.of([[0xfb], [0xfa], [0xf4], [0xfb, 0xf4], [0xfa, 0xf4], [0x9d], [0x9c], [0xcc],
+    [0xce], [0xb0, random.below(256), 0xe6, 0x21], [0xb0, random.of([0x34, 0x30, 0x36, 0x14]), 0xe6, 0x43,
       0xb0, random.below(256), 0xe6, 0x40, 0xb0, random.below(4), 0xe6, 0x40]]);
 }
 
 /** Where tables of descriptors are read from, and the switch to protected mode. */
 function protectedMode(random) {
   const table = random.below(0x7000), code = [0x31, 0xc0, 0x8e, 0xd8];
-  for (let at = 0; at < 32; at += 2) code.push(0xc7, 0x06, ...word(table + 8 + at), ...random.word());
+  for (let at = 8; at < 40; at += 2) code.push(0xc7, 0x06, ...word(table + at), ...random.word());
   // An access byte of a segment that is present, now and then.
-  if (random.below(4)) code.push(0xc6, 0x06, ...word(table + 13), random.of([0x9a, 0x92, 0x89, 0x8e]));
+  const access = random.of([0x9a, 0x92, 0x89, 0x8e]);
+  if (random.below(4)) code.push(0xc6, 0x06, ...word(table + 13), access);
   code.push(0xc7, 0x06, ...word(table), ...word(random.below(0x40)), 0xc7, 0x06, ...word(table + 2),
     ...word(table));
   code.push(0x0f, 0x01, random.of([0x16, 0x16, 0x1e]), ...word(table));
@@ -120,16 +124,19 @@ function repeated(random) {
 
 /** A store into the code that comes next: call 0; pop bx; mov byte [bx + n], value. */
 function selfStore(random) {
-  return [0xe8, 0x00, 0x00, 0x5b, 0x2e, 0xc6, 0x47, NEAR_HERE + random.below(60), random.below(256)];
+  const place = NEAR_HERE + random.below(60);
+  return [0xe8, 0x00, 0x00, 0x5b, 0x2e, 0xc6, 0x47, place, random.below(256)];
 }
 
 const noise = random => random.bytes(1 + random.below(12));
-const PIECES = [port, interrupt, farJump, lowStore, halt, protectedMode, repeated, selfStore, noise];
+const PIECES = [port, interrupt, farJump, lowStore, halt, protectedMode, repeated, selfStore,
+  noise];
 /** What kinds of programs there are: the pieces of each. */
 const KINDS = {
   bytes: [noise], ports: [port], interrupts: [interrupt], jumps: [registers, farJump],
   lows: [lowStore, lowStore, interrupt, halt], halts: [halt, halt, port],
-  descriptors: [protectedMode, noise, repeated], strings: [repeated], changes: [selfStore, registers],
+  descriptors: [protectedMode, noise, repeated], strings: [repeated],
+  changes: [selfStore, registers],
   mixed: PIECES,
 };
 
@@ -146,7 +153,8 @@ export function hostileProgram(seed) {
   const random = new Random(seed), kind = random.of(Object.keys(KINDS));
   const code = codeOf(random, KINDS[kind], PROGRAM_SIZE);
   if (random.below(2)) {
-    return { kind, software: { program: code, files: [{ name: "a.txt", bytes: new Uint8Array(700) }] } };
+    const files = [{ name: "a.txt", bytes: new Uint8Array(700) }];
+    return { kind, software: { program: code, files } };
   }
   const image = new Uint8Array(SECTOR * (1 + random.below(40)));
   image.set(code.subarray(0, BOOT_SIZE));
