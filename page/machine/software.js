@@ -30,9 +30,9 @@ export function softwareOf(bytes, name) {
     checkSize(bytes, MOST_ROM, name, "a ROM");
     return { rom: bytes };
   }
-  const hasHead = startsWith(bytes, 0x4d, 0x5a);
+  const hasHead = startsWith(bytes, 0x4d, 0x5a), hasOldHead = startsWith(bytes, 0x5a, 0x4d);
   if (hasHead || (PROGRAM_NAME.test(name) && bytes.length)) {
-    if (hasHead) checkSize(bytes, MOST_PROGRAM, name, "a program");
+    if (hasHead || hasOldHead) checkSize(bytes, MOST_PROGRAM, name, "a program");
     else checkSize(bytes, MOST_COM, name, "a program without a head");
     return { program: bytes };
   }

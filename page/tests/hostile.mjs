@@ -51,7 +51,7 @@ export class Random {
 
 // Pieces of programs: each answers the bytes of a few instructions.
 
-/** mov of random words to AX, BX, CX, DX, BP, SI and DI; the function in AH is often one there is. */
+/** mov of random words to seven registers; the function in AH is often one that there is. */
 function registers(random) {
   const code = [0, 3, 1, 2, 5, 6, 7].flatMap(number => [0xb8 + number, ...random.word()]);
   if (random.below(4)) code[2] = random.of(FUNCTIONS);
@@ -94,8 +94,9 @@ function lowStore(random) {
 
 function halt(random) {
   return random.of([[0xfb], [0xfa], [0xf4], [0xfb, 0xf4], [0xfa, 0xf4], [0x9d], [0x9c], [0xcc],
-    [0xce], [0xb0, random.below(256), 0xe6, 0x21], [0xb0, random.of([0x34, 0x30, 0x36, 0x14]), 0xe6, 0x43,
-      0xb0, random.below(256), 0xe6, 0x40, 0xb0, random.below(4), 0xe6, 0x40]]);
+    [0xce], [0xb0, random.below(256), 0xe6, 0x21],
+    [0xb0, random.of([0x34, 0x30, 0x36, 0x14]), 0xe6, 0x43, 0xb0, random.below(256),
+      0xe6, 0x40, 0xb0, random.below(4), 0xe6, 0x40]]);
 }
 
 /** Where tables of descriptors are read from, and the switch to protected mode. */

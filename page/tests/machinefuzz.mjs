@@ -209,8 +209,8 @@ function everyRegister(value) {
       made.push(0xba, ...word(port), 0xb8, index, value, 0xef, 0xec, 0x42, 0xec);
     }
     // The attribute controller: in al, 3DA; its index and its value at 3C0.
-    made.push(0xba, ...word(0x3da), 0xec, 0xba, ...word(0x3c0), 0xb0, index, 0xee, 0xb0, value, 0xee,
-      0x42, 0xec);
+    made.push(0xba, ...word(0x3da), 0xec, 0xba, ...word(0x3c0), 0xb0, index, 0xee, 0xb0, value,
+      0xee, 0x42, 0xec);
     made.push(0xba, ...word(0x3b0 + index % 48), 0xb0, value ^ index, 0xee, 0xef, 0xec, 0xed);
     // Bytes of memory at A000 and B800: mov ax, segment; mov es, ax; xchg es:[index], al.
     made.push(...[0xa0, 0xb8].flatMap(segment =>
@@ -296,8 +296,9 @@ test("software sees nothing of what ran before it", async () => {
   // mov al, 32; out 70, al; mov ah, 1A; mov dx, 1234; int 21; mov ax, 7; mov cx, 5; mov dx, 9;
   // int 33; sti; h: hlt; jmp h
   await runCode("B032E670B41ABA3412CD21B80700B90500BA0900CD33FBF4EBFD");
-  // in al, 71; push ax; mov ah, 2F; int 21; push es; push bx; mov ah, 62; int 21; push bx; mov ah, 48;
-  // mov bx, 10; int 21; push ax; push bx; mov ah, 4F; int 21; push ax; mov ax, 5; int 33; hlt
+  // in al, 71; push ax; mov ah, 2F; int 21; push es; push bx; mov ah, 62; int 21; push bx;
+  // mov ah, 48; mov bx, 10; int 21; push ax; push bx; mov ah, 4F; int 21; push ax; mov ax, 5;
+  // int 33; sti; h: hlt; jmp h
   const start = code("E47150B42FCD210653B462CD2153B448BB1000CD215053B44FCD2150B80500CD33FBF4EBFD");
   const software = { a: image(SECTOR, start) };
   const found = [];
