@@ -32,9 +32,11 @@ u64 now(void)
     return processor.x86.R_TSC * instruction_time + passed;
 }
 
+/* What takes so long ends the processor's quantum: instructions behind it wait until what is due has come. */
 void pass(u64 nanoseconds)
 {
     passed += nanoseconds;
+    processor.max_instr = 1;
 }
 
 /* The instructions that fill so many nanoseconds, and a part of one. */

@@ -5,6 +5,7 @@ FROM("host", "tell") void host_tell(u32 number, u32 value); /* the software asks
 
 enum { BASE_KIB = 640, TICKS = BIOS_DATA + 0x6C, MIDNIGHT = 0x1800B0, NOON = MIDNIGHT / 2 };
 enum { EXTENDED_KIB = (RAM_BYTES >> 10) - 1024, MEMORY_MAP = 0x534D4150 };
+enum { MOST_WORDS = 0x8000, WORD_TIME = 200 }; /* of a block that is moved; nanoseconds a word */
 enum { STUB_BYTES = 4, TIMER_STUB = 0x600, KEYBOARD_STUB = 0x620, ROM_STUB = 0x640, DOS_STUB = 0x660,
        CONFIGURATION = 0x680, DATE = 0xFFF5, MODEL = 0xFFFE };
 
@@ -98,7 +99,9 @@ static void move_block(void)
         u32 one = table + 0x10 + 8 * i;
         bases[i] = read_word(one + 2) | read_byte(one + 4) << 16 | read_byte(one + 7) << 24;
     }
-    for (u32 i = 0; i < CX && i < 0x8000; i++) write_word(bases[1] + 2 * i, read_word(bases[0] + 2 * i));
+    u32 count = CX < MOST_WORDS ? CX : MOST_WORDS;
+    for (u32 i = 0; i < count; i++) write_word(bases[1] + 2 * i, read_word(bases[0] + 2 * i));
+    pass((u64)count * WORD_TIME);
     AH = 0;
     give_flag(CARRY, 0);
     give_flag(ZERO, 1);
@@ -117,7 +120,7 @@ static void system_service(void)
         BX = AX == 3 ? 3 : BX;
         AH = 0;
         return;
-    case 0x86: pass(((u64)CX << 16 | DX) * 1000); return;
+    case 0x86: has_waited(((u64)CX << 16 | DX) * 1000); return;
     case 0x87: move_block(); return;
     case 0x88: AX = EXTENDED_KIB; return;
     case 0xC0:

@@ -10,6 +10,11 @@ enum { TICKS_A_DAY = 0x1800B0, TICKS = BIOS_DATA + 0x6C, PASSED_MIDNIGHT = BIOS_
 #define NANOSECONDS 1000000000ull
 static u8 picked;
 
+void begin_cmos(void)
+{
+    picked = 0;
+}
+
 u32 ticks(void)
 {
     return read_word(TICKS) | read_word(TICKS + 2) << 16;

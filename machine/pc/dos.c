@@ -22,6 +22,7 @@ void begin_dos(void)
 {
     memset(&typing, 0, sizeof typing);
     scan_due = has_scan_due = line_length = is_in_line = is_ended_code = 0;
+    transfer_area = 0;
 }
 
 /* Where directory searches leave what they find. */
@@ -197,7 +198,7 @@ static int console_service(void)
     case 0x0B: AL = has_letter() ? 0xFF : 0; return 1;
     case 0x0C:
         has_scan_due = 0;
-        while (has_key()) take_key();
+        forget_keys();
         AH = AL;
         if (AL == 1 || (AL >= 6 && AL <= 8) || AL == 10) console_service();
         return 1;

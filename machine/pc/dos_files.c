@@ -4,6 +4,7 @@
 #include "machine.h"
 
 enum { MOST_FILES = 512, MOST_NAME = 80, MOST_HANDLES = 20, FIRST_HANDLE = 5, NO_PLACE = -1 };
+enum { MOST_BYTES = 1 << 26, BYTE_TIME = 100 }; /* of a file; nanoseconds that a byte takes */
 enum errors { NO_SUCH_FILE = 2, NO_SUCH_PATH = 3, TOO_MANY = 4, DENIED = 5, NO_SUCH_HANDLE = 6, NO_DRIVE = 15,
               NO_MORE = 18, EXISTS = 80 };
 enum { READS = 0, ARCHIVE = 0x20, FOLDER = 0x10, FILE_DATE = 0x1CE1, DEVICE = 0x80D3, CURRENT_DRIVE = 2 };
@@ -21,6 +22,7 @@ struct handle {
 };
 static struct handle handles[MOST_HANDLES];
 static char folder[MOST_NAME]; /* the current one, with \ at its end; empty for the root */
+static char pattern[MOST_NAME]; /* what find_next looks for */
 
 u32 transfer_place(void);
 void type_bytes(u32 place, u32 count);
@@ -30,6 +32,7 @@ SHOWN("begin_files") void begin_files(void)
     memset(files, 0, sizeof files);
     file_count = 0;
     folder[0] = 0;
+    memset(pattern, 0, sizeof pattern);
     for (u32 i = 0; i < MOST_HANDLES; i++) handles[i] = (struct handle){NO_PLACE, 0};
 }
 
@@ -222,6 +225,7 @@ static void read_file(struct handle *one)
     const struct file *file = &files[one->file];
     u32 left = one->at < file->bytes ? file->bytes - one->at : 0, count = CX < left ? CX : left;
     write_bytes(place_of(DS, DX), store_at(file->place + one->at), count);
+    pass((u64)count * BYTE_TIME);
     one->at += count;
     AX = (u16)count;
 }
@@ -250,10 +254,11 @@ static void write_file(struct handle *one)
         if (one->at < file->bytes) file->bytes = one->at;
         return;
     }
-    if (!widen(file, end)) {
+    if (one->at > MOST_BYTES || !widen(file, end)) {
         AX = 0;
         return;
     }
+    pass((CX + (one->at > file->bytes ? one->at - file->bytes : 0ull)) * BYTE_TIME);
     for (u32 i = file->bytes; i < one->at; i++) store_write(file->place, i, 0);
     for (u32 i = 0; i < CX; i++) store_write(file->place, one->at + i, read_byte(from + i));
     one->at = end;
@@ -362,7 +367,6 @@ static const char *name_in(const struct file *file, const char *path, u32 length
 
 /* In the transfer area: the pattern as it was asked for, and how many files were looked at; then what was found. */
 enum search { PATTERN = 0, NEXT = 19, ATTRIBUTE = 21, TIME = 22, DATE = 24, BYTES = 26, NAME = 30 };
-static char pattern[MOST_NAME];
 
 static void find_next(void)
 {

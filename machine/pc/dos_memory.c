@@ -3,7 +3,7 @@
 
 enum { MORE = 'M', LAST = 'Z', OWNER = 1, SIZE = 3, PARAGRAPH = 16 };
 enum { NO_BLOCK = 9, NO_MEMORY = 8, DAMAGED = 7 };
-enum { ENVIRONMENT_PARAGRAPHS = 0xFF };
+enum { ENVIRONMENT_PARAGRAPHS = 0xFF, MOST_SIZE = 0xFFFF };
 static u32 first_block, program;
 
 static u32 kind_of(u32 block)
@@ -33,6 +33,11 @@ static int is_block(u32 block)
     return block < 0xA000 && (kind_of(block) == MORE || kind_of(block) == LAST);
 }
 
+void begin_memory(void)
+{
+    first_block = program = 0;
+}
+
 /* The environment's block, and the program's with all memory behind it. Answers the segment of the environment. */
 u32 first_memory(u32 segment, u32 paragraphs)
 {
@@ -48,8 +53,9 @@ static void join(u32 block)
 {
     while (kind_of(block) == MORE) {
         u32 next = block + 1 + size_of(block);
-        if (!is_block(next) || owner_of(next)) return;
-        lay_block(block, kind_of(next), owner_of(block), size_of(block) + 1 + size_of(next));
+        u32 size = size_of(block) + 1 + size_of(next);
+        if (!is_block(next) || owner_of(next) || size > MOST_SIZE) return;
+        lay_block(block, kind_of(next), owner_of(block), size);
     }
 }
 

@@ -114,6 +114,12 @@ u32 take_key(void)
     return word;
 }
 
+/* No key waits: a program may have moved the places so that taking one after the other comes to no end. */
+void forget_keys(void)
+{
+    write_word(TAKEN, read_word(PUT));
+}
+
 static void put_key(u32 word)
 {
     u32 place = read_word(PUT);

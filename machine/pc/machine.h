@@ -119,9 +119,11 @@ void keyboard_out(u32 port, u32 value);
 void keyboard_interrupt(void);
 int has_key(void);
 u32 take_key(void);
+void forget_keys(void);
 void keyboard_service(void);
 
 /* cmos.c */
+void begin_cmos(void);
 u32 cmos_in(u32 port);
 void cmos_out(u32 port, u32 value);
 void clock_service(void);
@@ -157,11 +159,13 @@ void dos_end(void);
 void dos_fail(u32 error);
 int file_service(void);
 int memory_service(void);
+void begin_memory(void);
 u32 first_memory(u32 segment, u32 paragraphs);
 
 /* run.c */
-enum stopped { RUNS, ENDED, AT_CYCLE, AT_WATCH, AT_PLACE, AT_MODE, AT_REFUSAL, RESTARTED };
+enum stopped { RUNS, ENDED, AT_CYCLE, AT_WATCH, AT_PLACE, AT_MODE, AT_REFUSAL, RESTARTED, HALTED };
 void stop(enum stopped why);
+int has_waited(u64 nanoseconds);
 void note_input(void);
 void begin_machine(void);
 void tell_host(u32 number, u32 value);

@@ -16,6 +16,8 @@ void begin_mouse(void)
     buttons = 0;
     moved_x = moved_y = 0;
     memset(pressed, 0, sizeof pressed);
+    memset(pressed_x, 0, sizeof pressed_x);
+    memset(pressed_y, 0, sizeof pressed_y);
 }
 
 static u16 within(const struct axis *one, u32 place)

@@ -14,6 +14,7 @@ static u8 is_waiting, is_halted;
  * run with stops does what a run without them does. */
 static u8 is_amid;
 static u64 work_end;
+static u64 wake_time; /* when a wait for time ends; 0 where a key is waited for */
 
 /* What the host wants to know of the machine. */
 SHOWN("is_amid") u32 was_stopped_amid(void)
@@ -83,9 +84,20 @@ SHOWN("ram_marks") u32 place_of_ram_marks(void)
 /* Ends the processor's run behind the instruction under way. RUNS waits without an end. */
 void stop(enum stopped why)
 {
-    if (why == RUNS) is_waiting = 1;
+    if (why == RUNS) is_waiting = 1, wake_time = 0;
     else if (stopped == RUNS) stopped = why;
     x86emu_stop(&processor);
+}
+
+/* Whether so many nanoseconds are over since this was asked first; until then the stub waits, and asks again. */
+int has_waited(u64 nanoseconds)
+{
+    u64 until = wake_time ? wake_time : now() + nanoseconds;
+    wake_time = 0;
+    if (now() >= until) return 1;
+    wait_here();
+    wake_time = until;
+    return 0;
 }
 
 SHOWN("go_on") void go_on(void)
@@ -225,7 +237,7 @@ static void start_program(void)
         load_moved(file);
         return;
     }
-    write_bytes(prefix + 0x100, file, program_bytes > 0xFE00 ? 0xFE00 : program_bytes);
+    write_bytes(prefix + 0x100, file, program_bytes > 0xFF00 ? 0xFF00 : program_bytes);
     load_segments(PROGRAM_SEGMENT, PROGRAM_SEGMENT, 0x100, 0xFFFE);
 }
 
@@ -254,11 +266,14 @@ void begin_machine(void)
     begin_keyboard();
     begin_mouse();
     begin_disks();
+    begin_cmos();
     begin_dos();
+    begin_memory();
     begin_store();
     clear_places();
     stopped = RUNS;
     is_waiting = is_halted = is_amid = 0;
+    wake_time = 0;
     inputs = 0;
 }
 
@@ -301,7 +316,7 @@ static void attend(void)
     while (now() >= next_tick_time()) tick();
     send_scan();
     if (deliver_interrupt()) is_halted = is_waiting = 0;
-    if (is_waiting && has_key()) is_waiting = 0;
+    if (is_waiting && (wake_time ? now() >= wake_time : has_key())) is_waiting = 0;
 }
 
 static u64 sooner(u64 one, u64 other)
@@ -323,8 +338,12 @@ static void work(u64 end)
         if (!is_amid) {
             attend();
             u64 until = sooner(work_end, next_tick_time()), time = now();
+            if (is_halted && !(processor.x86.R_FLG & INTERRUPT)) {
+                stop(HALTED);
+                continue;
+            }
             if (is_waiting || is_halted) {
-                skip_to(until);
+                skip_to(is_waiting && wake_time ? sooner(until, wake_time) : until);
                 continue;
             }
             processor.max_instr = processor.x86.R_TSC + (until > time ? instructions_in(until - time) : 1);

@@ -24,6 +24,11 @@ SHOWN("begin_store") void begin_store_at(u32 place)
     store_used = 0;
 }
 
+SHOWN("store_at") u8 *store_at(u32 place)
+{
+    return (u8 *)(store + place);
+}
+
 void begin_store(void)
 {
     memset(is_store_written, 1, sizeof is_store_written);
@@ -39,12 +44,8 @@ SHOWN("store_take") u32 store_take(u32 bytes)
     u64 size = (u64)__builtin_wasm_memory_size(0) << 16;
     if (end > size && __builtin_wasm_memory_grow(0, (u32)((end - size + 0xFFFF) >> 16)) == (size_t)-1) return ~0u;
     store_used += parts << PART_SHIFT;
+    memset(store_at(place), 0, (size_t)parts << PART_SHIFT);
     return place;
-}
-
-SHOWN("store_at") u8 *store_at(u32 place)
-{
-    return (u8 *)(store + place);
 }
 
 void store_write(u32 place, u32 offset, u32 value)

@@ -16,7 +16,8 @@ const PIXELS_A_LINE = 2304;
 /** What is said of each reason why the machine stopped. */
 const REASONS = { ended: "The program has ended.", watch: "The cycle that you asked for has come.",
   place: "The instruction that you asked for comes next.", mode: "A mode was set.",
-  refusal: "A cycle was refused.", restarted: "The software asked for a restart." };
+  refusal: "A cycle was refused.", restarted: "The software asked for a restart.",
+  halted: "The processor has halted with interrupts off, and nothing can wake it." };
 const NO_STOP = stopOf("nothing", "");
 const MISSING = { 0x00: "divides by zero", 0x06: "has an instruction that this processor lacks",
   0x0d: "reaches past the end of a segment", 0x10: "asks for a video function that is refused",

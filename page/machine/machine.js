@@ -7,7 +7,8 @@ import { Snapshot } from "./snapshot.js";
 import { Trouble } from "../common/trouble.js";
 
 /** What the processor's module tells of why it stopped, by the number that it answers. */
-export const STOPPED = ["runs", "ended", "cycle", "watch", "place", "mode", "refusal", "restarted"];
+export const STOPPED = ["runs", "ended", "cycle", "watch", "place", "mode", "refusal", "restarted",
+  "halted"];
 /** The bytes of a record, and how many records there is room for: of more the last are kept. */
 export const RECORD_BYTES = 16, MOST_RECORDS = 1 << 20;
 /** Nanoseconds of an instruction: of an 8088, a 286 and a 386 as they were sold, and of a fast 486. */
@@ -15,7 +16,9 @@ export const SPEEDS = { 8088: 3000, 286: 700, 386: 160, fastest: 60 };
 export const USUAL_SPEED = "386";
 const WASM_PAGE = 65536, ROOM_BYTES = 64, MOST_BLOCK = 0x20000, TABLE_BYTES = 1024;
 const WITH_ALPHA = 1, BOOT = 1, PROGRAM = 0;
-const BIOS_DATA = 0x400, MOST_FRAMES = 4096;
+const BIOS_DATA = 0x400, MOST_FRAMES = 4096, MOST_MISSING = 64;
+/** Memory that isn't plain: the windows of the display, and the BIOS. */
+const LOW_END = 0xa0000, HIGH_BEGIN = 0x100000;
 /** The registers of the processor, as machine/pc/run.c tells them. */
 const PROCESSOR = ["EAX", "ECX", "EDX", "EBX", "ESP", "EBP", "ESI", "EDI", "EIP", "FLAGS",
   "ES", "CS", "SS", "DS", "FS", "GS"];
@@ -40,13 +43,14 @@ export class Machine {
   #listed = null;
   #inputs = [];
   #disks = {};
+  #isRecording = false;
   /** Whether frames are drawn as they end. */
   isShowing = true;
   /** The last frame that was drawn: its width and height, and how many there were. */
   width = 0;
   height = 0;
   shown = 0;
-  /** What the software asked for that is missing: { number, value }. */
+  /** The last things that the software asked for and that are missing: { number, value }. */
   missing = [];
   /** When modes were set by interrupt 10: the cycles of the display and the nanoseconds until then. */
   modes = [];
@@ -303,6 +307,7 @@ export class Machine {
   }
 
   #missing(number, value) {
+    if (this.missing.length === MOST_MISSING) this.missing.shift();
     this.missing.push({ number, value });
     this.#heard.missing?.(number, value);
   }
@@ -406,7 +411,7 @@ export class Machine {
     this.adapterBytes.set(block, this.block);
     const status = calls.zak_int10(this.card, room, this.block, block.length, this.table, 768,
       room + 16);
-    this.blocks.push(block);
+    if (this.#isRecording) this.blocks.push(block);
     if (status) {
       this.#missing(0x10, given[0]);
       return;
@@ -425,7 +430,10 @@ export class Machine {
     if (set.cycles > (this.modes.at(-1)?.cycles ?? 0)) this.modes.push(set);
   }
 
-  #write(place, bytes) {
+  #write(place, given) {
+    const isPlain = place < LOW_END || place >= HIGH_BEGIN;
+    const bytes = place < LOW_END ? given.subarray(0, LOW_END - place) : given;
+    if (!isPlain) return;
     const marks = this.cpu.ram_marks();
     this.ram.set(bytes, place);
     this.bytes.fill(1, marks + (place >> 12), marks + (place + bytes.length - 1 >> 12) + 1);
@@ -477,6 +485,7 @@ export class Machine {
 
   /** Records from here on, or no longer. */
   record(isOn) {
+    this.#isRecording = isOn;
     this.blocks = [];
     this.instructions = new Map();
     this.cpu.set_recording(isOn ? 2 : 0, this.recordsAt);

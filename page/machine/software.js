@@ -3,7 +3,7 @@ import { Trouble } from "../common/trouble.js";
 import { grouped } from "../common/bytes.js";
 
 const SECTOR = 512, SIGNATURE_AT = 510, MOST_FLOPPY = 2949120, MOST_DISK = 1 << 26;
-const MOST_PROGRAM = 0x90000, MOST_ROM = 0x10000;
+const MOST_PROGRAM = 0x90000, MOST_COM = 0xff00, MOST_ROM = 0x10000;
 const FLOPPIES = [163840, 184320, 327680, 368640, 737280, 1228800, 1474560, 1720320, MOST_FLOPPY];
 const PROGRAM_NAME = /\.(com|exe)$/i, IMAGE_NAME = /\.(img|ima|dsk|flp|vfd|hdd)$/i;
 const startsWith = (bytes, ...front) => front.every((byte, i) => bytes[i] === byte);
@@ -30,8 +30,10 @@ export function softwareOf(bytes, name) {
     checkSize(bytes, MOST_ROM, name, "a ROM");
     return { rom: bytes };
   }
-  if (startsWith(bytes, 0x4d, 0x5a) || (PROGRAM_NAME.test(name) && bytes.length)) {
-    checkSize(bytes, MOST_PROGRAM, name, "a program");
+  const hasHead = startsWith(bytes, 0x4d, 0x5a), hasOldHead = startsWith(bytes, 0x5a, 0x4d);
+  if (hasHead || (PROGRAM_NAME.test(name) && bytes.length)) {
+    if (hasHead || hasOldHead) checkSize(bytes, MOST_PROGRAM, name, "a program");
+    else checkSize(bytes, MOST_COM, name, "a program without a head");
     return { program: bytes };
   }
   if (isBootable(bytes)) {
