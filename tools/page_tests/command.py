@@ -44,7 +44,8 @@ TESTS = PAGE.parent / "tests"
 # What is done with the page in a browser: its check of all examples, what the tutorial says, what
 # a person does with keys and pointer, how long keys take, and each of its controls.
 OPENING, TUTORIAL, BROWSER = (TESTS / f"{name}.mjs" for name in ("opening", "tutorial", "browser"))
-BY_HAND = [TESTS / f"{name}.mjs" for name in ("keeping", "writing", "typing", "panes", "sidebyside", "asking", "running")]
+USES = ("keeping", "writing", "typing", "panes", "sidebyside", "asking", "running")
+BY_HAND = [TESTS / f"{name}.mjs" for name in USES]
 CHROMIUM, FIREFOX, WEBKIT = "chromium", "firefox", "webkit"
 # The browsers: the packages of Debian that each needs, and a package's programs, of which one is
 # in the path.
