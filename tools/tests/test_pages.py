@@ -262,7 +262,8 @@ class Tutorial(unittest.TestCase):
         self.assertEqual({path.stem for path in SCRIPTS.iterdir()} & listed, set())
 
     def test_the_check_in_a_browser_does_what_it_says(self) -> None:
-        first, by_hand = ("opening", "tutorial"), ("keeping", "writing", "typing", "panes", "sidebyside", "asking")
+        first = ("opening", "tutorial")
+        by_hand = ("keeping", "writing", "typing", "panes", "sidebyside", "asking", "running")
         told = {engine: "; ".join(f"{name}.mjs {engine}" for name in names)
                 for engine, names in (("chromium", first + by_hand), ("firefox", first + by_hand), ("webkit", first))}
         told["chromium"] += "; browser.mjs"
