@@ -300,7 +300,14 @@ export class MachineRoom {
 
   #close() {
     this.#end();
+    this.leave();
+  }
+
+  /** Switches the machine off, since a script stands there now. */
+  leave() {
+    if (!this.isOn) return;
+    clearTimeout(this.#timer);
+    this.#paused = null;
     this.#live.close();
-    byId("machine").hidden = true;
   }
 }

@@ -129,6 +129,25 @@ await check(use => {
       assert.equal(await notice(), "");
     },
 
+    async "another script, which is chosen, switches the machine off"() {
+      const choose = name => use.value(`(() => {
+        const list = document.getElementById("examples");
+        list.value = "${name}";
+        list.dispatchEvent(new Event("change", { bubbles: true }));
+      })()`);
+      const isOff = "document.getElementById('machine').hidden && " +
+        "document.getElementById('pausedbar').hidden && !document.body.classList.contains('paused')";
+      await run("plasma");
+      await choose("copper-bars");
+      await use.until(isOff);
+      await use.until("/^384 steps/.test(document.getElementById('state').textContent)");
+      await run("hello");
+      await pause();
+      await choose("copper-bars");
+      await use.until("/^384 steps/.test(document.getElementById('state').textContent)");
+      await use.until(isOff);
+    },
+
     async "its frames become a script, and the machine is off"() {
       await run("hello");
       await pause();

@@ -109,7 +109,10 @@ export class View {
     this.pointPanel = new PointPanel({ changed: points => this.#pointsChanged(points) });
     this.desk = new Desk(this.editor, this.scripts, this.pointPanel, {
       changed: () => this.#forget(),
-      run: awaited => this.guarded(() => this.#run(awaited)),
+      run: awaited => this.guarded(() => {
+        this.room?.leave();
+        this.#run(awaited);
+      }),
       program: name => this.room.runProgram(name),
     });
     this.desk.listenTo(byId("examples"), this.guarded);
