@@ -1,5 +1,5 @@
-; Mode 12: a frame of boxes with a mistake in it. Some boxes have a column too few at their right side: pause, click a
-; dot that is missing, and ask who wrote it last.
+; Mode 12: four boxes with a mistake in them. Only the first line of a box is whole; the others have gaps. Pause,
+; click a dot below a first line, and ask for the step that changed it last.
 %include "video.inc"
 
 ROW     equ 80
@@ -23,22 +23,22 @@ next:   inc byte [colour]
 ; A box of 61 dots and 40 lines: seven whole bytes, and five dots of the eighth.
 box:    mov di, [place]
         mov bp, 40
-.row:   mov al, 8                       ; bit mask: all dots
+        mov al, 8                       ; bit mask: all dots. These lines belong behind .row.
         mov ah, 0FFh
         mov dx, GRAPHICS
         out dx, ax
-        mov cx, 7
+.row:   mov cx, 7
         rep stosb
-        mov al, 8                       ; bit mask: five dots. It should be F8.
-        mov ah, 0F0h
+        mov al, 8                       ; bit mask: five dots
+        mov ah, 0F8h
         out dx, ax
-        mov al, [es:di]
+        mov al, [es:di]                 ; loads the latches
         stosb
         add di, ROW - 8
         dec bp
         jnz .row
-        add word [place], 9
-        cmp word [place], ROW * 430
+        add word [place], 10            ; the box beside it, or the first one again
+        cmp word [place], 40
         jb .on
         mov word [place], 0
 .on:    ret

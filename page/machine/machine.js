@@ -469,9 +469,13 @@ export class Machine {
     this.instructions.set(placeKey(segment, place >>> 0), told);
   }
 
-  /** The text of an instruction that was recorded; where code changes itself, of the last one. */
-  instructionAt(segment, place) {
-    return this.instructions.get(placeKey(segment, place)) ?? "";
+  /**
+   * What tells the text of an instruction of this record, by segment and offset; where code changes
+   * itself, of the last one. It tells the same when something else is recorded.
+   */
+  get instructionTexts() {
+    const { instructions } = this;
+    return (segment, place) => instructions.get(placeKey(segment, place)) ?? "";
   }
 
   /** So many instructions from a place on, as memory is now: { segment, offset, text } each. */

@@ -25,14 +25,14 @@ export class Recording extends StepList {
 
   /**
    * `head` has the lines of steps that come first; `machine` has `records`, `blocks` (the blocks of
-   * calls, in order), `instructionAt(segment, offset)` and `cpu.dots_due()`.
+   * calls, in order), `instructionTexts` and `cpu.dots_due()`.
    */
   constructor(head, machine) {
     super();
     this.head = head;
     this.words = machine.records;
     this.blocks = machine.blocks;
-    this.instructionAt = (segment, offset) => machine.instructionAt(segment, offset);
+    this.instructionAt = machine.instructionTexts;
     this.blockOf = new Map();
     this.hasBlocks = false;
     for (const line of head) this.#addEntry(KIND[line.split(" ", 1)[0]], HEAD);

@@ -59,6 +59,13 @@ await check(use => {
     await browser.press("Enter");
   }
 
+  /** Clicks a button, and waits until another step is shown. */
+  async function clickOn(button) {
+    const before = JSON.stringify(await use.text("laststep"));
+    await browser.click(button);
+    await use.until(`document.getElementById("laststep").textContent !== ${before}`);
+  }
+
   const secondsPaused = async () =>
     Number((await use.text("pausedtime")).match(/paused at ([\d.]+) s/)[1]);
 
@@ -82,18 +89,19 @@ await check(use => {
 
     async "a step's registers, code and instruction; and on from there"() {
       await run("lines");
+      await use.until("parseFloat(document.getElementById('livestate').textContent) > 1.5");
       await pause();
       const end = await secondsPaused();
       await browser.click("#pausedback");
       await use.until(isPaused);
       assert.ok(await secondsPaused() < end, `${end}: ${await use.text("pausedtime")} ${await notice()}`);
-      await browser.click("#framebefore");
-      await browser.click("#back");
+      await clickOn("#framebefore");
+      await clickOn("#back");
       await use.until("document.getElementById('liveregisters').textContent.includes('EAX')");
       const shown = await use.text("liveregisters"), step = await use.text("laststep");
       // Another step and back again: the same registers.
-      for (const key of ["#next", "#next", "#back", "#back"]) await browser.click(key);
-      await use.until(`document.getElementById("laststep").textContent === ${JSON.stringify(step)}`);
+      for (const button of ["#next", "#next", "#back", "#back"]) await clickOn(button);
+      assert.equal(await use.text("laststep"), step);
       await use.until(`document.getElementById("liveregisters").textContent === ${JSON.stringify(shown)}`);
       await browser.click("#pausedstep");
       await use.until(isLive);
@@ -127,6 +135,22 @@ await check(use => {
       await browser.click("#pausedmode");
       await use.until(`${isPaused} && document.getElementById('laststep').textContent.includes('int ax=0013')`);
       assert.equal(await notice(), "");
+    },
+
+    async "the mistake in the tutorial's program is found"() {
+      await run("broken");
+      await pause();
+      const { left, top, width, height } = await use.placeOf("#picture");
+      await browser.clickAt(left + 10.5 / 640 * width, top + 20.5 / 480 * height);
+      await use.until("document.body.textContent.includes('the last step that changed it')");
+      await browser.press("C");
+      await use.until("/put A0641 F8/.test(document.getElementById('laststep').textContent)");
+      await use.until("document.getElementById('liveregisters').textContent.includes('EAX')");
+      const lines = await use.value("[...document.querySelectorAll('#code div')].map(line => line.textContent)");
+      assert.ok(lines.some(line => /repe stosb .*put A0641 F8/.test(line)), lines.join("\n"));
+      assert.ok(lines.some(line => /out dx,ax .*outw 3CE F808/.test(line)), lines.join("\n"));
+      await browser.press("7");
+      await use.until("/bit mask/i.test(document.getElementById('panel').textContent)");
     },
 
     async "another script, which is chosen, switches the machine off"() {
