@@ -9,7 +9,10 @@ import { saveFile } from "../files/saving.js";
 import { byId, element, setText } from "../common/dom.js";
 import { bytesOfBase64, hex } from "../common/bytes.js";
 import { STOPS, stopOf } from "./stops.js";
-import { softwareOf } from "./software.js";
+import { MOST_CHOICES, filesBeside, softwareIn, softwareOf } from "./software.js";
+import { ask } from "../compare/asking.js";
+import { filesOfZip, isZip } from "./zip.js";
+import { Trouble } from "../common/trouble.js";
 import { unzipped } from "../module/packed.js";
 
 /** How many instructions stand before the one that is shown, and after it. */
@@ -132,6 +135,7 @@ export class MachineRoom {
   /** Takes a file if it is software; whether it is. */
   async open(bytes, name) {
     if (isSavedRun(bytes)) return this.#openSaved(bytes);
+    if (isZip(bytes)) return this.#openFiles(await filesOfZip(bytes), name);
     const found = softwareOf(bytes, name);
     if (!found) return false;
     if (found.rom) {
@@ -139,12 +143,29 @@ export class MachineRoom {
       this.#heard.tell(`${name} serves the video calls of what you run next.`);
       return true;
     }
+    return this.#start(found, name);
+  }
+
+  async #start(software, name) {
     await this.#prepare();
     this.#end();
     this.#takeStop();
     this.#live.speed = byId("livespeed").value;
-    this.#live.start({ ...found, rom: this.#rom }, name);
+    this.#live.start({ ...software, rom: this.#rom }, name);
     return true;
+  }
+
+  /** Runs one of some files; a program of DOS has the others on its drive C. */
+  async #openFiles(files, name) {
+    const found = softwareIn(files), names = found.map(one => one.name);
+    if (!found.length) {
+      throw new Trouble(`In ${name} nothing runs: no program for DOS, and no disk that starts.`);
+    }
+    const chosen = found.length === 1 ? names[0] :
+      await ask(`What of ${name} is to run?`, names.slice(0, MOST_CHOICES).map(one => [one, one]));
+    if (!chosen) return true;
+    const { software } = found.find(one => one.name === chosen);
+    return this.#start({ ...software, files: filesBeside(files, chosen) }, chosen);
   }
 
   async #openSaved(bytes) {

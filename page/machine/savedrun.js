@@ -2,6 +2,7 @@
 // same inputs give the same cycles, that is the whole run.
 import { SPEEDS } from "./machine.js";
 import { Trouble } from "../common/trouble.js";
+import { MOST_FILES, MOST_UNPACKED } from "./zip.js";
 import { bytesOfBase64, throughStream } from "../common/bytes.js";
 import { packed } from "../files/share.js";
 
@@ -29,6 +30,9 @@ export function isSavedRun(bytes) {
 export async function savedRunText(name, software, inputs) {
   const parts = {};
   for (const part of Object.keys(PARTS)) if (software[part]) parts[part] = await packed(software[part]);
+  const files = [];
+  for (const file of software.files ?? []) files.push([file.name, await packed(file.bytes)]);
+  if (files.length) parts.files = files;
   const listed = inputs.map(({ time, does, values }) => [time, does, ...values]);
   return JSON.stringify({ is: MARK, version: VERSION, name, software: parts, inputs: listed });
 }
@@ -58,6 +62,20 @@ async function partOf(text, most) {
   }
 }
 
+async function filesOf(listed) {
+  if (!Array.isArray(listed) || listed.length > MOST_FILES) throw new Trouble("This run is damaged.");
+  const files = [];
+  let left = MOST_UNPACKED;
+  for (const given of listed) {
+    const [name, text] = Array.isArray(given) ? given : [];
+    if (typeof name !== "string" || typeof text !== "string") throw new Trouble("This run is damaged.");
+    const bytes = await partOf(text, left);
+    left -= bytes.length;
+    files.push({ name, bytes });
+  }
+  return files;
+}
+
 /** The run of a file: { name, software, inputs }; a Trouble where it is damaged. */
 export async function savedRunOf(bytes) {
   const { version, name, software, inputs } = parsed(bytes);
@@ -68,6 +86,7 @@ export async function savedRunOf(bytes) {
   for (const [part, most] of Object.entries(PARTS)) {
     if (typeof software[part] === "string") parts[part] = await partOf(software[part], most);
   }
+  if (software.files !== undefined) parts.files = await filesOf(software.files);
   if (!["program", "a", "b", "c"].some(part => parts[part]?.length)) {
     throw new Trouble("This run has no software.");
   }

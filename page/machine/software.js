@@ -46,3 +46,22 @@ export function softwareOf(bytes, name) {
   }
   return null;
 }
+
+/** The most files among which the page lets you choose. */
+export const MOST_CHOICES = 20;
+
+/** Those of some files that run: { name, software } each. */
+export function softwareIn(files) {
+  return files.flatMap(({ name, bytes }) => {
+    if (!PROGRAM_NAME.test(name) && !isBootable(bytes)) return [];
+    const software = softwareOf(bytes, name);
+    return software && !software.rom ? [{ name, software }] : [];
+  });
+}
+
+/** The files as a program finds them on drive C, in whose first folder it stands. */
+export function filesBeside(files, name) {
+  const folder = name.slice(0, name.lastIndexOf("/") + 1);
+  return files.map(file => (file.name.startsWith(folder) ?
+    { ...file, name: file.name.slice(folder.length) } : file));
+}

@@ -1,7 +1,11 @@
 // The machine that runs software: that a run can be done again from any snapshot, that a window is a
 // script which answers as the machine did, and that no software makes it hang.
 import assert from "node:assert/strict";
+import { execFileSync } from "node:child_process";
 import { createHash } from "node:crypto";
+import { mkdirSync, mkdtempSync, readFileSync, rmSync, writeFileSync } from "node:fs";
+import { tmpdir } from "node:os";
+import { dirname, join } from "node:path";
 import test from "node:test";
 import { Machine, SPEEDS } from "../machine/machine.js";
 import { Recording, judgedRecording } from "../machine/recording.js";
@@ -10,7 +14,9 @@ import { bytesOfKey } from "../machine/pckeys.js";
 import { rebuilding, statesOf } from "../machine/rebuilding.js";
 import { isSavedRun, savedRunOf, savedRunText } from "../machine/savedrun.js";
 import { stopOf } from "../machine/stops.js";
-import { softwareOf } from "../machine/software.js";
+import { filesBeside, softwareIn, softwareOf } from "../machine/software.js";
+import { Trouble } from "../common/trouble.js";
+import { filesOfZip, isZip } from "../machine/zip.js";
 import { FONTS, loadAdapter, machineParts, runWhole } from "./loading.mjs";
 
 const SECOND = 1e9, HALF = SECOND / 2;
@@ -178,6 +184,51 @@ test("a run that is saved runs as it ran, at each of its speeds", async () => {
   assert.equal(name, "plasma.com");
   assert.equal(stateOf(other), wanted);
   assert.ok(!other.isReplaying);
+});
+
+/** A ZIP as `zip` makes it, of files in a folder. */
+function zipped(files, ...words) {
+  const folder = mkdtempSync(join(tmpdir(), "zaklimot-zip-"));
+  try {
+    for (const [name, bytes] of Object.entries(files)) {
+      mkdirSync(join(folder, dirname(name)), { recursive: true });
+      writeFileSync(join(folder, name), bytes);
+    }
+    execFileSync("python3", ["-m", "zipfile", "-c", "made.zip", ...new Set(Object.keys(files).map(name => name.split("/")[0])),
+      ...words], { cwd: folder });
+    return new Uint8Array(readFileSync(join(folder, "made.zip")));
+  } finally {
+    rmSync(folder, { recursive: true });
+  }
+}
+
+test("a ZIP: what runs in it, and the files beside it", async () => {
+  const text = Buffer.from("hello ".repeat(1000));
+  // Opens IN.TXT, reads five bytes, and makes OUT.TXT of them.
+  const program = code("B8003DBA2F01CD2189C3B43FB90500BA4001CD21B43C31C9BA3701CD2189C3B440B90500BA4001CD21B8004CCD2190" +
+    "494E2E54585400" + "90" + "4F55542E54585400");
+  const zip = zipped({ "game/run.com": program, "game/in.txt": text, "game/deep/more.txt": "x" });
+  assert.ok(isZip(zip) && !isZip(text));
+  const files = await filesOfZip(zip);
+  assert.deepEqual(files.map(({ name, bytes }) => [name, bytes.length]).sort(),
+    [["game/deep/more.txt", 1], ["game/in.txt", 6000], ["game/run.com", program.length]]);
+  const [{ name, software }, ...others] = softwareIn(files);
+  assert.deepEqual([name, others.length], ["game/run.com", 0]);
+  const machine = started({ ...software, files: filesBeside(files, name) });
+  machine.run(HALF);
+  assert.deepEqual(machine.changedFiles().map(file => [file.name, Buffer.from(file.bytes).toString()]),
+    [["OUT.TXT", "hello"]]);
+  const saved = await savedRunOf(Buffer.from(await savedRunText(name, machine.software, machine.inputs)));
+  assert.deepEqual(saved.software.files.map(file => file.name).sort(), ["deep/more.txt", "in.txt", "run.com"]);
+  for (let length = 31; length < zip.length; length += 7) {
+    await assert.rejects(() => filesOfZip(zip.slice(0, length)), /is damaged/, `${length} bytes`);
+  }
+  for (let at = 0; at < zip.length; at++) {
+    const other = zip.slice();
+    other[at] ^= 0xff;
+    // It is read as it is, or refused with a reason.
+    await filesOfZip(other).catch(error => assert.ok(error instanceof Trouble, String(error)));
+  }
 });
 
 test("a run that is damaged is refused with a reason", async () => {

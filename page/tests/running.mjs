@@ -3,6 +3,7 @@
 // node page/tests/running.mjs [ENGINE [WORDS]]: ENGINE is chromium or firefox. With WORDS only the
 // checks are done whose names have them. ZAKLIMOT_PAGE names another page.
 import assert from "node:assert/strict";
+import { execFileSync } from "node:child_process";
 import { mkdtempSync, rmSync, writeFileSync } from "node:fs";
 import { tmpdir } from "node:os";
 import { join } from "node:path";
@@ -179,6 +180,21 @@ await check(use => {
       await use.until("document.getElementById('pausedbar').hidden");
       await use.until("/^[\\d,]+ steps/.test(document.getElementById('state').textContent)");
       await use.until("/All [\\d,]+ answers are those/.test(document.getElementById('compared').textContent)");
+    },
+
+    async "a ZIP asks which of its programs is to run"() {
+      await use.open();
+      // mov ax, 13h; int 10h; and again for ever
+      const program = code("B81300 CD10 EBFE"), names = ["one.com", "two.com"];
+      for (const name of names) writeFileSync(join(folder, name), program);
+      execFileSync("python3", ["-m", "zipfile", "-c", "both.zip", ...names], { cwd: folder });
+      await browser.choose("#file", join(folder, "both.zip"));
+      await use.until("document.querySelector('dialog.ask')?.textContent.includes('two.com')");
+      await browser.press("Tab");
+      await browser.press("Enter");
+      await use.until(isLive);
+      assert.equal(await use.text("livename"), "two.com");
+      await browser.click("#liveclose");
     },
 
     async "files: a boot sector, one that does not start, and a script in bytes"() {
