@@ -44,9 +44,15 @@ async function paste(number, count, told) {
   await atTheEnd(count, told);
 }
 
+/** Leaves the script. Where the pointer lies on a word, the first press closes its tip. */
+async function leaveScript() {
+  await press("Escape");
+  if (await browser.value("document.activeElement.id") === "text") await press("Escape");
+}
+
 async function atTheEnd(count, told) {
   await ready();
-  await press("Escape");
+  await leaveScript();
   await press("End");
   await stepIs(count, count);
   assert.ok((await text("state")).startsWith(told), await text("state"));
@@ -58,7 +64,7 @@ async function change(old, word) {
   await select(browser, at, at + old.length);
   await (word.includes("\n") ? browser.paste(word) : browser.type(word));
   await ready();
-  await press("Escape");
+  await leaveScript();
   await press("End");
 }
 
