@@ -69,6 +69,24 @@ impl Bda {
         }
     }
 
+    /// The same data once more.
+    pub fn copy(&self) -> Bda
+        ensures { result ≡ self.now }
+    {
+        Bda {
+            mode: self.mode,
+            columns: self.columns,
+            size: self.size,
+            start: self.start,
+            cursor_places: self.cursor_places,
+            cursor_type: self.cursor_type,
+            page: self.page,
+            crtc_address: self.crtc_address,
+            last_row: self.last_row,
+            height: self.height,
+        }
+    }
+
     /// The eight places of the cursor are words, whatever was written. The clause is for proofs:
     /// nothing runs.
     pub fn bounds(&self)

@@ -26,7 +26,7 @@ ghost use Rattle.bios_screen.specs.Whole.{FitsFrame, IsFrameTaken, IsWhole};
 ghost use Rattle.bios_screen.specs.Follows.{BeamIsAt, RowsJoin, Follows, EndsFrame};
 
 /// A service that sets no mode leaves the mode of a screen, and how it is cut.
-pub fn services_keep_the_cut()
+pub fn services_keep_the_layout()
     ensures mode { (fonts : FontSet) (s : Screen) (service : Service) (block : List ℕ) →
         (next fonts s service block).mode ≡ s.mode }
     ensures layout { (fonts : FontSet) (s : Screen) (service : Service) (block : List ℕ) →

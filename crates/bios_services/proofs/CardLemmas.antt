@@ -4,10 +4,11 @@ use Rattle.std.proofs.Common.{◌≡◌, ◌∙◌, ℕ, ap, refl}
 use Rattle.vga_card.specs.Bounds.{IsCard}
 use Rattle.vga_card.specs.Bus.{Place, AtPort, AtAddress, card_meaning, card_write, card_read}
 use Rattle.vga_card.specs.Card.{CardState}
-use Rattle.vga_card.specs.Cycles.{Written, Answered}
+use Rattle.vga_card.specs.Adapter.{adapter_of}
+use Rattle.vga_card.specs.Cycles.{Written, Answered, out_byte, inp_byte, put_byte, get_byte}
 use Rattle.vga_card.specs.FreshCanvas.{with_fresh_canvas, fresh_canvas_after}
 use Rattle.vga_card.proofs.BoundLemmas.{out_bounds, inp_bounds, put_bounds, get_bounds}
-use Rattle.vga_card.proofs.DrawnLemmas.{IsStill, still, still_after, out_still, inp_still, put_still, get_still}
+use Rattle.vga_card.proofs.DrawnLemmas.{IsStill, still, still_after, written_still, answered_still}
 use Rattle.vga_card.proofs.FreshCanvasLemmas.{cannot_be_told}
 use Rattle.bios_services.specs.Plan.{Plan, Done, Write, Read, byte_of, run}
 use Rattle.bios_services.proofs.PlanRuns.{run_keeps}
@@ -24,12 +25,12 @@ pub plan_bounds : {A : Type 0} (p : Plan A) (c : CardState) → IsCard c → IsC
 plan_bounds p c z = run_keeps card_meaning IsCard write_bounds read_bounds p c z
 
 write_still : (c : CardState) (place : Place) (v : ℕ) → IsStill c (card_write c place v).0
-write_still c (AtPort port) v = out_still c port v
-write_still c (AtAddress address) v = put_still c address v
+write_still c (AtPort port) v = written_still c (out_byte c.crtc.beam (adapter_of c) port v)
+write_still c (AtAddress address) v = written_still c (put_byte (adapter_of c) address v)
 
 read_still : (c : CardState) (place : Place) → IsStill c (card_read c place).0
-read_still c (AtPort port) = inp_still c port
-read_still c (AtAddress address) = get_still c address
+read_still c (AtPort port) = answered_still c (inp_byte c.crtc.beam (adapter_of c) port)
+read_still c (AtAddress address) = answered_still c (get_byte (adapter_of c) address)
 
 plan_still : {A : Type 0} (p : Plan A) (c : CardState) → IsStill c (run card_meaning p c).0
 plan_still p c = run_keeps card_meaning (IsStill c) (λ s place v k. still_after k (write_still s place v)) (λ s place k. still_after k (read_still s place)) p c
@@ -41,11 +42,11 @@ plan_drawn p c = (plan_still p c).drawn
 pub plan_beam : {A : Type 0} (p : Plan A) (c : CardState) → (run card_meaning p c).0.crtc.beam ≡ c.crtc.beam
 plan_beam p c = (plan_still p c).beam
 
-write_fresh : (c : CardState) (place : Place) (v : ℕ) → card_write (with_fresh_canvas c) place v ≡ fresh_canvas_after (card_write c place v)
+pub write_fresh : (c : CardState) (place : Place) (v : ℕ) → card_write (with_fresh_canvas c) place v ≡ fresh_canvas_after (card_write c place v)
 write_fresh c (AtPort port) v = cannot_be_told.out c port v
 write_fresh c (AtAddress address) v = cannot_be_told.put c address v
 
-read_fresh : (c : CardState) (place : Place) → card_read (with_fresh_canvas c) place ≡ fresh_canvas_after (card_read c place)
+pub read_fresh : (c : CardState) (place : Place) → card_read (with_fresh_canvas c) place ≡ fresh_canvas_after (card_read c place)
 read_fresh c (AtPort port) = cannot_be_told.inp c port
 read_fresh c (AtAddress address) = cannot_be_told.get c address
 

@@ -83,7 +83,7 @@ The status is 0 for success, 1 for a fault, and 2 for words that name no job.
 The project's README.md leads to its pages: docs/SCRIPT.md lists every step, and
 docs/REPORT.md explains each answer and each fault.
 
-vga 1.5";
+vga 1.6";
 
 /// An argument that names a file, and cannot be left out.
 fn path_argument<'a>(alloc: Global, id: &'a str, help: &'a str) -> Arg<'a>

@@ -2,20 +2,26 @@
 use Rattle.std.specs.Prelude.{ℕ, ◌+◌, ◌-◌, ◌^◌, min, ◌==◌, ◌&&◌, nat_lt, length, Bool, true, false}
 use Rattle.std.specs.Prelude.{List, ◌++◌, ◌≡◌, Option, Result, Ok, Err}
 use Rattle.std.specs.Io.KnownBytes.{Appends}
-use Rattle.vga_bits.specs.declared.tracked.Tracked.{Tracked}
 use Rattle.vga_bits.specs.declared.fault.Fault.{Fault}
 use Rattle.vga_bits.specs.declared.fault.Fault.TheVariants.{WriteFault}
 
+-- a reader or writer, whether a call of it has failed, and how many bytes its reads have given, up
+-- to the largest number of 64 bits
+pub record TrackedState (T : Type 0) : Type 0 where
+  pub inner : T
+  pub failed : Bool
+  pub read_count : ℕ
+
 -- the reader or writer itself
-abbrev pub inner_of : {T : Type 0} → Tracked T → T
+abbrev pub inner_of : {T : Type 0} → TrackedState T → T
 inner_of t = t.inner
 
 -- whether a call of it has failed
-abbrev pub has_failed : {T : Type 0} → Tracked T → Bool
-has_failed t = t.has_failed
+abbrev pub has_failed : {T : Type 0} → TrackedState T → Bool
+has_failed t = t.failed
 
--- how many bytes its reads have given, up to the largest number of 64 bits
-abbrev pub read_count_of : {T : Type 0} → Tracked T → ℕ
+-- how many bytes its reads have given
+abbrev pub read_count_of : {T : Type 0} → TrackedState T → ℕ
 read_count_of t = t.read_count
 
 -- how many bytes are counted after a read with this answer, if so many were before

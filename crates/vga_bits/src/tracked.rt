@@ -8,6 +8,7 @@ ghost use Rattle.vga_bits.specs.Tracked.{write_fails, Writes};
 use super::fault::Fault;
 use std::io;
 use std::io::{Read, Write};
+use std::marker::Model;
 
 /// A reader or a writer that knows whether one of its calls has failed, and how many bytes were
 /// read of it.
@@ -19,6 +20,18 @@ pub struct Tracked<T> {
     inner: T,
     has_failed: bool,
     read_count: u64,
+}
+
+impl<T> Model for Tracked<T> {
+    ghost use Rattle.vga_bits.specs.Tracked.{TrackedState};
+
+    ghost Value = { TrackedState T };
+
+    ghost view = { λ t. record {
+      inner = t.inner;
+      failed = t.has_failed;
+      read_count = t.read_count;
+    } };
 }
 
 impl<T> Tracked<T> {

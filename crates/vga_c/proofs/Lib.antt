@@ -1,4 +1,5 @@
 pub mod AsBox
+pub mod CallCycleLemmas
 pub mod HandleLemmas
 pub mod ServiceLemmas
 pub mod FrameLemmas

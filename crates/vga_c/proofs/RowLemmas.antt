@@ -4,7 +4,7 @@ use Rattle.std.proofs.Math.Nat.{mul-div-le}
 use Rattle.std.proofs.lemmas.Nat.{mul-add-lt}
 use Rattle.std.specs.Prelude.{slice_index}
 use Rattle.std.specs.Int.Bits.{or_zero_l}
-use Rattle.vga_c.specs.Forms.{AreRows, IsForm, every, form_word, dot_word}
+use Rattle.vga_c.specs.Forms.{AreRows, IsForm, div_ceil, form_word, dot_word}
 use Rattle.vga_c.specs.declared.forms.Form.{Form}
 
 -- a place of an earlier row is before the row
@@ -43,12 +43,12 @@ module _ (w y p : ℕ) (word : ℕ → ℕ → ℕ) (old mid new : List ℕ) (fi
 -- ---- every so many dots of every so many lines
 
 -- the dot that is taken is one of those that there are
-pub every_below : (m n i : ℕ) → 0 < m → i < every m n → m * i < n
+pub every_below : (m n i : ℕ) → 0 < m → i < div_ceil n m → m * i < n
 every_below m n i some within =
-    omega (arith, mul-add-lt i m (m - 1) (every m n) within (omega (arith, some)), mul-div-le (n + (m - 1)) m)
+    omega (arith, mul-add-lt i m (m - 1) (div_ceil n m) within (omega (arith, some)), mul-div-le (n + (m - 1)) m)
 
 -- the three bytes of a dot that is taken are bytes of the picture
-pub dot_within : (width height : ℕ) (form : Form) → IsForm form → (x y : ℕ) → x < every form.across width → y < every form.down height →
+pub dot_within : (width height : ℕ) (form : Form) → IsForm form → (x y : ℕ) → x < div_ceil width form.across → y < div_ceil height form.down →
     3 * (width * (form.down * y) + form.across * x) + 2 < 3 * (width * height)
 dot_within width height form is x y a b =
     omega (
@@ -59,7 +59,7 @@ dot_within width height form is x y a b =
 
 -- ---- each dot of each line
 
-every_one : (n : ℕ) → every 1 n ≡ n
+every_one : (n : ℕ) → div_ceil n 1 ≡ n
 every_one n = omega arith
 
 abbrev plain : Form
@@ -71,12 +71,12 @@ plain_word w bytes x y = or_zero_l (dot_word bytes (w * (1 * y) + 1 * x)) ∙ ap
     one : 1 * y ≡ y
     one = omega arith
 
-pub plain_rows : (w h p : ℕ) (bytes old new : List ℕ) → AreRows (every 1 w) (every 1 h) p (form_word plain w bytes) old new →
+pub plain_rows : (w h p : ℕ) (bytes old new : List ℕ) → AreRows (div_ceil w 1) (div_ceil h 1) p (form_word plain w bytes) old new →
     AreRows w h p (λ x y. dot_word bytes (w * y + x)) old new
 plain_rows w h p bytes old new rows =
     let sized : AreRows w h p (form_word plain w bytes) old new =
     subst (λ n. AreRows n h p (form_word plain w bytes) old new) (every_one w)
-    (subst (λ n. AreRows (every 1 w) n p (form_word plain w bytes) old new) (every_one h) rows) in
+    (subst (λ n. AreRows (div_ceil w 1) n p (form_word plain w bytes) old new) (every_one h) rows) in
     record {
       words = λ x y a b. sized.words x y a b ∙ plain_word w bytes x y;
       beside = sized.beside;

@@ -45,8 +45,8 @@ AreInRows width height pitch word old new status =
 -- ---- forms
 
 -- how many of n there are where every m-th is taken, from the first on
-abbrev pub every : ℕ → ℕ → ℕ
-every m n = (n + (m - 1)) / m
+abbrev pub div_ceil : ℕ → ℕ → ℕ
+div_ceil n m = (n + (m - 1)) / m
 
 -- whether flags ask for words without a transparent byte, and for dots and lines once
 abbrev pub is_opaque : ℕ → Bool
@@ -80,8 +80,8 @@ form_word form width bytes x y =
 -- what the caller is told of a picture in a form: words in a row, rows, and what each stands for
 abbrev pub picture_of : Form → ℕ → ℕ → WordPicture
 picture_of form width height = record {
-  width = every form.across width;
-  height = every form.down height;
+  width = div_ceil width form.across;
+  height = div_ceil height form.down;
   across = form.across;
   down = form.down;
 }
@@ -91,8 +91,8 @@ picture_of form width height = record {
 abbrev pub HasForm : Form → StepAnswer → ℕ → WordPicture → WordPicture → List ℕ → List ℕ → ℕ →
     Type 0
 HasForm form (Picture width height bytes) pitch told_old told old new status =
-    (told ≡ picture_of form width height) × AreInRows (every form.across width)
-    (every form.down height) pitch (form_word form width bytes) old new status
+    (told ≡ picture_of form width height) × AreInRows (div_ceil width form.across)
+    (div_ceil height form.down) pitch (form_word form width bytes) old new status
 HasForm form Ragged pitch told_old told old new status =
     (told ≡ told_old) × ((new ≡ old) × (status ≡ ragged))
 HasForm form reply pitch told_old told old new status = ⊥

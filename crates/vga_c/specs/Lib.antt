@@ -3,6 +3,7 @@ pub mod Handle
 pub mod Status
 pub mod Cards
 pub mod Buffers
+pub mod CallCycles
 pub mod Opening
 pub mod Services
 pub mod Blocks

@@ -3,7 +3,7 @@ use Rattle.std.specs.Prelude.{◌≡◌, ℕ, List, Result, Ok, Err}
 use Rattle.vga_bits.specs.declared.fault.Fault.{Fault}
 use Rattle.vga_bits.specs.declared.fault.Fault.TheVariants as fault
 use Rattle.vga_c.specs.Buffers.{IsCopied}
-use Rattle.vga_c.specs.Status.{font_size, out_of_memory}
+use Rattle.vga_c.specs.Status.{font_size, out_of_memory, too_long}
 
 -- the number of a fault: what other calls answer for the same, or 100 more than the fault's own
 abbrev pub fault_status : Fault → ℕ
@@ -12,7 +12,7 @@ fault_status fault.BadMagic = 102
 fault_status fault.BadVersion = 103
 fault_status (fault.BadStep place) = 104
 fault_status (fault.Truncated place) = 105
-fault_status fault.TooLong = 106
+fault_status fault.TooLong = too_long
 fault_status (fault.BadLine line) = 107
 fault_status fault.ReadFault = 108
 fault_status fault.WriteFault = out_of_memory

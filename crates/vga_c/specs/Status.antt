@@ -72,3 +72,7 @@ bad_card = 27
 -- the adapter shows no plain screen
 abbrev pub no_screen : ℕ
 no_screen = 28
+
+-- a script would have more bytes than one may have
+abbrev pub too_long : ℕ
+too_long = 106

@@ -7,4 +7,4 @@ api_major = 1
 
 -- it grows where some are added
 abbrev pub api_minor : ℕ
-api_minor = 5
+api_minor = 6

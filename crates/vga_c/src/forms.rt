@@ -6,7 +6,7 @@ ghost use Rattle.vga_run.specs.Answer.{of_drawn};
 ghost use Rattle.vga_run.specs.Step.{after_step, answer_to};
 ghost use Rattle.vga_script.specs.declared.step.Step.TheVariants.{Frame};
 ghost use Rattle.vga_c.specs.Cards.{LeavesClosed, Spares};
-ghost use Rattle.vga_c.specs.Forms.{AreRows, IsForm, every as every_of};
+ghost use Rattle.vga_c.specs.Forms.{AreRows, IsForm, div_ceil as div_ceil_of};
 ghost use Rattle.vga_c.specs.Forms.{dot_word as dot_word_of, eight_bits as eight_bits_of};
 ghost use Rattle.vga_c.specs.Forms.{form_of as form_of_flags, form_word, DrawsForm, DrawsFormOf};
 ghost use Rattle.vga_c.specs.Forms.{HasForm, has_room as has_room_of};
@@ -80,10 +80,10 @@ pub(crate) fn write_row(
 }
 
 /// How many of n there are where every m-th is taken, from the first on.
-fn every(m: u32, n: u32) -> u32
+fn div_ceil(n: u32, m: u32) -> u32
     requires some { 0 < m }
     requires few { n + m ≤ 0x1_0000_0000 }
-    ensures { result ≡ every_of m n }
+    ensures { result ≡ div_ceil_of n m }
 {
     (n + (m - 1)) / m
 }
@@ -113,13 +113,13 @@ pub(crate) fn write_rows(
     requires width { width ≤ widest }
     requires height { height ≤ highest }
     requires dots { length bytes.now ≡ 3 * (width * height) }
-    requires pitch { every_of form.across width ≤ pitch }
-    requires room { pitch * every_of form.down height ≤ length pixels.old }
-    ensures { AreRows (every_of form.across width) (every_of form.down height) pitch
+    requires pitch { div_ceil_of width form.across ≤ pitch }
+    requires room { pitch * div_ceil_of height form.down ≤ length pixels.old }
+    ensures { AreRows (div_ceil_of width form.across) (div_ceil_of height form.down) pitch
         (form_word form width bytes.now) pixels.old pixels.new }
 {
-    let count = every(form.across, width) as usize;
-    for y in 0..every(form.down, height) as usize {
+    let count = div_ceil(width, form.across) as usize;
+    for y in 0..div_ceil(height, form.down) as usize {
         let first = width as usize * (form.down as usize * y);
         write_row(bytes, first, form, count, pixels, pitch * y);
     }
@@ -140,7 +140,7 @@ fn form_of(flags: u32, card: &Card) -> Form
 }
 
 /// Gives the caller a picture as words in a form.
-fn tell_form(
+fn write_form(
     drawn: Drawn<'_>,
     form: Form,
     picture: &mut WordPicture,
@@ -155,8 +155,8 @@ fn tell_form(
     match drawn {
         Drawn::Picture(width, height, bytes) => {
             *picture = WordPicture {
-                width: every(form.across, width),
-                height: every(form.down, height),
+                width: div_ceil(width, form.across),
+                height: div_ceil(height, form.down),
                 across: form.across,
                 down: form.down,
             };
@@ -185,7 +185,7 @@ fn frame_form(
     ensures picture { HasForm form (answer_to machine.old Frame) pitch picture.old picture.new
         pixels.old pixels.new result }
 {
-    tell_form(machine.card.frame(), form, picture, pixels, pitch)
+    write_form(machine.card.frame(), form, picture, pixels, pitch)
 }
 
 /// Lets the clock of a machine run to the end of the frame under way, if the flags are some.

@@ -35,7 +35,7 @@ pub struct Size {
 }
 
 /// Gives the caller a picture as red, green and blue of each dot.
-fn tell_bytes(drawn: Drawn<'_>, size: &mut Size, rgb: &mut [u8]) -> u32
+fn write_bytes(drawn: Drawn<'_>, size: &mut Size, rgb: &mut [u8]) -> u32
     ensures { HasBytes (of_drawn drawn.entry) size.old size.new rgb.old rgb.new result }
 {
     match drawn {
@@ -54,7 +54,7 @@ fn frame(machine: &mut Machine, size: &mut Size, rgb: &mut [u8]) -> u32
     ensures picture { HasBytes (answer_to machine.old Frame) size.old size.new rgb.old rgb.new
         result }
 {
-    tell_bytes(machine.card.frame(), size, rgb)
+    write_bytes(machine.card.frame(), size, rgb)
 }
 
 /// Lets the clock run to the end of the frame under way, and copies its picture: red, green and
@@ -77,7 +77,7 @@ pub extern "C" fn zak_frame(
 
 /// Gives the caller a picture as a word of each dot.
 #[tactic(auto, using(crate::proofs::RowLemmas::plain_rows))]
-fn tell_words(drawn: Drawn<'_>, size: &mut Size, pixels: &mut [u32], pitch: usize) -> u32
+fn write_words(drawn: Drawn<'_>, size: &mut Size, pixels: &mut [u32], pitch: usize) -> u32
     requires { IsSmall drawn }
     ensures { HasWords (of_drawn drawn.entry) pitch size.old size.new pixels.old pixels.new result }
 {
@@ -101,7 +101,7 @@ fn frame_words(machine: &mut Machine, size: &mut Size, pixels: &mut [u32], pitch
     ensures picture { HasWords (answer_to machine.old Frame) pitch size.old size.new pixels.old
         pixels.new result }
 {
-    tell_words(machine.card.frame(), size, pixels, pitch)
+    write_words(machine.card.frame(), size, pixels, pitch)
 }
 
 /// Lets the clock run to the end of the frame under way, and writes its picture as words 00RRGGBB,

@@ -9,6 +9,7 @@
 
 mod blocks;
 mod buffer;
+mod call_cycles;
 mod clock;
 mod cycles;
 mod dumps;

@@ -2,7 +2,7 @@
 ghost use Rattle.std.specs.Prelude.{◌≡◌};
 ghost use Rattle.vga_c.specs.Outcome.{fault_place, fault_status as fault_status_of};
 
-use crate::status::{FONT_SIZE, OUT_OF_MEMORY};
+use crate::status::{FONT_SIZE, OUT_OF_MEMORY, TOO_LONG};
 use vga_bits::Fault;
 
 /// The number of a fault. What is written is memory: a writer fails where there is none.
@@ -15,7 +15,7 @@ pub(crate) fn fault_status(fault: Fault) -> u32
         Fault::BadVersion => 103,
         Fault::BadStep(_) => 104,
         Fault::Truncated(_) => 105,
-        Fault::TooLong => 106,
+        Fault::TooLong => TOO_LONG,
         Fault::BadLine(_) => 107,
         Fault::ReadFault => 108,
         Fault::WriteFault | Fault::OutOfMemory => OUT_OF_MEMORY,
@@ -24,7 +24,7 @@ pub(crate) fn fault_status(fault: Fault) -> u32
 }
 
 /// Gives the caller the place of a fault that has one: an offset in bytes, or a line of a text.
-pub(crate) fn tell_place(fault: Fault, place: &mut usize)
+pub(crate) fn write_place(fault: Fault, place: &mut usize)
     ensures { place.new ≡ fault_place fault place.old }
 {
     match fault {
@@ -35,10 +35,10 @@ pub(crate) fn tell_place(fault: Fault, place: &mut usize)
 }
 
 /// Gives the caller the number and the place of a fault.
-pub(crate) fn tell_fault(fault: Fault, place: &mut usize) -> u32
+pub(crate) fn write_fault(fault: Fault, place: &mut usize) -> u32
     ensures status { result ≡ fault_status_of fault }
     ensures place { place.new ≡ fault_place fault place.old }
 {
-    tell_place(fault, place);
+    write_place(fault, place);
     fault_status(fault)
 }

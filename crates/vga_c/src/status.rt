@@ -38,6 +38,9 @@ pub(crate) const NO_SCREEN: u32 = 28;
 /// The checksum of a state of a fixed length is wrong.
 pub(crate) const STATE_CHECKSUM: u32 = 34;
 
+/// A script would have more bytes than one may have.
+pub(crate) const TOO_LONG: u32 = 106;
+
 /// The number of a refusal.
 pub(crate) fn refusal_status(refusal: Refusal) -> u32
     ensures { result ≡ refusal_status_of refusal }

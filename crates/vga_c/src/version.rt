@@ -6,7 +6,7 @@ ghost use Rattle.vga_c.specs.Version.{api_major, api_minor};
 const API_MAJOR: u32 = 1;
 
 /// It grows where some are added.
-const API_MINOR: u32 = 5;
+const API_MINOR: u32 = 6;
 
 /// The interface: 65,536 times its major number, and its minor one.
 #[unsafe(no_mangle)]

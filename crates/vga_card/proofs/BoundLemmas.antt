@@ -7,6 +7,7 @@ use Rattle.std.proofs.lemmas.Bool.{cases_eq, cases_lt, ltb-true}
 use Rattle.std.proofs.lemmas.List.{get_or-set_same, get_or-set_other, length-set, set_past}
 use Rattle.std.proofs.lemmas.Nat.{and_le_r, and_mask, or_of_8}
 use Rattle.vga_bits.specs.declared.refusal.Refusal.{Refusal}
+use Rattle.vga_bits.specs.declared.refusal.Refusal.TheVariants.{NotDecoded}
 use Rattle.vga_bits.specs.Bytes.{zeros}
 use Rattle.vga_bits.specs.Four.{of_plane}
 use Rattle.vga_bits.specs.RegFile.{AreKept}
@@ -38,9 +39,10 @@ use Rattle.vga_card.specs.declared.port.Port.TheVariants.{DacMask, DacReadIndex,
 use Rattle.vga_card.specs.declared.port.Port.TheVariants.{GraphicsData, CrtcIndex, CrtcData, InputStatus1}
 use Rattle.vga_card.specs.Card.{CardState, power_on_card}
 use Rattle.vga_card.specs.Port.{port_of}
-use Rattle.vga_card.specs.Cycles.{Written, Answered, written_unless, answered_unless, written_where, answered_where, out_at, inp_at, out_cycle, inp_cycle}
-use Rattle.vga_card.specs.Cycles.{put_cycle, get_cycle}
-use Rattle.vga_card.specs.WordCycles.{both_written, both_read, out_bytes, inp_bytes, out_word_cycle, inp_word_cycle, put_word_cycle, get_word_cycle}
+use Rattle.vga_card.specs.Adapter.{AdapterState, adapter_of, with_adapter}
+use Rattle.vga_card.specs.Cycles.{written, answered, unless_refused, where_decoded, out_reached, inp_reached, out_at, inp_at, out_cycle, inp_cycle, put_cycle, get_cycle}
+use Rattle.vga_card.specs.Cycles.{out_byte, inp_byte, put_byte, get_byte}
+use Rattle.vga_card.specs.WordCycles.{adapter_after, adapter_after_read, both_written, both_read, out_word_cycle, inp_word_cycle, put_word_cycle, get_word_cycle}
 use Rattle.vga_card.specs.Dots.{character_width, dot, dots}
 use Rattle.vga_card.specs.Bounds.{IsCard}
 
@@ -176,9 +178,10 @@ host_at_power_on = record {
 
 -- ---- the CRT controller
 
-if_crtc : (t : Bool) (x y : CrtcState) → IsCrtc x → IsCrtc y → IsCrtc (if t then x else y)
-if_crtc true x y h k = h
-if_crtc false x y h k = k
+if_registers : (t : Bool) (c : CrtcState) (x y : List ℕ) → IsCrtc (record c { registers = x }) → IsCrtc (record c { registers = y }) →
+    IsCrtc (record c { registers = if t then x else y })
+if_registers true c x y h k = h
+if_registers false c x y h k = k
 
 crtc_set : (c : CrtcState) (i v : ℕ) → IsCrtc c → IsCrtc (record c { registers = slice_set c.registers i (bit_and v (slice_index kept_bits i)) })
 crtc_set c i v z = record { size = length-set c.registers i _ ∙ z.size; kept = kept_set kept_bits c.registers i v z.kept; beam = z.beam }
@@ -198,7 +201,7 @@ crtc_out : (c : CrtcState) (at_data : Bool) (v : ℕ) → IsCrtc c → IsCrtc (a
 unfolding after_crtc
 crtc_out c false v z = record { size = z.size; kept = z.kept; beam = z.beam }
 crtc_out c true v z =
-    if_crtc (not (is_write_protected c)) _ _ (crtc_set c c.index v z) (if_crtc (c.index == 7) _ c (crtc_overflow c v z) z)
+    if_registers (not (is_write_protected c)) c _ _ (crtc_set c c.index v z) (if_registers (c.index == 7) c _ c.registers (crtc_overflow c v z) z)
 
 -- ---- the beam
 
@@ -312,16 +315,16 @@ with_attr c a is z = record { host = z.host; crtc = z.crtc; attr = is; dac = z.d
 with_dac : (c : CardState) (d : DacState) → length d.reds ≡ 256 → length d.greens ≡ 256 → length d.blues ≡ 256 → IsCard c → IsCard (record c { dac = d })
 with_dac c d reds greens blues z = record { host = z.host; crtc = z.crtc; attr = z.attr; dac = record { reds = reds; greens = greens; blues = blues } }
 
-unless_within : (t : Bool) (c x : CardState) → IsCard c → IsCard x → IsCard (written_unless t c x).0
-unless_within true c x h k = h
-unless_within false c x h k = k
+unless_within : (t : Bool) (c : CardState) (a : AdapterState) → IsCard c → IsCard (with_adapter c a) → IsCard (written c (unless_refused t a)).0
+unless_within true c a z y = z
+unless_within false c a z y = y
 
-answered_within : (t : Bool) (c : CardState) (v : ℕ) → IsCard c → IsCard (answered_unless t c c v).0
+answered_within : (t : Bool) (c : CardState) (v : ℕ) → IsCard c → IsCard (answered c (unless_refused t (adapter_of c, v))).0
 answered_within true c v z = z
 answered_within false c v z = z
 
 out_within : (c : CardState) (reached : Option Port) (v : ℕ) → IsCard c → IsCard (out_at c reached v).0
-unfolding out_at
+unfolding out_reached after_crtc
 out_within c None v z = z
 out_within c (Some Attribute) v z = unless_within _ c _ z (with_attr c (after_attr c.attr v) (attr_write c.attr v z.attr) z)
 out_within c (Some AttributeRegister) v z = z
@@ -344,7 +347,7 @@ out_within c (Some CrtcData) v z = unless_within _ c _ z (with_crtc c (after_crt
 out_within c (Some InputStatus1) v z = z
 
 inp_within : (c : CardState) (reached : Option Port) → IsCard c → IsCard (inp_at c reached).0
-unfolding inp_at
+unfolding inp_reached
 inp_within c None z = z
 inp_within c (Some Attribute) z = z
 inp_within c (Some AttributeRegister) z = answered_within _ c _ z
@@ -370,13 +373,13 @@ out_bounds c port v z = out_within c (port_of c.misc port) v z
 pub inp_bounds : (c : CardState) (port : ℕ) → IsCard c → IsCard (inp_cycle c port).0
 inp_bounds c port z = inp_within c (port_of c.misc port) z
 
-written_within : (t : Bool) (c x : CardState) → IsCard c → IsCard x → IsCard (written_where t c x).0
-written_within true c x z y = y
-written_within false c x z y = z
+written_within : (t : Bool) (c : CardState) (a : AdapterState) → IsCard c → IsCard (with_adapter c a) → IsCard (written c (where_decoded t a)).0
+written_within true c a z y = y
+written_within false c a z y = z
 
-read_within : (t : Bool) (c x : CardState) (v : ℕ) → IsCard c → IsCard x → IsCard (answered_where t c x v).0
-read_within true c x v z y = y
-read_within false c x v z y = z
+read_within : (t : Bool) (c : CardState) (a : AdapterState) (v : ℕ) → IsCard c → IsCard (with_adapter c a) → IsCard (answered c (where_decoded t (a, v))).0
+read_within true c a v z y = y
+read_within false c a v z y = z
 
 pub put_bounds : (c : CardState) (address v : ℕ) → IsCard c → IsCard (put_cycle c address v).0
 put_bounds c address v z =
@@ -390,51 +393,55 @@ get_bounds c address z =
 
 -- ---- cycles of a word
 
-both_within : (c : CardState) (first : Result (Unit {0}) Refusal) (second : Written) → IsCard c → IsCard second.0 → IsCard (both_written c first second).0
-both_within c (Ok u) (new, Ok w) z y = y
-both_within c (Ok u) (new, Err g) z y = z
-both_within c (Err e) (new, Ok w) z y = z
-both_within c (Err e) (new, Err g) z y = z
+both_within : (c : CardState) (first second : Result AdapterState Refusal) → IsCard c
+    → (IsCard (with_adapter c (adapter_after (adapter_of c) first)) → IsCard (written (with_adapter c (adapter_after (adapter_of c) first)) second).0)
+    → IsCard (written c first).0 → IsCard (written c (both_written first second)).0
+both_within c (Ok mid) (Ok new) z next y = next y
+both_within c (Ok mid) (Err g) z next y = z
+both_within c (Err e) (Ok new) z next y = z
+both_within c (Err e) (Err g) z next y = z
 
-both_read_within : (c : CardState) (first : Result ℕ Refusal) (second : Answered) → IsCard c → IsCard second.0 → IsCard (both_read c first second).0
-both_read_within c (Ok u) (new, Ok w) z y = y
-both_read_within c (Ok u) (new, Err g) z y = z
-both_read_within c (Err e) (new, Ok w) z y = z
-both_read_within c (Err e) (new, Err g) z y = z
+both_read_within : (c : CardState) (first second : Result (AdapterState × ℕ) Refusal) → IsCard c
+    → (IsCard (with_adapter c (adapter_after_read (adapter_of c) first)) → IsCard (answered (with_adapter c (adapter_after_read (adapter_of c) first)) second).0)
+    → IsCard (answered c first).0 → IsCard (answered c (both_read first second)).0
+both_read_within c (Ok (mid, low)) (Ok (new, high)) z next y = next y
+both_read_within c (Ok (mid, low)) (Err g) z next y = z
+both_read_within c (Err e) (Ok (new, high)) z next y = z
+both_read_within c (Err e) (Err g) z next y = z
 
-if_written : (t : Bool) (x y : Written) → IsCard x.0 → IsCard y.0 → IsCard (if t then x else y).0
-if_written true x y h k = h
-if_written false x y h k = k
+if_written : (t : Bool) (c : CardState) (r : Result AdapterState Refusal) → IsCard c → IsCard (written c r).0 →
+    IsCard (written c (if t then Err NotDecoded else r)).0
+if_written true c r z y = z
+if_written false c r z y = y
 
-if_answered : (t : Bool) (x y : Answered) → IsCard x.0 → IsCard y.0 → IsCard (if t then x else y).0
-if_answered true x y h k = h
-if_answered false x y h k = k
+if_answered : (t : Bool) (c : CardState) (r : Result (AdapterState × ℕ) Refusal) → IsCard c → IsCard (answered c r).0 →
+    IsCard (answered c (if t then Err NotDecoded else r)).0
+if_answered true c r z y = z
+if_answered false c r z y = y
 
 pub out_word_bounds : (c : CardState) (port v : ℕ) → IsCard c → IsCard (out_word_cycle c port v).0
 out_word_bounds c port v z =
-    let first = out_cycle c port (v % 256) in
-    if_written (port == 0xFFFF) _ (out_bytes c port (v % 256) (v / 256)) z
-    (both_within c first.1 (out_cycle first.0 (port + 1) (v / 256)) z (out_bounds first.0 (port + 1) (v / 256) (out_bounds c port (v % 256) z)))
+    let first = out_byte c.crtc.beam (adapter_of c) port (v % 256) in
+    if_written (port == 0xFFFF) c _ z
+    (both_within c first _ z (out_bounds (with_adapter c (adapter_after (adapter_of c) first)) (port + 1) (v / 256)) (out_bounds c port (v % 256) z))
 
 pub inp_word_bounds : (c : CardState) (port : ℕ) → IsCard c → IsCard (inp_word_cycle c port).0
 inp_word_bounds c port z =
-    let first = inp_cycle c port in
-    if_answered (port == 0xFFFF) _ (inp_bytes c port) z
-    (both_read_within c first.1 (inp_cycle first.0 (port + 1)) z (inp_bounds first.0 (port + 1) (inp_bounds c port z)))
+    let first = inp_byte c.crtc.beam (adapter_of c) port in
+    if_answered (port == 0xFFFF) c _ z
+    (both_read_within c first _ z (inp_bounds (with_adapter c (adapter_after_read (adapter_of c) first)) (port + 1)) (inp_bounds c port z))
 
 pub put_word_bounds : (c : CardState) (address v : ℕ) → IsCard c → IsCard (put_word_cycle c address v).0
 put_word_bounds c address v z =
-    let first = put_cycle c address (v % 256) in
-    let second = put_cycle first.0 (address + 1) (v / 256) in
-    if_written (address == 0xFFFFFFFF) _ (both_written c first.1 second) z
-    (both_within c first.1 second z (put_bounds first.0 (address + 1) (v / 256) (put_bounds c address (v % 256) z)))
+    let first = put_byte (adapter_of c) address (v % 256) in
+    if_written (address == 0xFFFFFFFF) c _ z
+    (both_within c first _ z (put_bounds (with_adapter c (adapter_after (adapter_of c) first)) (address + 1) (v / 256)) (put_bounds c address (v % 256) z))
 
 pub get_word_bounds : (c : CardState) (address : ℕ) → IsCard c → IsCard (get_word_cycle c address).0
 get_word_bounds c address z =
-    let first = get_cycle c address in
-    let second = get_cycle first.0 (address + 1) in
-    if_answered (address == 0xFFFFFFFF) _ (both_read c first.1 second) z
-    (both_read_within c first.1 second z (get_bounds first.0 (address + 1) (get_bounds c address z)))
+    let first = get_byte (adapter_of c) address in
+    if_answered (address == 0xFFFFFFFF) c _ z
+    (both_read_within c first _ z (get_bounds (with_adapter c (adapter_after_read (adapter_of c) first)) (address + 1)) (get_bounds c address z))
 
 -- ---- dots
 

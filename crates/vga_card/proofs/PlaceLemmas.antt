@@ -1,13 +1,14 @@
 -- What is drawn before the beam, as the beam moves.
 use Rattle.std.proofs.Common.{◌≡◌, ℕ, ◌<◌, ⊎_elim, refl, sym, ap, ◌∙◌, arith, Bool, true, false, List, Result, Ok, Err}
-use Rattle.std.specs.Prelude.{◌==◌, not, if◌then◌else◌, slice_index, slice_set, bit_and, OnOk, IfErr}
+use Rattle.std.specs.Prelude.{if◌then◌else◌, OnOk, IfErr}
 use Rattle.std.proofs.lemmas.Bool.Decides.{nat_tests}
 use Rattle.vga_bits.specs.declared.refusal.Refusal.{Refusal}
 use Rattle.vga_bits.specs.declared.refusal.Refusal.TheVariants.{NotInProfile}
 use Rattle.vga_crtc.specs.declared.beam.Beam.{Beam}
 use Rattle.vga_crtc.specs.Crtc.{CrtcState}
 use Rattle.vga_crtc.specs.Beam.{is_first_dot, started, dot, after_start, after_dot}
-use Rattle.vga_crtc.specs.Ports.{kept_bits, is_write_protected, protected_overflow, after_out}
+use Rattle.vga_crtc.specs.Ports.{after_out}
+use Rattle.vga_crtc.proofs.Ports.{out_beam}
 use Rattle.vga_crtc.specs.Raster.{IsSamePlace, IsFrameStart, IsNextDot, IsNextCharacter, IsNextLine, IsNextPlace}
 use Rattle.vga_card.specs.Valid.{fresh_count, IsDrawnTo}
 
@@ -72,20 +73,7 @@ card_moves stays moves crtc cw line width within is =
 
 -- ---- a write to a port of the CRT controller does not move the beam
 
-kept_if : (v : Bool) (old x y : CrtcState) → x.beam ≡ old.beam → y.beam ≡ old.beam → (if v then x else y).beam ≡ old.beam
-kept_if true old x y h k = h
-kept_if false old x y h k = k
-
-out_keeps : (crtc : CrtcState) (at_data : Bool) (v : ℕ) → (after_out crtc at_data v).beam ≡ crtc.beam
-unfolding after_out
-out_keeps crtc false v = refl
-out_keeps crtc true v =
-    let written : CrtcState = record crtc { registers = slice_set crtc.registers crtc.index (bit_and v (slice_index kept_bits crtc.index)) } in
-    let overflowed : CrtcState = record crtc { registers = slice_set crtc.registers 7 (protected_overflow crtc v) } in
-    kept_if (not (is_write_protected crtc)) crtc written (if crtc.index == 7 then overflowed
-    else crtc) refl (kept_if (crtc.index == 7) crtc overflowed crtc refl refl)
-
 pub beam_kept : (crtc new : CrtcState) (at_data : Bool) (v : ℕ) (answer : Result (Unit {0}) Refusal) → OnOk answer (new ≡ after_out crtc at_data v) →
     IfErr answer (λ e. (e ≡ NotInProfile) × (new ≡ crtc)) → new.beam ≡ crtc.beam
-beam_kept crtc new at_data v (Ok u) done refused = ap (λ (c : CrtcState). c.beam) done ∙ out_keeps crtc at_data v
+beam_kept crtc new at_data v (Ok u) done refused = ap (λ (c : CrtcState). c.beam) done ∙ out_beam crtc at_data v
 beam_kept crtc new at_data v (Err e) done refused = ap (λ (c : CrtcState). c.beam) refused.1

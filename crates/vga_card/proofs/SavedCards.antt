@@ -129,3 +129,7 @@ module _ (c : CardState) (is : IsWhole c) where
       let dac = ap dac_from dac_are ∙ is.dac_back in
       let dots = ap saved_dots_from host_past ∙ is.dots_back in
       λ j. record { host = host j; crtc = crtc j; attr = attr j; dac = dac j; misc = misc_is j; drawn = dots j }
+
+-- bytes that are those of an adapter are restored as such
+pub saved_there : (c : CardState) (bytes : List ℕ) → bytes ≡ saved_card c → IsSavedCard (saved_card c) → IsSavedCard bytes
+saved_there c bytes e saved = subst IsSavedCard (sym e) saved

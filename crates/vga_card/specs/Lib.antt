@@ -1,3 +1,4 @@
+pub mod Adapter
 pub mod Bounds
 pub mod Bus
 pub mod Canvas

@@ -22,7 +22,7 @@ use Rattle.vga_dots.specs.Text.{text_nibble, cell_at, background, is_foreground,
 use Rattle.vga_dots.specs.Graphics.{plane_bits, planar_nibble, packed_byte}
 use Rattle.vga_dots.specs.Row.{nibble_of, padded_colour}
 use Rattle.vga_dots.specs.Display.{DisplayState, ShowsText, ShowsPlanes, ShowsBytes}
-use Rattle.vga_dots.specs.Line.{masked, shade, padded_shade, shades_of, dot_of, source_colour}
+use Rattle.vga_dots.specs.Line.{masked_colour, shade, padded_shade, shades_of, dot_of, source_colour}
 use Rattle.vga_dots.proofs.RowLemmas.{padded_byte}
 
 pub shades_at : (a : AttrState) (d : DacState) (n : ℕ) → n < 16 → slice_index_or (shades_of a d) n [] ≡ padded_shade a d n
@@ -129,15 +129,15 @@ pick off shown packed graphics x1 x2 x3 x4 x5 = if off then x1 else if not shown
 
 module _ (d : DisplayState) (s : SourceDot) where
   abbrev shown_by : Bool → Bool → List ℕ
-  shown_by off shown = pick off shown (is_256_colours d.host) (is_graphics d.host) (0 ∷ 0 ∷ 0 ∷ []) (masked d.dac (overscan d.attr))
-      (masked d.dac (packed_byte d.host d.crtc s)) (shade d.attr d.dac (planar_nibble d.host d.crtc s))
+  shown_by off shown = pick off shown (is_256_colours d.host) (is_graphics d.host) (0 ∷ 0 ∷ 0 ∷ []) (masked_colour d.dac (overscan d.attr))
+      (masked_colour d.dac (packed_byte d.host d.crtc s)) (shade d.attr d.dac (planar_nibble d.host d.crtc s))
       (shade d.attr d.dac (text_nibble d.host d.crtc d.attr s))
 
   pub off_colour : is_screen_off d.host ≡ true → 0 ∷ 0 ∷ 0 ∷ [] ≡ source_colour d s
   unfolding source_colour
   off_colour off = sym (ap (λ v. shown_by v (is_palette_shown d.attr)) off)
 
-  pub hidden_colour : is_screen_off d.host ≡ false → is_palette_shown d.attr ≡ false → masked d.dac (overscan d.attr) ≡ source_colour d s
+  pub hidden_colour : is_screen_off d.host ≡ false → is_palette_shown d.attr ≡ false → masked_colour d.dac (overscan d.attr) ≡ source_colour d s
   unfolding source_colour
   hidden_colour off shown = sym (ap (λ v. shown_by v (is_palette_shown d.attr)) off ∙ ap (shown_by false) shown)
 
@@ -146,10 +146,10 @@ module _ (d : DisplayState) (counter : ℕ) where
   place = fetch_address d.crtc.registers counter
 
   abbrev overscanned : List ℕ
-  overscanned = masked d.dac (overscan d.attr)
+  overscanned = masked_colour d.dac (overscan d.attr)
 
   abbrev packed_colour : ℕ → List ℕ
-  packed_colour i = masked d.dac (packed_byte d.host d.crtc (dot_of counter i))
+  packed_colour i = masked_colour d.dac (packed_byte d.host d.crtc (dot_of counter i))
 
   abbrev planar_colour : ℕ → List ℕ
   planar_colour i = shade d.attr d.dac (planar_nibble d.host d.crtc (dot_of counter i))
@@ -184,9 +184,9 @@ module _ (d : DisplayState) (counter : ℕ) where
 
   -- each of the five colours of a character is at its dots
   pub packed_dot : (p0 p1 p2 p3 p4 : List ℕ) (i j : ℕ) → i < 9 → j < 3 → ShowsBytes d
-      → p0 ≡ padded_colour (masked d.dac (byte_at d.host.memory 0 place)) → p1 ≡ padded_colour (masked d.dac (byte_at d.host.memory 1 place)) →
-      p2 ≡ padded_colour (masked d.dac (byte_at d.host.memory 2 place)) → p3 ≡ padded_colour (masked d.dac (byte_at d.host.memory 3 place)) →
-      p4 ≡ padded_colour (masked d.dac 0)
+      → p0 ≡ padded_colour (masked_colour d.dac (byte_at d.host.memory 0 place)) → p1 ≡ padded_colour (masked_colour d.dac (byte_at d.host.memory 1 place)) →
+      p2 ≡ padded_colour (masked_colour d.dac (byte_at d.host.memory 2 place)) → p3 ≡ padded_colour (masked_colour d.dac (byte_at d.host.memory 3 place)) →
+      p4 ≡ padded_colour (masked_colour d.dac 0)
       → slice_index (slice_index_or (p0 ∷ p1 ∷ p2 ∷ p3 ∷ p4 ∷ []) (i / 2) []) j ≡ slice_index (source_colour d (dot_of counter i)) j
   unfolding packed_byte
   packed_dot p0 p1 p2 p3 p4 i j within below shows e0 e1 e2 e3 e4 =

@@ -17,7 +17,7 @@ const CHARACTER_BYTES: usize = 27;
 
 /// How many characters of a line of text are to be drawn: each behind them looks as the last of
 /// these does.
-pub(crate) fn unlike(
+pub(crate) fn characters_to_draw(
     display: &Display<'_>,
     characters: &TextCharacters,
     first: usize,
@@ -31,20 +31,14 @@ pub(crate) fn unlike(
     ensures few { result ≤ count }
     ensures alike { AreAlike result count (λ x. unpanned_colour display.now (first + x)) }
 {
-    let base = display.beam().base;
-    let end = base.wrapping_add((first + count - 1) as u16);
-    let last = characters.cell(display, end);
-    let mut unlike = count;
-    while 0 < unlike
-        && characters.has_cell(
-            display,
-            base.wrapping_add((first + unlike - 1) as u16),
-            last,
-        )
+    let last = characters.cell(display, display.counter((first + count - 1) as u16));
+    let mut drawn = count;
+    while 0 < drawn
+        && characters.has_cell(display, display.counter((first + drawn - 1) as u16), last)
     {
-        unlike -= 1;
+        drawn -= 1;
     }
-    (unlike + 1).min(count)
+    (drawn + 1).min(count)
 }
 
 /// Writes the dots of a character as others are.

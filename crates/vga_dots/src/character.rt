@@ -7,7 +7,7 @@ ghost use Rattle.vga_dots.specs.Text.{is_glyph_dot as is_dot_of_glyph, is_foregr
 ghost use Rattle.vga_dots.specs.Text.{cell_at as cell_at_place};
 ghost use Rattle.vga_dots.specs.TextLine.{text_line, HasGlyphs};
 ghost use Rattle.vga_dots.specs.Row.{AreDotsPut, padded_colour as padded_colour_of};
-ghost use Rattle.vga_dots.specs.Line.{masked as colour_masked, shade, shades_of, dot_of};
+ghost use Rattle.vga_dots.specs.Line.{masked_colour as masked_colour_of, shade, shades_of, dot_of};
 ghost use Rattle.vga_dots.specs.Line.{source_colour};
 ghost use Rattle.vga_dots.specs.Quads.{IsQuad};
 ghost use Rattle.vga_dots.specs.SourceDot.{fetch_address};
@@ -28,15 +28,15 @@ use vga_dac::Dac;
 const ALL_DOTS: u16 = 0x1FF;
 
 /// The colour of a number.
-pub(crate) fn masked(dac: &Dac, n: u8) -> [u8; 3]
-    ensures { result ≡ colour_masked dac.now n }
+pub(crate) fn masked_colour(dac: &Dac, n: u8) -> [u8; 3]
+    ensures { result ≡ masked_colour_of dac.now n }
 {
     dac.entry(n & dac.mask())
 }
 
 /// The colour of a number, with a byte more.
 fn padded_colour(dac: &Dac, n: u8) -> [u8; 4]
-    ensures { result ≡ padded_colour_of (colour_masked dac.now n) }
+    ensures { result ≡ padded_colour_of (masked_colour_of dac.now n) }
 {
     dac.padded_entry(n & dac.mask())
 }
@@ -71,7 +71,7 @@ fn shades(attr: &Attr, dac: &Dac) -> Shades
 fn quad_of(display: &Display<'_>, n: u8) -> Quad
     ensures { IsQuad result (shade display.now.attr display.now.dac n) }
 {
-    Quad::of(masked(display.dac(), display.attr().colour_index(n)))
+    Quad::of(masked_colour(display.dac(), display.attr().colour_index(n)))
 }
 
 /// The dots of a line of a glyph, of which bit 8 is the leftmost.

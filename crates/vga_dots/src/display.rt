@@ -2,7 +2,7 @@
 ghost use Rattle.std.specs.Prelude.{◌≡◌};
 ghost use Rattle.vga_crtc.specs.Beam.{IsBeam};
 ghost use Rattle.vga_dots.specs.Display.{display_of};
-ghost use Rattle.vga_dots.specs.SourceDot.{fetch_address as fetch_address_of};
+ghost use Rattle.vga_dots.specs.SourceDot.{counter_of, fetch_address as fetch_address_of};
 
 use crate::source_dot::fetch_address;
 use std::marker::Model;
@@ -90,6 +90,14 @@ impl<'a> Display<'a> {
         ensures place { IsBeam result }
     {
         self.crtc.beam()
+    }
+
+    /// The counter of a character of the beam's line, by which it is fetched.
+    #[inline(always)]
+    pub(crate) fn counter(&self, character: u16) -> u16
+        ensures { result ≡ counter_of self.now.crtc character }
+    {
+        self.beam().base.wrapping_add(character)
     }
 
     /// The place in each plane that a counter addresses.

@@ -8,8 +8,10 @@ ghost use Rattle.vga_dots.specs.Row.{AreCharactersPut};
 ghost use Rattle.vga_dots.specs.Line.{shown_characters as characters_shown, unpanned_colour};
 ghost use Rattle.vga_dots.specs.Line.{IsLineDrawn, IsPartDrawn};
 
-use crate::alike::{repeat_last, unlike};
-use crate::character::{Characters, PackedCharacters, PlanarCharacters, TextCharacters, masked};
+use crate::alike::{characters_to_draw, repeat_last};
+use crate::character::{
+    Characters, PackedCharacters, PlanarCharacters, TextCharacters, masked_colour,
+};
 use crate::colour::BLACK;
 use crate::display::Display;
 use crate::row::{copy_dots, fill};
@@ -61,9 +63,8 @@ fn draw_each<const CW: usize, C: Characters<CW>>(
     ensures { AreCharactersPut CW count (λ x. unpanned_colour display.now (first + x)) row.old
         row.new }
 {
-    let base = display.beam().base;
     for x in 0..count {
-        let counter = base.wrapping_add((first + x) as u16);
+        let counter = display.counter((first + x) as u16);
         characters.put(display, counter, row, x * CW);
     }
 }
@@ -86,10 +87,9 @@ fn draw_cells<const CW: usize>(
     ensures { AreCharactersPut CW count (λ x. unpanned_colour display.now (first + x)) row.old
         row.new }
 {
-    let base = display.beam().base;
     let mut colours = characters.colours(display, USUAL_ATTRIBUTE);
     for x in 0..count {
-        let counter = base.wrapping_add((first + x) as u16);
+        let counter = display.counter((first + x) as u16);
         let cell = characters.cell(display, counter);
         if cell.attribute != colours.attribute {
             colours = characters.colours(display, cell.attribute);
@@ -114,7 +114,7 @@ fn draw_text<const CW: usize>(display: &Display<'_>, first: usize, count: usize,
         return;
     }
     let characters = TextCharacters::at_beam(display);
-    let drawn = unlike(display, &characters, first, count);
+    let drawn = characters_to_draw(display, &characters, first, count);
     draw_cells::<CW>(display, &characters, first, drawn, row);
     repeat_last::<CW>(row, drawn, count);
 }
@@ -206,7 +206,11 @@ fn draw_line_of<const CW: usize>(display: &Display<'_>, row: &mut [u8])
     if display.host().is_screen_off() {
         fill::<CW>(row, count, BLACK);
     } else if !display.attr().is_palette_shown() {
-        fill::<CW>(row, count, masked(display.dac(), display.attr().overscan()));
+        fill::<CW>(
+            row,
+            count,
+            masked_colour(display.dac(), display.attr().overscan()),
+        );
     } else {
         draw_shown::<CW>(display, count, row);
     }
@@ -262,7 +266,11 @@ pub fn draw_part<const CW: usize>(display: &Display<'_>, count: usize, row: &mut
     if display.host().is_screen_off() {
         fill::<1>(row, count, BLACK);
     } else if !display.attr().is_palette_shown() {
-        fill::<1>(row, count, masked(display.dac(), display.attr().overscan()));
+        fill::<1>(
+            row,
+            count,
+            masked_colour(display.dac(), display.attr().overscan()),
+        );
     } else if count <= SMALL_PART {
         draw_part_shown::<CW, SMALL_PART_BYTES>(display, count, row);
     } else {

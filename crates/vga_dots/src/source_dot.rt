@@ -46,12 +46,12 @@ impl SourceDot {
         let dot = beam.dot + panning_shift(display);
         if dot < width {
             SourceDot {
-                counter: beam.base.wrapping_add(beam.character),
+                counter: display.counter(beam.character),
                 dot,
             }
         } else {
             SourceDot {
-                counter: beam.base.wrapping_add(beam.character + 1),
+                counter: display.counter(beam.character + 1),
                 dot: dot - width,
             }
         }

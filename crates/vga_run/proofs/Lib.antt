@@ -8,6 +8,7 @@ pub mod ServedLemmas
 pub mod StepLemmas
 pub mod DotLemmas
 pub mod WholeFrames
+pub mod CycleListLemmas
 pub mod DotExamples
 pub mod SavedLemmas
 pub mod FreshCanvasLemmas

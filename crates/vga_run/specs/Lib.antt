@@ -1,4 +1,5 @@
 pub mod Answer
+pub mod CycleList
 pub mod Machine
 pub mod Step
 pub mod Report

@@ -3,9 +3,12 @@ ghost use Rattle.std.specs.Prelude.{◌≡◌, ℕ, List};
 ghost use Rattle.vga_bits.specs.declared.refusal.Refusal.{Refusal};
 ghost use Rattle.vga_run.specs.declared.machine.Machine.{Machine};
 ghost use Rattle.vga_run.specs.Answer.{Plain};
-ghost use Rattle.vga_run.specs.Step.{answer_to, after_step};
+ghost use Rattle.vga_run.specs.Step.{answer_to, after_step, after_steps, called};
+ghost use Rattle.vga_run.specs.CycleList.{cycles_of_call, bytes_read, answer_by};
 ghost use Rattle.vga_run.specs.Report.{report_from};
 ghost use Rattle.vga_run.specs.Saved.{machine_with_fresh_canvas};
+ghost use Rattle.bios_services.specs.declared.regs.Regs.{Regs};
+ghost use Rattle.bios_services.specs.Service.{service};
 ghost use Rattle.vga_script.specs.declared.step.Step.{Step};
 
 use super::answer::Answer;
@@ -35,4 +38,17 @@ pub fn restored_machines_report_the_same()
         ≡ machine_with_fresh_canvas (after_step machine step) }
     ensures report { (machine : Machine) (n : ℕ) (steps : List Step) →
         report_from (machine_with_fresh_canvas machine) n steps ≡ report_from machine n steps }
+{}
+
+/// The cycles that are listed of a call are the call: steps of them, taken one after the other,
+/// leave the adapter that it leaves, and the bytes that they read give what it answers.
+pub fn listed_cycles_are_the_call()
+    ensures state { (machine : Machine) (regs : Regs) (block : List ℕ) →
+        after_steps machine (cycles_of_call machine regs block) ≡ record machine {
+          card = (called machine regs.ax regs.bx regs.cx regs.dx block).0;
+        } }
+    ensures answer { (machine : Machine) (regs : Regs) (block : List ℕ) →
+        answer_by (service machine.fonts machine.bda regs block)
+        (bytes_read machine (cycles_of_call machine regs block))
+        ≡ (called machine regs.ax regs.bx regs.cx regs.dx block).1 }
 {}

@@ -2,6 +2,7 @@
 #![tactic(auto)]
 
 mod answer;
+mod cycle_list;
 mod laws;
 pub mod machine;
 mod numbered_line;
@@ -12,7 +13,10 @@ mod served;
 mod step_line;
 
 pub use answer::Answer;
-pub use laws::{refused_steps_change_nothing, restored_machines_report_the_same};
+pub use cycle_list::{Unlisted, list_cycles};
+pub use laws::{
+    listed_cycles_are_the_call, refused_steps_change_nothing, restored_machines_report_the_same,
+};
 pub use report::write_dump;
 pub use runs::{run, run_bytes, run_script};
 pub use screens::{reports_are_dots, reports_are_screens, whole_frames_are_dots};

@@ -4,7 +4,6 @@ use Rattle.std.proofs.Common.{arith, append_assoc, append-nil, length-append, No
 use Rattle.vga_bits.specs.declared.fault.Fault.{Fault}
 use Rattle.vga_bits.specs.declared.fault.Fault.TheVariants as fault
 use Rattle.byteorder.specs.Endian.{little_bytes, little_number}
-use Rattle.vga_script.proofs.FieldLemmas.{two_back}
 use Rattle.vga_script.specs.declared.step.Step.{Step}
 use Rattle.vga_script.specs.declared.dump_range.Shown.TheVariants as shown
 use Rattle.vga_script.specs.Item.{Item, Listing, listing, expanded, step_limit, steps_of, IsItemOf, Once}
@@ -44,17 +43,6 @@ cut_get_word fields short = (opcode_get_word, fields, 4, refl, refl, short)
 
 pub cut_int : (fields : List ℕ) → length fields < 10 + little_number 2 (drop 8 fields) → StartsWithCutStep (opcode_int ∷ fields)
 cut_int fields short = (opcode_int, fields, 10 + little_number 2 (drop 8 fields), refl, refl, short)
-
--- a call whose block is not all there
-pub cut_repeat : (fields r1 r2 r3 r4 rest : List ℕ) (ax bx cx dx len : ℕ) → fields ≡ little_bytes 2 ax ++ r1 → r1 ≡ little_bytes 2 bx ++ r2 →
-    r2 ≡ little_bytes 2 cx ++ r3 → r3 ≡ little_bytes 2 dx ++ r4 → r4 ≡ little_bytes 2 len ++ rest
-    → len < 2 ^ 16 → length rest < len → StartsWithCutStep (opcode_int ∷ fields)
-cut_repeat fields r1 r2 r3 r4 rest ax bx cx dx len ha hb hc hd hl small short =
-    let whole : fields ≡ little_bytes 2 ax ++ (little_bytes 2 bx ++ (little_bytes 2 cx ++ (little_bytes 2 dx ++ (little_bytes 2 len ++ rest)))) =
-    rw (ha, hb, hc, hd, hl) refl in
-    let count : little_number 2 (drop 8 fields) ≡ len = ap (λ (l : List ℕ). little_number 2 (drop 8 l)) whole ∙ two_back len rest small in
-    let l = ap length whole in
-    cut_int fields (omega arith)
 
 -- and the others
 pub cut_advance : (fields : List ℕ) → length fields < 4 → StartsWithCutStep (opcode_advance ∷ fields)

@@ -20,6 +20,7 @@ pub mod PrintedLemmas
 pub mod ProgressLemmas
 pub mod ReadingLemmas
 pub mod RepeatLineLemmas
+pub mod ScriptBytesLemmas
 pub mod ScriptLemmas
 pub mod ShownLemmas
 pub mod StepsLemmas

@@ -5,7 +5,8 @@ use Rattle.vga_script.specs.declared.keyword.Keyword.{Keyword}
 use Rattle.vga_script.specs.Tokens.{lowered, words}
 use Rattle.vga_script.specs.Text.{name_of, keyword_of, SpellsLine, SpellsLines}
 use Rattle.vga_script.specs.StepReading.{read_step}
-use Rattle.vga_script.proofs.ReadingLemmas.{read_spells, spells_read, one_name}
+use Rattle.vga_script.proofs.NameLemmas.{one_name}
+use Rattle.vga_script.proofs.ReadingLemmas.{read_spells, spells_read}
 use Rattle.vga_script.proofs.OptionLemmas.{some_is}
 
 -- a line with no word

@@ -160,11 +160,15 @@ pub one_decimal_reads : (most : ℕ) (ws : List (List ℕ)) (n : ℕ) → one_de
 unfolding one_decimal
 one_decimal_reads most [] n e = absurd (cc)
 one_decimal_reads most (w ∷ ws) n e =
-    let b = bind_ok (number_of 10 most w) (λ x. ended ws >>= λ u. Some x) n e in
-    let c = ended_ok ws (Some b.0) n b.2 in
+    let x = bind_ok (number_of 10 most w >>= λ m. Some (m, ws)) (λ x. ended x.1 >>= λ u. Some x.0) n e in
+    let b = bind_ok (number_of 10 most w) (λ m. Some (m, ws)) x.0 x.1 in
+    let same = some_is (b.0, ws) x.0 b.2 in
+    let c = ended_ok x.0.1 (Some x.0.0) n x.2 in
     let r = number_reads 10 most w b.0 b.1 in
-    subst (λ (x : ℕ). (word : List ℕ) × (w ∷ ws ≡ word ∷ []) × IsNumeral 10 word x × (x ≤ most)) (some_is b.0 n c.1)
-    (w, then_words (w ∷ ws) w ws [] refl c.0, r.0, r.1)
+    let value : b.0 ≡ n = ap (λ (y : ℕ × List (List ℕ)). y.0) same ∙ some_is x.0.0 n c.1 in
+    let none : ws ≡ [] = ap (λ (y : ℕ × List (List ℕ)). y.1) same ∙ c.0 in
+    subst (λ (x : ℕ). (word : List ℕ) × (w ∷ ws ≡ word ∷ []) × IsNumeral 10 word x × (x ≤ most)) value
+    (w, then_words (w ∷ ws) w ws [] refl none, r.0, r.1)
 
 pub spells_one_decimal : (most : ℕ) (w : List ℕ) (n : ℕ) → IsNumeral 10 w n → n ≤ most → one_decimal most (w ∷ []) ≡ Some n
 unfolding one_decimal ended

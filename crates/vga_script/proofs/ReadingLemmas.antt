@@ -1,5 +1,5 @@
 -- What reading gives is what the words spell.
-use Rattle.std.proofs.Common.{◌≡◌, ℕ, ◌^◌, ◌<◌, ◌⊎◌, Bool, true, false, cond, List, [], ◌∷◌, ◌++◌, length, take, drop, Option, Some, Result, Ok, Err, refl, sym}
+use Rattle.std.proofs.Common.{◌≡◌, ℕ, ◌^◌, ◌<◌, ◌⊎◌, Bool, true, false, cond, List, [], ◌∷◌, ◌++◌, length, take, drop, Some, Result, Ok, Err, refl, sym}
 use Rattle.std.proofs.Common.{ap, ◌∙◌, subst, arith, inl, inr, codes, nat_le, nat_lt, ◌&&◌}
 use Rattle.std.specs.Char.{to_ascii_lowercase}
 use Rattle.std.specs.Str.{bytes_eq}
@@ -13,50 +13,13 @@ use Rattle.vga_script.specs.declared.step.Step.TheVariants.{Out, OutWord, In, In
 use Rattle.vga_script.specs.declared.keyword.Keyword.{Keyword}
 use Rattle.vga_script.specs.declared.keyword.Keyword.TheVariants as keyword
 use Rattle.vga_script.specs.Tokens.{lowered}
-use Rattle.vga_script.specs.Text.{name_of, keyword_of, SpellsFields, SpellsRegister, SpellsBytes, SpellsBlock}
+use Rattle.vga_script.specs.Text.{keyword_of, SpellsFields, SpellsRegister, SpellsBytes, SpellsBlock}
 use Rattle.vga_script.specs.StepReading.{◌>>=◌, hex_of, one_hex, two_hex, one_decimal, ended, register_at, decoded, bytes_of, digits_at, block_at, read_int}
 use Rattle.vga_script.specs.StepReading.{read_shown, read_step}
 use Rattle.vga_script.proofs.OptionLemmas.{bind_ok, guard_ok, and_ok, and_true, some_is, le_test, le_passes, lt_test, lt_passes}
 use Rattle.vga_script.proofs.NumberLemmas.{hex_below, hex_reads, spells_hex, one_hex_reads, spells_one_hex, two_hex_reads, spells_two_hex, one_decimal_reads}
 use Rattle.vga_script.proofs.NumberLemmas.{spells_one_decimal, ended_ok, then_words}
 use Rattle.vga_script.proofs.ShownLemmas.{shown_reads, spells_shown}
-
--- ---- names
-
--- the keyword of a name
-keyword_at : List ℕ → Option Keyword
-keyword_at w =
-    cond (bytes_eq w (codes "out")) (Some keyword.Out)
-    (cond (bytes_eq w (codes "outw")) (Some keyword.OutWord)
-    (cond (bytes_eq w (codes "in")) (Some keyword.In)
-    (cond (bytes_eq w (codes "inw")) (Some keyword.InWord)
-    (cond (bytes_eq w (codes "put")) (Some keyword.Put)
-    (cond (bytes_eq w (codes "putw")) (Some keyword.PutWord)
-    (cond (bytes_eq w (codes "get")) (Some keyword.Get)
-    (cond (bytes_eq w (codes "getw")) (Some keyword.GetWord)
-    (cond (bytes_eq w (codes "int")) (Some keyword.Int)
-    (cond (bytes_eq w (codes "advance")) (Some keyword.Advance)
-    (cond (bytes_eq w (codes "frame")) (Some keyword.Frame)
-    (Some keyword.Show)))))))))))
-
-keyword_back : (k : Keyword) → keyword_at (name_of k) ≡ Some k
-unfolding keyword_at
-keyword_back keyword.Out = refl
-keyword_back keyword.OutWord = refl
-keyword_back keyword.In = refl
-keyword_back keyword.InWord = refl
-keyword_back keyword.Put = refl
-keyword_back keyword.PutWord = refl
-keyword_back keyword.Get = refl
-keyword_back keyword.GetWord = refl
-keyword_back keyword.Int = refl
-keyword_back keyword.Advance = refl
-keyword_back keyword.Frame = refl
-keyword_back keyword.Show = refl
-
--- no two keywords have one name
-pub one_name : (j k : Keyword) → name_of j ≡ name_of k → j ≡ k
-one_name j k e = some_is j k (sym (keyword_back j) ∙ ap keyword_at e ∙ keyword_back k)
 
 -- a word that is this name
 same_word : (w name : List ℕ) → lowered w ≡ name → bytes_eq (lowered w) name ≡ true

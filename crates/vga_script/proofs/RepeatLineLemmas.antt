@@ -6,11 +6,10 @@ use Rattle.std.specs.Str.Parse.{digits_value}
 use Rattle.std.proofs.lemmas.Slice.Eq.{bytes_eq-Decides}
 use Rattle.vga_script.specs.declared.step.Step.{Step}
 use Rattle.vga_script.specs.declared.keyword.Keyword.{Keyword}
-use Rattle.vga_script.specs.declared.keyword.Keyword.TheVariants as keyword
 use Rattle.vga_script.specs.Tokens.{lowered}
 use Rattle.vga_script.specs.Text.{name_of, keyword_of, SpellsLine, SpellsRepeat, IsEnd, IsVersionTwo}
 use Rattle.vga_script.specs.StepReading.{number_of}
-use Rattle.vga_script.proofs.NameLemmas.{named, unnamed}
+use Rattle.vga_script.proofs.NameLemmas.{named, unnamed, repeat_unnamed, end_unnamed, version_unnamed}
 use Rattle.vga_script.proofs.OptionLemmas.{some_is}
 use Rattle.vga_script.proofs.NumberLemmas.{number_reads, spells_number}
 
@@ -107,49 +106,7 @@ version_two ws name word r e two is = (
   λ h. is ∙ (bytes_eq-Decides (lowered name) (codes "version")).1 (ap lowered (same_words ws name word h.0 (codes "2") e h.1).0 ∙ h.2),
 )
 
--- ---- names of steps are others
-
-pub repeat_unnamed : (k : Keyword) → bytes_eq (name_of k) (codes "repeat") ≡ false
-repeat_unnamed keyword.Out = refl
-repeat_unnamed keyword.OutWord = refl
-repeat_unnamed keyword.In = refl
-repeat_unnamed keyword.InWord = refl
-repeat_unnamed keyword.Put = refl
-repeat_unnamed keyword.PutWord = refl
-repeat_unnamed keyword.Get = refl
-repeat_unnamed keyword.GetWord = refl
-repeat_unnamed keyword.Int = refl
-repeat_unnamed keyword.Advance = refl
-repeat_unnamed keyword.Frame = refl
-repeat_unnamed keyword.Show = refl
-
-pub end_unnamed : (k : Keyword) → bytes_eq (name_of k) (codes "end") ≡ false
-end_unnamed keyword.Out = refl
-end_unnamed keyword.OutWord = refl
-end_unnamed keyword.In = refl
-end_unnamed keyword.InWord = refl
-end_unnamed keyword.Put = refl
-end_unnamed keyword.PutWord = refl
-end_unnamed keyword.Get = refl
-end_unnamed keyword.GetWord = refl
-end_unnamed keyword.Int = refl
-end_unnamed keyword.Advance = refl
-end_unnamed keyword.Frame = refl
-end_unnamed keyword.Show = refl
-
-version_unnamed : (k : Keyword) → bytes_eq (name_of k) (codes "version") ≡ false
-version_unnamed keyword.Out = refl
-version_unnamed keyword.OutWord = refl
-version_unnamed keyword.In = refl
-version_unnamed keyword.InWord = refl
-version_unnamed keyword.Put = refl
-version_unnamed keyword.PutWord = refl
-version_unnamed keyword.Get = refl
-version_unnamed keyword.GetWord = refl
-version_unnamed keyword.Int = refl
-version_unnamed keyword.Advance = refl
-version_unnamed keyword.Frame = refl
-version_unnamed keyword.Show = refl
+-- ---- a line is of one kind
 
 -- a line of a step does not begin with a word that is the name of none
 pub not_step_named : (ws : List (List ℕ)) (first : List ℕ) (fields : List (List ℕ)) (name : List ℕ) (steps : List Step) →

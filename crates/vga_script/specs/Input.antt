@@ -3,7 +3,7 @@
 use Rattle.std.specs.Prelude.{ℕ, ◌≡◌, ◌<◌, ◌≤◌, ◌+◌, ◌⊎◌, List, length, Option, IfSome, Result}
 use Rattle.vga_bits.specs.LimitedReading.{TakesAtMost, is_read_fault}
 use Rattle.vga_bits.specs.Tracked.{inner_of, has_failed, read_count_of}
-use Rattle.vga_bits.specs.declared.tracked.Tracked.{Tracked}
+use Rattle.vga_bits.specs.Tracked.{TrackedState}
 use Rattle.vga_bits.specs.declared.fault.Fault.{Fault}
 use Rattle.vga_bits.specs.declared.fault.Fault.TheVariants.{TooLong, ReadFault, OutOfMemory}
 use Rattle.vga_script.specs.declared.step.Step.{Step}
@@ -47,7 +47,7 @@ InputSpellsText input script = (text : List ℕ) × IsInput input text × Spells
 -- What a call does to the reader of a script, whose bytes are told by `remaining`: it fails exactly
 -- where the call says so, and at most one byte more is taken of any reader than a script may have,
 -- counted as the bytes come.
-abbrev pub ReadsScript : {R A : Type 0} → (R → Option (List ℕ)) → Tracked R → Tracked R →
+abbrev pub ReadsScript : {R A : Type 0} → (R → Option (List ℕ)) → TrackedState R → TrackedState R →
     Result A Fault → Type 0
 ReadsScript remaining old new result = (has_failed new ≡ is_read_fault result)
     × TakesAtMost (script_limit + 1) (remaining (inner_of old)) (remaining (inner_of new))

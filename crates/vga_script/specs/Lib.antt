@@ -9,6 +9,7 @@ pub mod Item
 pub mod Printing
 pub mod Progress
 pub mod Script
+pub mod ScriptBytes
 pub mod Spelled
 pub mod Spelling
 pub mod Step

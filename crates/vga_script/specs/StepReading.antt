@@ -74,13 +74,17 @@ two_hex digits most other_digits other_most ws = do
   e ← ended m.1
   Some (n.0, m.0)
 
+-- a decimal number, and the words behind it
+abbrev pub decimal_at : ℕ → List (List ℕ) → Option (ℕ × List (List ℕ))
+decimal_at most [] = None
+decimal_at most (w ∷ ws) = number_of 10 most w >>= λ n. Some (n, ws)
+
 -- one decimal number, and no other word
 unfoldable pub one_decimal : ℕ → List (List ℕ) → Option ℕ
-one_decimal most [] = None
-one_decimal most (w ∷ ws) = do
-  n ← number_of 10 most w
-  e ← ended ws
-  Some n
+one_decimal most ws = do
+  n ← decimal_at most ws
+  e ← ended n.1
+  Some n.0
 
 -- a register, where its name is the prefix of the first word, or 0
 unfoldable pub register_at : List ℕ → List (List ℕ) → Option (ℕ × List (List ℕ))

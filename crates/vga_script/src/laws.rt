@@ -5,8 +5,9 @@ ghost use Rattle.vga_script.specs.Decoding.{IsFault};
 ghost use Rattle.vga_script.specs.Item.{Listing, AreItemsOf, expanded, step_limit};
 ghost use Rattle.vga_script.specs.Printing.{printed};
 ghost use Rattle.vga_script.specs.Script.{IsScript, IsTextFault};
+ghost use Rattle.vga_script.specs.ScriptBytes.{script_of_steps, begun, with_steps, HasWritten};
 ghost use Rattle.vga_script.specs.Spelled.{SpellsExpanded};
-ghost use Rattle.vga_script.specs.Spelling.{encoding, Spells};
+ghost use Rattle.vga_script.specs.Spelling.{script_limit, encoding, Spells};
 ghost use Rattle.vga_script.specs.Step.{AreInRange};
 ghost use Rattle.vga_script.specs.declared.step.Step.{Step};
 ghost use Rattle.vga_script.specs.Text.{SpellsText};
@@ -62,4 +63,15 @@ pub fn one_text_fault()
 pub fn printed_text_spells()
     ensures { (script : Listing) → AreItemsOf script.version script.items →
         length (expanded script.items) ≤ step_limit → SpellsText (printed script) script }
+{}
+
+/// Steps that are put one after the other make the bytes of their script, as far as there is room;
+/// and these spell it, unless they are too many.
+pub fn written_steps_spell()
+    ensures written { (room : ℕ) (steps : List Step) →
+        HasWritten (encoding (script_of_steps steps)) (with_steps (begun room) steps) }
+    ensures room { (room : ℕ) (steps : List Step) → (with_steps (begun room) steps).room ≡ room }
+    ensures spells { (steps : List Step) → AreInRange steps →
+        length (encoding (script_of_steps steps)) ≤ script_limit →
+        Spells (encoding (script_of_steps steps)) (script_of_steps steps) }
 {}

@@ -14,11 +14,13 @@ mod laws;
 mod numbers;
 mod opcode;
 mod output;
+mod plain_steps;
 mod printed_line;
 mod printing;
 mod progress;
 mod repeat_lines;
 mod script;
+mod script_bytes;
 mod spelled_item;
 mod step;
 mod step_bytes;
@@ -34,10 +36,11 @@ pub use dump_range::Shown;
 pub use input::read_script;
 pub use laws::{
     one_fault, one_list, one_script, one_script_of_text, one_spelling, one_text_fault,
-    printed_text_spells, steps_fit,
+    printed_text_spells, steps_fit, written_steps_spell,
 };
 pub use printing::print;
-pub use script::{Script, decode, encode};
+pub use script::{SCRIPT_LIMIT, Script, decode, encode};
+pub use script_bytes::ScriptBytes;
 pub use step::Step;
 pub use steps::Steps;
 pub use version::Version;

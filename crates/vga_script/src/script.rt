@@ -16,7 +16,7 @@ use std::marker::Model;
 use vga_bits::Fault;
 
 /// How many bytes a script may have, and a text that spells one.
-pub(crate) const SCRIPT_LIMIT: usize = 16_777_216;
+pub const SCRIPT_LIMIT: usize = 16_777_216;
 
 /// How many steps a script may mean.
 pub(crate) const STEP_LIMIT: usize = 16_777_216;

@@ -14,27 +14,9 @@ use super::dump_range::Shown;
 use super::fields::{NoStep, block_at, u8_at, u16_at, u32_at};
 use super::opcode;
 use super::output::{append, append_u16, append_u32};
+use super::plain_steps::plain_steps;
 use super::step::Step;
 use vga_bits::Fault;
-
-/// The table of plain steps: a row each, with its opcode, and its fields, of so many bytes, in
-/// order.
-macro_rules! plain_steps {
-    ($then:ident, $first:ident, $second:ident) => {
-        $then! {
-            $first, $second,
-            OUT => Out { port: two, value: one },
-            OUT_WORD => OutWord { port: two, value: two },
-            IN => In { port: two },
-            IN_WORD => InWord { port: two },
-            PUT => Put { address: four, value: one },
-            PUT_WORD => PutWord { address: four, value: two },
-            GET => Get { address: four },
-            GET_WORD => GetWord { address: four },
-            ADVANCE => Advance { dots: four },
-        }
-    };
-}
 
 /// A field that is read.
 macro_rules! read_field {
@@ -45,6 +27,9 @@ macro_rules! read_field {
         u16_at($rest)?
     };
     (four, $rest:ident) => {
+        u32_at($rest)?
+    };
+    (dots, $rest:ident) => {
         u32_at($rest)?
     };
 }
@@ -75,6 +60,9 @@ macro_rules! write_field {
         append_u16(&mut *$out, *$value)?
     };
     (four, $out:ident, $value:ident) => {
+        append_u32(&mut *$out, *$value)?
+    };
+    (dots, $out:ident, $value:ident) => {
         append_u32(&mut *$out, *$value)?
     };
 }

@@ -1,7 +1,7 @@
 //! Reading the words of a line.
-ghost use Rattle.std.specs.Prelude.{◌≡◌, ◌≤◌, IfOk, Some, take, drop, option_to_list, List, Err};
-ghost use Rattle.vga_script.specs.StepReading.{Gives, hex_of, hex_at, ended, one_hex, two_hex};
-ghost use Rattle.vga_script.specs.StepReading.{one_decimal};
+ghost use Rattle.std.specs.Prelude.{◌≡◌, ◌≢◌, ◌≤◌, IfOk, Some, take, drop, option_to_list, List, Err};
+ghost use Rattle.vga_script.specs.StepReading.{Gives, hex_of, hex_at, ended, one_hex};
+ghost use Rattle.vga_script.specs.StepReading.{decimal_at, one_decimal};
 ghost use Rattle.vga_script.specs.StepReading.{register_at, bytes_of, digits_at, block_at};
 ghost use Rattle.vga_script.specs.StepReading.{read_int};
 ghost use Rattle.vga_script.specs.StepReading.{alone, read_dac, read_plane, read_shown, read_step};
@@ -13,6 +13,7 @@ use super::block::Block;
 use super::dump_range::{MOST_SHOWN, Shown};
 use super::keyword::{Keyword, is_name};
 use super::numbers::number;
+use super::plain_steps::plain_steps;
 use super::step::Step;
 use super::tokens::{before_comment, next_word};
 use hex::FromHexError;
@@ -81,24 +82,19 @@ fn one_hex(fields: &[u8], digits: usize, most: u32) -> Result<u32, Unread>
     Ok(n)
 }
 
-/// Two hexadecimal numbers, each with its digits and bound, and no other word.
-#[tactic(auto, unfolding(crate::specs::StepReading::two_hex))]
-fn two_hex(
-    fields: &[u8],
-    digits: usize,
-    most: u32,
-    other_digits: usize,
-    other_most: u32,
-) -> Result<(u32, u32), Unread>
-    ensures read { Gives (λ x. (x.0, x.1)) result
-        (two_hex digits most other_digits other_most (words_in fields.now)) }
-    ensures first { IfOk result (λ x. x.0 ≤ most) }
-    ensures second { IfOk result (λ x. x.1 ≤ other_most) }
+/// The decimal number, no larger than `most`, that the first word spells, and what follows it.
+fn decimal_at(fields: &[u8], most: u32) -> Result<(u32, &[u8]), Unread>
+    ensures read { Gives (λ x. (x.0, words_in x.1.now)) result
+        (decimal_at most (words_in fields.now)) }
+    ensures bound { IfOk result (λ x. x.0 ≤ most) }
 {
-    let (n, rest) = hex_at(fields, digits, most)?;
-    let (m, rest) = hex_at(rest, other_digits, other_most)?;
-    ended(rest)?;
-    Ok((n, m))
+    let Some((word, rest)) = next_word(fields) else {
+        return Err(Unread::Bad);
+    };
+    match number(word, 10, most) {
+        Some(n) => Ok((n, rest)),
+        None => Err(Unread::Bad),
+    }
 }
 
 /// One decimal number, no larger than `most`, and no other word.
@@ -107,12 +103,7 @@ fn one_decimal(fields: &[u8], most: u32) -> Result<u32, Unread>
     ensures read { Gives (λ n. n) result (one_decimal most (words_in fields.now)) }
     ensures bound { IfOk result (λ n. n ≤ most) }
 {
-    let Some((word, rest)) = next_word(fields) else {
-        return Err(Unread::Bad);
-    };
-    let Some(n) = number(word, 10, most) else {
-        return Err(Unread::Bad);
-    };
+    let (n, rest) = decimal_at(fields, most)?;
     ended(rest)?;
     Ok(n)
 }
@@ -207,102 +198,20 @@ fn read_int<'a>(alloc: Global, kept: &'a mut Vec<u8>, fields: &[u8]) -> Result<S
     })
 }
 
-/// A write of a byte to a port.
-#[tactic(auto, unfolding(crate::specs::StepReading::read_step))]
-fn read_out(fields: &[u8]) -> Result<Step<'static>, Unread>
-    ensures { Gives (λ step. step) result (read_step Keyword.Out (words_in fields.now)) }
+/// A number of one byte, and what follows it.
+fn u8_at(fields: &[u8]) -> Result<(u8, &[u8]), Unread>
+    ensures { Gives (λ x. (x.0, words_in x.1.now)) result (hex_at 2 0xFF (words_in fields.now)) }
 {
-    let (port, value) = two_hex(fields, 4, 0xFFFF, 2, 0xFF)?;
-    let port = port as u16;
-    let value = value as u8;
-    Ok(Step::Out { port, value })
+    let (n, rest) = hex_at(fields, 2, 0xFF)?;
+    Ok((n as u8, rest))
 }
 
-/// A write of a word to a port.
-#[tactic(auto, unfolding(crate::specs::StepReading::read_step))]
-fn read_out_word(fields: &[u8]) -> Result<Step<'static>, Unread>
-    ensures { Gives (λ step. step) result (read_step Keyword.OutWord (words_in fields.now)) }
+/// A number of two bytes, and what follows it.
+fn u16_at(fields: &[u8]) -> Result<(u16, &[u8]), Unread>
+    ensures { Gives (λ x. (x.0, words_in x.1.now)) result (hex_at 4 0xFFFF (words_in fields.now)) }
 {
-    let (port, value) = two_hex(fields, 4, 0xFFFF, 4, 0xFFFF)?;
-    let port = port as u16;
-    let value = value as u16;
-    Ok(Step::OutWord { port, value })
-}
-
-/// A read of a byte from a port.
-#[tactic(auto, unfolding(crate::specs::StepReading::read_step))]
-fn read_in(fields: &[u8]) -> Result<Step<'static>, Unread>
-    ensures { Gives (λ step. step) result (read_step Keyword.In (words_in fields.now)) }
-{
-    let port = one_hex(fields, 4, 0xFFFF)?;
-    let port = port as u16;
-    Ok(Step::In { port })
-}
-
-/// A read of a word from a port.
-#[tactic(auto, unfolding(crate::specs::StepReading::read_step))]
-fn read_in_word(fields: &[u8]) -> Result<Step<'static>, Unread>
-    ensures { Gives (λ step. step) result (read_step Keyword.InWord (words_in fields.now)) }
-{
-    let port = one_hex(fields, 4, 0xFFFF)?;
-    let port = port as u16;
-    Ok(Step::InWord { port })
-}
-
-/// A write of a byte to an address.
-#[tactic(auto, unfolding(crate::specs::StepReading::read_step))]
-fn read_put(fields: &[u8]) -> Result<Step<'static>, Unread>
-    ensures { Gives (λ step. step) result (read_step Keyword.Put (words_in fields.now)) }
-{
-    let (address, value) = two_hex(fields, 8, 0xFFFF_FFFF, 2, 0xFF)?;
-    let value = value as u8;
-    Ok(Step::Put { address, value })
-}
-
-/// A write of a word to an address.
-#[tactic(auto, unfolding(crate::specs::StepReading::read_step))]
-fn read_put_word(fields: &[u8]) -> Result<Step<'static>, Unread>
-    ensures { Gives (λ step. step) result (read_step Keyword.PutWord (words_in fields.now)) }
-{
-    let (address, value) = two_hex(fields, 8, 0xFFFF_FFFF, 4, 0xFFFF)?;
-    let value = value as u16;
-    Ok(Step::PutWord { address, value })
-}
-
-/// A read of a byte from an address.
-#[tactic(auto, unfolding(crate::specs::StepReading::read_step))]
-fn read_get(fields: &[u8]) -> Result<Step<'static>, Unread>
-    ensures { Gives (λ step. step) result (read_step Keyword.Get (words_in fields.now)) }
-{
-    let address = one_hex(fields, 8, 0xFFFF_FFFF)?;
-    Ok(Step::Get { address })
-}
-
-/// A read of a word from an address.
-#[tactic(auto, unfolding(crate::specs::StepReading::read_step))]
-fn read_get_word(fields: &[u8]) -> Result<Step<'static>, Unread>
-    ensures { Gives (λ step. step) result (read_step Keyword.GetWord (words_in fields.now)) }
-{
-    let address = one_hex(fields, 8, 0xFFFF_FFFF)?;
-    Ok(Step::GetWord { address })
-}
-
-/// An advance of the clock.
-#[tactic(auto, unfolding(crate::specs::StepReading::read_step))]
-fn read_advance(fields: &[u8]) -> Result<Step<'static>, Unread>
-    ensures { Gives (λ step. step) result (read_step Keyword.Advance (words_in fields.now)) }
-{
-    let dots = one_decimal(fields, 0xFFFF_FFFF)?;
-    Ok(Step::Advance { dots })
-}
-
-/// A frame that is drawn.
-#[tactic(auto, unfolding(crate::specs::StepReading::read_step))]
-fn read_frame(fields: &[u8]) -> Result<Step<'static>, Unread>
-    ensures { Gives (λ step. step) result (read_step Keyword.Frame (words_in fields.now)) }
-{
-    ended(fields)?;
-    Ok(Step::Frame)
+    let (n, rest) = hex_at(fields, 4, 0xFFFF)?;
+    Ok((n as u16, rest))
 }
 
 /// What is shown, and no other word.
@@ -375,6 +284,51 @@ fn read_shown(fields: &[u8]) -> Result<Shown, Unread>
     Err(Unread::Bad)
 }
 
+/// A field that is read.
+macro_rules! read_field {
+    (one, $rest:ident) => {
+        u8_at($rest)?
+    };
+    (two, $rest:ident) => {
+        u16_at($rest)?
+    };
+    (four, $rest:ident) => {
+        hex_at($rest, 8, 0xFFFF_FFFF)?
+    };
+    (dots, $rest:ident) => {
+        decimal_at($rest, 0xFFFF_FFFF)?
+    };
+}
+
+/// The step of a name, whose fields are read in turn.
+macro_rules! read_steps {
+    (
+        $keyword:ident, $fields:ident,
+        $($name:ident => $step:ident { $($field:ident: $kind:ident),* },)*
+    ) => {
+        match $keyword {
+            $(Keyword::$step => {
+                let rest = $fields;
+                $(let ($field, rest) = read_field!($kind, rest);)*
+                ended(rest)?;
+                Ok(Step::$step { $($field),* })
+            })*
+            _ => Err(Unread::Bad),
+        }
+    };
+}
+
+/// The plain step of this name that the words behind it spell.
+#[tactic(auto, unfolding(crate::specs::StepReading::read_step, crate::specs::StepReading::one_hex, crate::specs::StepReading::two_hex, crate::specs::StepReading::one_decimal, crate::specs::StepReading::ended))]
+fn read_plain(keyword: Keyword, fields: &[u8]) -> Result<Step<'static>, Unread>
+    requires int { keyword ≢ Keyword.Int }
+    requires frame { keyword ≢ Keyword.Frame }
+    requires show { keyword ≢ Keyword.Show }
+    ensures { Gives (λ step. step) result (read_step keyword (words_in fields.now)) }
+{
+    plain_steps!(read_steps, keyword, fields)
+}
+
 /// The step of this name that the words behind it spell. A block is kept in `kept`.
 #[tactic(auto, unfolding(crate::specs::StepReading::read_step))]
 fn read_step<'a>(
@@ -386,21 +340,16 @@ fn read_step<'a>(
     ensures { Gives (λ step. step) result (read_step keyword (words_in fields.now)) }
 {
     match keyword {
-        Keyword::Out => read_out(fields),
-        Keyword::OutWord => read_out_word(fields),
-        Keyword::In => read_in(fields),
-        Keyword::InWord => read_in_word(fields),
-        Keyword::Put => read_put(fields),
-        Keyword::PutWord => read_put_word(fields),
-        Keyword::Get => read_get(fields),
-        Keyword::GetWord => read_get_word(fields),
         Keyword::Int => read_int(alloc, kept, fields),
-        Keyword::Advance => read_advance(fields),
-        Keyword::Frame => read_frame(fields),
+        Keyword::Frame => {
+            ended(fields)?;
+            Ok(Step::Frame)
+        }
         Keyword::Show => {
             let shown = read_shown(fields)?;
             Ok(Step::Show { shown })
         }
+        _ => read_plain(keyword, fields),
     }
 }
 

@@ -14,9 +14,10 @@ use std::fmt;
 use vga_bits::Refusal;
 use vga_card::{Card, Drawn};
 
-/// How many settings of all registers are compared, and how many frames of each.
-const SETTINGS: u32 = 2_000;
+/// How many settings of all registers are compared, unless fewer are asked for.
+pub const SETTINGS: u32 = 2_000;
 
+/// How many frames of each are.
 const FRAMES: u32 = 5;
 
 /// The settings that have tall frames, and which bits of the vertical total make them so.
@@ -419,10 +420,15 @@ impl Pair {
     }
 
     /// So many frames of so many settings, up to the first difference.
-    fn outcome(&mut self, random: &mut Pcg32, dots: DotSource) -> Result<DotsOutcome> {
+    fn outcome(
+        &mut self,
+        random: &mut Pcg32,
+        dots: DotSource,
+        settings: u32,
+    ) -> Result<DotsOutcome> {
         let mut frames = 0;
         self.fill_memory(random)?;
-        for setting in 0..SETTINGS {
+        for setting in 0..settings {
             self.change_all(random, dots)?;
             self.make_tall_in(setting)?;
             for _ in 0..FRAMES {
@@ -440,8 +446,13 @@ impl Pair {
     }
 }
 
-/// Compares frames of pseudo-random settings, with the numbers of a stream.
-pub fn compare_dots(alloc: Global, dots: DotSource, stream: u64) -> Result<DotsOutcome> {
+/// Compares frames of so many pseudo-random settings, with the numbers of a stream.
+pub fn compare_dots(
+    alloc: Global,
+    dots: DotSource,
+    stream: u64,
+    settings: u32,
+) -> Result<DotsOutcome> {
     let mut random = Pcg32::new(0x5EED, stream);
-    Pair::new(alloc)?.outcome(&mut random, dots)
+    Pair::new(alloc)?.outcome(&mut random, dots, settings)
 }

@@ -12,9 +12,10 @@ use vga_bits::{Fault, Refusal};
 use vga_host::{GRAPHICS_DATA, GRAPHICS_INDEX, Host, SEQUENCER_DATA, SEQUENCER_INDEX};
 use vga_planes::Planes;
 
-/// How many settings of the registers are compared, and how many cycles on each.
-const SETTINGS: u32 = 40_000;
+/// How many settings of the registers are compared, unless fewer are asked for.
+pub const SETTINGS: u32 = 40_000;
 
+/// How many cycles on each are.
 const CYCLES: u32 = 8;
 
 /// The miscellaneous output register with the display memory switched on.
@@ -156,12 +157,12 @@ impl Paths {
     }
 }
 
-/// Compares cycles on pseudo-random settings, and then the whole memory.
-pub fn compare_host_path(alloc: Global) -> Result<PathOutcome> {
+/// Compares cycles on so many pseudo-random settings, and then the whole memory.
+pub fn compare_host_path(alloc: Global, settings: u32) -> Result<PathOutcome> {
     let mut random = Pcg32::new(0x5EED, 1);
     let mut paths = Paths::new(alloc)?;
     let mut cycles = 0;
-    for _ in 0..SETTINGS {
+    for _ in 0..settings {
         paths.set_registers(&mut random)?;
         for _ in 0..CYCLES {
             let mismatch = paths.cycle_mismatch(&mut random);

@@ -3,6 +3,9 @@
 //! as with writers that fail; and prints how each comparison and each group of checks ended. The
 //! exit status is 1 where any model differs or any check fails.
 //!
+//! With the words `host N` or `dots N` it compares cycles or dots alone, on so few settings that you
+//! can try a change of the adapter within a minute.
+//!
 //! With the words `memory N` it does nothing of this: it makes N allocations, and then prints how
 //! each call ends that takes memory. Whoever refuses an allocation by its number chooses the call
 //! that meets it.
@@ -68,14 +71,18 @@ fn tell<R: Print>(rt: &R, tally: &mut Tally, group: &str, checks: Checks) -> Res
     Ok(())
 }
 
-/// Compares the adapter with the models, and prints how each comparison ended.
-fn compare_models<R: Print + AllocGlobal>(rt: &R, tally: &mut Tally) -> Result<()> {
-    let alloc = rt.alloc();
-    let path = compare_host_path(alloc)?;
+/// Compares cycles of memory with the model, and prints how that ended.
+fn compare_host<R: Print + AllocGlobal>(rt: &R, tally: &mut Tally, settings: u32) -> Result<()> {
+    let path = compare_host_path(rt.alloc(), settings)?;
     println!(rt; "host path: {path}")?;
     tally.count(path.is_alike());
+    Ok(())
+}
+
+/// Compares dots of each kind with the model, and prints how that ended.
+fn compare_kinds<R: Print + AllocGlobal>(rt: &R, tally: &mut Tally, settings: u32) -> Result<()> {
     for (name, source, stream) in KINDS {
-        let dots = compare_dots(alloc, source, stream)?;
+        let dots = compare_dots(rt.alloc(), source, stream, settings)?;
         println!(rt; "{name}: {dots}")?;
         tally.count(dots.is_alike());
     }
@@ -134,24 +141,47 @@ fn tell_endings<R: Print + AllocGlobal>(rt: &R, allocations: u32) -> Result<()> 
     Ok(())
 }
 
-/// How many allocations the words ask for before the calls that take memory, where they ask for
-/// these calls.
-fn allocations_wanted<R: Env + AllocGlobal>(rt: &R) -> Result<Option<u32>> {
+/// What the words ask for.
+enum Job {
+    /// All comparisons and checks.
+    Everything,
+    /// Cycles on so many settings.
+    Host(u32),
+    /// Frames of so many settings of each kind.
+    Dots(u32),
+    /// The calls that take memory, after so many allocations.
+    Memory(u32),
+}
+
+/// What the words ask for.
+fn wanted_job<R: Env + AllocGlobal>(rt: &R) -> Result<Job> {
     let words: Vec<String> = env::args(rt)?.collect(rt.alloc())?;
     match words.as_slice() {
-        [_, word, count] if word.as_str() == "memory" => Ok(Some(count.parse()?)),
-        _ => Ok(None),
+        [_, word, count] if word.as_str() == "host" => Ok(Job::Host(count.parse()?)),
+        [_, word, count] if word.as_str() == "dots" => Ok(Job::Dots(count.parse()?)),
+        [_, word, count] if word.as_str() == "memory" => Ok(Job::Memory(count.parse()?)),
+        _ => Ok(Job::Everything),
     }
 }
 
+/// Makes all comparisons and checks.
+fn check_everything<R: Print + AllocGlobal>(rt: &R, tally: &mut Tally) -> Result<()> {
+    compare_host(rt, tally, host_path::SETTINGS)?;
+    compare_kinds(rt, tally, dots::SETTINGS)?;
+    check_crates(rt, tally)
+}
+
 fn main(rt: HostRuntime) -> Result<ExitCode> {
-    if let Some(allocations) = allocations_wanted(&rt)? {
-        tell_endings(&rt, allocations)?;
-        return Ok(ExitCode::from(0));
-    }
     let mut tally = Tally::new();
-    compare_models(&rt, &mut tally)?;
-    check_crates(&rt, &mut tally)?;
+    match wanted_job(&rt)? {
+        Job::Everything => check_everything(&rt, &mut tally)?,
+        Job::Host(settings) => compare_host(&rt, &mut tally, settings)?,
+        Job::Dots(settings) => compare_kinds(&rt, &mut tally, settings)?,
+        Job::Memory(allocations) => {
+            tell_endings(&rt, allocations)?;
+            return Ok(ExitCode::from(0));
+        }
+    }
     println!(rt; "{tally}")?;
     Ok(ExitCode::from(tally.status()))
 }

@@ -3,7 +3,7 @@ use Rattle.std.proofs.Common.{◌≡◌, ℕ, ◌+◌, refl, ap, ◌∙◌, Bool
 use Rattle.bios_screen.proofs.Prelude.{is_set, card_meaning, CardState, crtc_port, Plan, run, ◌>>◌}
 use Rattle.vga_card.specs.declared.port.Port.TheVariants.{CrtcIndex, CrtcData, InputStatus1}
 use Rattle.vga_card.specs.Port.{port_of, crtc_port_of}
-use Rattle.vga_card.specs.Cycles.{out_at, inp_at}
+use Rattle.vga_card.specs.Cycles.{out_at, inp_at, out_reached, inp_reached}
 use Rattle.bios_services.specs.Plan.{out}
 use Rattle.bios_services.specs.Cycles.{crtc, expect_index}
 use Rattle.bios_screen.proofs.Base.Plans.{run_bind}
@@ -24,7 +24,7 @@ reached misc = reached_by misc (is_set misc 0) refl
 
 -- a register of the CRT controller is written
 pub crtc_runs : (c : CardState) (i v : ℕ) → (run card_meaning (crtc (crtc_port c.misc) i v) c).0 ≡ (out_at (out_at c (Some CrtcIndex) i).0 (Some CrtcData) v).0
-unfolding out_at
+unfolding out_reached
 crtc_runs c i v =
     ap (λ p. (run card_meaning (out (crtc_port c.misc + 1) v) (out_at c p i).0).0) (reached c.misc).index
     ∙ ap (λ p. (out_at (out_at c (Some CrtcIndex) i).0 p v).0) (reached c.misc).value
@@ -32,7 +32,7 @@ crtc_runs c i v =
 -- the next write to the attribute controller is made an index, and then a plan goes on
 pub expected_runs : {A : Type 0} (rest : Plan A) (c : CardState) → run card_meaning (expect_index (crtc_port c.misc) >> rest) c
     ≡ run card_meaning rest (record c { attr = record c.attr { is_data = false } })
-unfolding inp_at
+unfolding inp_reached
 expected_runs rest c =
     run_bind card_meaning (expect_index (crtc_port c.misc)) (λ _. rest) c
     ∙ ap (λ p. run card_meaning rest (inp_at c p).0) (reached c.misc).status

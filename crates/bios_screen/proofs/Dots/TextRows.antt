@@ -10,7 +10,7 @@ use Rattle.vga_crtc.specs.Fields.{is_double_word, is_address_wrap, is_byte_mode,
 use Rattle.vga_dots.specs.SourceDot.{fetch_address}
 use Rattle.bios_modes.specs.Palette.{is_monochrome_mode}
 use Rattle.bios_services.specs.Registers.{high, low}
-use Rattle.bios_screen.proofs.Modes.Frames.{IsFrame, HasShades, fits, uncut}
+use Rattle.bios_screen.proofs.Modes.Frames.{IsFrame, computed_frame, HasShades}
 use Rattle.bios_screen.proofs.Modes.TextModes.{Display, Height, row_with, number_of}
 use Rattle.bios_screen.proofs.Modes.TextModes.Display.{Colour, Monochrome}
 use Rattle.bios_screen.proofs.Modes.TextModes.Height.{Eight, Fourteen, Sixteen}
@@ -61,18 +61,12 @@ cursor_by row type start location k r f = refl
 
 frame_by : (disp : Display) (height : Height) → IsFrame (text_raster (row_with disp height)) (row_with disp height)
 unfolding horizontal_total horizontal_display_end vertical_total vertical_display_end line_compare preset_row_scan byte_panning
-frame_by Colour Eight =
-    record { raster = fits _ refl; clock = refl; numbers = refl; regular = uncut _ refl refl; whole = refl; attributes = refl; still = refl }
-frame_by Colour Fourteen =
-    record { raster = fits _ refl; clock = refl; numbers = refl; regular = uncut _ refl refl; whole = refl; attributes = refl; still = refl }
-frame_by Colour Sixteen =
-    record { raster = fits _ refl; clock = refl; numbers = refl; regular = uncut _ refl refl; whole = refl; attributes = refl; still = refl }
-frame_by Monochrome Eight =
-    record { raster = fits _ refl; clock = refl; numbers = refl; regular = uncut _ refl refl; whole = refl; attributes = refl; still = refl }
-frame_by Monochrome Fourteen =
-    record { raster = fits _ refl; clock = refl; numbers = refl; regular = uncut _ refl refl; whole = refl; attributes = refl; still = refl }
-frame_by Monochrome Sixteen =
-    record { raster = fits _ refl; clock = refl; numbers = refl; regular = uncut _ refl refl; whole = refl; attributes = refl; still = refl }
+frame_by Colour Eight = computed_frame _ _ refl
+frame_by Colour Fourteen = computed_frame _ _ refl
+frame_by Colour Sixteen = computed_frame _ _ refl
+frame_by Monochrome Eight = computed_frame _ _ refl
+frame_by Monochrome Fourteen = computed_frame _ _ refl
+frame_by Monochrome Sixteen = computed_frame _ _ refl
 
 shades_by : (disp : Display) (height : Height) → HasShades (row_with disp height)
 shades_by Colour _ = record { on = refl; many = refl; wide = refl; planes = refl; select = refl }

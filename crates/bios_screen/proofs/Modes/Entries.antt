@@ -7,7 +7,7 @@ use Rattle.vga_dac.specs.declared.component.Component.TheVariants.{Red}
 use Rattle.bios_screen.proofs.Prelude.{DacState, card_meaning, CardState, run, each}
 use Rattle.vga_dac.specs.Dac.{IsDac}
 use Rattle.vga_card.specs.Port.{port_of}
-use Rattle.vga_card.specs.Cycles.{out_at}
+use Rattle.vga_card.specs.Cycles.{out_reached}
 use Rattle.bios_modes.specs.declared.palette.Palette.{Palette}
 use Rattle.bios_modes.specs.declared.palette.Palette.TheVariants.{Colours16, Colours64, Colours256, Monochrome}
 use Rattle.bios_modes.specs.Palette.{palette_entry}
@@ -61,7 +61,7 @@ stored d i x = record d {
 -- three writes are one entry
 three : (l : List ℕ) (i : ℕ) (c : CardState) → c.dac.component ≡ Red → c.dac.index ≡ i →
     (run card_meaning (colour_plan l) c).0 ≡ record c { dac = stored c.dac i (colour_of l) }
-unfolding colour_plan port_of out_at
+unfolding colour_plan port_of out_reached
 three l i c e w =
     ap (λ x. (run card_meaning (colour_plan l) (record c { dac = record c.dac { component = x } })).0) e
     ∙ ap (λ x. let t : CardState = record c { dac = stored c.dac x (colour_of l) } in t) w

@@ -1,5 +1,6 @@
 -- What the registers of a row of the mode table say of frames, whatever the data say of cursor and page, and of colours.
-use Rattle.std.proofs.Common.{◌≡◌, ℕ, ◌+◌, ◌*◌, ◌/◌, ◌%◌, ◌<◌, refl, ap, ◌∙◌, arith, true, false, List, length}
+use Rattle.std.proofs.Common.{◌≡◌, ℕ, ◌+◌, ◌*◌, ◌/◌, ◌%◌, ◌<◌, refl, ap, ◌∙◌, arith, Bool, true, false, List, length}
+use Rattle.std.proofs.lemmas.Bool.{and_parts, eqb-true}
 use Rattle.std.proofs.lemmas.Bool.Decides.{nat_tests}
 use Rattle.std.specs.Prelude.{◌==◌, ◌&&◌, if◌then◌else◌, nat_lt, nat_le, slice_index, bit_and, bit_or}
 use Rattle.bios_screen.proofs.Prelude.{is_set, first_counter, regular_beam, ModeRow, crtc_registers, Raster}
@@ -48,9 +49,26 @@ Blinks row b =
     let v = bit_and (slice_index row.attribute 0x10) 0xF7 in
     (bit_and (bit_and (bit_or v (8 * b)) 0xEF) 0xF7 ≡ v) × (is_set (bit_and (bit_or v (8 * b)) 0xEF) 3 ≡ (b == 1))
 
--- both by tests that are computed of a literal row
-pub fits : (m : Raster) →
-    (nat_lt 0 m.dots && (nat_lt 0 m.columns && (nat_lt 0 m.height && (nat_le m.columns m.characters && nat_le m.height m.lines)))) ≡ true → IsRaster m
+-- ---- by one test that is computed of a literal row
+
+abbrev has_numbers : Raster → Bool
+has_numbers m = nat_lt 0 m.dots && (nat_lt 0 m.columns && (nat_lt 0 m.height && (nat_le m.columns m.characters && nat_le m.height m.lines)))
+
+abbrev are_numbers : Raster → List ℕ → Bool
+are_numbers m l = (horizontal_display_end l + 1 == m.columns) && ((vertical_display_end l + 1 == m.height) && ((characters l == m.characters)
+    && (lines l == m.lines)))
+
+abbrev is_uncut : List ℕ → Bool
+is_uncut l = nat_le (lines l) (line_compare l + 1) && ((preset_row_scan l == 0) && (byte_panning l == 0))
+
+abbrev is_still : ModeRow → Bool
+is_still row = (length row.attribute == 21) && (panned_by row.sequencer row.graphics (slice_index row.attribute 0x13) == 0)
+
+abbrev pub is_frame : Raster → ModeRow → Bool
+is_frame m row = has_numbers m && (((if is_set (slice_index row.sequencer 1) 0 then 8 else 9) == m.dots) && (are_numbers m row.crtc
+    && (is_uncut row.crtc && is_still row)))
+
+fits : (m : Raster) → has_numbers m ≡ true → IsRaster m
 fits m e = record {
   some_dots = grind (arith, nat_tests);
   some_columns = grind (arith, nat_tests);
@@ -59,8 +77,37 @@ fits m e = record {
   low = grind (arith, nat_tests);
 }
 
-pub uncut : (l : List ℕ) → nat_le (lines l) (line_compare l + 1) ≡ true → preset_row_scan l ≡ 0 → IsRegular l
-uncut l e h = record { uncut = le_is (lines l) (line_compare l + 1) e; unscrolled = h }
+numbers_are : (m : Raster) (l : List ℕ) → are_numbers m l ≡ true → numbers_of m.dots l ≡ m
+numbers_are m l e =
+    let columns = and_parts (horizontal_display_end l + 1 == m.columns) _ e in
+    let height = and_parts (vertical_display_end l + 1 == m.height) _ columns.1 in
+    let rest = and_parts (characters l == m.characters) (lines l == m.lines) height.1 in
+    λ i. record {
+      dots = m.dots;
+      columns = eqb-true _ _ columns.0 i;
+      height = eqb-true _ _ height.0 i;
+      characters = eqb-true _ _ rest.0 i;
+      lines = eqb-true _ _ rest.1 i;
+    }
+
+pub computed_frame : (m : Raster) (row : ModeRow) → is_frame m row ≡ true → IsFrame m row
+computed_frame m row e =
+    let raster = and_parts (has_numbers m) _ e in
+    let clock = and_parts ((if is_set (slice_index row.sequencer 1) 0 then 8 else 9) == m.dots) _ raster.1 in
+    let numbers = and_parts (are_numbers m row.crtc) _ clock.1 in
+    let rest = and_parts (is_uncut row.crtc) (is_still row) numbers.1 in
+    let uncut = and_parts (nat_le (lines row.crtc) (line_compare row.crtc + 1)) _ rest.0 in
+    let unscrolled = and_parts (preset_row_scan row.crtc == 0) (byte_panning row.crtc == 0) uncut.1 in
+    let still = and_parts (length row.attribute == 21) _ rest.1 in
+    record {
+      raster = fits m raster.0;
+      clock = eqb-true _ _ clock.0;
+      numbers = numbers_are m row.crtc numbers.0;
+      regular = record { uncut = le_is (lines row.crtc) (line_compare row.crtc + 1) uncut.0; unscrolled = eqb-true _ _ unscrolled.0 };
+      whole = eqb-true _ _ unscrolled.1;
+      attributes = eqb-true _ _ still.0;
+      still = eqb-true _ _ still.1;
+    }
 
 begins_at : (start : ℕ) → start < 65536 → (256 * (start / 256) + start % 256 + 0) % 65536 ≡ start
 begins_at start l = omega arith

@@ -5,7 +5,7 @@ use Rattle.vga_dac.specs.declared.component.Component.TheVariants.{Red}
 use Rattle.bios_screen.proofs.Prelude.{DacState, IsCard, card_meaning, CardState, ModeRow, FontSet, data_of_mode, BiosData, AreBytes, Regs, Plan, Done, run}
 use Rattle.bios_screen.proofs.Prelude.{each, ◌>>◌, shown}
 use Rattle.vga_card.specs.Port.{port_of as reached_by}
-use Rattle.vga_card.specs.Cycles.{out_at}
+use Rattle.vga_card.specs.Cycles.{out_reached}
 use Rattle.bios_modes.specs.Modes.{mode_row}
 use Rattle.bios_modes.specs.declared.palette.Palette.{Palette as DefaultPalette}
 use Rattle.bios_modes.specs.Palette.{palette_entry}
@@ -35,12 +35,12 @@ unfolding default_component
 component_same palette i n l e h = spelled l n e ∙ same_from_0 (λ k. slice_index (palette_entry palette k) i) (slice_index l) n h
 
 -- the DAC's mask is set and its index is 0
-abbrev masked : CardState → CardState
-masked c = record c { dac = record c.dac { mask = 0xFF; index = 0; component = Red } }
+abbrev unmasked : CardState → CardState
+unmasked c = record c { dac = record c.dac { mask = 0xFF; index = 0; component = Red } }
 
 masked_is : (palette : DefaultPalette) (c : CardState) (n : ℕ) → (run card_meaning (palette_plan palette n) c).0
-    ≡ (run card_meaning (each (λ i. colour_plan (palette_entry palette i)) n 0) (masked c)).0
-unfolding palette_plan reached_by out_at
+    ≡ (run card_meaning (each (λ i. colour_plan (palette_entry palette i)) n 0) (unmasked c)).0
+unfolding palette_plan reached_by out_reached
 masked_is palette c n = refl
 
 -- a DAC has the colours of a palette
@@ -71,7 +71,7 @@ prepared mode row c is z =
     let entries = each (λ i. colour_plan (palette_entry row.palette i)) 256 0 in
     let y0 = in_mode row c in
     let z0 : IsCard y0 = subst IsCard (registers_set mode row c is z) (plan_bounds (registers_plan row) c z) in
-    let y1 = masked y0 in
+    let y1 = unmasked y0 in
     let z1 : IsCard y1 = record {
       host = z0.host;
       crtc = z0.crtc;

@@ -22,7 +22,7 @@ use Rattle.bios_screen.proofs.Modes.PixelModes.{IsGraphicsRow, IsPlanarRow, sett
 use Rattle.bios_screen.proofs.Modes.Fresh.{palette_is, coloured, prepared, ShowsFresh, sets_fresh}
 use Rattle.bios_screen.proofs.Shows.Screens.{all_tests_of}
 use Rattle.bios_screen.proofs.Pixels.NewPixels.{redrawn}
-use Rattle.bios_screen.proofs.Planar.Settings.{drawing, at_rest, stored, without_drawing, Loaded, put_draws}
+use Rattle.bios_screen.proofs.Planar.Settings.{drawing, at_rest, stored, without_host, Loaded, put_draws}
 use Rattle.bios_screen.proofs.Planar.Bits.{nibble_of}
 use Rattle.bios_screen.proofs.Packed.Screens.{IsFlat, put_flat}
 
@@ -33,7 +33,7 @@ cleared c = (run card_meaning (clear_plan 0x10000) c).0
 
 record IsCleared (mode : ℕ) (row : ModeRow) (c y : CardState) : Type 0 where
   same : setting y ≡ setting c
-  others : without_drawing y ≡ without_drawing c
+  others : without_host y ≡ without_host c
   pixel : (p k : ℕ) → p < row.pages → k < pixels_of row → pixel_in mode y.host.memory (row.size * p) k ≡ 0
 
 abbrev Clears : ℕ → ModeRow → Type 0
@@ -50,7 +50,7 @@ no_bits i = ap (λ b. b + 2 * b + 4 * b + 8 * b) (bit_at-zero i)
 planes_clear : (mode : ℕ) (row : ModeRow) → IsPlanarRow mode row → Clears mode row
 unfolding clear_plan
 planes_clear mode row is c z e =
-    let rest = without_drawing c in
+    let rest = without_host c in
     let misc = row.misc in
     let clocking = slice_index row.sequencer 1 in
     let q = c.host.latches in
@@ -83,7 +83,7 @@ planes_clear mode row is c z e =
 bytes_clear : Clears 0x13 bytes_320_by_200
 unfolding clear_plan
 bytes_clear c z e =
-    let rest = without_drawing c in
+    let rest = without_host c in
     let done = edits CardState ℕ card_meaning (λ w. put (0xA0000 + w) 0) (λ _. IsFlat rest) 0 65536 (λ _. Unit {0}) (λ w _. w) (λ w _ x. 0)
     (λ i j _ _ lb lo hi same. absurd (omega arith))
     (λ w y f lb lw u. record { cells = set_cell f w 0; shown = put_flat rest w 0 y f lw (omega arith) u; fact = one_edit w 0 f })

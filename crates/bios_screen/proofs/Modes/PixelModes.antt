@@ -8,7 +8,7 @@ use Rattle.vga_crtc.specs.Ports.{after_out as after_crtc}
 use Rattle.vga_crtc.specs.Fields.{horizontal_total, horizontal_display_end, vertical_total, preset_row_scan, byte_panning, maximum_scan_line, is_double_scan}
 use Rattle.vga_crtc.specs.Fields.{vertical_display_end, offset, is_double_word, is_byte_mode, line_compare, is_protected, overflow}
 use Rattle.vga_card.specs.Port.{port_of, crtc_port_of}
-use Rattle.vga_card.specs.Cycles.{out_at, inp_at}
+use Rattle.vga_card.specs.Cycles.{out_reached, inp_reached}
 use Rattle.vga_dots.specs.SourceDot.{fetch_address}
 use Rattle.bios_modes.specs.Modes.{planes_320_by_200, planes_640_by_350, planes_640_by_480}
 use Rattle.bios_services.specs.Cycles.{group, attribute_group}
@@ -19,7 +19,7 @@ use Rattle.bios_screen.specs.Raster.{width, line_dots}
 use Rattle.bios_screen.specs.Drawing.{dots_a_line, lines_a_frame}
 use Rattle.bios_screen.proofs.Base.Places.{ends_before}
 use Rattle.bios_screen.proofs.Base.Setting.{Setting}
-use Rattle.bios_screen.proofs.Modes.Frames.{IsFrame, HasShades, Blinks, fits, uncut}
+use Rattle.bios_screen.proofs.Modes.Frames.{IsFrame, computed_frame, HasShades, Blinks}
 use Rattle.bios_screen.proofs.Modes.Registers.{in_mode, IsSet}
 use Rattle.bios_screen.proofs.Planar.Settings.{drawing, at_rest}
 
@@ -140,14 +140,14 @@ module _ (row : ModeRow) (is : HasRoom row) where
 row_registers : Unit {0}
 unfolding
     horizontal_total horizontal_display_end vertical_total vertical_display_end byte_panning line_compare preset_row_scan maximum_scan_line
-    is_double_scan offset registers_plan group attribute_group port_of crtc_port_of out_at inp_at after_crtc is_protected overflow shows
+    is_double_scan offset registers_plan group attribute_group port_of crtc_port_of out_reached inp_reached after_crtc is_protected overflow shows
 row_registers = tt
 
 pub graphics_0d : IsGraphicsRow 0x0D planes_320_by_200
 unfolding row_registers
 graphics_0d = record {
   raster = record { dots = 8; columns = 40; height = 400; characters = 50; lines = 449 };
-  frame = record { raster = fits _ refl; clock = refl; numbers = refl; regular = uncut _ refl refl; whole = refl; attributes = refl; still = refl };
+  frame = computed_frame _ _ refl;
   set = record { table = refl; literal = λ _. refl };
   listed = record { there = λ _. refl; text = refl; whole = λ e. absurd (cc); port = refl; steady = (refl, refl); blinks = (refl, refl); fresh = λ _ _. refl };
   room = roomy _ refl;
@@ -167,7 +167,7 @@ pub graphics_10 : IsGraphicsRow 0x10 planes_640_by_350
 unfolding row_registers
 graphics_10 = record {
   raster = record { dots = 8; columns = 80; height = 350; characters = 100; lines = 449 };
-  frame = record { raster = fits _ refl; clock = refl; numbers = refl; regular = uncut _ refl refl; whole = refl; attributes = refl; still = refl };
+  frame = computed_frame _ _ refl;
   set = record { table = refl; literal = λ _. refl };
   listed = record { there = λ _. refl; text = refl; whole = λ e. absurd (cc); port = refl; steady = (refl, refl); blinks = (refl, refl); fresh = λ _ _. refl };
   room = roomy _ refl;
@@ -187,7 +187,7 @@ pub graphics_12 : IsGraphicsRow 0x12 planes_640_by_480
 unfolding row_registers
 graphics_12 = record {
   raster = record { dots = 8; columns = 80; height = 480; characters = 100; lines = 525 };
-  frame = record { raster = fits _ refl; clock = refl; numbers = refl; regular = uncut _ refl refl; whole = refl; attributes = refl; still = refl };
+  frame = computed_frame _ _ refl;
   set = record { table = refl; literal = λ _. refl };
   listed = record { there = λ _. refl; text = refl; whole = λ e. absurd (cc); port = refl; steady = (refl, refl); blinks = (refl, refl); fresh = λ _ _. refl };
   room = roomy _ refl;
@@ -207,7 +207,7 @@ pub graphics_13 : IsGraphicsRow 0x13 bytes_320_by_200
 unfolding row_registers
 graphics_13 = record {
   raster = record { dots = 8; columns = 80; height = 400; characters = 100; lines = 449 };
-  frame = record { raster = fits _ refl; clock = refl; numbers = refl; regular = uncut _ refl refl; whole = refl; attributes = refl; still = refl };
+  frame = computed_frame _ _ refl;
   set = record { table = refl; literal = λ _. refl };
   listed = record { there = λ _. refl; text = refl; whole = λ _. omega arith; port = refl; steady = (refl, refl); blinks = (refl, refl); fresh = λ _ _. refl };
   room = roomy _ refl;

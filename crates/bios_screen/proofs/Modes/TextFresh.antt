@@ -7,7 +7,7 @@ use Rattle.vga_crtc.specs.Fields.{is_protected, overflow}
 use Rattle.bios_screen.proofs.Prelude.{DacState, IsCard, card_meaning, CardState, row_at, AreBytes, data_of_mode, Plan, run, put, ◌>>◌, graphics, Cell, Screen}
 use Rattle.bios_screen.proofs.Prelude.{cell_in, all_cells, shown}
 use Rattle.vga_card.specs.Port.{port_of as reached_by, crtc_port_of}
-use Rattle.vga_card.specs.Cycles.{out_at, inp_at}
+use Rattle.vga_card.specs.Cycles.{out_reached, inp_reached}
 use Rattle.bios_modes.specs.Fonts.{glyph_row}
 use Rattle.bios_services.specs.Cycles.{sequencer, group, attribute_group}
 use Rattle.bios_services.specs.ModeSet.{registers_plan, glyphs_plan, font_plan, blank_byte, blank_plan, text_plan, memory_plan, mode_set_plan}
@@ -92,13 +92,13 @@ with_glyphs c l = record c { host = record c.host { memory = record c.host.memor
 
 on_is : (disp : Display) (c : CardState) (d : DacState) → (run card_meaning glyphs_on (coloured (row_of disp) c d)).0
     ≡ in_glyphs disp (coloured (row_of disp) c d)
-unfolding reached_by out_at
+unfolding reached_by out_reached
 on_is Colour c d = refl
 on_is Monochrome c d = refl
 
 off_is : (disp : Display) (c : CardState) (d : DacState) (l : List ℕ) → (run card_meaning (glyphs_off (slice_index (row_of disp).graphics 6))
     (with_glyphs (in_glyphs disp (coloured (row_of disp) c d)) l)).0 ≡ in_text disp (with_glyphs (in_glyphs disp (coloured (row_of disp) c d)) l)
-unfolding reached_by out_at
+unfolding reached_by out_reached
 off_is Colour c d l = refl
 off_is Monochrome c d l = refl
 
@@ -196,7 +196,7 @@ fresh_memory disp c d font z2 small =
     subst (FreshMemory disp font y2) (sym whole) state
 
 pub set_by : (disp : Display) → IsSet (number_of disp) (row_of disp)
-unfolding registers_plan group attribute_group reached_by crtc_port_of out_at inp_at after_crtc is_protected overflow
+unfolding registers_plan group attribute_group reached_by crtc_port_of out_reached inp_reached after_crtc is_protected overflow
 set_by Colour = record { table = refl; literal = λ _. refl }
 set_by Monochrome = record { table = refl; literal = λ _. refl }
 

@@ -14,7 +14,7 @@ use Rattle.bios_screen.proofs.Dots.PackedDots.{IsPacked}
 use Rattle.bios_screen.proofs.Packed.Screens as screens
 use Rattle.bios_screen.proofs.Packed.Screens.{IsFlat, get_flat}
 use Rattle.bios_screen.proofs.Packed.Writes as writes
-use Rattle.bios_screen.proofs.Planar.Settings.{without_drawing}
+use Rattle.bios_screen.proofs.Planar.Settings.{without_host}
 use Rattle.bios_screen.proofs.Base.CellPlaces.{strip_at}
 use Rattle.bios_screen.proofs.Pixels.Reads as reads
 use Rattle.bios_screen.proofs.Pixels.Reads.{as_dot, byte_same, IsSeen}
@@ -97,7 +97,7 @@ module _ (c : CardState) (d : BiosData) (t : IsPacked c d) (z : IsCard c) where
       let first : p ≡ 0 = omega arith in
       let q = cursor_cell d 0 in
       let l : q < cells_of d = subst (λ i. cursor_cell d i < cells_of d) first lq in
-      let rest = without_drawing c in
+      let rest = without_host c in
       let sum : (n : ℕ) → 0xA0000 + (n + 0) ≡ 0xA0000 + n = λ n. omega arith in
       subst (λ i. IsCellRead fonts r c d i s) (sym first)
       (reads.cell_read bytes_320_by_200 c d fonts r 0 t.text

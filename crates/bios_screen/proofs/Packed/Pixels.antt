@@ -7,7 +7,7 @@ use Rattle.bios_services.specs.Pixels.{pixel_address, write_dot_plan, write_pixe
 use Rattle.bios_screen.specs.Step.{colour_over, change_pixel}
 use Rattle.bios_screen.proofs.Base.Flat.{set_cell}
 use Rattle.bios_screen.proofs.Dots.PackedDots.{IsPacked}
-use Rattle.bios_screen.proofs.Planar.Settings.{without_drawing}
+use Rattle.bios_screen.proofs.Planar.Settings.{without_host}
 use Rattle.bios_screen.proofs.Packed.Screens.{put_flat, get_flat}
 use Rattle.bios_screen.proofs.Packed.Screens as screens
 use Rattle.bios_screen.proofs.Pixels.NewPixels.{There, number_within}
@@ -58,7 +58,7 @@ module _ (c : CardState) (d : BiosData) (t : IsPacked c d) (z : IsCard c) where
       (ap (λ q. shown (run card_meaning q c).0 d) (write_is x y colour)
       ∙ screens.page_redrawn c d t z (run card_meaning (put (0xA0000 + n) colour) c).0 (set_cell (packed_pixel m) n colour)
       (change_pixel n (colour_over d.mode colour))
-      (put_flat (without_drawing c) n colour c (packed_pixel m) (omega arith) lc (screens.begins c d t z))
+      (put_flat (without_host c) n colour c (packed_pixel m) (omega arith) lc (screens.begins c d t z))
       (λ k lk. ap (λ v. if k == n then v else packed_pixel m k) (sym (ap (λ i. colour_over i colour (packed_pixel m k)) t.number))
       ∙ ap (λ v. if k == n then colour_over d.mode colour v else v) (sym (screens.pixel_is c d t z k lk))))
 
@@ -76,7 +76,7 @@ module _ (c : CardState) (d : BiosData) (t : IsPacked c d) (z : IsCard c) where
       let first : 0 ≡ p = omega arith in
       let n = number x y in
       let l = number_small x y h in
-      let got = get_flat (without_drawing c) n c (packed_pixel c.host.memory) (omega arith) (screens.begins c d t z) in
+      let got = get_flat (without_host c) n c (packed_pixel c.host.memory) (omega arith) (screens.begins c d t z) in
       subst (λ i. IsSeen (λ y. shown y d ≡ Some s) (read_pixel_plan d i x y) (pixel_of s i n) c) first (record {
         value = ap (λ i. (run card_meaning i c).1) (read_is x y) ∙ got.value ∙ sym (screens.pixel_is c d t z n (number_within d x y h));
         still = ap (λ i. shown (run card_meaning i c).0 d) (read_is x y) ∙ screens.stays c d t z (run card_meaning (get (0xA0000 + n)) c).0 got.still;

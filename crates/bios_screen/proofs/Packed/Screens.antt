@@ -12,14 +12,14 @@ use Rattle.bios_screen.proofs.Dots.PixelDots.{pixel_at}
 use Rattle.bios_screen.proofs.Shows.Screens.{setting_by}
 use Rattle.bios_screen.proofs.Dots.PackedDots.{IsPacked}
 use Rattle.bios_screen.proofs.Packed.Memory.{decoded, byte_read, put_is, pixel_put, packed_memory}
-use Rattle.bios_screen.proofs.Planar.Settings.{without_drawing}
+use Rattle.bios_screen.proofs.Planar.Settings.{without_host}
 
 -- the adapter is in the setting of 256 colours, and its pixels are these
 pub record IsFlat (rest : CardState) (c : CardState) (f : ℕ → ℕ) : Type 0 where
   pub mode : setting c ≡ setting_of bytes_320_by_200
   pub bounds : IsCard c
   pub cell : (k : ℕ) → packed_pixel c.host.memory k ≡ f k
-  pub others : without_drawing c ≡ rest
+  pub others : without_host c ≡ rest
 
 -- a Put changes one of them
 pub put_flat : (rest : CardState) (n v : ℕ) (c : CardState) (f : ℕ → ℕ) → n < 65536 → v < 256 → IsFlat rest c f →
@@ -60,7 +60,7 @@ module _ (c : CardState) (d : BiosData) (t : IsPacked c d) (z : IsCard c) where
   pub setting_is : setting c ≡ setting_of bytes_320_by_200
   setting_is = setting_by bytes_320_by_200 c t.tests.memory
 
-  pub begins : IsFlat (without_drawing c) c (packed_pixel c.host.memory)
+  pub begins : IsFlat (without_host c) c (packed_pixel c.host.memory)
   begins = record { mode = setting_is; bounds = z; cell = λ k. refl; others = refl }
 
   pub all_pixels : page_pixels d ≡ 64000
@@ -77,14 +77,14 @@ module _ (c : CardState) (d : BiosData) (t : IsPacked c d) (z : IsCard c) where
   pixel_is k l = pixel_at d.mode c.host.memory d.size (page_pixels d) 1 0 k (omega arith) l ∙ pixel_by c.host.memory k
 
   -- what the adapter shows where the page has other pixels
-  pub page_redrawn : (y : CardState) (f : ℕ → ℕ) (change : (ℕ → ℕ) → ℕ → ℕ) → IsFlat (without_drawing c) y f →
+  pub page_redrawn : (y : CardState) (f : ℕ → ℕ) (change : (ℕ → ℕ) → ℕ → ℕ) → IsFlat (without_host c) y f →
       ((k : ℕ) → k < page_pixels d → f k ≡ change (pixel_of s 0) k) → shown y d ≡ Some (with_pixels s 0 change)
   page_redrawn y f change h inside =
       page_renewed bytes_320_by_200 c y d (t.there d.height) t.text t.tests (h.mode ∙ sym setting_is) h.others 0 change (omega arith)
       (λ k l. pixel_by y.host.memory k ∙ h.cell k ∙ inside k l) (λ g k lg w l. absurd (w (omega arith)))
 
   -- and where all pixels are as they were, the screen stays
-  pub stays : (y : CardState) → IsFlat (without_drawing c) y (packed_pixel c.host.memory) → shown y d ≡ Some s
+  pub stays : (y : CardState) → IsFlat (without_host c) y (packed_pixel c.host.memory) → shown y d ≡ Some s
   stays y h = pixels_stay bytes_320_by_200 c y d (t.there d.height) t.text t.tests (h.mode ∙ sym setting_is) h.others (λ g k lg _.
       let first : g ≡ 0 = omega arith in
       ap (λ i. pixel_in d.mode y.host.memory (d.size * i) k) first ∙ pixel_by y.host.memory k ∙ h.cell k ∙ sym (pixel_by c.host.memory k)

@@ -12,7 +12,7 @@ use Rattle.bios_screen.proofs.Base.Windows.{by_both_tests}
 use Rattle.bios_screen.proofs.Base.Bands.{IsWindow}
 use Rattle.bios_screen.proofs.Base.Shifts as shifts
 use Rattle.bios_screen.proofs.Dots.PackedDots.{IsPacked}
-use Rattle.bios_screen.proofs.Planar.Settings.{without_drawing}
+use Rattle.bios_screen.proofs.Planar.Settings.{without_host}
 use Rattle.bios_screen.proofs.Planar.Windows.{filled_plain}
 use Rattle.bios_screen.proofs.Packed.Screens as screens
 use Rattle.bios_screen.proofs.Packed.Screens.{IsFlat, put_flat, get_flat}
@@ -53,11 +53,11 @@ module _ (c : CardState) (d : BiosData) (t : IsPacked c d) (z : IsCard c) (p : �
   abbrev old : ℕ → ℕ
   old = packed_pixel c.host.memory
 
-  scrolls : 0 < n → n ≤ w.height → Leaves CardState ℕ (IsFlat (without_drawing c))
+  scrolls : 0 < n → n ≤ w.height → Leaves CardState ℕ (IsFlat (without_host c))
       (run card_meaning (scroll_rows band direction w.top w.height n colour) c).0 (IsScrolled old)
   unfolding scroll_rows fill_plan
-  scrolls some few = shifts.filled_once CardState card_meaning 0xA0000 65536 band 0 (d.last_row + 1) w window (IsFlat (without_drawing c))
-      (pixel_read (without_drawing c)) (λ j v y f lj lv u. put_flat (without_drawing c) j v y f lj lv u) (plain colour) lc lc direction n c old
+  scrolls some few = shifts.filled_once CardState card_meaning 0xA0000 65536 band 0 (d.last_row + 1) w window (IsFlat (without_host c))
+      (pixel_read (without_host c)) (λ j v y f lj lv u. put_flat (without_host c) j v y f lj lv u) (plain colour) lc lc direction n c old
       some few (screens.begins c d t z)
 
   -- ---- the pixels

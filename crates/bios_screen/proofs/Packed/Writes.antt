@@ -11,7 +11,7 @@ use Rattle.bios_screen.specs.Step.{glyph_pixel, put_characters}
 use Rattle.bios_screen.proofs.Base.Flat.{Edited, Turn, Leaves, set_cell}
 use Rattle.bios_screen.proofs.Base.Edits.{one_edit, edits}
 use Rattle.bios_screen.proofs.Dots.PackedDots.{IsPacked}
-use Rattle.bios_screen.proofs.Planar.Settings.{without_drawing}
+use Rattle.bios_screen.proofs.Planar.Settings.{without_host}
 use Rattle.bios_screen.proofs.Base.CellPlaces.{strip_at, same_line, strip_within}
 use Rattle.bios_screen.proofs.Packed.Screens as screens
 use Rattle.bios_screen.proofs.Packed.Screens.{IsFlat, put_flat}
@@ -46,7 +46,7 @@ module _ (c : CardState) (d : BiosData) (t : IsPacked c d) (z : IsCard c) where
   h = d.height
 
   abbrev rest : CardState
-  rest = without_drawing c
+  rest = without_host c
 
   pub wide : 0 < w
   wide = let a = t.has.columns in omega arith

@@ -11,7 +11,7 @@ use Rattle.bios_screen.proofs.Base.Setting.{setting}
 use Rattle.bios_screen.proofs.Shows.Screens.{AllTests}
 use Rattle.bios_screen.proofs.Shows.Pixels.{pixels_shown_of}
 use Rattle.bios_screen.proofs.Shows.Any.{same_tests}
-use Rattle.bios_screen.proofs.Planar.Settings.{without_drawing}
+use Rattle.bios_screen.proofs.Planar.Settings.{without_host}
 
 -- a pixel of a page is there, and its number
 pub record There (d : BiosData) (x y : ℕ) : Type 0 where
@@ -24,7 +24,7 @@ number_within d x y h = let a = h.across in let b = ends_before (8 * d.columns) 
 -- ---- what an adapter shows after a service
 
 module _ (row : ModeRow) (c y : CardState) (d : BiosData) (e : row_at d.mode d.height ≡ Some row) (text : is_text d.mode ≡ false) (t : AllTests row c d)
-    (same : setting y ≡ setting c) (others : without_drawing y ≡ without_drawing c) where
+    (same : setting y ≡ setting c) (others : without_host y ≡ without_host c) where
   abbrev s : Screen
   s = pixel_screen row c d
 

@@ -16,7 +16,7 @@ use Rattle.bios_screen.proofs.Text.Writes.{IsCellRead}
 use Rattle.bios_screen.proofs.Pixels.Reads as reads
 use Rattle.bios_screen.proofs.Pixels.Reads.{as_dot, byte_same, IsSeen}
 use Rattle.bios_screen.proofs.Dots.PlanarDots.{IsPlanar}
-use Rattle.bios_screen.proofs.Planar.Settings.{Hand, at_rest, drawing, without_drawing, get_loads, mode_set}
+use Rattle.bios_screen.proofs.Planar.Settings.{Hand, at_rest, drawing, without_host, get_loads, mode_set}
 use Rattle.bios_screen.proofs.Planar.Bits.{nibble_of}
 use Rattle.bios_screen.proofs.Planar.Characters.{Drawn}
 use Rattle.bios_screen.proofs.Planar.Writes as writes
@@ -105,7 +105,7 @@ module _ (row : ModeRow) (c : CardState) (d : BiosData) (t : IsPlanar row c d) (
       let q = cursor_cell d p in
       let misc = row.misc in
       let clocking = slice_index row.sequencer 1 in
-      let rest = without_drawing c in
+      let rest = without_host c in
       let text = t.text in
       let R : CardState → Type 0 = λ y. Drawn rest misc clocking seeing y old in
       reads.cell_read row c d fonts r p text

@@ -23,8 +23,8 @@ abbrev pub byte : ℕ → ℕ
 byte v = byte_of (bit_at v)
 
 -- a byte goes to the planes of a mask, and the others stay
-abbrev pub masked : ℕ → ℕ → Four ℕ → Four ℕ
-masked mask v old = four (λ p. if is_set mask p then byte v else of_plane old p)
+abbrev pub put_in_planes : ℕ → ℕ → Four ℕ → Four ℕ
+put_in_planes mask v old = four (λ p. if is_set mask p then byte v else of_plane old p)
 
 -- the XOR of two bytes, and of a byte with the planes of a mask
 abbrev xor_byte : ℕ → ℕ → ℕ
@@ -35,13 +35,13 @@ turned mask v old = four (λ p. if is_set mask p then xor_byte v (of_plane old p
 
 -- a line of a glyph, plain over zeros or by XOR
 abbrev pub lined : Bool → ℕ → ℕ → Four ℕ → Four ℕ
-lined b mask v old = if b then turned mask v old else masked mask v (masked 0x0F 0x00 old)
+lined b mask v old = if b then turned mask v old else put_in_planes mask v (put_in_planes 0x0F 0x00 old)
 
 -- what it is to a pixel
 abbrev pub dotted_by : Bool → ℕ → Bool → ℕ → ℕ
 dotted_by b mask is_dot old = if is_dot then (if b then bit_xor old mask else mask) else if b then old else 0
 
-pixel_plain : (mask v i : ℕ) (old : Four ℕ) → mask < 16 → nibble_of (masked mask v (masked 0x0F 0x00 old)) i ≡ (if is_set v (7 - i) then mask else 0)
+pixel_plain : (mask v i : ℕ) (old : Four ℕ) → mask < 16 → nibble_of (put_in_planes mask v (put_in_planes 0x0F 0x00 old)) i ≡ (if is_set v (7 - i) then mask else 0)
 pixel_plain mask v i old l =
     same_nibble (λ p. bit_at (if is_set mask p then byte v else byte 0x00) (7 - i)) (λ p. if is_set mask p then bit_at v (7 - i) else 0)
     (λ p _. chosen (is_set mask p))
@@ -146,7 +146,7 @@ module _ (rest : CardState) (e d : ℕ) (on : is_set e 1 ≡ true) (at : ℕ →
   Line = Turn (λ _. Unit {0}) 0 height
 
   -- what is stored, by hand
-  plainly : (v mask : ℕ) (q old : Four ℕ) → stored (drawing e d (plain mask)) mask v q old ≡ masked mask v old
+  plainly : (v mask : ℕ) (q old : Four ℕ) → stored (drawing e d (plain mask)) mask v q old ≡ put_in_planes mask v old
   unfolding byte_of written_bit combined_bit
   plainly v mask q old = refl
 
@@ -156,10 +156,10 @@ module _ (rest : CardState) (e d : ℕ) (on : is_set e 1 ≡ true) (at : ℕ →
 
   lines_put : (mask : ℕ) (g : ℕ → ℕ) (c : CardState) (f : ℕ → Four ℕ) → Drawn rest e d (plain mask) c f →
       Leaves CardState (Four ℕ) (Drawn rest e d (plain mask)) (run card_meaning (lines_plan (λ r. 0xA0000 + at r) g height) c).0
-      (Edited (Four ℕ) Line (λ h. at h.turn) (λ h x. masked mask (g h.turn) x) f)
+      (Edited (Four ℕ) Line (λ h. at h.turn) (λ h x. put_in_planes mask (g h.turn) x) f)
   lines_put mask g c f t =
       edits CardState (Four ℕ) card_meaning (λ r. put (0xA0000 + at r) (g r)) (λ _. Drawn rest e d (plain mask)) 0 height (λ _. Unit {0}) (λ r _. at r)
-      (λ r _ x. masked mask (g r) x)
+      (λ r _ x. put_in_planes mask (g r) x)
       (λ j k _ _ lb lo hi. apart j k lo hi)
       (λ r s x lb l u.
       let new = stored (drawing e d (plain mask)) mask (g r) u.latches (x (at r)) in
@@ -213,7 +213,7 @@ module _ (rest : CardState) (e d : ℕ) (on : is_set e 1 ≡ true) (at : ℕ →
       let all : Leaves CardState (Four ℕ) (Drawn rest e d at_rest) (run card_meaning p4 c3).0 (Lined false g mask f) = record {
         cells = m3.cells;
         shown = record { latches = m3.shown.latches; is = mask_set rest e d 0x0F (plain mask) m3.shown.latches c3 m3.cells (omega arith) m3.shown.is };
-        fact = edited_twice (λ (h : Line). at h.turn) (λ h x. masked 0x0F 0x00 x) (λ h x. masked mask (g h.turn) x) f m1.cells m3.cells m1.fact m3.fact;
+        fact = edited_twice (λ (h : Line). at h.turn) (λ h x. put_in_planes 0x0F 0x00 x) (λ h x. put_in_planes mask (g h.turn) x) f m1.cells m3.cells m1.fact m3.fact;
       } in
       let e1 = run_bind card_meaning p1 (λ _. sequencer 2 mask >> (p3 >> p4)) c in
       let e2 = run_bind card_meaning p3 (λ _. p4) c2 in

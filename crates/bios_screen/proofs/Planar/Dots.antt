@@ -10,7 +10,7 @@ use Rattle.bios_screen.specs.Step.{pixel_number, colour_over, change_pixel}
 use Rattle.bios_screen.proofs.Base.Flat.{set_cell, set_same, set_other}
 use Rattle.bios_screen.proofs.Base.Plans.{then_runs}
 use Rattle.bios_screen.proofs.Dots.PlanarDots.{IsPlanar}
-use Rattle.bios_screen.proofs.Planar.Settings.{Hand, at_rest, drawing, stored, without_drawing, Loaded, put_draws, get_loads, function_set, mode_set, bits_set}
+use Rattle.bios_screen.proofs.Planar.Settings.{Hand, at_rest, drawing, stored, without_host, Loaded, put_draws, get_loads, function_set, mode_set, bits_set}
 use Rattle.bios_screen.proofs.Planar.Bits.{nibble_of, dot_hand, dot_over, pixel_dotted}
 use Rattle.bios_screen.proofs.Planar.Screens as screens
 use Rattle.bios_screen.proofs.Planar.Reads as reads
@@ -105,7 +105,7 @@ module _ (row : ModeRow) (c : CardState) (d : BiosData) (t : IsPlanar row c d) (
 
   -- the byte of each plane, where one of its pixels changes
   dot_shown : (p n v : ℕ) (b : Bool) (y : CardState) → p < row.pages → n < page_pixels d →
-      IsDotted (without_drawing c) row.misc (slice_index row.sequencer 1) (d.size * p + n / 8) (n % 8) (dot_over b v) y old →
+      IsDotted (without_host c) row.misc (slice_index row.sequencer 1) (d.size * p + n / 8) (n % 8) (dot_over b v) y old →
       shown y d ≡ Some (with_pixels s p (change_pixel n (dot_over b v)))
   dot_shown p n v b y lp ln h =
       let a = d.size * p + n / 8 in
@@ -147,10 +147,10 @@ module _ (row : ModeRow) (c : CardState) (d : BiosData) (t : IsPlanar row c d) (
       let misc = row.misc in
       let clocking = slice_index row.sequencer 1 in
       let plan = dot_plan (is_set v 7) (0xA0000 + (d.size * p + n / 8)) (x % 8) v in
-      let drawn = dot_drawn (without_drawing c) misc clocking (d.size * p + n / 8) (x % 8) v (is_set v 7) c.host.latches c old t.enabled
+      let drawn = dot_drawn (without_host c) misc clocking (d.size * p + n / 8) (x % 8) v (is_set v 7) c.host.latches c old t.enabled
       (reads.offset_small row c d t z p x y lp h) (omega arith) (screens.begins row c d t z) in
       ap (λ i. shown (run card_meaning i c).0 d) (write_is p x y v)
       ∙ dot_shown p n v (is_set v 7) (run card_meaning plan c).0 lp (number_within d x y h)
-      (subst (λ k. IsDotted (without_drawing c) misc clocking (d.size * p + n / 8) k (dot_over (is_set v 7) v) (run card_meaning plan c).0 old)
+      (subst (λ k. IsDotted (without_host c) misc clocking (d.size * p + n / 8) k (dot_over (is_set v 7) v) (run card_meaning plan c).0 old)
       (reads.rest_of_8 d.columns y x) drawn)
       ∙ ap (λ i. Some (with_pixels s p (change_pixel n i))) (colouring_is v)

@@ -11,11 +11,11 @@ use Rattle.vga_bits.proofs.FourLemmas.{by_plane}
 use Rattle.vga_planes.specs.Planes.{byte_at}
 use Rattle.vga_host.specs.MemoryRead.{read_bit, read_byte}
 use Rattle.vga_card.specs.Port.{port_of}
-use Rattle.vga_card.specs.Cycles.{out_at}
+use Rattle.vga_card.specs.Cycles.{out_reached}
 use Rattle.bios_services.specs.Pixels.{pixel_address, read_dot_plan, read_pixel_plan}
 use Rattle.bios_screen.proofs.Base.Setting.{Setting, setting, host_at, reached, offset_is, get_decoded}
 use Rattle.bios_screen.proofs.Pixels.NewPixels.{There, number_within, pixels_stay}
-use Rattle.bios_screen.proofs.Planar.Settings.{without_drawing}
+use Rattle.bios_screen.proofs.Planar.Settings.{without_host}
 use Rattle.bios_screen.proofs.Dots.PlanarDots.{IsPlanar}
 use Rattle.bios_screen.proofs.Planar.Screens as screens
 use Rattle.bios_screen.proofs.Pixels.Reads.{IsSeen}
@@ -39,7 +39,7 @@ record IsPicking (rest : CardState) (e k p : ℕ) (c : CardState) : Type 0 where
 
 pick_set : (rest : CardState) (e k p v : ℕ) (c : CardState) → bit_and v 3 ≡ v → IsPicking rest e k p c →
     IsPicking rest e k v (run card_meaning (graphics 4 v) c).0
-unfolding port_of out_at
+unfolding port_of out_reached
 pick_set rest e k p v c l t = record {
   mode = ap (λ (s : Setting). let x : Setting = record s { gfx = slice_set s.gfx 4 (bit_and v 3) } in x) t.mode ∙ ap (picking e k) l;
   others = t.others;
@@ -155,7 +155,7 @@ module _ (row : ModeRow) (c : CardState) (d : BiosData) (t : IsPlanar row c d) (
 
   -- the screen stays
   stays : (y : CardState) → IsPicking (without_reads c) row.misc (slice_index row.sequencer 1) 0 y → shown y d ≡ Some s
-  stays y h = pixels_stay row c y d (t.there d.height) t.text t.tests (h.mode ∙ sym begins.mode) (ap without_drawing h.others) (λ g k _ _.
+  stays y h = pixels_stay row c y d (t.there d.height) t.text t.tests (h.mode ∙ sym begins.mode) (ap without_host h.others) (λ g k _ _.
       ap (λ (x : CardState). pixel_in d.mode x.host.memory (d.size * g) k) h.others)
 
   pub pixel_read : (p x y : ℕ) → p < row.pages → There d x y →

@@ -11,7 +11,7 @@ use Rattle.bios_screen.proofs.Shows.Screens.{setting_by}
 use Rattle.bios_screen.proofs.Dots.PixelDots.{pixel_at}
 use Rattle.bios_screen.proofs.Dots.PlanarDots.{IsPlanar}
 use Rattle.bios_screen.proofs.Modes.PixelModes.{pixels_of, page_ends, page_room}
-use Rattle.bios_screen.proofs.Planar.Settings.{at_rest, drawing, without_drawing, Loaded}
+use Rattle.bios_screen.proofs.Planar.Settings.{at_rest, drawing, without_host, Loaded}
 use Rattle.bios_screen.proofs.Planar.Bits.{nibble_of}
 
 module _ (row : ModeRow) (c : CardState) (d : BiosData) (t : IsPlanar row c d) (z : IsCard c) where
@@ -28,7 +28,7 @@ module _ (row : ModeRow) (c : CardState) (d : BiosData) (t : IsPlanar row c d) (
   setting_is = setting_by row c t.tests.memory ∙ t.setting
 
   -- memory as cells of four bytes
-  pub begins : Loaded (without_drawing c) misc clocking at_rest c (bytes_at c.host.memory) c.host.latches
+  pub begins : Loaded (without_host c) misc clocking at_rest c (bytes_at c.host.memory) c.host.latches
   begins = record { mode = setting_is; bounds = z; cell = λ o. refl; others = refl; latch = refl }
 
   pub all_pixels : page_pixels d ≡ pixels_of row
@@ -70,7 +70,7 @@ module _ (row : ModeRow) (c : CardState) (d : BiosData) (t : IsPlanar row c d) (
 
   -- what the adapter shows at rest again, where one page has other pixels
   pub page_redrawn : (p : ℕ) (y : CardState) (f : ℕ → Four ℕ) (q : Four ℕ) (change : (ℕ → ℕ) → ℕ → ℕ) → p < row.pages →
-      Loaded (without_drawing c) misc clocking at_rest y f q
+      Loaded (without_host c) misc clocking at_rest y f q
       → ((k : ℕ) → k < page_pixels d → nibble_of (f (d.size * p + k / 8)) (k % 8) ≡ change (pixel_of s p) k)
       → ((o : ℕ) → (o < d.size * p) ⊎ (d.size * p + d.size ≤ o) → f o ≡ bytes_at c.host.memory o)
       → shown y d ≡ Some (with_pixels s p change)
@@ -81,7 +81,7 @@ module _ (row : ModeRow) (c : CardState) (d : BiosData) (t : IsPlanar row c d) (
       ∙ outside (d.size * g + k / 8) (apart p g (k / 8) (λ v. w (sym v)) (room k l))) ∙ sym (pixel_by c.host.memory g k))
 
   -- and where all its bytes are as they were, the screen stays
-  pub stays : (y : CardState) (f : ℕ → Four ℕ) (q : Four ℕ) → Loaded (without_drawing c) misc clocking at_rest y f q →
+  pub stays : (y : CardState) (f : ℕ → Four ℕ) (q : Four ℕ) → Loaded (without_host c) misc clocking at_rest y f q →
       ((o : ℕ) → f o ≡ bytes_at c.host.memory o) → shown y d ≡ Some s
   stays y f q h same = pixels_stay row c y d (t.there d.height) t.text t.tests (h.mode ∙ sym setting_is) h.others (λ g k _ _.
       pixel_by y.host.memory g k ∙ ap (λ (x : Four ℕ). nibble_of x (k % 8)) (h.cell (d.size * g + k / 8) ∙ same (d.size * g + k / 8))

@@ -15,7 +15,7 @@ use Rattle.bios_screen.proofs.Base.Shifts as shifts
 use Rattle.bios_screen.proofs.Modes.PixelModes.{page_ends}
 use Rattle.bios_screen.proofs.Dots.PlanarDots.{IsPlanar}
 use Rattle.bios_screen.proofs.Base.CellPlaces.{line_by_8, column_by_8, within_rows, rows_above}
-use Rattle.bios_screen.proofs.Planar.Settings.{without_drawing}
+use Rattle.bios_screen.proofs.Planar.Settings.{without_host}
 use Rattle.bios_screen.proofs.Planar.Bits.{nibble_of}
 use Rattle.bios_screen.proofs.Planar.Characters.{lined, dotted_by, pixel_lined}
 use Rattle.bios_screen.proofs.Planar.Screens as screens
@@ -148,7 +148,7 @@ module _ (row : ModeRow) (c : CardState) (d : BiosData) (t : IsPlanar row c d) (
   pub window_shown : 0 < n → n ≤ w.height → shown (run card_meaning (window_plan d p w direction n colour) c).0 d
       ≡ Some (scroll_window s p w direction n colour)
   window_shown some few =
-      let done = windows.scrolls (without_drawing c) row.misc (slice_index row.sequencer 1) t.enabled (page_address d p) W H w.left
+      let done = windows.scrolls (without_host c) row.misc (slice_index row.sequencer 1) t.enabled (page_address d p) W H w.left
       w.width start rows w window direction n colour c old some few (record { latches = c.host.latches; is = screens.begins row c d t z }) in
       ap (λ b. shown (run card_meaning (scroll_rows b direction w.top w.height n colour) c).0 d) band_is
       ∙ screens.page_redrawn row c d t z p (run card_meaning (scroll_rows band direction w.top w.height n colour) c).0 done.cells done.shown.latches

@@ -11,7 +11,8 @@ use Rattle.vga_host.specs.Address.{is_decoded, window_offset}
 use Rattle.vga_host.specs.MemoryWrite.{written_bit, combined_bit, written_byte, memory_after_put}
 use Rattle.vga_host.specs.MemoryRead.{loaded}
 use Rattle.vga_card.specs.Port.{port_of}
-use Rattle.vga_card.specs.Cycles.{written_unless, out_at}
+use Rattle.vga_card.specs.Adapter.{adapter_of}
+use Rattle.vga_card.specs.Cycles.{written, unless_refused, out_reached}
 use Rattle.bios_services.specs.Cycles.{sequencer}
 use Rattle.bios_screen.proofs.Base.Flat.{set_cell, set_same, set_other}
 use Rattle.bios_services.proofs.CardLemmas.{plan_bounds}
@@ -47,15 +48,15 @@ abbrev pub stored : Setting → ℕ → ℕ → Four ℕ → Four ℕ → Four �
 stored s mask v latches old = four (stored_in s mask v latches old)
 
 -- all of an adapter but what drawing moves
-abbrev pub without_drawing : CardState → CardState
-without_drawing c = record c { host = record { memory = four (λ p. []); latches = four (λ p. 0); seq = []; gfx = []; seq_index = 0; gfx_index = 0 } }
+abbrev pub without_host : CardState → CardState
+without_host c = record c { host = record { memory = four (λ p. []); latches = four (λ p. 0); seq = []; gfx = []; seq_index = 0; gfx_index = 0 } }
 
 -- the adapter is in this setting, its four planes are the cells, by offset, and its latches are known
 pub record Loaded (rest : CardState) (misc clocking : ℕ) (h : Hand) (c : CardState) (f : ℕ → Four ℕ) (q : Four ℕ) : Type 0 where
   pub mode : setting c ≡ drawing misc clocking h
   pub bounds : IsCard c
   pub cell : (o : ℕ) → bytes_at c.host.memory o ≡ f o
-  pub others : without_drawing c ≡ rest
+  pub others : without_host c ≡ rest
   pub latch : c.host.latches ≡ q
 
 -- ---- a Put
@@ -203,7 +204,7 @@ with_gfx i v s = record s { gfx = slice_set s.gfx i v }
 -- the map mask
 pub mask_set : (rest : CardState) (e d m : ℕ) (k : Hand) (q : Four ℕ) (c : CardState) (f : ℕ → Four ℕ) → m < 16 → Loaded rest e d k c f q →
     Loaded rest e d (record k { mask = m }) (run card_meaning (sequencer 2 m) c).0 f q
-unfolding port_of out_at
+unfolding port_of out_reached
 mask_set rest e d m k q c f l t =
     hand_set rest e d k (record k { mask = m }) q c f (sequencer 2 m) (slice_set c.host.seq 2 (bit_and m 0x0F)) c.host.gfx 2 c.host.gfx_index refl
     (ap (with_seq 2 (bit_and m 0x0F)) t.mode ∙ ap (λ x. drawing e d (record k { mask = x })) (and_15 m l)) t
@@ -211,7 +212,7 @@ mask_set rest e d m k q c f l t =
 -- the function and the rotation
 pub function_set : (rest : CardState) (e d v : ℕ) (k : Hand) (q : Four ℕ) (c : CardState) (f : ℕ → Four ℕ) → bit_and v 0x1F ≡ v →
     Loaded rest e d k c f q → Loaded rest e d (record k { turn = v }) (run card_meaning (graphics 3 v) c).0 f q
-unfolding port_of out_at
+unfolding port_of out_reached
 function_set rest e d v k q c f l t =
     hand_set rest e d k (record k { turn = v }) q c f (graphics 3 v) c.host.seq (slice_set c.host.gfx 3 (bit_and v 0x1F)) c.host.seq_index 3 refl
     (ap (with_gfx 3 (bit_and v 0x1F)) t.mode ∙ ap (λ x. drawing e d (record k { turn = x })) l) t
@@ -219,18 +220,18 @@ function_set rest e d v k q c f l t =
 -- read and write mode; bit 5 is refused, and so the test of it is a premise
 pub mode_set : (rest : CardState) (e d v : ℕ) (k : Hand) (q : Four ℕ) (c : CardState) (f : ℕ → Four ℕ) → bit_and v 0x7B ≡ v →
     is_set v 5 ≡ false → Loaded rest e d k c f q → Loaded rest e d (record k { mode = v }) (run card_meaning (graphics 5 v) c).0 f q
-unfolding port_of out_at
+unfolding port_of out_reached
 mode_set rest e d v k q c f l b t =
     let index : CardState = record c { host = record c.host { gfx_index = 5 } } in
-    let next : CardState = record index { host = record index.host { gfx = slice_set c.host.gfx 5 (bit_and v 0x7B) } } in
+    let next = record (adapter_of index) { host = record index.host { gfx = slice_set c.host.gfx 5 (bit_and v 0x7B) } } in
     hand_set rest e d k (record k { mode = v }) q c f (graphics 5 v) c.host.seq (slice_set c.host.gfx 5 (bit_and v 0x7B)) c.host.seq_index 5
-    (ap (λ y. (written_unless y index next).0) b)
+    (ap (λ y. (written index (unless_refused y next)).0) b)
     (ap (with_gfx 5 (bit_and v 0x7B)) t.mode ∙ ap (λ x. drawing e d (record k { mode = x })) l) t
 
 -- the bit mask
 pub bits_set : (rest : CardState) (e d v : ℕ) (k : Hand) (q : Four ℕ) (c : CardState) (f : ℕ → Four ℕ) → bit_and v 0xFF ≡ v →
     Loaded rest e d k c f q → Loaded rest e d (record k { bits = v }) (run card_meaning (graphics 8 v) c).0 f q
-unfolding port_of out_at
+unfolding port_of out_reached
 bits_set rest e d v k q c f l t =
     hand_set rest e d k (record k { bits = v }) q c f (graphics 8 v) c.host.seq (slice_set c.host.gfx 8 (bit_and v 0xFF)) c.host.seq_index 8 refl
     (ap (with_gfx 8 (bit_and v 0xFF)) t.mode ∙ ap (λ x. drawing e d (record k { bits = x })) l) t

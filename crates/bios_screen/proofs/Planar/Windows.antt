@@ -18,7 +18,7 @@ use Rattle.bios_screen.proofs.Base.Bands.{IsWindow}
 use Rattle.bios_screen.proofs.Base.Bands as bands
 use Rattle.bios_screen.proofs.Base.Shifts as shifts
 use Rattle.bios_screen.proofs.Planar.Settings.{Hand, at_rest, drawing, stored, Loaded, put_draws, get_loads, mask_set, mode_set}
-use Rattle.bios_screen.proofs.Planar.Characters.{Drawn, masked, lined}
+use Rattle.bios_screen.proofs.Planar.Characters.{Drawn, put_in_planes, lined}
 
 -- write mode 1
 abbrev copying : Hand
@@ -37,7 +37,7 @@ latched e d v q old h = rw (
   byte_bits q.plane3 (h 3 (omega arith)),
 ) refl
 
-plainly : (e d v mask : ℕ) (q old : Four ℕ) → stored (drawing e d (planes_of mask)) mask v q old ≡ masked mask v old
+plainly : (e d v mask : ℕ) (q old : Four ℕ) → stored (drawing e d (planes_of mask)) mask v q old ≡ put_in_planes mask v old
 unfolding byte_of written_bit combined_bit
 plainly e d v mask q old = refl
 
@@ -60,7 +60,7 @@ cell_moved rest e d on a b c f la lb t =
 
 -- a Put of a byte to the planes of a mask
 cell_put : (rest : CardState) (e d mask : ℕ) → is_set e 1 ≡ true → (j v : ℕ) (c : CardState) (f : ℕ → Four ℕ) → j < 65536 → v < 256 →
-    Drawn rest e d (planes_of mask) c f → Drawn rest e d (planes_of mask) (run card_meaning (put (0xA0000 + j) v) c).0 (set_cell f j (masked mask v (f j)))
+    Drawn rest e d (planes_of mask) c f → Drawn rest e d (planes_of mask) (run card_meaning (put (0xA0000 + j) v) c).0 (set_cell f j (put_in_planes mask v (f j)))
 cell_put rest e d mask on j v c f lj lv t = record {
   latches = t.latches;
   is = subst (λ x. Loaded rest e d (planes_of mask) (run card_meaning (put (0xA0000 + j) v) c).0 (set_cell f j x) t.latches)
@@ -81,9 +81,9 @@ module _ (rest : CardState) (e d : ℕ) (on : is_set e 1 ≡ true) (first_byte p
     band = record { kind = Planar; start = first_byte; pitch = pitch; lines = lines; left = left; width = width }
 
     -- the colour as four bytes
-    filling_is : (mask i : ℕ) (q : Four ℕ) → masked mask (filling_byte (plain 0xFF) i) (masked 0x0F (filling_byte (plain 0x00) i) q) ≡ lined false mask 0xFF q
-    filling_is mask i q = ap (λ v. masked mask v (masked 0x0F (filling_byte (plain 0x00) i) q)) (filled_plain 0xFF i)
-        ∙ ap (λ v. masked mask 0xFF (masked 0x0F v q)) (filled_plain 0x00 i)
+    filling_is : (mask i : ℕ) (q : Four ℕ) → put_in_planes mask (filling_byte (plain 0xFF) i) (put_in_planes 0x0F (filling_byte (plain 0x00) i) q) ≡ lined false mask 0xFF q
+    filling_is mask i q = ap (λ v. put_in_planes mask v (put_in_planes 0x0F (filling_byte (plain 0x00) i) q)) (filled_plain 0xFF i)
+        ∙ ap (λ v. put_in_planes mask 0xFF (put_in_planes 0x0F v q)) (filled_plain 0x00 i)
 
     abbrev IsScrolled : Direction → ℕ → ℕ → (ℕ → Four ℕ) → (ℕ → Four ℕ) → Type 0
     IsScrolled direction n mask = shifts.IsScrolled (Four ℕ) 0xA0000 65536 band start rows window w direction n (λ _. lined false mask 0xFF)
@@ -110,7 +110,7 @@ module _ (rest : CardState) (e d : ℕ) (on : is_set e 1 ≡ true) (first_byte p
           latches = m1.shown.latches;
           is = mode_set rest e d 0x00 copying m1.shown.latches c2 m1.cells refl refl m1.shown.is;
         } in
-        let m2 = bands.rows_filled CardState (Four ℕ) card_meaning 0xA0000 65536 band start rows window w (Drawn rest e d (planes_of 0x0F)) (masked 0x0F)
+        let m2 = bands.rows_filled CardState (Four ℕ) card_meaning 0xA0000 65536 band start rows window w (Drawn rest e d (planes_of 0x0F)) (put_in_planes 0x0F)
         (cell_put rest e d 0x0F on) (plain 0x00) (omega arith) (omega arith) new n c3 m1.cells fits t3 in
         let c4 = (run card_meaning p2 c3).0 in
         let c5 = (run card_meaning (sequencer 2 mask) c4).0 in
@@ -118,7 +118,7 @@ module _ (rest : CardState) (e d : ℕ) (on : is_set e 1 ≡ true) (first_byte p
           latches = m2.shown.latches;
           is = mask_set rest e d mask (planes_of 0x0F) m2.shown.latches c4 m2.cells (omega arith) m2.shown.is;
         } in
-        let m3 = bands.rows_filled CardState (Four ℕ) card_meaning 0xA0000 65536 band start rows window w (Drawn rest e d (planes_of mask)) (masked mask)
+        let m3 = bands.rows_filled CardState (Four ℕ) card_meaning 0xA0000 65536 band start rows window w (Drawn rest e d (planes_of mask)) (put_in_planes mask)
         (cell_put rest e d mask on) (plain 0xFF) (omega arith) (omega arith) new n c5 m2.cells fits t5 in
         let c6 = (run card_meaning p3 c5).0 in
         let e1 = run_bind card_meaning p1 (λ _. graphics 5 0x00 >> (p2 >> (sequencer 2 mask >> (p3 >> sequencer 2 0x0F)))) c1 in
@@ -131,8 +131,8 @@ module _ (rest : CardState) (e d : ℕ) (on : is_set e 1 ≡ true) (first_byte p
             is = mask_set rest e d 0x0F (planes_of mask) m3.shown.latches c6 m3.cells (omega arith) m3.shown.is;
           };
           fact = shifts.is_scrolled (Four ℕ) 0xA0000 65536 band start rows window w direction n few (λ _. lined false mask 0xFF) (λ h q.
-              masked mask (filling_byte (plain 0xFF) h.place.place.turn) (masked 0x0F (filling_byte (plain 0x00) h.place.place.turn) q)) (λ h q.
+              put_in_planes mask (filling_byte (plain 0xFF) h.place.place.turn) (put_in_planes 0x0F (filling_byte (plain 0x00) h.place.place.turn) q)) (λ h q.
               filling_is mask h.place.place.turn q) f m1.cells m3.cells m1.fact (edited_twice _ (λ h q.
-              masked 0x0F (filling_byte (plain 0x00) h.place.place.turn) q) (λ h q. masked mask (filling_byte (plain 0xFF) h.place.place.turn) q) m1.cells
+              put_in_planes 0x0F (filling_byte (plain 0x00) h.place.place.turn) q) (λ h q. put_in_planes mask (filling_byte (plain 0xFF) h.place.place.turn) q) m1.cells
               m2.cells m3.cells m2.fact m3.fact);
         })

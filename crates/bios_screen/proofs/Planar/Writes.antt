@@ -9,7 +9,7 @@ use Rattle.bios_services.specs.Glyphs.{glyph_line}
 use Rattle.bios_screen.specs.Step.{glyph_pixel, put_characters}
 use Rattle.bios_screen.proofs.Base.Flat.{Edited, Turn, Leaves}
 use Rattle.bios_screen.proofs.Dots.PlanarDots.{IsPlanar}
-use Rattle.bios_screen.proofs.Planar.Settings.{at_rest, without_drawing}
+use Rattle.bios_screen.proofs.Planar.Settings.{at_rest, without_host}
 use Rattle.bios_screen.proofs.Planar.Bits.{nibble_of}
 use Rattle.bios_screen.proofs.Planar.Characters.{Drawn, lined, dotted_by, glyph_by, glyph_drawn, pixel_lined}
 use Rattle.bios_screen.proofs.Base.CellPlaces.{strip_at, same_line, strip_within}
@@ -87,7 +87,7 @@ module _ (row : ModeRow) (c : CardState) (d : BiosData) (t : IsPlanar row c d) (
 
   -- a place is of one strip, and pixels are those of its byte of each plane
   canvas : (p : ℕ) → p < row.pages → IsCanvas row c d wide high (Four ℕ) (Unit {0}) p (λ b _. d.size * p + b) (λ _. tt)
-      (λ x k. nibble_of x (k % 8)) (bytes_at c.host.memory) (Drawn (without_drawing c) misc clocking at_rest)
+      (λ x k. nibble_of x (k % 8)) (bytes_at c.host.memory) (Drawn (without_host c) misc clocking at_rest)
   canvas p lp = record {
     apart = λ a b _ _ y. omega arith;
     pixel = λ k lk. screens.pixel_is row c d t z p k lp lk;
@@ -105,7 +105,7 @@ module _ (row : ModeRow) (c : CardState) (d : BiosData) (t : IsPlanar row c d) (
   pub characters_shown : (fonts : FontSet) (p q n character : ℕ) (colouring : Colouring) → p < row.pages → q + n ≤ cells_of d →
       shown (run card_meaning (characters_plan fonts d p q character colouring n) c).0 d ≡ Some (put_characters fonts s p q n character colouring)
   characters_shown fonts p q n character colouring lp lq =
-      let R = Drawn (without_drawing c) misc clocking at_rest in
+      let R = Drawn (without_host c) misc clocking at_rest in
       let b = is_set colouring.colour 7 in
       let mask = colouring.colour % 16 in
       let g = glyph_line fonts h character in
@@ -116,7 +116,7 @@ module _ (row : ModeRow) (c : CardState) (d : BiosData) (t : IsPlanar row c d) (
       (λ i y f li u. subst (λ plan. Leaves CardState (Four ℕ) R (run card_meaning plan y).0
       (Edited (Four ℕ) (Turn (λ _. Unit {0}) 0 h) (λ r. place p i r.turn) (λ r x. lined b mask (g r.turn) x) f))
       (sym (character_is fonts p i character colouring))
-      (glyph_drawn (without_drawing c) misc clocking t.enabled (place p i) h (λ r lr. (within p i r lp li lr).1)
+      (glyph_drawn (without_host c) misc clocking t.enabled (place p i) h (λ r lr. (within p i r lp li lr).1)
       (λ j k lo hi same. let one = same_line w h i j k wide (omega arith) hi (omega arith) in absurd (omega arith))
       b mask g y f (omega arith) u))
       q n lq

@@ -6,7 +6,8 @@ use Rattle.bios_screen.proofs.Prelude.{is_set, IsCard, card_meaning, CardState, 
 use Rattle.vga_bits.specs.Bits.{field}
 use Rattle.vga_attr.specs.Attr.{attr_masks}
 use Rattle.vga_card.specs.Port.{port_of as reached_by}
-use Rattle.vga_card.specs.Cycles.{out_at, inp_at, written_unless, answered_unless}
+use Rattle.vga_card.specs.Adapter.{adapter_of}
+use Rattle.vga_card.specs.Cycles.{written, answered, unless_refused, out_reached, inp_reached}
 use Rattle.bios_services.specs.Plan.{out, inp, byte_of}
 use Rattle.bios_services.specs.Cycles.{attribute, attribute_group, expect_index, show_palette}
 use Rattle.bios_services.specs.Palette.{set_register_plan, set_palette_plan, set_blinking_plan, register_plan, read_register_plan}
@@ -37,9 +38,9 @@ names i l = record {
 -- ---- one register is written
 
 value_by : (s : CardState) (l : List ℕ) (i v : ℕ) → (run card_meaning (out 0x3C0 v) (with_attr s l i true)).0
-    ≡ (written_unless (nat_lt 20 (field i 4 0)) (with_attr s l i true) (with_attr s (if nat_lt (field i 4 0) 16 && is_set i 5 then l
-    else slice_set l (field i 4 0) (bit_and v (slice_index attr_masks (field i 4 0)))) i false)).0
-unfolding reached_by out_at
+    ≡ (written (with_attr s l i true) (unless_refused (nat_lt 20 (field i 4 0)) (adapter_of (with_attr s (if nat_lt (field i 4 0) 16 && is_set i 5 then l
+    else slice_set l (field i 4 0) (bit_and v (slice_index attr_masks (field i 4 0)))) i false)))).0
+unfolding reached_by out_reached
 value_by s l i v = refl
 
 value_written : (s : CardState) (l : List ℕ) (i v : ℕ) → Names i → (run card_meaning (out 0x3C0 v) (with_attr s l i true)).0
@@ -48,13 +49,13 @@ value_written s l i v n = value_by s l i v ∙ rw (n.number, n.there, n.free) re
 
 -- the palette is shown again
 again : (c : CardState) (l : List ℕ) (i : ℕ) → (run card_meaning (show_palette (crtc_port c.misc)) (with_attr c l i false)).0 ≡ with_attr c l 0x20 false
-unfolding reached_by out_at
+unfolding reached_by out_reached
 again c l i = let done : Plan (Unit {0}) = Done tt in ap (λ r. r.0) (expected_runs done (with_attr c l 0x20 true))
 
 pub register_set : (c : CardState) (i v : ℕ) → i < 18 →
     (run card_meaning (set_register_plan (crtc_port c.misc) i v) c).0
     ≡ with_attr c (slice_set c.attr.registers i (bit_and v (slice_index attr_masks i))) 0x20 false
-unfolding set_register_plan reached_by out_at
+unfolding set_register_plan reached_by out_reached
 register_set c i v l =
     let p = crtc_port c.misc in
     let old = c.attr.registers in
@@ -79,7 +80,7 @@ then_blinking port b = do
 
 pub blinking_set : (c : CardState) (b : ℕ) →
     (run card_meaning (set_blinking_plan (crtc_port c.misc) b) c).0 ≡ with_attr c (with_blinking c.attr.registers b) 0x20 false
-unfolding set_blinking_plan reached_by out_at inp_at
+unfolding set_blinking_plan reached_by out_reached inp_reached
 blinking_set c b = ap (λ r. r.0) (expected_runs (then_blinking (crtc_port c.misc) b) c) ∙ again c (with_blinking c.attr.registers b) 0x30
 
 -- ---- all values of the palette, and the overscan
@@ -99,7 +100,7 @@ with_palette l values v = listing (λ i. six_bits (slice_index values i)) 0 16 +
 sixteen_by : (c : CardState) (values : List ℕ) (v : ℕ) → (let l = c.attr.registers in
     (run card_meaning (sixteen (crtc_port c.misc) values v) (with_attr c (listing (slice_index l) 0 21) c.attr.index false)).0
     ≡ with_attr c (with_palette l values v) 0x20 false)
-unfolding reached_by out_at
+unfolding reached_by out_reached
 sixteen_by c values v = again c (with_palette c.attr.registers values v) 0x11
 
 group_is : (port : ℕ) (block : List ℕ) → length (take 16 block) ≡ 16 →
@@ -141,9 +142,9 @@ pub index_shown : (i : ℕ) → i < 18 → is_set (0x20 + i) 5 ≡ true
 index_shown i l = (reads i l).shown
 
 value_read_by : (s : CardState) (l : List ℕ) (j : ℕ) → run card_meaning (inp 0x3C1) (with_attr s l j true)
-    ≡ (let r = answered_unless (nat_lt 20 (field j 4 0)) (with_attr s l j true) (with_attr s l j true) (slice_index l (field j 4 0)) in let p : CardState
+    ≡ (let r = answered (with_attr s l j true) (unless_refused (nat_lt 20 (field j 4 0)) (adapter_of (with_attr s l j true), slice_index l (field j 4 0))) in let p : CardState
     × ℕ = (r.0, byte_of r.1) in p)
-unfolding reached_by inp_at
+unfolding reached_by inp_reached
 value_read_by s l j = refl
 
 value_read : (s : CardState) (l : List ℕ) (i : ℕ) → Reads i → run card_meaning (inp 0x3C1) (with_attr s l (0x20 + i) true)
@@ -153,7 +154,7 @@ value_read s l i n = value_read_by s l (0x20 + i) ∙ rw (n.number, n.there) ref
 -- where the next write is an index, and is again afterwards
 pub value_of_register : (c : CardState) (l : List ℕ) (j i : ℕ) → i < 18 →
     run card_meaning (register_plan (crtc_port c.misc) i) (with_attr c l j false) ≡ (with_attr c l (0x20 + i) false, slice_index l i)
-unfolding register_plan reached_by out_at
+unfolding register_plan reached_by out_reached
 value_of_register c l j i k =
     let n = reads i k in
     let rest : ℕ → Plan ℕ = λ value. (expect_index (crtc_port c.misc) >> Done value) in

@@ -8,7 +8,7 @@ use Rattle.vga_crtc.specs.Ports.{after_out as after_crtc}
 use Rattle.vga_card.specs.declared.port.Port.TheVariants.{CrtcIndex, CrtcData}
 use Rattle.bios_screen.proofs.Prelude.{CardState, crtc_port, card_meaning, ModeRow, BiosData, FontSet, is_text, Regs, Plan, run, Done, ◌>>=◌, ◌>>◌}
 use Rattle.bios_screen.proofs.Prelude.{start_address, page_among, page_named, Outcome, Screen, crtc_registers, shown, page_meant, IsServed}
-use Rattle.vga_card.specs.Cycles.{out_at}
+use Rattle.vga_card.specs.Cycles.{out_at, out_reached}
 use Rattle.bios_modes.specs.Bounds.{IsBda}
 use Rattle.bios_services.specs.declared.call.Service.TheVariants.{SetCursorType, SetCursor, SelectPage}
 use Rattle.bios_services.specs.Registers.{high, low}
@@ -46,9 +46,9 @@ abbrev written : CardState → ℕ → ℕ → CardState
 written c i v = (out_at (out_at c (Some CrtcIndex) i).0 (Some CrtcData) v).0
 
 -- two writes, by what each leaves
-two_written : (c : CardState) (i a b : ℕ) (x y : List ℕ) → written c i a ≡ with_crtc c x i → written (with_crtc c x i) (i + 1) b ≡ with_crtc c y (i + 1) →
+bytes_written : (c : CardState) (i a b : ℕ) (x y : List ℕ) → written c i a ≡ with_crtc c x i → written (with_crtc c x i) (i + 1) b ≡ with_crtc c y (i + 1) →
     (run card_meaning (crtc (crtc_port c.misc) i a >> crtc (crtc_port c.misc) (i + 1) b) c).0 ≡ with_crtc c y (i + 1)
-two_written c i a b x y e f =
+bytes_written c i a b x y e f =
     let p = crtc_port c.misc in
     then_runs (crtc p i a) (crtc p (i + 1) b) c
     ∙ ap (λ s. (run card_meaning (crtc p (i + 1) b) s).0) (crtc_runs c i a ∙ e)
@@ -62,29 +62,29 @@ module _ (c : CardState) (row : ModeRow) (type start location : ℕ) (r : c.crtc
 
   type_set : (new : ℕ) → (run card_meaning (crtc (crtc_port c.misc) 0x0A (high new) >> crtc (crtc_port c.misc) 0x0B (low new)) c).0
       ≡ with_crtc c (crtc_registers row new start location) 0x0B
-  unfolding out_at after_crtc
+  unfolding out_reached after_crtc
   type_set new =
       let a = bit_and (high new) 0x3F in
       let b = bit_and (low new) 0x7F in
-      two_written c 0x0A (high new) (low new) (slice_set l 0x0A a) (slice_set (slice_set l 0x0A a) 0x0B b) refl refl
+      bytes_written c 0x0A (high new) (low new) (slice_set l 0x0A a) (slice_set (slice_set l 0x0A a) 0x0B b) refl refl
       ∙ ap (λ x. with_crtc c (slice_set (slice_set x 0x0A a) 0x0B b) 0x0B) r
 
   start_set : (n : ℕ) → n < 65536 → (run card_meaning (word_plan (crtc_port c.misc) 0x0C n) c).0 ≡ with_crtc c (crtc_registers row type n location) 0x0D
-  unfolding word_plan out_at after_crtc
+  unfolding word_plan out_reached after_crtc
   start_set n few =
       let a = bit_and (n / 256) 0xFF in
       let b = bit_and (n % 256) 0xFF in
-      two_written c 0x0C (n / 256) (n % 256) (slice_set l 0x0C a) (slice_set (slice_set l 0x0C a) 0x0D b) refl refl
+      bytes_written c 0x0C (n / 256) (n % 256) (slice_set l 0x0C a) (slice_set (slice_set l 0x0C a) 0x0D b) refl refl
       ∙ ap (λ x. with_crtc c (slice_set (slice_set x 0x0C a) 0x0D b) 0x0D) r
       ∙ ap (λ x. with_crtc c (slice_set (slice_set (crtc_registers row type start location) 0x0C x) 0x0D b) 0x0D) (and_255 (n / 256) (omega arith))
       ∙ ap (λ x. with_crtc c (slice_set (slice_set (crtc_registers row type start location) 0x0C (n / 256)) 0x0D x) 0x0D) (and_255 (n % 256) (omega arith))
 
   location_set : (n : ℕ) → n < 65536 → (run card_meaning (word_plan (crtc_port c.misc) 0x0E n) c).0 ≡ with_crtc c (crtc_registers row type start n) 0x0F
-  unfolding word_plan out_at after_crtc
+  unfolding word_plan out_reached after_crtc
   location_set n few =
       let a = bit_and (n / 256) 0xFF in
       let b = bit_and (n % 256) 0xFF in
-      two_written c 0x0E (n / 256) (n % 256) (slice_set l 0x0E a) (slice_set (slice_set l 0x0E a) 0x0F b) refl refl
+      bytes_written c 0x0E (n / 256) (n % 256) (slice_set l 0x0E a) (slice_set (slice_set l 0x0E a) 0x0F b) refl refl
       ∙ ap (λ x. with_crtc c (slice_set (slice_set x 0x0E a) 0x0F b) 0x0F) r
       ∙ ap (λ x. with_crtc c (slice_set (slice_set (crtc_registers row type start location) 0x0E x) 0x0F b) 0x0F) (and_255 (n / 256) (omega arith))
       ∙ ap (λ x. with_crtc c (slice_set (slice_set (crtc_registers row type start location) 0x0E (n / 256)) 0x0F x) 0x0F) (and_255 (n % 256) (omega arith))

@@ -6,7 +6,7 @@ use Rattle.vga_dac.specs.declared.component.Component.TheVariants.{Red}
 use Rattle.bios_screen.proofs.Prelude.{DacState, card_meaning, CardState, Regs, Plan, run, each, ◌>>◌, listing}
 use Rattle.vga_dac.specs.Dac.{IsDac}
 use Rattle.vga_card.specs.Port.{port_of}
-use Rattle.vga_card.specs.Cycles.{out_at, inp_at}
+use Rattle.vga_card.specs.Cycles.{out_reached, inp_reached}
 use Rattle.bios_services.specs.Registers.{with_high}
 use Rattle.bios_services.specs.Plan.{out}
 use Rattle.bios_services.specs.ModeSet.{colour_plan}
@@ -114,7 +114,7 @@ loaded_from c s first count block z l few e =
     }
 
 index_by : (c : CardState) (v : ℕ) → (run card_meaning (out 0x3C8 v) c).0 ≡ with_dac c (record c.dac { index = v; component = Red })
-unfolding port_of out_at
+unfolding port_of out_reached
 index_by c v = refl
 
 pub entries_loaded : (c : CardState) (first count : ℕ) (block : List ℕ) → IsDac c.dac → first + count ≤ 256 → first < 256 → length block ≡ 3 * count →
@@ -148,5 +148,5 @@ pub entry_read : (c : CardState) (entry : ℕ) (r : Regs) → run card_meaning (
         dx = with_high r.dx (slice_index c.dac.reds entry);
       },
     )
-unfolding read_entry_plan port_of out_at inp_at
+unfolding read_entry_plan port_of out_reached inp_reached
 entry_read c entry r = refl

@@ -11,7 +11,7 @@ use Rattle.vga_bits.specs.declared.refusal.Refusal.TheVariants.{BadRegister}
 use Rattle.vga_attr.specs.Attr.{attr_masks}
 use Rattle.vga_dac.specs.declared.component.Component.TheVariants.{Red}
 use Rattle.vga_card.specs.Port.{port_of as reached_by}
-use Rattle.vga_card.specs.Cycles.{out_at, inp_at}
+use Rattle.vga_card.specs.Cycles.{out_reached, inp_reached}
 use Rattle.bios_services.specs.declared.colours.ColourService.{ColourService}
 use Rattle.bios_services.specs.declared.colours.ColourService.TheVariants.{SetRegister, SetOverscan, SetPalette, SetBlinking, ReadRegister, ReadOverscan}
 use Rattle.bios_services.specs.declared.colours.ColourService.TheVariants.{SetEntry, SetEntries, ReadEntry, SetMask, ReadMask}
@@ -169,7 +169,7 @@ module _ (c : CardState) (d : BiosData) (h : IsAny c d) where
       (ap (λ n. is_set n 3) value ∙ by.1)
 
   mask_by : (v : ℕ) → (run card_meaning (out 0x3C6 v) c).0 ≡ with_dac c (record c.dac { mask = v })
-  unfolding reached_by out_at
+  unfolding reached_by out_reached
   mask_by v = refl
 
   -- ---- services that read
@@ -188,7 +188,7 @@ module _ (c : CardState) (d : BiosData) (h : IsAny c d) where
   index_moved i l = attribute_shown registers (0x20 + i) (index_shown i l) refl refl s.palette.values s.overscan s.is_blink refl refl refl
 
   mask_read : (r : Regs) → run card_meaning (read_mask_in_bl r) c ≡ (c, record r { bx = with_low r.bx c.dac.mask })
-  unfolding read_mask_in_bl reached_by inp_at
+  unfolding read_mask_in_bl reached_by inp_reached
   mask_read r = refl
 
   -- ---- what is known where they are not refused

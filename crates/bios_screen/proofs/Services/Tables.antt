@@ -7,7 +7,7 @@ use Rattle.bios_screen.proofs.Prelude.{shown}
 use Rattle.vga_bits.specs.declared.refusal.Refusal.TheVariants.{NoMode}
 use Rattle.vga_dac.specs.declared.component.Component.TheVariants.{Red}
 use Rattle.vga_card.specs.Port.{port_of as reached_by}
-use Rattle.vga_card.specs.Cycles.{out_at, inp_at}
+use Rattle.vga_card.specs.Cycles.{out_reached, inp_reached}
 use Rattle.bios_services.specs.declared.reply.Table.{Table}
 use Rattle.bios_services.specs.declared.reply.Table.TheVariants.{Palette as PaletteTable, Dac as DacTable}
 use Rattle.bios_services.specs.declared.tables.TableService.{TableService}
@@ -92,7 +92,7 @@ three_more p x y z c =
 entry_by : (c : CardState) (n i k : ℕ) → run card_meaning (gather next_byte (suc (suc (suc n))) i) (at_entry c k)
     ≡ run card_meaning (((gather next_byte n (i + 1 + 1 + 1) >>= with_byte (slice_index c.dac.blues k)) >>= with_byte (slice_index c.dac.greens k))
     >>= with_byte (slice_index c.dac.reds k)) (at_entry c ((k + 1) % 256))
-unfolding reached_by inp_at
+unfolding reached_by inp_reached
 entry_by c n i k = refl
 
 -- so many entries from one on
@@ -114,7 +114,7 @@ entries_by c (suc n) i k l =
     ∙ ap (λ j. let p : CardState × List ℕ = (at_entry c (j % 256), entries_from (palette_in c) k (suc n)) in p) all
 
 index_by : (c : CardState) (v : ℕ) → (run card_meaning (out 0x3C7 v) c).0 ≡ at_entry c v
-unfolding reached_by out_at
+unfolding reached_by out_reached
 index_by c v = refl
 
 entries_read : (c : CardState) (first count : ℕ) → first < 256 → first + count ≤ 256 →

@@ -6,7 +6,7 @@ use Rattle.vga_crtc.specs.Ports.{after_out as after_crtc}
 use Rattle.bios_screen.proofs.Prelude.{IsCard, card_meaning, CardState, ModeRow, row_at, BiosData, data_of_mode, AreBytes, FontSet, Plan, run, ◌>>◌}
 use Rattle.bios_screen.proofs.Prelude.{start_address, Screen, is_palette_shown, crtc_registers, shows_attribute, shown, listing}
 use Rattle.vga_card.specs.Port.{port_of as reached_by, crtc_port_of}
-use Rattle.vga_card.specs.Cycles.{out_at}
+use Rattle.vga_card.specs.Cycles.{out_reached}
 use Rattle.bios_modes.specs.declared.heights.TextRow.{TextRow}
 use Rattle.bios_modes.specs.Heights.{with_text}
 use Rattle.bios_modes.specs.Bounds.{AreFonts}
@@ -52,7 +52,7 @@ height_by : (disp : Display) (new : Height) (old : TextRow) (c : CardState) (typ
     → (run card_meaning (height_plan (port_of disp) (row_with disp new)) (card_at
     (with_crtc c (crtc_registers (with_text (row_of disp) old) type start location) c.crtc.index) (text_setting disp))).0
     ≡ with_crtc (card_at c (text_setting disp)) (crtc_registers (row_with disp new) (row_with disp new).cursor_type 0 0) 0x0F
-unfolding word_plan reached_by crtc_port_of out_at after_crtc
+unfolding word_plan reached_by crtc_port_of out_reached after_crtc
 height_by Colour Eight old c type start location = refl
 height_by Colour Fourteen old c type start location = refl
 height_by Colour Sixteen old c type start location = refl
@@ -123,7 +123,7 @@ record ReachesGlyphs (disp : Display) : Type 0 where
   memory : (let s = text_setting disp in let row = row_of disp in (s.misc == row.misc) && (bytes_eq s.seq row.sequencer && bytes_eq s.gfx row.graphics)) ≡ true
 
 reaches_glyphs : (disp : Display) → ReachesGlyphs disp
-unfolding reached_by out_at
+unfolding reached_by out_reached
 reaches_glyphs Colour = record { on = λ c. refl; off = λ c. refl; window = refl; port = refl; memory = refl }
 reaches_glyphs Monochrome = record { on = λ c. refl; off = λ c. refl; window = refl; port = refl; memory = refl }
 

@@ -1,5 +1,6 @@
 //! The whole adapter as bytes.
 ghost use Rattle.std.specs.Prelude.{◌≡◌, ◌+◌, ◌*◌, ◌≤◌, ◌↔◌, IsTrue, length, take, slice_index};
+ghost use Rattle.std.specs.Prelude.{IfOk, IsOkUnless};
 ghost use Rattle.vga_bits.specs.Saved.{IsPut};
 ghost use Rattle.vga_card.specs.Dots.{fresh};
 ghost use Rattle.vga_card.specs.Saved.{saved_card, past_misc, past_crtc, past_attr, past_dac};
@@ -9,8 +10,9 @@ ghost use Rattle.vga_card.specs.FreshCanvas.{with_fresh_canvas};
 use super::Card;
 use super::cycles::MISCELLANEOUS_MASK;
 use crate::canvas::saved::{WIDTHS_LEN, are_saved_dots, put_no_dots};
+use std::alloc::Global;
 use vga_attr::Attr;
-use vga_bits::put_byte;
+use vga_bits::{Fault, put_byte};
 use vga_crtc::Crtc;
 use vga_dac::Dac;
 use vga_host::Host;
@@ -132,6 +134,42 @@ impl Card {
         self.dac.restore(parts.dac);
         self.host.restore(parts.host);
         self.canvas.restore(self.crtc.beam(), parts.dots);
+    }
+
+    /// Saves the adapter into a slice that has as many bytes as `saved_len` tells.
+    #[tactic(auto, using(vga_bits::proofs::SavedLemmas::put_whole))]
+    fn save_whole(&self, out: &mut [u8])
+        requires { length out.old ≡ length (saved_card self.now) }
+        ensures { out.new ≡ saved_card self.now }
+    {
+        self.saves_whole();
+        self.save(out, 0);
+    }
+
+    /// The bytes of the adapter. It fails with `OutOfMemory` alone.
+    fn saved_bytes(&self, alloc: Global) -> Result<Vec<u8>, Fault>
+        ensures ok { IfOk result (λ bytes. bytes.items ≡ saved_card self.now) }
+        ensures err { IsOkUnless result Fault.OutOfMemory }
+    {
+        let Ok(mut bytes) = vec![in alloc; 0u8; self.saved_len()] else {
+            return Err(Fault::OutOfMemory);
+        };
+        self.save_whole(bytes.as_mut_slice());
+        Ok(bytes)
+    }
+
+    /// A copy of the adapter, but for dots that no step can see any more. It fails with
+    /// `OutOfMemory` alone.
+    #[tactic(auto, using(crate::proofs::SavedCards::saved_there))]
+    pub fn copy(&self, alloc: Global) -> Result<Card, Fault>
+        ensures ok { IfOk result (λ card. card ≡ with_fresh_canvas self.now) }
+        ensures err { IsOkUnless result Fault.OutOfMemory }
+    {
+        self.saves_whole();
+        let bytes = self.saved_bytes(alloc)?;
+        let mut copy = Card::new(alloc)?;
+        copy.restore(bytes.as_slice());
+        Ok(copy)
     }
 
     /// What is saved is restored, whole, but for dots that no step can see any more. The clauses

@@ -31,7 +31,7 @@ fn word_of(low: u8, high: u8) -> u16
 impl Card {
     /// Writes a byte to a port and then one to the next, where the second is not refused once the
     /// first is written.
-    #[tactic(auto, using(crate::proofs::CycleLemmas::out_refused))]
+    #[tactic(auto, using(crate::proofs::CycleLemmas::written_refused))]
     fn out_pair(&mut self, port: u16, low: u8, high: u8) -> Result<(), Refusal>
         requires few { port < 65535 }
         requires second { IsOk (out_cycle (out_cycle self.old port low).0 (port + 1) high).1 }
@@ -42,7 +42,7 @@ impl Card {
     }
 
     /// Writes an index to the sequencer's index port, and its register.
-    #[tactic(auto, unfolding(crate::specs::Cycles::out_at, crate::specs::Port::port_of))]
+    #[tactic(auto, unfolding(crate::specs::Cycles::out_reached, crate::specs::Port::port_of))]
     fn out_sequencer(&mut self, index: u8, v: u8) -> Result<(), Refusal>
         ensures { (self.new, result) ≡ out_bytes self.old 0x3C4 index v }
     {
@@ -54,7 +54,7 @@ impl Card {
     }
 
     /// Writes an index to the graphics controller's index port, and its register.
-    #[tactic(auto, unfolding(crate::specs::Cycles::out_at, crate::specs::Port::port_of))]
+    #[tactic(auto, unfolding(crate::specs::Cycles::out_reached, crate::specs::Port::port_of))]
     fn out_graphics(&mut self, index: u8, v: u8) -> Result<(), Refusal>
         ensures { (self.new, result) ≡ out_bytes self.old 0x3CE index v }
     {
@@ -66,7 +66,7 @@ impl Card {
     }
 
     /// Writes an index to the CRT controller's index port, and its register.
-    #[tactic(auto, unfolding(crate::specs::Cycles::out_at, crate::specs::Port::port_of, crate::specs::Port::crtc_port_of))]
+    #[tactic(auto, unfolding(crate::specs::Cycles::out_reached, crate::specs::Port::port_of, crate::specs::Port::crtc_port_of))]
     fn out_crtc(&mut self, index: u8, v: u8) -> Result<(), Refusal>
         ensures { (self.new, result) ≡ out_bytes self.old (crtc_port self.old.misc) index v }
     {
@@ -80,7 +80,7 @@ impl Card {
     /// Writes a word to a port and the next. It is refused whole if either byte would be, the
     /// second judged in the state after the first, with the lower-numbered refusal where both are;
     /// a word at the last port is `NotDecoded`.
-    #[tactic(auto, unfolding(crate::specs::Cycles::out_at, crate::specs::Port::port_of, crate::specs::Port::crtc_port_of))]
+    #[tactic(auto, unfolding(crate::specs::Cycles::out_reached, crate::specs::Port::port_of, crate::specs::Port::crtc_port_of))]
     pub fn out_word(&mut self, port: u16, v: u16) -> Result<(), Refusal>
         ensures { (self.new, result) ≡ out_word_cycle self.old port v }
     {
@@ -113,7 +113,6 @@ impl Card {
     }
 
     /// Reads a word at a port and the next, where the first byte is read without effect or refusal.
-    #[tactic(auto, using(crate::proofs::CycleLemmas::inp_refused))]
     fn inp_quiet(&mut self, port: u16) -> Result<u16, Refusal>
         requires few { port < 65535 }
         requires quiet { IsQuiet self.old port }
@@ -129,7 +128,7 @@ impl Card {
     }
 
     /// Reads a word from a port and the next. It is refused as a write is, and then has no effect.
-    #[tactic(auto, unfolding(crate::specs::Cycles::inp_at, crate::specs::Port::port_of, crate::specs::Port::crtc_port_of))]
+    #[tactic(auto, unfolding(crate::specs::Cycles::inp_reached, crate::specs::Port::port_of, crate::specs::Port::crtc_port_of))]
     pub fn inp_word(&mut self, port: u16) -> Result<u16, Refusal>
         ensures { (self.new, result) ≡ inp_word_cycle self.old port }
     {

@@ -1,5 +1,4 @@
-use Rattle.std.proofs.Common.{◌+◌, ◌*◌, ◌%◌, sym, subst}
-use Rattle.vga_crtc.specs.declared.beam.Beam.{Beam}
+use Rattle.std.proofs.Common.{◌+◌, ◌*◌, sym, subst}
 use Rattle.vga_dots.specs.declared.character.CellColours.{CellColours}
 use Rattle.vga_dots.specs.Row.{AreDotsPut}
 use Rattle.vga_dots.specs.Line.{dot_of, source_colour, unpanned_colour}
@@ -14,8 +13,8 @@ loop-x-preserved g c =
     let x = c.loop-x.x in
     let first = c.args.first in (
       characters_more g.row.CW x (λ x. unpanned_colour d (first + x)) c.args.row.now c.loop-x.row c.put.new.row c.loop-x.invariant.0
-          (subst (λ (b : Beam). AreDotsPut g.row.CW (x * g.row.CW) (λ i. source_colour d (dot_of ((b.base + (first + x)) % 65536) i))
-          c.loop-x.row c.put.new.row) c.beam-base.ensures.value c.put.ensures),
+          (subst (λ counter. AreDotsPut g.row.CW (x * g.row.CW) (λ i. source_colour d (dot_of counter i)) c.loop-x.row c.put.new.row)
+          c.counter-counter.ensures c.put.ensures),
       elim c.if-cell-colours.branch [
         | then-cell-colours w ↦ subst (λ (colours : CellColours). HasColours colours d) (sym w.colours-is) w.colours-colours-then-cell-colours.ensures.colours
         | else-cell-colours w ↦ subst (λ (colours : CellColours). HasColours colours d) (sym w.colours-is) c.loop-x.invariant.1

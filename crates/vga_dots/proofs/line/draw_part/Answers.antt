@@ -3,7 +3,7 @@ use Rattle.std.proofs.Common.{sym, ap, ◌∙◌}
 use Rattle.vga_host.specs.Fields.{is_screen_off}
 use Rattle.vga_attr.specs.Fields.{is_palette_shown, overscan}
 use Rattle.vga_dac.specs.Dac.{DacState}
-use Rattle.vga_dots.specs.Line.{masked}
+use Rattle.vga_dots.specs.Line.{masked_colour}
 use Rattle.vga_dots.proofs.CharacterLemmas.{off_colour, hidden_colour}
 use Rattle.vga_dots.proofs.LineLemmas.{part_filled}
 use Rattle.vga_dots.proofs.line.draw_part.Goals as goal
@@ -20,5 +20,5 @@ returns-then-not-is_palette_shown g c =
     let off = sym (c.is_screen_off.ensures ∙ ap is_screen_off c.host.ensures) ∙ c.if-is_screen_off.false in
     let shown = sym (c.is_palette_shown.ensures ∙ ap is_palette_shown c.attr.ensures) ∙ c.if-not-is_palette_shown.true in
     part_filled g.row.CW d c.requires.width c.args.count _ c.args.row.now c.fill-then-not-is_palette_shown.new.row c.fill-then-not-is_palette_shown.ensures
-    (λ s. c.masked.ensures ∙ ap (λ (x : DacState). masked x c.overscan.result) c.dac.ensures
-    ∙ ap (masked d.dac) (c.overscan.ensures ∙ ap overscan c.attr-then-not-is_palette_shown.ensures) ∙ hidden_colour d s off shown)
+    (λ s. c.masked_colour.ensures ∙ ap (λ (x : DacState). masked_colour x c.overscan.result) c.dac.ensures
+    ∙ ap (masked_colour d.dac) (c.overscan.ensures ∙ ap overscan c.attr-then-not-is_palette_shown.ensures) ∙ hidden_colour d s off shown)

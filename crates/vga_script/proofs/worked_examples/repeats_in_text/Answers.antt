@@ -7,7 +7,8 @@ use Rattle.vga_script.specs.Tokens.{words, lines}
 use Rattle.vga_script.specs.Text.{SpellsRepeat, IsVersionTwo, SpellsLinesUpTo}
 use Rattle.vga_script.proofs.OptionLemmas.{lt_test}
 use Rattle.vga_script.proofs.ItemLemmas.{length-repeated, length-expanded-cons}
-use Rattle.vga_script.proofs.RepeatLineLemmas.{not_step_named, repeat_unnamed, end_unnamed}
+use Rattle.vga_script.proofs.NameLemmas.{repeat_unnamed, end_unnamed}
+use Rattle.vga_script.proofs.RepeatLineLemmas.{not_step_named}
 use Rattle.vga_script.proofs.AssembleLemmas.{blank_none, not_two}
 use Rattle.vga_script.proofs.worked_examples.repeats_in_text.Goals as goal
 

@@ -1,5 +1,5 @@
 use Rattle.std.proofs.Common.{rules}
-use Rattle.vga_c.proofs.outcome.tell_place.Goals as goal
+use Rattle.vga_c.proofs.outcome.write_place.Goals as goal
 
 pub returns-in_default : goal.returns-in_default
 returns-in_default c = search rules

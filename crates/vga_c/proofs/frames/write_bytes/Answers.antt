@@ -1,5 +1,5 @@
 use Rattle.std.proofs.Common.{rules}
-use Rattle.vga_c.proofs.frames.tell_bytes.Goals as goal
+use Rattle.vga_c.proofs.frames.write_bytes.Goals as goal
 
 pub returns-in-Picture : goal.returns-in-Picture
 returns-in-Picture c = search rules

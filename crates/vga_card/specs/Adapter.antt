@@ -1,0 +1,44 @@
+-- What a cycle reads and changes of the adapter: all but the beam and the dots drawn.
+use Rattle.std.specs.Prelude.{ℕ, List}
+use Rattle.vga_host.specs.Host.{HostState}
+use Rattle.vga_crtc.specs.declared.beam.Beam.{Beam}
+use Rattle.vga_crtc.specs.Crtc.{CrtcState}
+use Rattle.vga_attr.specs.Attr.{AttrState}
+use Rattle.vga_dac.specs.Dac.{DacState}
+use Rattle.vga_card.specs.Card.{CardState}
+
+-- registers and index are those of the CRT controller
+pub record AdapterState : Type 0 where
+  pub host : HostState
+  pub registers : List ℕ
+  pub index : ℕ
+  pub attr : AttrState
+  pub dac : DacState
+  pub misc : ℕ
+
+abbrev pub adapter_of : CardState → AdapterState
+adapter_of c = record {
+  host = c.host;
+  registers = c.crtc.registers;
+  index = c.crtc.index;
+  attr = c.attr;
+  dac = c.dac;
+  misc = c.misc;
+}
+
+-- the CRT controller with its beam
+abbrev pub crtc_of : Beam → AdapterState → CrtcState
+crtc_of b a = record { registers = a.registers; index = a.index; beam = b }
+
+abbrev pub with_crtc : AdapterState → CrtcState → AdapterState
+with_crtc a crtc = record a { registers = crtc.registers; index = crtc.index }
+
+-- beam and dots stay
+abbrev pub with_adapter : CardState → AdapterState → CardState
+with_adapter c a = record c {
+  host = a.host;
+  crtc = crtc_of c.crtc.beam a;
+  attr = a.attr;
+  dac = a.dac;
+  misc = a.misc;
+}

@@ -1,0 +1,126 @@
+-- The cycles of a call of interrupt 10 (hexadecimal) as the steps of a script, and an adapter that
+-- lists the cycles that are issued on it.
+use Rattle.std.specs.Prelude.{ℕ, ◌≡◌, ◌≤◌, ◌<◌, ◌&&◌, nat_lt, Bool, List, [], ◌∷◌, length, Result, Err}
+use Rattle.std.specs.Prelude.{IsOk}
+use Rattle.vga_bits.specs.declared.refusal.Refusal.{Refusal}
+use Rattle.vga_card.specs.Card.{CardState}
+use Rattle.vga_card.specs.Bus.{Meaning, Place, AtPort, AtAddress, card_write, card_read}
+use Rattle.bios_services.specs.declared.regs.Regs.{Regs}
+use Rattle.bios_services.specs.Plan.{Plan, Done, Write, Read, byte_of}
+use Rattle.bios_services.specs.Service.{service}
+use Rattle.vga_script.specs.declared.step.Step.{Step}
+use Rattle.vga_script.specs.declared.step.Step.TheVariants.{Out, In, Put, Get}
+use Rattle.vga_script.specs.ScriptBytes.{Written, with_bytes, script_of_steps}
+use Rattle.vga_script.specs.Spelling.{script_limit, spelling, encoding, Spells}
+use Rattle.vga_run.specs.declared.machine.Machine.{Machine}
+use Rattle.vga_run.specs.declared.cycle_list.Unlisted.{Unlisted}
+use Rattle.vga_run.specs.declared.cycle_list.Unlisted.TheVariants.{Refused, TooLong, OutOfMemory}
+use Rattle.vga_run.specs.Answer.{StepAnswer, Plain}
+use Rattle.vga_run.specs.declared.answer.Answer.TheVariants.{Byte}
+use Rattle.vga_run.specs.Step.{called, answer_to, after_step}
+
+-- ---- cycles as steps
+
+-- the step that writes a byte to a place
+abbrev pub write_step : Place → ℕ → Step
+write_step (AtPort port) v = Out port v
+write_step (AtAddress address) v = Put address v
+
+-- the step that reads a byte from a place
+abbrev pub read_step : Place → Step
+read_step (AtPort port) = In port
+read_step (AtAddress address) = Get address
+
+-- the cycles of a plan on an adapter, in order
+abbrev pub cycles_of : {A : Type 0} → Plan A → CardState → List Step
+cycles_of (Done a) c = []
+cycles_of (Write place v rest) c = write_step place v ∷ cycles_of rest (card_write c place v).0
+cycles_of (Read place rest) c = let r = card_read c place in
+    read_step place ∷ cycles_of (rest (byte_of r.1)) r.0
+
+-- those of a call of interrupt 10 on a machine
+unfoldable pub cycles_of_call : Machine → Regs → List ℕ → List Step
+cycles_of_call m regs block = cycles_of (service m.fonts m.bda regs block) m.card
+
+-- ---- what the cycles tell
+
+-- the byte that a plan has of a step that reads; a refused one gives FF
+abbrev pub byte_answered : StepAnswer → ℕ
+byte_answered (Plain (Byte v)) = v
+byte_answered other = 0xFF
+
+-- the bytes that the reads among some steps give, where the steps are taken one after the other
+abbrev pub bytes_read : Machine → List Step → List ℕ
+bytes_read m [] = []
+bytes_read m (In port ∷ steps) = byte_answered (answer_to m (In port))
+    ∷ bytes_read (after_step m (In port)) steps
+bytes_read m (Get address ∷ steps) = byte_answered (answer_to m (Get address))
+    ∷ bytes_read (after_step m (Get address)) steps
+bytes_read m (step ∷ steps) = bytes_read (after_step m step) steps
+
+-- what a plan answers whose reads give these bytes, and 0 where there are no more
+abbrev pub answer_by : {A : Type 0} → Plan A → List ℕ → A
+answer_by (Done a) bytes = a
+answer_by (Write place v rest) bytes = answer_by rest bytes
+answer_by (Read place rest) [] = answer_by (rest 0) []
+answer_by (Read place rest) (b ∷ bytes) = answer_by (rest b) bytes
+
+-- ---- an adapter that lists
+
+-- an adapter, the script of the cycles that were issued on it, and whether the fields of each fit
+-- their bytes
+pub record Listed : Type 0 where
+  pub card : CardState
+  pub script : Written
+  pub fits : Bool
+
+-- a port and an address as wide as they are on a bus
+abbrev pub is_place : Place → Bool
+is_place (AtPort port) = nat_lt port 0x10000
+is_place (AtAddress address) = nat_lt address 0x100000000
+
+abbrev pub list_write : Listed → Place → ℕ → Listed × Result (Unit {0}) Refusal
+list_write s place v = let w = card_write s.card place v in (
+  record {
+    card = w.0;
+    script = with_bytes s.script (spelling (write_step place v));
+    fits = s.fits && (is_place place && nat_lt v 0x100);
+  },
+  w.1,
+)
+
+abbrev pub list_read : Listed → Place → Listed × Result ℕ Refusal
+list_read s place = let r = card_read s.card place in (
+  record {
+    card = r.0;
+    script = with_bytes s.script (spelling (read_step place));
+    fits = s.fits && is_place place;
+  },
+  r.1,
+)
+
+-- each cycle is the adapter's, and is listed
+abbrev pub list_meaning : Meaning Listed
+list_meaning = record { write = list_write; read = list_read }
+
+-- ---- the list of a call
+
+-- the bytes of the script of a call's cycles
+unfoldable pub listed_bytes : Machine → Regs → List ℕ → List ℕ
+listed_bytes m regs block = encoding (script_of_steps (cycles_of_call m regs block))
+
+-- bytes list the cycles of a call that is not refused: they spell its script, and are kept where
+-- there is room for all
+pub record IsList (m : Machine) (regs : Regs) (block : List ℕ) (room : ℕ) (script : Written) : Type 0 where
+  pub done : IsOk (called m regs.ax regs.bx regs.cx regs.dx block).1.0
+  pub spelled : Spells (listed_bytes m regs block) (script_of_steps (cycles_of_call m regs block))
+  pub counted : script.len ≡ length (listed_bytes m regs block)
+  pub kept : script.len ≤ room → script.bytes ≡ listed_bytes m regs block
+
+-- why there is no list: the call is refused; the bytes are too many for a script; or there was no
+-- memory
+abbrev pub IsUnlisted : Machine → Regs → List ℕ → Unlisted → Type 0
+IsUnlisted m regs block (Refused why) =
+    (called m regs.ax regs.bx regs.cx regs.dx block).1.0 ≡ Err why
+IsUnlisted m regs block TooLong = script_limit < length (listed_bytes m regs block)
+IsUnlisted m regs block OutOfMemory = Unit {0}
