@@ -33,6 +33,7 @@ static uint16_t word;
 static size_t place, taken, script_len;
 static uint8_t text_of_puts[LINE_BYTES * LINES], printed[LINE_BYTES * LINES];
 static uint8_t script[HEADER_BYTES + STEP_BYTES * LINES], report[ANSWER_BYTES * PUTS];
+static uint8_t listed[1 << 22];
 static zak_registers registers;
 static zak_beam beam;
 static zak_timing timing;
@@ -212,6 +213,15 @@ static zak_status do_restore_fixed(uint32_t i)
 
 static zak_status do_teletype(uint32_t i) { return call_int10(0x0E41, 7 + (i & 0)); }
 
+static zak_status list(uint16_t ax, uint32_t i)
+{
+    zak_regs regs = {ax, 7 + (i & 0), 0, 0};
+    return zak_cycles(&card, &regs, none, 0, listed, sizeof listed, &len);
+}
+
+static zak_status do_cycles(uint32_t i) { return list(0x0E41, i); }
+static zak_status do_cycles_of_mode(uint32_t i) { return list(0x0012, i); }
+
 static zak_status do_read_registers(uint32_t i)
 {
     (void)i;
@@ -328,6 +338,8 @@ static const struct call {
     {"frame_lines", do_frame_lines, NULL},
     {"lines", do_lines, NULL},
     {"teletype", do_teletype, NULL},
+    {"cycles", do_cycles, NULL},
+    {"cycles_of_mode", do_cycles_of_mode, NULL},
     {"read_registers", do_read_registers, NULL},
     {"read_beam", do_read_beam, NULL},
     {"show_regs", do_show_regs, NULL},

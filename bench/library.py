@@ -46,6 +46,7 @@ CALLS = (
     Call("frame_once", "13", 10, 500), Call("frame_once", "3", 10, 500), Call("frame_once", "12", 10, 500),
     Call("frame_lines", "12", 10, 500), Call("lines", "12", 10, 500), Call("lines", "13", 10, 500),
     Call("block", "13", 1000, 1_000_000),
+    Call("cycles", "3", 100, 1000), Call("cycles_of_mode", "3", 3, 30),
     Call("teletype", "3", 1000, 100_000), Call("read_registers", "13", 1000, 1_000_000),
     Call("read_beam", "13", 1000, 1_000_000), Call("show_regs", "13", 1000, 100_000),
     Call("save", "13", 10, 2000), Call("restore", "13", 10, 2000),

@@ -166,6 +166,20 @@ public:
         return std::vector<std::uint8_t>(table, table + len);
     }
 
+    /* The script of the cycles that int10 with these registers would make; nothing changes. */
+    std::vector<std::uint8_t> cycles(const zak_regs &regs, bytes block = bytes())
+    {
+        std::vector<std::uint8_t> script(4096);
+        std::size_t len = 0;
+        zak_status status;
+        while ((status = zak_cycles(&raw_, &regs, block.data(), block.size(), script.data(),
+                                    script.size(), &len)) == ZAK_NO_ROOM)
+            script.resize(len);
+        check(status);
+        script.resize(len);
+        return script;
+    }
+
     zak_registers registers() { return read<zak_registers>(zak_read_registers); }
     zak_colour colour(std::uint8_t entry) { return read<zak_colour>(zak_read_colour, entry); }
     zak_beam beam() { return read<zak_beam>(zak_read_beam); }

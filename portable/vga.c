@@ -70,7 +70,7 @@ static const char HELP[] =
     "The status is 0 for success, 1 for a fault, and 2 for words that name no job.\n\n"
     "The project's README.md leads to its pages: docs/SCRIPT.md lists every step, and\n"
     "docs/REPORT.md explains each answer and each fault.\n\n"
-    "vga 1.5, portable: tested, not proved\n";
+    "vga 1.6, portable: tested, not proved\n";
 
 static const char ASM_HELP[] =
     ABOUT_ASM "\n\n"

@@ -197,7 +197,7 @@ CHECKS: dict[str, Callable[[Path, Path], str]] = {
 def _parser() -> argparse.ArgumentParser:
     parser = cli.tool_parser(
         "vga-bindings-tests", "Tests the packages for Python and Rust.",
-        "tools/vga-bindings-tests --library kit --only python", "docs/LIBRARY.md", cli.JUDGES,
+        "tools/vga-bindings-tests --library kit --only python", "docs/LIBRARY-TESTS.md", cli.JUDGES,
     )
     parser.set_defaults(job=_run, archive=None)
     given = parser.add_mutually_exclusive_group()

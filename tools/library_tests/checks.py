@@ -122,6 +122,8 @@ COUNTED: dict[str, tuple[Sequence[str], Sequence[str], str]] = {
     "lines": (SANITIZED, ["100"], "lines as they end, each that of its frame"),
     # What zak_block tells is what interrupt 10 takes, over pseudo-random calls.
     "blocks": (SANITIZED, ["20011"], "calls of interrupt 10, each with its block or another"),
+    # What zak_cycles lists leaves what interrupt 10 leaves, over pseudo-random calls.
+    "cycles": (SANITIZED, ["2000"], "calls of interrupt 10, each what its listed cycles are"),
 }
 
 

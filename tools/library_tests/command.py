@@ -43,7 +43,7 @@ OF_FILE = "file"
 def _parser() -> argparse.ArgumentParser:
     parser = cli.tool_parser(
         "vga-library-tests", "Tests the library for C, as both compilers of Rattle build it.",
-        "tools/vga-library-tests --only header", "docs/LIBRARY.md", cli.JUDGES,
+        "tools/vga-library-tests --only header", "docs/LIBRARY-TESTS.md", cli.JUDGES,
     )
     parser.set_defaults(job=_run)
     told = f"the processor; programs of another one than {X86_64.name} run in QEMU, and those for Windows in Wine"

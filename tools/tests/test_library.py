@@ -37,7 +37,7 @@ from .test_pages import broken
 from .tools import Folder, call, ended, hold, hold_undone, refused
 
 TEXT = HEADER.read_text("ascii")
-PAGE = TOP / "docs" / "LIBRARY.md"
+PAGE, RELEASES = TOP / "docs" / "LIBRARY.md", TOP / "docs" / "RELEASES.md"
 STATUS = re.compile(r"^ +(ZAK_\w+) = (\d+)", re.M)
 STRUCT = re.compile(r"^typedef struct (zak_\w+) \{", re.M)
 REFUSAL = re.compile(r"^\| `E(\d+) \w+` \|", re.M)
@@ -145,8 +145,8 @@ class Page(unittest.TestCase):
         self.assertEqual((len(lines), [line for line in lines if line.strip() not in tried]), (5, []))
 
     def test_its_version_is_the_header_s(self) -> None:
-        self.assertIn(f"this is version {version()}.", " ".join(PAGE.read_text("utf-8").split()))
-        for page in (PAGE, TOP / release.PAGE):
+        self.assertIn(f"this is version {version()}.", " ".join(RELEASES.read_text("utf-8").split()))
+        for page in (PAGE, RELEASES, TOP / release.PAGE):
             told = set(re.findall(r"zaklimot-(\d+\.\d+)-", page.read_text("utf-8")))
             self.assertEqual(told, {str(version())}, page.name)
 
@@ -350,7 +350,7 @@ class Whole(Folder):
     def test_each_link_leads_to_what_is_there(self) -> None:
         self.assertTrue(self.pages[FRONT].startswith("# Zaklimot: a release\n"))
         self.assertTrue(self.pages[f"docs/{FRONT}"].startswith("# Zaklimot\n"))
-        self.assertIn("(docs/LIBRARY.md#a-release)", self.pages[FRONT])
+        self.assertIn("(docs/RELEASES.md)", self.pages[FRONT])
         self.assertTrue(len(self.pages) > 30 and (self.folder / "share/man/man1/vga.1").exists())
         hold(self, lambda page: broken(self.folder / page, self.pages[page]), ((page, []) for page in self.pages))
 
@@ -614,9 +614,9 @@ class OneFile(Folder):
             folder = self.folder / f"crate-{len(list(self.folder.iterdir()))}"
             package = folder / "packing" / "package"
             package.mkdir(parents=True)
-            with tarfile.open(package / "zaklimot-sys-1.5.0.crate", "w:gz") as archive:
+            with tarfile.open(package / "zaklimot-sys-1.6.0.crate", "w:gz") as archive:
                 for name in packed:
-                    archive.addfile(tarfile.TarInfo(f"zaklimot-sys-1.5.0/{name}"))
+                    archive.addfile(tarfile.TarInfo(f"zaklimot-sys-1.6.0/{name}"))
             with mock.patch.object(portable, "run", mock.Mock(return_value=said)):
                 if wrong is None:
                     self.assertIn("outside the repository", portable.check_crate(TOP, folder))

@@ -239,7 +239,7 @@ def pack(stream: BinaryIO, entries: Mapping[str, Entry], time: int) -> None:
 
 def _parser() -> argparse.ArgumentParser:
     parser = cli.tool_parser(
-        "vga-release", "Packs a release of what is checked out.", "tools/vga-release release", "docs/LIBRARY.md"
+        "vga-release", "Packs a release of what is checked out.", "tools/vga-release release", "docs/RELEASES.md"
     )
     parser.add_argument("folder", type=Path, metavar="FOLDER", help="where the archive goes")
     cli.add(parser, "--program FILE", "takes this program (default: `rt run` proves and builds one)", type=to_read)

@@ -414,6 +414,23 @@ class Bios(unittest.TestCase):
         with self.assertRaises(zaklimot.BadRegister):
             self.card.int10(ax=0x1017, bx=255, cx=2)
 
+    def test_the_cycles_of_a_call(self) -> None:
+        self.card.int10(ax=0x0003)
+        before = self.card.save()
+        script = self.card.cycles(0x0E41, bx=7)
+        self.assertEqual(self.card.save(), before)
+        self.assertEqual(zaklimot.disassemble(script).splitlines()[0], "put B8000 41")
+        with zaklimot.Card() as other:
+            other.restore(before)
+            other.run_on(script)
+            self.card.int10(0x0E41, bx=7)
+            self.assertEqual(other.registers(), self.card.registers())
+            self.assertEqual(other.get(0xB8000), 0x41)
+        # More than fit at first: a mode set clears the memory.
+        self.assertGreater(len(self.card.cycles(0x0012)), 65536)
+        with self.assertRaises(zaklimot.BadMode):
+            self.card.cycles(0x0099)
+
     def test_a_block(self) -> None:
         self.card.int10(ax=0x1300, bx=0x1E, cx=2, dx=0x0203, block=bytearray(b"Hi"))
         self.assertEqual(self.card.cell(2, 4), (ord("i"), 0x1E))

@@ -82,7 +82,7 @@ class Finding(unittest.TestCase):
 class Kinds(unittest.TestCase):
     """Whether the library is the proved one or the portable one, which a file beside it tells."""
 
-    def kind(self, folder: Path, name: str = "libzaklimot.so.1.5") -> str:
+    def kind(self, folder: Path, name: str = "libzaklimot.so.1.6") -> str:
         (folder / name).touch()
         return _file.kind_of(str(folder / name))
 

@@ -22,7 +22,7 @@ CALLS: dict[str, tuple[Any, ...]] = {
     "out": (0x3C4, 2), "out_word": (0x3C4, 2), "inp": (0x3CC,), "inp_word": (0x3C4,), "put": (0xA0000, 1),
     "put_word": (0xA0000, 1), "get": (0xA0000,), "get_word": (0xA0000,), "put_bytes": (0xA0000, b"ab"),
     "fill": (0xA0000, 1, 2), "get_bytes": (0xA0000, 2), "move": (0xA0000, 0xA0002, 2), "advance": (1,), "clock": (),
-    "frame": (), "frame_xrgb": (), "frame_words": (), "line": (), "lines": (), "block": (0x1301,), "int10": (0x13,), "registers": (), "beam": (), "colour": (0,),
+    "frame": (), "frame_xrgb": (), "frame_words": (), "line": (), "lines": (), "block": (0x1301,), "cycles": (0x0E41,), "int10": (0x13,), "registers": (), "beam": (), "colour": (0,),
     "palette": (), "latches": (), "plane": (0,), "bios_data": (), "screen": (), "cell": (0, 0), "pixel": (0, 0), "cursor": (),
     "cells": (), "text": (), "show_regs": (), "show_beam": (), "show_latches": (), "show_bda": (),
     "show_cells": (), "show_dac": (0,), "show_plane": (0, 0, 1), "save": (), "save_size": (), "restore": (b"",), "save_fixed": (1,), "restore_fixed": (b"",),
@@ -35,7 +35,7 @@ MOST = {
     "put": (0xFFFF_FFFF, 0xFF), "put_word": (0xFFFF_FFFF, 0xFFFF), "get": (0xFFFF_FFFF,), "get_word": (0xFFFF_FFFF,),
     "fill": (0xFFFF_FFFF, 0xFF, 0xFFFF_FFFF), "get_bytes": (0xFFFF_FFFF, 0xFFFF_FFFF),
     "move": (0xFFFF_FFFF, 0xFFFF_FFFF, 0xFFFF_FFFF), "advance": (0xFFFF_FFFF,),
-    "int10": (0xFFFF, 0xFFFF, 0xFFFF, 0xFFFF), "block": (0xFFFF, 0xFFFF, 0xFFFF, 0xFFFF), "colour": (0xFF,),
+    "int10": (0xFFFF, 0xFFFF, 0xFFFF, 0xFFFF), "block": (0xFFFF, 0xFFFF, 0xFFFF, 0xFFFF), "cycles": (0xFFFF, 0xFFFF, 0xFFFF, 0xFFFF), "colour": (0xFF,),
     "plane": (3, 0xFFFF, 65_536), "cell": (0xFF, 0xFF, 0xFF), "pixel": (0xFFFF, 0xFFFF, 0xFF), "cursor": (0xFF,),
     "show_dac": (0xFF,), "show_plane": (3, 0xFFFF, 256),
 }

@@ -169,7 +169,7 @@ class Compiled(unittest.TestCase):
             (self.compiler(FAILING), "sh ended with status 1, and said:\nno such option\n"),
             (self.compiler("exit 0"), "sh ended with status 0, and said:"),
             (self.compiler(WRITING), "made a library that Python can't load: OSError: "),
-            (self.compiler(older), "zaklimot.c is of version 1.3, and this package of 1.5\n"),
+            (self.compiler(older), "zaklimot.c is of version 1.3, and this package of 1.6\n"),
             ({"ZAKLIMOT_PORTABLE": "yes"}, "ZAKLIMOT_PORTABLE is yes, and it is to be 0 or 1\n"),
         ):
             with self.subTest(told), self.assertRaises(AssertionError) as caught:

@@ -83,6 +83,12 @@ static zak_status call_int10(uint16_t ax, uint16_t cx)
     return zak_int10(&card, &regs, none, 0, answer, sizeof answer, &len);
 }
 
+static zak_status do_cycles(void)
+{
+    zak_regs regs = {0x0E41, 7, 0, 0};
+    return zak_cycles(&card, &regs, none, 0, answer, sizeof answer, &len);
+}
+
 static zak_status do_open(void) { return zak_open(&opened, fonts, sizeof fonts); }
 static zak_status do_dac_entries(void) { return call_int10(0x1017, 256); }
 static zak_status do_regs(void) { return zak_show_regs(&card, answer, sizeof answer, &len); }
@@ -142,6 +148,7 @@ static const struct job {
 } JOBS[] = {
     {"zak_open", do_open, 3, false},
     {"zak_int10", do_dac_entries, 3, false},
+    {"zak_cycles", do_cycles, 3, false},
     {"zak_show_regs", do_regs, 3, false},
     {"zak_show_beam", do_beam, 3, false},
     {"zak_show_latches", do_latches, 3, false},

@@ -85,6 +85,7 @@ static void calls_of_closed(void)
     SHOW(zak_frame_lines(&card, widths, bytes, 1, &len));
     SHOW(zak_int10(&card, &regs, none, 0, bytes, 1, &len));
     SHOW(zak_block(&card, &regs, &source));
+    SHOW(zak_cycles(&card, &regs, none, 0, bytes, 1, &len));
     SHOW(zak_save_size(&card, &len));
     SHOW(zak_save(&card, bytes, 1, &len));
     SHOW(zak_restore(&card, bytes, 1));
@@ -217,6 +218,29 @@ static void refused_services(void)
     SHOW(table[3 * 15] == 63 && table[3 * 15 + 2] == 63);
     free(table);
     free(little);
+}
+
+/* The four cycles that write an entry of the DAC, as a script of 21 bytes; and calls with no list. */
+static void lists(void)
+{
+    size_t len = 999, place = 999;
+    uint8_t *script = buffer(21), *text = buffer(100);
+    zak_regs regs = {0x0099, 0, 0, 0};
+    SHOW(zak_cycles(&card, &regs, none, 0, script, 21, &len));
+    regs = (zak_regs){0x1012, 0, 1, 0};
+    SHOW(zak_cycles(&card, &regs, text, 2, script, 21, &len));
+    SHOW(len == 999 && script[0] == UNTOUCHED);
+    regs = (zak_regs){0x1010, 5, 0x0B0C, 0x0A00};
+    SHOW(zak_cycles(&card, &regs, none, 0, script, 20, &len));
+    SHOW(len == 21 && script[0] == UNTOUCHED && regs.ax == 0x1010);
+    SHOW(zak_cycles(&card, &regs, none, 0, script, 21, &len));
+    SHOW(zak_print(script, len, text, 100, &len, &place));
+    printf("%.*s", (int)len, (char *)text);
+    regs = (zak_regs){0x0013, 0, 0, 0};
+    SHOW(zak_cycles(&card, &regs, none, 0, script, 21, &len));
+    SHOW(len > 65536);
+    free(text);
+    free(script);
 }
 
 /* The mode was set within a frame of other lines, so the first frame is ragged. */
@@ -737,6 +761,7 @@ int main(int argc, char **argv)
     transfers_out_of_range();
     no_screen();
     refused_services();
+    lists();
     little_pictures();
     little_pixels();
     distant_rows();

@@ -40,6 +40,31 @@ zak_status zak_int10(zak_card *card, zak_regs *regs, const uint8_t *block, size_
     END(card, int10(self, regs, block, block_len, table, table_cap, table_len));
 }
 
+static zak_status cycles_of(module *self, const zak_regs *regs, const uint8_t *block,
+                            size_t block_len, size_t script_cap, size_t *script_len)
+{
+    size_t len = least(block_len, MOST_BLOCK + 1);
+    u32 at = room(self, len);
+    if (!at)
+        return ZAK_OUT_OF_MEMORY;
+    hand_registers(self, regs);
+    hand_over(self, at, block, len);
+    zak_status status = module_zak_cycles(self, CARD, TOLD, at, len, OUTSIDE,
+                                          least(script_cap, MOST_SCRIPT), TOLD + REGISTERS);
+    if (is_told(status))
+        *script_len = told_size(self, REGISTERS);
+    give_room(self, at);
+    return status;
+}
+
+zak_status zak_cycles(zak_card *card, const zak_regs *regs, const uint8_t *block, size_t block_len,
+                      uint8_t *script, size_t script_cap, size_t *script_len)
+{
+    BEGIN(card);
+    self->outside = script;
+    END(card, cycles_of(self, regs, block, block_len, script_cap, script_len));
+}
+
 static zak_status block_of(module *self, const zak_regs *regs, zak_source *source)
 {
     hand_registers(self, regs);

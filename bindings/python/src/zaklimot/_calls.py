@@ -53,6 +53,7 @@ CALLS: dict[str, tuple[Any, ...]] = {
     "frame_lines": (CARD, _to(U32), BYTES, SIZE, COUNT),
     "int10": (CARD, _to(s.zak_regs), In, SIZE, *ROOM),
     "block": (CARD, _to(s.zak_regs), _to(s.zak_source)),
+    "cycles": (CARD, _to(s.zak_regs), In, SIZE, *ROOM),
     "show_regs": (CARD, *ROOM),
     "show_beam": (CARD, *ROOM),
     "show_latches": (CARD, *ROOM),

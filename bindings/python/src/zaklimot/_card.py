@@ -27,6 +27,8 @@ Fonts = Union[Bytes, str, "os.PathLike[str]", None]
 NO_ROOM = 25
 # The report of one step fits into this.
 STEP_ROOM = s.MOST_RGB + 100
+# The cycles of most calls fit into this.
+FIRST_CYCLES = 4096
 _byref, _U8, _U16 = ctypes.byref, s.U8, s.U16
 # Code page 437 shows characters below 20 (hexadecimal) as these.
 _LOW = "\0☺☻♥♦♣♠•◘○◙♂♀♪♫☼►◄↕‼¶§▬↨↑↓→←∟↔▲▼"
@@ -488,6 +490,27 @@ class Card:
         given, table, length = bytes(memoryview(block)), (s.U8 * s.MOST_TABLE)(), s.SIZE()
         self._call("int10", _byref(regs), given, len(given), table, s.MOST_TABLE, _byref(length))
         return Answer(regs.ax, regs.bx, regs.cx, regs.dx, bytes(table[:length.value]))
+
+    def cycles(self, ax: int, bx: int = 0, cx: int = 0, dx: int = 0, block: Bytes = b"") -> bytes:
+        """The script of the cycles that `int10` with these registers would make now; nothing changes.
+
+            print(zaklimot.disassemble(card.cycles(0x0E41)))      # what printing an A writes
+
+        The script has a step `out`, `in`, `put` or `get` for each cycle, in order. A card that runs it
+        gets the registers and the memory that `int10` leaves; its BIOS data stay. Raises what `int10`
+        raises, and TooLong for more than 16,777,216 bytes.
+        """
+        regs, given = _registers(ax, bx, cx, dx), bytes(memoryview(block))
+        length, size = s.SIZE(), FIRST_CYCLES
+        while True:
+            script = (s.U8 * size)()
+            words = (_byref(regs), given, len(given), script, size, _byref(length))
+            status = self._calls["cycles"](self._card, *words)
+            if not status:
+                return bytes(memoryview(script)[:length.value])
+            if status != NO_ROOM:
+                raise error_of(status)
+            size = length.value
 
     # The state. Nothing of it changes, also no index, latch or flip-flop.
 

@@ -27,7 +27,7 @@ extern "C" {
 /* The interface that this header describes. The major number grows when a call, a struct or a
  * status changes; the minor number grows when calls, structs or statuses are added. */
 #define ZAK_API_MAJOR 1
-#define ZAK_API_MINOR 5
+#define ZAK_API_MINOR 6
 #define ZAK_API_VERSION (65536u * ZAK_API_MAJOR + ZAK_API_MINOR) /* as zak_version() answers it */
 
 /* What a call answers. 1 to 13 are the refusals E1 to E13 of docs/REPORT.md; 102 and up are the
@@ -100,9 +100,9 @@ uint32_t zak_version(void);
 
 /* Opens a machine in its power-on state, with the glyphs of a font file, such as
  * fonts/zaklimot.fnt. It allocates 7.4 MB by malloc, which zak_close frees. Of the other calls only
- * zak_show_.., zak_screen_.., zak_run, zak_run_on, zak_assemble, zak_print and zak_int10 with AX =
- * 1017 (hexadecimal) allocate memory, which they free before they return. Answers ZAK_OPEN_ALREADY,
- * ZAK_FONT_SIZE, ZAK_OUT_OF_MEMORY. */
+ * zak_show_.., zak_screen_.., zak_run, zak_run_on, zak_assemble, zak_print, zak_cycles and zak_int10
+ * with AX = 1017 (hexadecimal) allocate memory, which they free before they return. Answers
+ * ZAK_OPEN_ALREADY, ZAK_FONT_SIZE, ZAK_OUT_OF_MEMORY. */
 zak_status zak_open(zak_card *card, const uint8_t *fonts, size_t fonts_len);
 zak_status zak_close(zak_card *card);
 
@@ -226,6 +226,17 @@ typedef struct zak_source {
 
 zak_status zak_block(zak_card *card, const zak_regs *regs, zak_source *source);
 
+/* Lists the cycles that zak_int10 with these registers and this block would make on the card as it
+ * is, in order, and leaves the card as it is: for debuggers, and for drivers that do without the
+ * BIOS. The list is a script of version 1 in bytes, with a step out, in, put or get for each cycle,
+ * which zak_print prints. If you take its steps, the card gets the registers and the memory that
+ * zak_int10 leaves; the BIOS data stay. A cycle that the card refuses stands in the list too.
+ * Refused as zak_int10 is. ZAK_NO_ROOM: *script_len is the number of bytes needed, and script is
+ * unchanged. ZAK_TOO_LONG: the list would have more than 16,777,216 bytes. The call allocates 8 MB
+ * and script_cap bytes, which it frees before it returns. ZAK_OUT_OF_MEMORY, ZAK_BAD_CARD. */
+zak_status zak_cycles(zak_card *card, const zak_regs *regs, const uint8_t *block, size_t block_len,
+                      uint8_t *script, size_t script_cap, size_t *script_len);
+
 /* Gives the state as the text of the script's step `show` (docs/REPORT.md), with a newline and no 0
  * after it. ZAK_MOST_TEXT bytes are always enough. ZAK_NO_ROOM: *text_len is the number of bytes
  * needed. zak_show_cells is refused with ZAK_NO_MODE and ZAK_WRONG_KIND. zak_show_plane shows count
@@ -321,7 +332,8 @@ zak_status zak_restore(zak_card *card, const uint8_t *bytes, size_t bytes_len);
  * size: the bytes of zak_save, then zeros, and in the last four bytes the Adler-32 checksum of all
  * before them, the lowest byte first. ZAK_MOST_STATE + 4 bytes are always enough. ZAK_NO_ROOM:
  * there are fewer bytes than the state and its checksum take. zak_restore_fixed takes all of these
- * bytes. It answers ZAK_STATE_CHECKSUM if the checksum is wrong, else what zak_restore answers. */
+ * bytes; those between the state and the checksum may be any. It answers ZAK_STATE_CHECKSUM if the
+ * checksum is wrong, else what zak_restore answers. */
 zak_status zak_save_fixed(zak_card *card, uint8_t *bytes, size_t bytes_len);
 zak_status zak_restore_fixed(zak_card *card, const uint8_t *bytes, size_t bytes_len);
 

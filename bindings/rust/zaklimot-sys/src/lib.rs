@@ -221,7 +221,7 @@ pub const ZAK_TOO_LONG: zak_status = 106;
 pub const ZAK_BAD_LINE: zak_status = 107;
 pub const ZAK_TOO_MANY: zak_status = 111;
 pub const ZAK_API_MAJOR: u32 = 1;
-pub const ZAK_API_MINOR: u32 = 5;
+pub const ZAK_API_MINOR: u32 = 6;
 pub const ZAK_API_VERSION: u32 = 65541;
 pub const ZAK_FONTS_SIZE: u32 = 9728;
 pub const ZAK_MOST_DOTS: u32 = 16777216;
@@ -329,6 +329,15 @@ extern "C" {
         table: *mut u8,
         table_cap: usize,
         table_len: *mut usize,
+    ) -> zak_status;
+    pub fn zak_cycles(
+        card: *mut zak_card,
+        regs: *const zak_regs,
+        block: *const u8,
+        block_len: usize,
+        script: *mut u8,
+        script_cap: usize,
+        script_len: *mut usize,
     ) -> zak_status;
     pub fn zak_show_regs(
         card: *mut zak_card,

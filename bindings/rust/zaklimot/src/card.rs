@@ -19,6 +19,8 @@ const MOST_TABLE: usize = sys::ZAK_MOST_TABLE as usize;
 const MOST_TEXT: usize = sys::ZAK_MOST_TEXT as usize;
 /// The report of one step fits into this.
 const STEP_ROOM: usize = MOST_RGB + 100;
+/// The cycles of most calls fit into this.
+const FIRST_CYCLES: usize = 4096;
 
 /// What came of steps of a script: their report, and how many were taken.
 #[derive(Clone, Debug, PartialEq, Eq)]
@@ -485,6 +487,50 @@ impl Card {
             )
         })?;
         Ok(Answer { regs: regs.into(), table: table[..len].to_vec() })
+    }
+
+    /// The script of the cycles that [`int10`](Card::int10) with these registers would make now;
+    /// nothing changes. It has a step `out`, `in`, `put` or `get` for each cycle, in order. A card
+    /// that runs it gets the registers and the memory that `int10` leaves; its BIOS data stay.
+    ///
+    /// ```
+    /// use zaklimot::{Card, Regs};
+    ///
+    /// let mut card = Card::new()?;
+    /// card.int10(Regs::ax(0x0003), &[])?;
+    /// let script = card.cycles(Regs::ax(0x0E41), &[])?; // printing an A
+    /// assert!(zaklimot::disassemble(&script)?.starts_with("put B8000 41\n"));
+    /// # Ok::<(), zaklimot::Error>(())
+    /// ```
+    ///
+    /// # Errors
+    ///
+    /// Those of [`int10`](Card::int10), and [`Error::TooLong`] for more than 16,777,216 bytes.
+    pub fn cycles(&mut self, regs: Regs, block: &[u8]) -> Result<Vec<u8>, Error> {
+        let regs: sys::zak_regs = regs.into();
+        let (mut script, mut len) = (vec![0; FIRST_CYCLES], 0);
+        loop {
+            // SAFETY: each pointer is to as many elements as is said.
+            let status = unsafe {
+                sys::zak_cycles(
+                    &mut self.raw,
+                    &regs,
+                    block.as_ptr(),
+                    block.len(),
+                    script.as_mut_ptr(),
+                    script.len(),
+                    &mut len,
+                )
+            };
+            match status {
+                sys::ZAK_NO_ROOM => script = vec![0; len],
+                _ => {
+                    done(status)?;
+                    script.truncate(len);
+                    return Ok(script);
+                }
+            }
+        }
     }
 
     /// All registers, as they are. Nothing changes here or in what is read below, also no latch or

@@ -65,6 +65,24 @@ fn blocks_are_told() {
 }
 
 #[test]
+fn cycles_of_a_call_are_the_call() {
+    let (mut card, mut other) = (card_in(0x0003), card_in(0x0003));
+    let letter = Regs { bx: 7, ..Regs::ax(0x0E41) };
+    let state = card.save().unwrap();
+    let script = card.cycles(letter, &[]).unwrap();
+    assert_eq!(card.save().unwrap(), state);
+    assert_eq!(zaklimot::disassemble(&script).unwrap().lines().next(), Some("put B8000 41"));
+    card.int10(letter, &[]).unwrap();
+    other.run_on(&script, 0, u32::MAX).unwrap();
+    assert_eq!(other.registers(), card.registers());
+    assert_eq!(other.get(0xB8000), Ok(0x41));
+    // More than fit at first: a mode set clears the memory.
+    let many = card.cycles(Regs::ax(0x0012), &[]).unwrap();
+    assert!(many.len() > 65_536);
+    assert_eq!(card.cycles(Regs::ax(0x0099), &[]), Err(Error::BadMode));
+}
+
+#[test]
 fn transfers_are_their_cycles() {
     let (mut card, mut other) = (card_in(0x0013), card_in(0x0013));
     let screen: Vec<u8> = (0..64_000u32).map(|at| (at * 7 / 3) as u8).collect();
