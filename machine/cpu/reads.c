@@ -1,7 +1,10 @@
-/* Reads of the adapter for the processor, whose module has another memory: a module that imports the adapter's memory
- * and its calls, so that no read goes through JavaScript. A refused read answers REFUSED and the open bus.
+/* What the machine does in the adapter's memory: a module that imports this memory and the adapter's calls.
+ *
+ * The processor, whose module has another memory, reads the adapter here, so no read goes through JavaScript. A refused
+ * read answers REFUSED and the open bus. And a picture becomes what a canvas shows.
  */
 typedef unsigned int u32;
+typedef unsigned long long u64;
 #define FROM(name) __attribute__((import_module("adapter"), import_name(name)))
 #define SHOWN(name) __attribute__((export_name(name)))
 #define REFUSED 0x10000u
@@ -28,4 +31,43 @@ SHOWN("in") u32 in(u32 card, unsigned char *told, u32 port)
 SHOWN("word") u32 word(const u32 *place)
 {
     return *place;
+}
+
+/* Two words FFRRGGBB as a canvas has them: red is their first byte. */
+static u64 turned(u64 two)
+{
+    return (two & 0xFF00FF00FF00FF00) | (two >> 16 & 0x000000FF000000FF) | (two & 0x000000FF000000FF) << 16;
+}
+
+/* Writes a row of words as a canvas has them; whether others stood there. */
+static int paint_row(const u32 *from, u32 *to, u32 width)
+{
+    u64 differing = 0;
+    for (u32 x = 0; x + 1 < width; x += 2) {
+        u64 two, old;
+        __builtin_memcpy(&two, from + x, sizeof two);
+        __builtin_memcpy(&old, to + x, sizeof old);
+        two = turned(two);
+        differing |= two ^ old;
+        __builtin_memcpy(to + x, &two, sizeof two);
+    }
+    if (width & 1) {
+        u32 one = (u32)turned(from[width - 1]);
+        differing |= one ^ to[width - 1];
+        to[width - 1] = one;
+    }
+    return differing != 0;
+}
+
+/* Paints a picture, whose rows are so many words apart, for a canvas: the first row that differs from what stood there,
+ * and in the upper half the one behind the last; 0 where none does. */
+SHOWN("paint") u32 paint(const u32 *from, u32 pitch, u32 *to, u32 width, u32 height)
+{
+    u32 first = height, end = 0;
+    for (u32 y = 0; y < height; y++) {
+        if (!paint_row(from + y * pitch, to + y * width, width)) continue;
+        if (first == height) first = y;
+        end = y + 1;
+    }
+    return end ? end << 16 | first : 0;
 }

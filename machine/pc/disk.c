@@ -70,11 +70,25 @@ SHOWN("remove_disks") void remove_disks(void)
     memset(drives, 0, sizeof drives);
 }
 
+static void tell_drives(void)
+{
+    write_byte(BIOS_DATA + 0x75, has_drive(HARD_DISK));
+    write_word(BIOS_DATA + 0x10, 0x21 | (has_drive(1) ? 0x40 : 0));
+}
+
 void begin_disks(void)
 {
     last_status = DONE;
-    write_byte(BIOS_DATA + 0x75, has_drive(HARD_DISK));
-    write_word(BIOS_DATA + 0x10, 0x21 | (has_drive(1) ? 0x40 : 0));
+    tell_drives();
+}
+
+/* Puts a floppy in the place of another one, or into an empty drive, while the machine runs. Drives of this kind tell
+ * nobody that their disk is another one: function 15 says so. */
+SHOWN("change") void change_floppy(u32 slot, u32 place, u32 bytes)
+{
+    note_input();
+    insert(slot & 1, place, bytes);
+    tell_drives();
 }
 
 static void read_sector(const struct drive *one, u32 sector, u32 to)

@@ -131,6 +131,7 @@ static void direct(void)
         return;
     }
     give_flag(ZERO, !has_letter());
+    if (!has_letter()) pass_poll();
     AL = has_letter() ? (u8)letter() : 0;
 }
 
@@ -195,7 +196,10 @@ static int console_service(void)
     case 0x07: case 0x08: read_letter(0); return 1;
     case 0x09: type_string(); return 1;
     case 0x0A: read_line(); return 1;
-    case 0x0B: AL = has_letter() ? 0xFF : 0; return 1;
+    case 0x0B:
+        AL = has_letter() ? 0xFF : 0;
+        if (!AL) pass_poll();
+        return 1;
     case 0x0C:
         has_scan_due = 0;
         forget_keys();

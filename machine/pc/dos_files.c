@@ -22,7 +22,6 @@ struct handle {
 };
 static struct handle handles[MOST_HANDLES];
 static char folder[MOST_NAME]; /* the current one, with \ at its end; empty for the root */
-static char pattern[MOST_NAME]; /* what find_next looks for */
 
 u32 transfer_place(void);
 void type_bytes(u32 place, u32 count);
@@ -32,7 +31,6 @@ SHOWN("begin_files") void begin_files(void)
     memset(files, 0, sizeof files);
     file_count = 0;
     folder[0] = 0;
-    memset(pattern, 0, sizeof pattern);
     for (u32 i = 0; i < MOST_HANDLES; i++) handles[i] = (struct handle){NO_PLACE, 0};
 }
 
@@ -338,43 +336,80 @@ static void tell_folder(void)
     AX = 0x0100;
 }
 
-/* Whether a name of at most eight letters and three is one of a pattern, whose ? is any letter and * all that follow. */
-static int matches(const char *name, const char *pattern)
+/* Names in searches: eight letters and three, filled up with blanks. */
+enum { STEM = 8, LETTERS = 11 };
+/* The transfer area, as DOS has it: the drive, the name that is looked for, the attributes, how many files were looked at;
+ * and a sum of the folder's name, in the place of its cluster. Then what was found. A search is all there, so that several
+ * go on by turns. */
+enum search { DRIVE = 0, WANTED = 1, SOUGHT = 12, NEXT = 13, FOLDER_SUM = 15, ATTRIBUTE = 21, TIME = 22, DATE = 24,
+              BYTES = 26, NAME = 30 };
+enum { DRIVE_C = 3, VOLUME = 0x08 };
+
+/* The letters of a name or a pattern, in which * is as many ? as there is room for. Whether they have room. */
+static int spread(const char *name, char *letters)
 {
-    for (; *pattern; pattern++) {
-        if (*pattern == '*') {
-            while (*name && *name != '.') name++;
-            while (pattern[1] && pattern[1] != '.') pattern++;
-            if (!*name && is_same(pattern + 1, ".*")) return 1;
-        } else if (*pattern == '?' && *name && *name != '.') {
-            name++;
-        } else if (*pattern != '?') {
-            if (*name != *pattern) return 0;
-            name++;
+    u32 at = 0, end = STEM;
+    int is_whole = 1;
+    memset(letters, ' ', LETTERS);
+    for (; *name; name++) {
+        if (*name == '.' && end == STEM) {
+            at = STEM;
+            end = LETTERS;
+        } else if (*name == '*') {
+            while (at < end) letters[at++] = '?';
+        } else if (at < end && *name != '.') {
+            letters[at++] = *name;
+        } else {
+            is_whole = 0;
         }
     }
-    return !*name;
+    return is_whole;
 }
 
-/* The part of a file's name that stands in a folder; 0 where it is of another folder. */
-static const char *name_in(const struct file *file, const char *path, u32 length)
+static int is_wanted(const char *letters, u32 area)
 {
-    if (memcmp(file->name, path, length)) return 0;
-    const char *name = file->name + length;
-    for (const char *at = name; *at; at++) if (*at == '\\') return 0;
-    return name;
+    for (u32 i = 0; i < LETTERS; i++) {
+        char wanted = (char)read_byte(area + WANTED + i);
+        if (wanted != '?' && wanted != letters[i]) return 0;
+    }
+    return 1;
 }
 
-/* In the transfer area: the pattern as it was asked for, and how many files were looked at; then what was found. */
-enum search { PATTERN = 0, NEXT = 19, ATTRIBUTE = 21, TIME = 22, DATE = 24, BYTES = 26, NAME = 30 };
+/* Where the last part of a path begins, behind its folder. */
+static u32 last_part(const char *path)
+{
+    u32 last = 0;
+    for (u32 i = 0; path[i]; i++) if (path[i] == '\\') last = i + 1;
+    return last;
+}
+
+static u32 sum_of(const char *path, u32 length)
+{
+    u32 sum = 2166136261u;
+    for (u32 i = 0; i < length; i++) sum = (sum ^ (u8)path[i]) * 16777619u;
+    return sum;
+}
+
+/* Whether a file is one that the search of an area looks for. A name that has no room in the area is none. */
+static int is_found(const struct file *file, u32 area)
+{
+    char letters[LETTERS];
+    u32 last = last_part(file->name), sum = read_word(area + FOLDER_SUM) | read_word(area + FOLDER_SUM + 2) << 16;
+    if (!file->is_there || sum_of(file->name, last) != sum) return 0;
+    return spread(file->name + last, letters) && is_wanted(letters, area);
+}
+
+static u32 search_area(void)
+{
+    return place_of(transfer_place() >> 16, transfer_place());
+}
 
 static void find_next(void)
 {
-    u32 area = place_of(transfer_place() >> 16, transfer_place()), from = read_word(area + NEXT), last = 0;
-    for (u32 i = 0; pattern[i]; i++) if (pattern[i] == '\\') last = i + 1;
-    for (u32 i = from; i < file_count; i++) {
-        const char *name = files[i].is_there ? name_in(&files[i], pattern, last) : 0;
-        if (!name || !matches(name, pattern + last)) continue;
+    u32 area = search_area();
+    for (u32 i = read_word(area + NEXT); i < file_count && read_byte(area + SOUGHT) != VOLUME; i++) {
+        if (!is_found(&files[i], area)) continue;
+        const char *name = files[i].name + last_part(files[i].name);
         write_word(area + NEXT, i + 1);
         write_byte(area + ATTRIBUTE, ARCHIVE);
         write_word(area + TIME, 0);
@@ -390,12 +425,20 @@ static void find_next(void)
 
 static void find_first(void)
 {
-    u32 area = place_of(transfer_place() >> 16, transfer_place());
-    if (!read_path(place_of(DS, DX), pattern)) {
+    char path[MOST_NAME], letters[LETTERS];
+    u32 area = search_area();
+    if (!read_path(place_of(DS, DX), path)) {
         dos_fail(NO_SUCH_PATH);
         return;
     }
+    u32 last = last_part(path), sum = sum_of(path, last);
+    spread(path + last, letters);
+    write_byte(area + DRIVE, DRIVE_C);
+    write_bytes(area + WANTED, letters, LETTERS);
+    write_byte(area + SOUGHT, CL);
     write_word(area + NEXT, 0);
+    write_word(area + FOLDER_SUM, sum & 0xFFFF);
+    write_word(area + FOLDER_SUM + 2, sum >> 16);
     find_next();
 }
 

@@ -8,6 +8,9 @@ enum commands { READ_BYTE = 0x20, WRITE_BYTE = 0x60, TEST = 0xAA, TEST_LINES = 0
 enum { SHIFTS = BIOS_DATA + 0x17, TAKEN = BIOS_DATA + 0x1A, PUT = BIOS_DATA + 0x1C, FIRST = 0x1E, END = 0x3E };
 enum { BYTE_TIME = 1000000 }; /* a byte of the keyboard takes a millisecond */
 enum { EXTENDED = 0xE0 };
+/* Questions whether a key waits: so many that are alike, each so many nanoseconds after the one before at most, and
+ * what each further one takes. */
+enum { MOST_POLLS = 256, POLL_GAP = 400000, POLL_TIME = 2000000 };
 
 /* A byte of the keyboard, and the word that the BIOS makes of it: scan code and letter; 0 for none. */
 struct scan {
@@ -19,6 +22,13 @@ static u32 scans_put, scans_taken;
 static struct scan output;
 static u64 next_byte;
 static u8 is_full, command, is_disabled;
+/* The last question whether a key waits, and how many were alike. */
+static struct poll {
+    double cycles;
+    u32 registers[16], caller[2];
+} poll;
+static u64 poll_end;
+static u32 polls;
 
 void begin_keyboard(void)
 {
@@ -26,6 +36,8 @@ void begin_keyboard(void)
     output = (struct scan){0, 0};
     next_byte = 0;
     is_full = command = is_disabled = 0;
+    memset(&poll, 0, sizeof poll);
+    poll_end = polls = 0;
     write_word(TAKEN, FIRST);
     write_word(PUT, FIRST);
     write_word(BIOS_DATA + 0x80, FIRST);
@@ -155,6 +167,28 @@ static u32 told(u32 word, int is_new)
     return !is_new && (word & 0xFF) == EXTENDED && word >> 8 ? word & 0xFF00 : word;
 }
 
+/* No key waits, and the program asks whether one does. If it asks over and over and does nothing else, it waits for a
+ * key: its registers are the same at each question, and no cycle of the display lies between. The questions then take
+ * longer, so the host has less to do. */
+void pass_poll(void)
+{
+    struct poll last = poll;
+    memcpy(poll.registers, (const void *)registers(), sizeof poll.registers);
+    poll.caller[0] = word_of_stack(0);
+    poll.caller[1] = word_of_stack(2);
+    poll.cycles = cycles_done() - frames_ended();
+    int is_alike = !memcmp(&poll, &last, sizeof poll) && now() - poll_end <= POLL_GAP;
+    polls = is_alike ? polls + 1 : 0;
+    if (polls >= MOST_POLLS) {
+        u64 left = next_tick_time() - now();
+        pass(left < POLL_TIME ? left : POLL_TIME);
+        /* Interrupts may come meanwhile, or the key would not. */
+        processor.x86.R_FLG |= INTERRUPT;
+        polls = MOST_POLLS;
+    }
+    poll_end = now();
+}
+
 void keyboard_service(void)
 {
     int is_new = AH >> 4 == 1;
@@ -169,8 +203,14 @@ void keyboard_service(void)
     case 0x01: case 0x11:
         give_flag(ZERO, !has_key());
         if (has_key()) AX = (u16)told(next_key(), is_new);
+        else pass_poll();
         break;
-    case 0x02: case 0x12: AL = (u8)read_byte(SHIFTS); break;
+    case 0x12:
+        AL = (u8)read_byte(SHIFTS);
+        /* The left Ctrl and Alt; of both keys the BIOS knows one. */
+        AH = AL >> 2 & 3;
+        break;
+    case 0x02: AL = (u8)read_byte(SHIFTS); break;
     case 0x05:
         put_key(CX);
         AL = 0;

@@ -58,6 +58,7 @@ void pass(u64 nanoseconds);
 void pass_cycle(void);
 u64 instructions_in(u64 nanoseconds);
 void begin_time(void);
+u32 frames_ended(void);
 void settle(void);
 void settle_memory(void);
 void forget_clock(void);
@@ -85,6 +86,7 @@ enum record_kind {
 void record(enum record_kind kind, u32 address, u32 value);
 void record_call(u32 ax_bx, u32 cx_dx);
 void record_dots(u32 dots);
+double cycles_done(void);
 void note_refusal(void);
 void note_mode(void);
 void begin_records(void);
@@ -121,6 +123,7 @@ int has_key(void);
 u32 take_key(void);
 void forget_keys(void);
 void keyboard_service(void);
+void pass_poll(void);
 
 /* cmos.c */
 void begin_cmos(void);
@@ -166,6 +169,7 @@ u32 first_memory(u32 segment, u32 paragraphs);
 enum stopped { RUNS, ENDED, AT_CYCLE, AT_WATCH, AT_PLACE, AT_MODE, AT_REFUSAL, RESTARTED, HALTED };
 void stop(enum stopped why);
 int has_waited(u64 nanoseconds);
+u32 registers(void);
 void note_input(void);
 void begin_machine(void);
 void tell_host(u32 number, u32 value);

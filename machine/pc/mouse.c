@@ -8,9 +8,16 @@ struct axis {
 static struct axis across, down;
 static u16 buttons, pressed[BUTTONS], pressed_x[BUTTONS], pressed_y[BUTTONS];
 static s16 moved_x, moved_y;
+static u8 is_used; /* the software has asked for the mouse: before, the host need not tell where it goes */
+
+SHOWN("uses_mouse") u32 uses_mouse(void)
+{
+    return is_used;
+}
 
 void begin_mouse(void)
 {
+    is_used = 0;
     across = (struct axis){320, LEAST_X, MOST_X};
     down = (struct axis){100, LEAST_X, MOST_Y};
     buttons = 0;
@@ -49,7 +56,7 @@ static void set_range(struct axis *one)
     one->place = within(one, one->place);
 }
 
-void mouse_service(void)
+static void serve_mouse(void)
 {
     u32 which = BX < BUTTONS ? BX : 0;
     switch (AX) {
@@ -82,4 +89,10 @@ void mouse_service(void)
         moved_x = moved_y = 0;
         break;
     }
+}
+
+void mouse_service(void)
+{
+    serve_mouse();
+    is_used = 1;
 }

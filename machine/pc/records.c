@@ -4,6 +4,7 @@
 FROM("host", "told") void host_told(u32 segment, u32 place, u32 text, u32 length); /* an instruction's text */
 
 enum { MOST_RECORDS = 1 << 20, MOST_WATCHES = 16, TOLD = 4096, REFUSED = 1 << 27 };
+enum { TEXTS = 2, TIMES = 3, MICROSECOND = 1000 };
 
 /* Dots before it; kind in bits 28 to 31, whether it was refused in bit 27, and address; value in bits 0 to 15, and the
  * code's segment; its offset. Of a call there are two: AX and BX, CX and DX, and the place as segment and offset in
@@ -14,14 +15,13 @@ struct record {
 
 /* How the host looks at the machine. The host sets all of it again when it has restored a snapshot. */
 static struct record *records;
-static u32 record_count, has_wrapped, is_recording, dots_before;
+static u32 record_count, has_wrapped, is_recording, has_times, dots_before;
 static u32 told_places[TOLD], told_sums[TOLD];
 u32 is_told; /* whether each instruction makes its text: libx86emu's X86EMU_TELLS */
 
 static u64 cycles;
 static u64 stop_cycle = ~0ull;
 static u32 watches[MOST_WATCHES], watch_count, stops_on_mode, stops_on_refusal;
-static u64 watched_from;
 static u32 refusals, is_refused; /* the cycle that is recorded next */
 
 SHOWN("cycles") double cycles_done(void)
@@ -40,11 +40,13 @@ void begin_records(void)
     refusals = 0;
 }
 
-/* Records from here on, in room for MOST_RECORDS that the host has made; with the instructions' text by 2. */
+/* Records from here on, in room for MOST_RECORDS that the host has made: with the instructions' text by TEXTS, with the
+ * microsecond of each instead of its place by TIMES. */
 SHOWN("set_recording") void set_recording(u32 how, u32 place)
 {
     is_recording = how != 0;
-    is_told = how == 2;
+    is_told = how == TEXTS;
+    has_times = how == TIMES;
     records = (struct record *)place;
     record_count = has_wrapped = dots_before = 0;
     processor.x86.disasm_ptr = processor.x86.disasm_buf;
@@ -77,7 +79,6 @@ SHOWN("stop_at_cycle") void stop_at_cycle(double cycle)
 SHOWN("watch") void watch(u32 address)
 {
     if (watch_count < MOST_WATCHES) watches[watch_count++] = address;
-    watched_from = cycles;
 }
 
 SHOWN("clear_watches") void clear_watches(void)
@@ -118,6 +119,7 @@ static void tell_instruction(u32 segment, u32 place)
 
 static void add(struct record one)
 {
+    if (has_times) one.place = (u32)(now() / MICROSECOND);
     records[record_count] = one;
     dots_before = 0;
     if (++record_count < MOST_RECORDS) return;
@@ -140,8 +142,7 @@ void record(enum record_kind kind, u32 address, u32 value)
     is_refused = 0;
     cycles++;
     if (__builtin_expect(cycles >= stop_cycle, 0)) stop(AT_CYCLE);
-    if (__builtin_expect(watch_count != 0, 0) && kind < RECORD_CALL && cycles > watched_from &&
-        is_watched(kind, address)) stop(AT_WATCH);
+    if (__builtin_expect(watch_count != 0, 0) && kind < RECORD_CALL && is_watched(kind, address)) stop(AT_WATCH);
     if (!is_recording) return;
     u32 place = processor.x86.saved_eip, segment = processor.x86.saved_cs;
     if (is_told) tell_instruction(segment, place);

@@ -155,8 +155,22 @@ static void tell_processor(x86emu_t *emu)
     emu->x86.R_EAX = emu->x86.R_EBX = emu->x86.R_ECX = emu->x86.R_EDX = 0;
 }
 
+/* An instruction that the processor lacks is told to the host, whoever handles the fault: in protected mode no stub of
+ * the BIOS does. One at the same place is told once. */
+enum { LACKING = 6 };
+static u32 lacking_place;
+static int tell_fault(x86emu_t *emu, u8 number, unsigned type)
+{
+    u32 place = emu->x86.saved_eip > 0xFFFF ? emu->x86.saved_eip : (u32)emu->x86.saved_cs << 16 | emu->x86.saved_eip;
+    if (number != LACKING || (type & 0xFF) != INTR_TYPE_FAULT || place == lacking_place) return 0;
+    lacking_place = place;
+    tell_host(number, place);
+    return 0;
+}
+
 static void begin_processor(void)
 {
+    lacking_place = 0;
     memset(&processor, 0, sizeof processor);
     memset(model_registers, 0, sizeof model_registers);
     processor.x86.msr = model_registers;
@@ -164,6 +178,7 @@ static void begin_processor(void)
     processor.memio = reach;
     processor.rdmsr = processor.wrmsr = no_register;
     processor.cpuid = tell_processor;
+    processor.intr = tell_fault;
     processor.x86.disasm_ptr = processor.x86.disasm_buf;
     processor.x86.R_EFLG = 2 | INTERRUPT;
     for (int i = 0; i < 8; i++) {
@@ -364,8 +379,6 @@ SHOWN("run") u32 run(double until)
     while ((is_amid || (double)now() < until) && stopped == RUNS) work(next_quantum());
     return stopped == RUNS;
 }
-
-u32 frames_ended(void);
 
 /* Runs to the end of a frame, or until a time has come; whether it goes on. */
 SHOWN("run_frame") u32 run_frame(double until)

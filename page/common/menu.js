@@ -6,8 +6,7 @@ export class Menu {
   constructor(box) {
     this.box = box;
     this.button = box.querySelector("summary");
-    this.entries = [...box.querySelectorAll("[role=menuitem]")];
-    for (const entry of this.entries) entry.tabIndex = -1;
+    for (const entry of box.querySelectorAll("[role=menuitem]")) entry.tabIndex = -1;
     this.button.setAttribute("aria-haspopup", "menu");
     box.addEventListener("keydown", event => this.pressed(event));
     box.addEventListener("toggle", () => {
@@ -19,6 +18,11 @@ export class Menu {
     box.addEventListener("focusout", ({ relatedTarget }) => {
       if (relatedTarget && !box.contains(relatedTarget)) this.close();
     });
+  }
+
+  /** The entries that are to be had now. */
+  get entries() {
+    return [...this.box.querySelectorAll("[role=menuitem]:not([hidden])")];
   }
 
   open() {

@@ -58,7 +58,7 @@ export class Comparison {
     this.#screen = screen;
     this.#isStale = isStale;
     const button = (id, title, text, does) => element("button", { type: "button", id, title,
-      ariaLabel: title, onclick: () => guarded(() => this.#other && does()) }, text);
+      ariaLabel: title, onclick: () => guarded(() => this.#isOn && does()) }, text);
     this.#bar = element("div", { id: "compare", className: "shows-run", hidden: true, role: "group",
       "aria-label": "comparison with another run" },
     element("div", { className: "bar" }, this.#title,
@@ -73,6 +73,11 @@ export class Comparison {
     });
     byId("stage").before(this.#bar);
     byId("frame").append(this.#canvas, this.#mark, this.#names);
+  }
+
+  /** Whether there is a comparison, and the page is in no call: the other run's cycles are not known. */
+  get #isOn() {
+    return this.#other !== null && !this.#runner.isWithin;
   }
 
   /** Compares a file: { report }, { png } or { trace }, as contentsOf tells them. */
@@ -113,7 +118,7 @@ export class Comparison {
     if (!await inSlices(other.compare(session), isWanted)) return;
     this.#isDone = true;
     this.shown();
-    if (isFirst) this.#goToFirst();
+    if (isFirst && this.#isOn) this.#goToFirst();
   }
 
   /** Goes to the first step that differs, or the first dot. */
@@ -136,12 +141,22 @@ export class Comparison {
   /** Compares what the page shows now. */
   shown() {
     if (!this.#other) return;
-    if (this.#runner.session !== this.#session) this.#isDone = false;
+    this.#bar.hidden = !this.#isOn;
+    if (!this.#isOn) return this.#rest();
+    if (this.#runner.outer.session !== this.#session) this.#isDone = false;
     this.#line = -1;
     this.#mark.hidden = true;
     this.#difference = this.#differenceHere();
     this.#describe();
     this.#show(this.#view);
+  }
+
+  /** Shows this run's picture alone, while the page is in a call. */
+  #rest() {
+    const view = this.#view;
+    this.#show("own");
+    this.#view = view;
+    this.#mark.hidden = true;
   }
 
   /** How the pictures of the step that is shown differ; null if there are none. */
@@ -243,7 +258,7 @@ export class Comparison {
 
   /** Shows the next of the views. */
   nextView() {
-    if (!this.#other) return;
+    if (!this.#isOn) return;
     const at = VIEWS.findIndex(([view]) => view === this.#view);
     this.#show(VIEWS[(at + 1) % VIEWS.length][0]);
   }

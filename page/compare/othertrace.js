@@ -8,14 +8,16 @@ const CHUNK = 4096, MOST_LISTED = 100000;
 const NO_CYCLES = ["advance", "frame", "show"];
 const HEX_ANSWER = /^(?:[0-9A-F]{2}|[0-9A-F]{4})$/;
 
-/** A cycle of one byte, in the words of a trace. */
-function cycleText({ isWrite, isPort, address, value }) {
+/** A cycle of one byte, in the words of a trace; or a call. */
+function cycleText({ isWrite, isPort, address, value, call }) {
+  if (call) return call;
   const place = hex(address, isPort ? 3 : 5);
   return `${isWrite ? "w" : "r"} ${isPort ? "p" : "m"} ${place} ${hex(value, 2)}`;
 }
 
 /** The bytes of a cycle, each a cycle of its own, the lowest address first. */
-function* bytesOf({ isWrite, isPort, address, value, size }) {
+function* bytesOf({ isWrite, isPort, address, value, size, call }) {
+  if (call) yield { call };
   for (let at = 0; at < size; at++) {
     const byte = Number(value >> BigInt(8 * at) & 255n);
     yield { isWrite, isPort, address: address + at, value: byte };
@@ -28,6 +30,14 @@ function cycleOfWords(words) {
   const verb = isWord ? name.slice(0, -1) : name, isWrite = verb === "out" || verb === "put";
   return { isWrite, isPort: verb === "out" || verb === "in", size: isWord ? 2 : 1,
     address: parseInt(place, 16), value: isWrite ? parseInt(given, 16) : null };
+}
+
+/** A call's registers and block as one text, however its words are written. */
+function callKey(words) {
+  const [, block = ""] = words.match(/\bblock\s+([0-9a-f]+)/i) ?? [];
+  const values = ["ax", "bx", "cx", "dx"].map(name =>
+    parseInt(words.match(new RegExp(`\\b${name}=([0-9a-f]+)`, "i"))?.[1] ?? "0", 16));
+  return `${values.join()} ${block.toLowerCase()}`;
 }
 
 /** Why the comparison ends at a BIOS call. */
@@ -65,7 +75,11 @@ export class OtherTrace {
       if (step % CHUNK === CHUNK - 1) yield;
       const entry = session.outline.entryOf(step), name = session.outline.nameOf(entry);
       if (NO_CYCLES.includes(name)) continue;
-      if (name === "int") return this.#end(callNote(step));
+      if (name === "int") {
+        const { value: other } = cycles.next(), words = session.outline.wordsOf(entry);
+        if (other?.call && callKey(other.call) === callKey(words)) continue;
+        return this.#end(callNote(step));
+      }
       if (!known.has(entry)) known.set(entry, cycleOfWords(session.outline.wordsOf(entry)));
       const why = this.#compareStep(known.get(entry), session.answers.get(step), cycles, step);
       if (why) return this.#end(why);

@@ -9,8 +9,8 @@ import { isRefusal } from "../script/expecting.js";
 const HIGHEST_LIST = 8000000;
 
 /**
- * The list of steps. `go` shows the state after so many; `goal` tells after how many it is, or will
- * be, shown.
+ * The list of steps. `go` shows the state after so many, and `step` goes one forward, or back with -1;
+ * `goal` tells after how many it is, or will be, shown.
  */
 export class Listing {
   session = null;
@@ -18,8 +18,7 @@ export class Listing {
   height = 0;
   rows = byId("rows");
 
-  constructor(go, goal) {
-    this.goal = goal;
+  constructor({ go, step: stepBy, goal }) {
     this.list = new Rows(this.rows, () => element("div", { className: "row", role: "option" },
       element("span"), element("span"), element("span"), element("span")));
     this.box = new Scroller(byId("listing"), () => this.draw());
@@ -32,7 +31,8 @@ export class Listing {
       const far = isOther ? 0 : this.farOf(event.key);
       if (!far || !this.session) return;
       event.preventDefault();
-      go(Math.max(0, this.goal() + far));
+      if (Math.abs(far) === 1) stepBy(far);
+      else go(Math.max(0, goal() + far));
     });
   }
 
@@ -46,6 +46,7 @@ export class Listing {
   }
 
   show(session, steps) {
+    if (this.session?.noun !== session.noun) this.nameHeads(session);
     this.session = session;
     this.steps = steps;
     const height = Math.min(HIGHEST_LIST, ROW.height * session.ran);
@@ -55,6 +56,14 @@ export class Listing {
     const isInSight = top >= box.top && top <= box.top + box.height - ROW.height;
     if (!isInSight) box.scrollTo(top - box.height / 2, height);
     this.draw();
+  }
+
+  /** Names the columns: cycles of a call have no line. */
+  nameHeads({ noun, isCall }) {
+    const [number, line] = byId("listhead").children;
+    number.textContent = noun;
+    line.textContent = isCall ? "" : "line";
+    byId("listing").setAttribute("aria-label", `${noun}s and answers`);
   }
 
   /** How much a pixel of the scroll bar is, in pixels of rows: 1 but for millions of steps. */
@@ -89,7 +98,7 @@ export class Listing {
     const lines = answer.split("\n"), words = outline.wordsOf(entry);
     const expected = outline.expectedOf(entry);
     const verdict = expected === null ? "" : session.isWrong(step) ? "wrong" : "right";
-    const texts = [String(step + 1), String(outline.lineOf(entry)), words.slice(0, 200),
+    const texts = [String(step + 1), String(outline.lineOf(entry) || ""), words.slice(0, 200),
       lines[0].slice(0, 200) + (lines.length > 1 ? " …" : "")];
     texts.forEach((text, i) => setText(made.children[i], text));
     setAll(made, { title: `${words.slice(0, 200)}\n${answer.slice(0, 600)}`,

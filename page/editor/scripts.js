@@ -9,6 +9,9 @@ export const NAMELESS = "script";
 const KEPT = "kept ", SHORT_TITLE = 30;
 /** What the list's entry of a program begins with, which runs on the machine. */
 export const PROGRAM = "program ";
+/** What the list's entry of a run begins with, which can be brought back; and that of the one that is on. */
+export const RUN = "run ";
+const NOW = "now";
 // A text of more characters is kept so many milliseconds after it was typed.
 const MUCH_TEXT = 30000, KEPT_AFTER = 500;
 const WHY_LOST = {
@@ -26,17 +29,20 @@ function timeText(time) {
 
 /**
  * The scripts. Each is { name, about, isExample, id }: under its id the user's own is kept, and
- * other scripts have none. `tell` says something that stays. `programs` stand in the list too.
+ * other scripts have none. `tell` says something that stays. `programs` stand in the list too, and
+ * so do the runs that `runs()` answers: { id, title, time } each.
  */
 export class Scripts {
   /** The script that stands in the page. */
   now = null;
   list = byId("examples");
   #warned = new Set();
+  #program = "";
 
-  constructor(examples, drafts, tell, programs = []) {
+  constructor(examples, drafts, tell, { programs = [], runs = () => [] } = {}) {
     this.examples = examples;
     this.programs = programs;
+    this.runs = runs;
     this.drafts = drafts;
     this.tell = tell;
     for (const event of ["pointerdown", "focus"]) {
@@ -53,9 +59,11 @@ export class Scripts {
     const last = this.drafts.list().filter(({ time }) => time);
     const kept = last.map(({ id, title, time }) =>
       new Option(`${title} · ${timeText(time)}`, KEPT + id));
+    const runs = this.runs().map(({ id, title, time }) => new Option(`${title} · ${timeText(time)}`, RUN + id));
     const group = (label, options) => element("optgroup", { label }, ...options);
-    list.replaceChildren(new Option("your own script", ""),
+    list.replaceChildren(...this.#program ? [new Option(this.#program, NOW)] : [], new Option("your own script", ""),
       ...kept.length ? [group("Your last scripts", kept)] : [],
+      ...runs.length ? [group("Your last runs", runs)] : [],
       group("Tutorial", this.examples.filter(({ title }) => title)
         .map(({ name, title }) => new Option(title, name))),
       group("Examples", this.examples.filter(({ title }) => !title)
@@ -65,10 +73,22 @@ export class Scripts {
     this.choose();
   }
 
-  /** Chooses the entry of the script that stands there. */
+  /** Names the program that is on, in the list and the title; "" where none is. */
+  set program(words) {
+    if (this.#program === words) return;
+    this.#program = words;
+    this.fill();
+    this.#title();
+  }
+
+  #title() {
+    document.title = `${this.#program || this.now?.name}: Zaklimot`;
+  }
+
+  /** Chooses the entry of the program that is on, or of the script that stands there. */
   choose() {
     const { list, now } = this;
-    list.value = now?.isExample ? now.name : KEPT + now?.id;
+    list.value = this.#program ? NOW : now?.isExample ? now.name : KEPT + now?.id;
     if (list.selectedIndex < 0) list.value = "";
   }
 
@@ -128,7 +148,7 @@ export class Scripts {
     this.now = script;
     if (isOther) {
       byId("about").textContent = script.about;
-      document.title = `${script.name}: Zaklimot`;
+      this.#title();
     }
     if (script.id) this.keepSoon(script, typed, isOther);
     if (isOther) this.choose();

@@ -82,7 +82,7 @@ export class StepSearch {
     this.#pattern = new RegExp(patternOf(words), "i");
     this.#from = from - 1;
     this.#by = isBack ? -1 : 1;
-    this.#entries = new Uint8Array(session.outline.lines.length);
+    this.#entries = new Uint8Array(session.outline.kinds.length);
     this.count = session.ran;
   }
 

@@ -34,23 +34,23 @@ export class StepFinder {
 
   #go(words, isBack) {
     const { session, goal } = this.#runner;
-    if (!words || !session?.ran) return this.#stop(words ? "no steps yet" : "");
+    if (!words || !session?.ran) return this.#stop(words ? `no ${session?.noun ?? "step"}s yet` : "");
     this.#search = new StepSearch(session, words, goal, isBack);
     return this.#turn(this.#search, session, goal);
   }
 
   #turn(search, session, from) {
     if (search !== this.#search) return null;
-    if (this.#runner.session !== session) return this.#stop("the script has changed: search again");
+    if (this.#runner.session !== session) return this.#stop("other steps stand here now: search again");
     const found = search.take(SLICE_TIME);
     if (!found) {
       this.bar.say(`looked at ${grouped(search.looked)} of ${grouped(search.count)}`);
       return setTimeout(() => this.#turn(search, session, from));
     }
-    const isAll = session.isDone ? "" : " in the steps so far";
+    const isAll = session.isDone ? "" : ` in the ${session.noun}s so far`;
     if (!found.steps) return this.#stop(`not found${isAll}`);
     this.#runner.go(found.steps);
     const isSame = found.steps === from ? ", the only one" : "";
-    return this.#stop(`step ${grouped(found.steps)}${isSame}`);
+    return this.#stop(`${session.noun} ${grouped(found.steps)}${isSame}`);
   }
 }

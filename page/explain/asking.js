@@ -114,7 +114,8 @@ export class Asking {
     const { line, dot } = place, shown = this.#heard.colourAt(line, dot);
     if (!shown) return [element("p", {}, "The picture has no such dot.")];
     const cheap = dotOfSeen(this.#seen, place), found = this.#foundThen() ?? cheap;
-    if (found?.how === "now") this.#lookUp(place);
+    // No cycle of a call draws a dot.
+    if (found?.how === "now" && !this.#seen.session.isCall) this.#lookUp(place);
     if (found) return [this.#table(rowsOfDot(found, place, shown).slice(1), shown)];
     return [element("p", {}, "The registers as they stand display no dot there.")];
   }

@@ -1,6 +1,6 @@
 // Where a dot of the picture comes from: its bytes in the planes, its colour's number, the palette,
 // the DAC (docs/RASTER.md). page/tests/dot.mjs holds the colour to that of the adapter's picture.
-import { characterWidth, fetchAddress, paletteWay, windowShape } from "../module/state.js";
+import { characterWidth, counterOf, fetchAddress, paletteWay, windowShape } from "../module/state.js";
 import { WINDOWS } from "./cycle.js";
 
 const PLANES = [0, 1, 2, 3], BLACK = [0, 0, 0];
@@ -98,7 +98,7 @@ function numberOf(registers, byteAt, beam, source) {
  * which has no number and no entry.
  */
 export function explainDot({ registers, byteAt, colourOf }, beam) {
-  const source = sourceOf(registers, beam), counter = beam.base + source.character & 65535;
+  const source = sourceOf(registers, beam), counter = counterOf(beam.base, source.character);
   Object.assign(source, { counter, offset: fetchAddress(registers, counter) });
   const found = numberOf(registers, byteAt, beam, source);
   const entry = found.number === null ? null : found.number & registers.dacMask;

@@ -192,7 +192,8 @@ export function dotOfSeen({ before, after, picture, steps }, { line, dot }) {
 
 /**
  * The search for the step that draws a dot, and then for the last step that changed it. `take` goes
- * on for some milliseconds: null while time is over, else { steps, differing }, or { ended: true }.
+ * on for some milliseconds: null while time is over, else { steps, differing, made, taken }, of which
+ * the last two say how the dot was taken, or { ended: true }.
  */
 export class DotSearch {
   /** After how many steps the dot was drawn; null if it was not. */
@@ -205,15 +206,16 @@ export class DotSearch {
    * `place` is { line, dot }. `steps` are those after which the picture is seen. A dot that is
    * drawn there was drawn by a step before; one that is not, or `isAhead`, is taken as it would be
    * drawn from there on. With `isMadeOnly` the search ends with the step that drew it, as { made,
-   * drawnBy }.
+   * drawnBy }. `told` is what a search told that found the call of whose cycles this session is: the
+   * dot is taken as it was there.
    */
-  constructor(session, place, steps, { isDrawn, isAhead = false, isMadeOnly = false }) {
+  constructor(session, place, steps, { isDrawn, isAhead = false, isMadeOnly = false, told = null }) {
     this.session = session;
     this.place = place;
     this.steps = steps;
     this.isDrawn = isDrawn && !isAhead;
     this.isMadeOnly = isMadeOnly;
-    this.turns = this.find();
+    this.turns = told ? this.lastChange(told.made, steps, 0, told.taken) : this.find();
   }
 
   get looked() {
@@ -280,6 +282,6 @@ export class DotSearch {
         return isChanged;
       } } };
     const steps = yield* this.back(point, to, first);
-    return steps === undefined ? undefined : { steps, differing };
+    return steps === undefined ? undefined : { steps, differing, made, taken };
   }
 }

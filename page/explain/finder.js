@@ -1,50 +1,109 @@
 // The search for the last step that changed a subject, as the page's run takes it, and what it
 // tells of the step that it has found.
 import { KIND } from "../script/steplist.js";
+import { grouped } from "../common/bytes.js";
 
-/** Finds the last steps that changed things, one before the other. `heard` is told in words. */
+/** Finds the last steps that changed things, one before the other. */
 export class Finder {
-  /** What was found last: { words, steps, text }. */
+  /** What was found last: { words, session, steps, text, isOlder, subject, told, isCall }. */
   found = null;
+  /** The subject's words and the session of a call in which nothing more was found. */
+  #ended = null;
   #runner;
-  #tell;
+  #heard;
 
-  constructor(runner, tell) {
+  /**
+   * `heard` has `tell(text)`; and for the last frames of a machine, which begin with steps that rebuild what stood
+   * there, `hasEarlier()`, whether there are frames before them, and `older(text)`, a change is none of these frames'.
+   */
+  constructor(runner, heard) {
     this.#runner = runner;
-    this.#tell = tell;
+    this.#heard = heard;
   }
 
   /**
    * Goes to the last step that changed a subject. The step that is shown counts too; asked again at
-   * the step that was found, it goes to the one before.
+   * the step that was found, it goes to the one before. Asked again where no cycle of a call has
+   * changed it, it goes on before the call.
    */
   find(subject) {
-    const { seen, session, steps } = this.#runner;
+    const { seen, session, steps } = this.#runner, ended = this.#ended;
     if (!session || !seen || seen.session !== session) return;
+    this.#ended = null;
+    if (ended?.words === subject.words && ended.session === session) return this.#findBefore(subject);
     const isAgain = this.found?.words === subject.words && this.found.steps === steps &&
       this.found.session === session;
     const { isDot, place } = subject, { isWhole, drawn } = seen.picture;
     const isDrawn = isDot && (isWhole || place.dot < drawn[place.line]);
-    const search = subject.search(session, steps, isAgain, isDrawn);
+    this.#search(subject, subject.search(session, steps, isAgain, isDrawn), isAgain);
+  }
+
+  /** Goes on before the call whose cycles the page is in. */
+  #findBefore(subject) {
+    const { session: { call: { step } } } = this.#runner;
+    this.#runner.leave({ steps: step });
+    this.#search(subject, subject.search(this.#runner.session, step, true, false), true);
+  }
+
+  /** Whether what was found is a call that is shown, of which a cycle is the one that was meant. */
+  leadsWithin(session, steps) {
+    const { found } = this;
+    return found !== null && found.session === session && found.steps === steps && found.isCall;
+  }
+
+  /** Goes to the cycle of the call that was found, once the page runs its session. */
+  findWithin() {
+    const { subject, told } = this.found;
+    this.#search(subject, subject.within(this.#runner.session, told), false);
+  }
+
+  #search(subject, search, isAgain) {
+    const { session } = this.#runner;
     this.#runner.findBy(search, told => this.#hear(subject, session, told, isAgain));
   }
 
-  #hear({ words, title }, session, { steps, differing = [] }, isAgain) {
-    if (steps === undefined) {
-      this.#tell(`No ${isAgain ? "earlier " : ""}step changed ${title}: it is as at power-on.`);
-      return;
+  #hear(subject, session, told, isAgain) {
+    const { words, title } = subject, { steps, differing = [] } = told;
+    const rebuilt = session.outline.head?.length ?? 0, isOlder = rebuilt > 0 && this.#heard.hasEarlier();
+    if (steps === undefined) return this.#hearNone(subject, session, isAgain, isOlder);
+    if (isOlder && steps <= rebuilt) {
+      const text = `${title} was changed before these frames. Their first ${grouped(rebuilt)} steps rebuild ` +
+        "what stood there.";
+      this.found = { words, session, steps, isOlder, text: text[0].toUpperCase() + text.slice(1) };
+      return null;
     }
     const { outline } = session, isCall = outline.kinds[outline.entryOf(steps - 1)] === KIND.int;
-    const inside = isCall ? "A cycle inside this BIOS call" : "This step";
     const what = differing.length ? `: ${differing.join("; ")}` : "";
-    this.found = { words, session, steps, text: `${inside} changed ${title}${what}.` };
+    const name = isCall ? "A cycle inside this BIOS call" : `This ${session.noun}`;
+    this.found = { words, session, steps, text: `${name} changed ${title}${what}.`, subject, told, isCall };
+    return null;
+  }
+
+  #hearNone({ words, title }, session, isAgain, isOlder) {
+    const earlier = isAgain ? "earlier " : "";
+    if (isOlder) {
+      return this.#heard.older(`No step of these frames changed ${title}: it was changed before them, if at all.`);
+    }
+    if (!session.isCall) {
+      return this.#heard.tell(`No ${earlier}step changed ${title}: it is as at power-on.`);
+    }
+    this.#ended = { words, session };
+    return this.#heard.tell(`No ${earlier}cycle of this call changed ${title}: it is as before the call. ` +
+      "Ask again, or press C, and the search goes on before it.");
   }
 
   /** What to tell of a step that is shown: why the page is there, if a search has found it. */
   textAt(session, steps) {
     const { found } = this;
     // A run that is over is kept no longer.
-    if (found && found.session !== session) this.found = null;
+    if (found && found.session !== session && found.session !== this.#runner.outer.session) {
+      this.found = null;
+    }
     return found && found.session === session && found.steps === steps ? found.text : "";
+  }
+
+  /** Whether what textAt tells of a step is that a change came before these frames. */
+  isOlderAt(session, steps) {
+    return this.textAt(session, steps) !== "" && this.found.isOlder === true;
   }
 }

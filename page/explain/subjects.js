@@ -20,7 +20,8 @@ const coloursText = colour => colour.map(six => hex(six, 2)).join(" ");
 /** A subject that some points watch; `value` tells it of a state. */
 function pointed(title, points, value) {
   return { title, points, value, isDot: false,
-    search: (session, steps, isAgain) => new Search(session, points, steps, true, !isAgain) };
+    search: (session, steps, isAgain) => new Search(session, points, steps, true, !isAgain),
+    within: session => new Search(session, points, session.length, true, true) };
 }
 
 function registerSubject(id, number) {
@@ -100,7 +101,8 @@ function dotSubject(lineText, dotText) {
       return made ? coloursText(made.told.colour) : "no dot";
     },
     search: (session, steps, isAgain, isDrawn) => new DotSearch(session, place,
-      isAgain ? steps - 1 : steps, { isDrawn, isAhead: isAgain }) };
+      isAgain ? steps - 1 : steps, { isDrawn, isAhead: isAgain }),
+    within: (session, told) => new DotSearch(session, place, session.length, { told }) };
 }
 
 const MAKERS = { byte: byteSubject, register: registerSubject, field: fieldSubject,
@@ -109,8 +111,9 @@ const MAKERS = { byte: byteSubject, register: registerSubject, field: fieldSubje
 
 /**
  * What some words name: { words, title, points, isDot, value(state), search(session, steps,
- * isAgain, isDrawn) }; null where they name nothing. The search goes back from the step that is
- * shown, which counts too unless `isAgain`.
+ * isAgain, isDrawn), within(session, told) }; null where they name nothing. The search goes back from
+ * the step that is shown, which counts too unless `isAgain`. `within` searches the cycles of a call
+ * that a search has found, as it told.
  */
 export function subjectOf(words) {
   const [name, ...rest] = words.split(" ");

@@ -4,12 +4,16 @@ import { ask } from "../compare/asking.js";
 import { byId } from "../common/dom.js";
 import { bytesOfBase64 } from "../common/bytes.js";
 import { Trouble } from "../common/trouble.js";
+import { entriesOfDrop, filesOfEntries } from "./folders.js";
 import { bytesOfFiles, contentsOf, printedText, readFragment } from "./share.js";
 
 /** What the page shows first. */
 const FIRST_EXAMPLE = "text-by-services";
 
-/** Has files handed to `opened` that are chosen, or dropped anywhere in the page. */
+/**
+ * Has files handed to `opened` that are chosen, or dropped anywhere in the page; with what is dropped as
+ * entries, if it is a folder or several things.
+ */
 export function listenToFiles(opened) {
   const box = byId("drop");
   byId("file").addEventListener("change", ({ target }) => {
@@ -30,7 +34,9 @@ export function listenToFiles(opened) {
     box.hidden = true;
     if (!hasFiles(event)) return;
     event.preventDefault();
-    opened([...event.dataTransfer.files]);
+    const entries = entriesOfDrop(event.dataTransfer);
+    const isPlain = entries.length < 2 && !entries[0]?.isFolder;
+    opened([...event.dataTransfer.files], isPlain ? [] : entries);
   });
 }
 
@@ -46,9 +52,9 @@ export class Opener {
    * `data`: what the page was built with; `tabs`: the names of the tabs. `heard` has `adapter()`,
    * the module that prints bytes; `isEmpty()`, whether no script stands there; `script(text,
    * script, asked)`; `software(bytes, name)`, which takes what a machine can run, and answers whether
-   * it is such; `other(found, name)`, what is to be compared with the run, as contentsOf tells
-   * it; `fonts(fonts, name)`, fonts of a file, or without a name those that come with the script
-   * that follows; `tab(name)`; and `step(number)`.
+   * it is such; `folder(files, name)`, which does the same of files that lie together; `other(found,
+   * name)`, what is to be compared with the run, as contentsOf tells it; `fonts(fonts, name)`, fonts of
+   * a file, or without a name those that come with the script that follows; `tab(name)`; and `step(number)`.
    */
   constructor(data, scripts, tabs, heard) {
     this.#data = data;
@@ -57,8 +63,9 @@ export class Opener {
     this.#heard = heard;
   }
 
-  /** Opens the one file of a list. */
-  async openFiles(files) {
+  /** Opens the one file of a list, or what was dropped as entries: a folder, or files that lie together. */
+  async openFiles(files, entries = []) {
+    if (entries.length) return this.#openEntries(entries);
     if (!files.length) return;
     const number = ++this.#count, [{ name }] = files, bytes = await bytesOfFiles(files);
     if (await this.#heard.software(bytes, name)) return;
@@ -70,6 +77,15 @@ export class Opener {
     if (number !== this.#count) return;
     if (use === "other") return this.#heard.other(found, name);
     if (use === "script") this.#heard.script(found.text, this.#scripts.made(name, name, true));
+  }
+
+  async #openEntries(entries) {
+    const number = ++this.#count, files = await filesOfEntries(entries);
+    if (number !== this.#count) return;
+    const isFolder = entries.length === 1, name = isFolder ? entries[0].name : "these files";
+    if (await this.#heard.folder(files, name)) return;
+    if (isFolder) throw new Trouble(`In ${name} nothing runs: no program for DOS, and no disk that starts.`);
+    throw new Trouble(`These are ${files.length} files: open one at a time.`);
   }
 
   /** What the user wants of a trace: "script", "other" or "", nothing. */
@@ -88,6 +104,7 @@ export class Opener {
     const found = this.#wanted(asked);
     if (found) this.#heard.script(found.text, found.script, { asked: asked.step, ...found });
     else if (asked.step !== undefined) this.#heard.step(asked.step);
+    if (asked.run) await this.#heard.software(asked.run, "run");
     if (asked.wrong.length) throw new Trouble(asked.wrong.join(" "));
   }
 

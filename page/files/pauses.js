@@ -7,11 +7,16 @@ const SEQUENCER_INDEX = 0x3c4, CRTC_INDEXES = [0x3b4, 0x3d4], MISC_OUTPUT = 0x3c
 // Horizontal total, vertical total and overflow, which shape a frame; vertical retrace end, whose
 // bit protects the registers below 8.
 const SHAPE = [0, 6, 7], RETRACE_END = 17, PROTECTS = 0x80, PROTECTED_BELOW = 8;
+// What a mode set by interrupt 10 leaves: miscellaneous output, the dots of a frame, and whether the
+// clock is halved. tools/vga_report/registers.py has the same.
+const SET_MODE = { 0x03: [0x67, 404100], 0x07: [0x66, 404100], 0x0d: [0x63, 179600, true],
+  0x10: [0xa3, 359200], 0x12: [0xe3, 420000], 0x13: [0x63, 359200] };
+const CLOCKING = 1, HALVED = 8;
 // Microseconds that are put together before they become a step: about a line.
-const LEAST_PAUSE = 30n;
+export const LEAST_PAUSE = 30n;
 
 /** The registers on which a frame's time hangs, as far as a trace's steps have written them. */
-class TimingRegisters {
+export class TimingRegisters {
   misc = null;
   seq = new Uint8Array(8);
   crtc = new Uint8Array(32);
@@ -19,20 +24,36 @@ class TimingRegisters {
   crtcIndex = 0;
   /** The registers of the CRT controller that were written. */
   written = new Set();
+  /** The frame of the mode that was set, as long as no register gives it another shape. */
+  #frame = null;
 
-  /** Takes a step: { name, isPort, isWord, address, value }. */
-  take({ name, isWord, address, value }) {
+  /** Takes a step: { name, isPort, isWord, address, value }, or a call: { name, mode }, mode being AX. */
+  take({ name, isWord, address, value, mode }) {
+    if (name === "int") this.call(mode);
     if (name !== "out") return;
     this.write(address, value & 255);
     if (isWord) this.write(address + 1, value >> 8);
+  }
+
+  /** Takes a call of interrupt 10, by its AX. */
+  call(ax) {
+    const [misc, dots, isHalved = false] = (ax >> 8 === 0 && SET_MODE[ax & 0x7f]) || [];
+    if (misc === undefined) return;
+    this.misc = misc;
+    this.#frame = { dots, seq: [0, isHalved ? HALVED : 0] };
   }
 
   write(port, value) {
     if (port === MISC_OUTPUT) this.misc = value;
     else if (port === SEQUENCER_INDEX) this.seqIndex = value & 7;
     else if (CRTC_INDEXES.includes(port)) this.crtcIndex = value & 31;
-    else if (port === SEQUENCER_INDEX + 1) this.seq[this.seqIndex] = value;
+    else if (port === SEQUENCER_INDEX + 1) this.writeSequencer(value);
     else if (CRTC_INDEXES.includes(port - 1)) this.writeCrtc(value);
+  }
+
+  writeSequencer(value) {
+    this.seq[this.seqIndex] = value;
+    if (this.seqIndex === CLOCKING) this.#frame = null;
   }
 
   writeCrtc(value) {
@@ -40,25 +61,40 @@ class TimingRegisters {
     if (crtcIndex < PROTECTED_BELOW && crtc[RETRACE_END] & PROTECTS) return;
     crtc[crtcIndex] = value;
     written.add(crtcIndex);
+    if (SHAPE.includes(crtcIndex)) this.#frame = null;
   }
 
   /** The dots of a frame and those of a second; null where the steps have chosen none. */
   get speed() {
+    if (this.#frame && this.misc !== null) {
+      const { misc, crtc } = this, { dots, seq } = this.#frame, found = frameSpeed({ misc, crtc, seq });
+      return found && { dots, rate: found.rate };
+    }
     if (this.misc === null || !SHAPE.every(register => this.written.has(register))) return null;
     return frameSpeed(this);
   }
 }
 
+/** The steps by which so many dots pass. */
+function* advances(dots, most) {
+  for (let left = dots; left > 0; left -= most) yield { name: "advance", dots: Math.min(left, most) };
+}
+
 /**
- * The steps, with the clock advanced before those to which time has passed. Each has its `time` in
- * microseconds, a BigInt, or null.
+ * The steps, with the clock advanced before those to which time has passed, by at most so many dots in
+ * one step. Each has its `time` in microseconds, a BigInt, or null; and the `dots` that passed before
+ * it, where these are known, or null.
  */
-export function* withPauses(steps) {
+export function* withPauses(steps, most) {
   const registers = new TimingRegisters();
   let last = null, owed = 0n;
   for (const step of steps) {
-    const { time } = step;
-    if (time !== null) {
+    const { time, dots: known } = step;
+    if (known !== null) {
+      last = time;
+      owed = 0n;
+      yield* advances(known, most);
+    } else if (time !== null) {
       if (last !== null && time > last) owed += time - last;
       last = time;
     }

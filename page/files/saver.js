@@ -15,14 +15,16 @@ export class Saver {
   #isSaving = false;
 
   /**
-   * `page` has `text()`; `name()`, that of the files without what stands behind the point;
-   * `seen()`, what is shown of a run, or null while there is no run of the text; and `drawn()`,
+   * `page` has `text()`; `trace()`, that of a machine that is paused; `name()`, that of the files without
+   * what stands behind the point; `seen()`, what is shown of a run, or null while there is no run of the
+   * text; `outer()`, the script's session and after how many of its steps the page is, even inside a
+   * call; and `drawn()`,
    * which hears that `drawn` has changed. `guarded` calls what an entry does, and tells what went
    * wrong.
    */
   constructor(page, guarded) {
     this.#page = page;
-    for (const what of ["text", "bytes", "report", "png", "apng"]) {
+    for (const what of ["text", "bytes", "report", "trace", "png", "apng"]) {
       byId(`save${what}`).addEventListener("click", () => guarded(() => this.#save(what)));
     }
   }
@@ -46,11 +48,13 @@ export class Saver {
     }
     const seen = this.#page.seen();
     if (!seen) throw new Trouble("There is no run to save: mend the bad line first.");
-    const { session, steps } = seen;
+    const { session, steps } = this.#page.outer();
+    const place = seen.session.isCall ? `${steps}-${seen.steps}` : steps;
     switch (what) {
       case "bytes": return saveFile(`${name}.bin`, session.script, BYTES);
+      case "trace": return saveFile(`${name}.trace`, this.#page.trace(), "text/plain");
       case "report": return saveFile(`${name}.txt`, reportOf(session), BYTES);
-      case "png": return saveFile(`${name}-${steps}.png`, await pngOfSeen(seen), "image/png");
+      case "png": return saveFile(`${name}-${place}.png`, await pngOfSeen(seen), "image/png");
       default: return this.#saveMoving(name, session);
     }
   }
@@ -60,7 +64,7 @@ export class Saver {
     const moving = await apngOfRun(session, async steps => {
       this.#draw(steps);
       await new Promise(resolve => setTimeout(resolve));
-      return this.#page.seen()?.session === session;
+      return this.#page.seen() !== null && this.#page.outer().session === session;
     });
     if (moving) saveFile(`${name}.png`, moving, "image/png");
   }

@@ -6,6 +6,7 @@ import { base64OfBytes, bytesOfBase64, counted, grouped, hex, throughStream }
   from "../common/bytes.js";
 import { encodingTrouble } from "../script/reasons.js";
 import { isReport } from "../run/report.js";
+import { isSavedRun } from "../machine/savedrun.js";
 import { reasonOfBytes } from "../script/faults.js";
 import { textOfTrace, traceForm } from "./trace.js";
 
@@ -51,6 +52,11 @@ const WORDS = {
     const size = counted(fonts.length, "byte");
     if (fonts.length === FONTS_SIZE) return fonts;
     throw new Trouble(`The font file in this link has ${size}, and needs ${grouped(FONTS_SIZE)}.`);
+  },
+  async run(text) {
+    const run = await unpacked(text, "run");
+    if (isSavedRun(run)) return run;
+    throw new Trouble("The run in this link is damaged.");
   },
   async script(text) {
     const bytes = await unpacked(text);

@@ -1,6 +1,8 @@
 // The machine as it runs in real time: its picture, its keys, and the snapshots on its way.
-import { Machine, SPEEDS, USUAL_SPEED } from "./machine.js";
+import { Machine, QUANTUM, SPEEDS, USUAL_SPEED } from "./machine.js";
 import { bytesOfKey, placeOfKey } from "./pckeys.js";
+import { Pace } from "./pace.js";
+import { LivePicture } from "./livepicture.js";
 import { stopOf } from "./stops.js";
 import { byId, setText } from "../common/dom.js";
 import { grouped } from "../common/bytes.js";
@@ -8,11 +10,15 @@ import { grouped } from "../common/bytes.js";
 const SECOND = 1e9, MILLISECOND = 1e6;
 /** Milliseconds of a turn, and how late the machine may be: what is missed beyond is left out. */
 const TURN = 12, MOST_LATE = 100;
+/** Milliseconds of a turn while a run comes back, which is as fast as the machine can. */
+const LONG_TURN = 30;
+const OTHERWISE = "It ran otherwise than it did when it was kept: the page is another one since.";
 /** A snapshot is made once in so many frames; all have so many bytes at most. */
 const SNAPSHOT_FRAMES = 35, MOST_SNAPSHOTS = 1 << 28;
 /** Milliseconds between two lines that tell how it runs. */
 const TELLING = 500;
-const PIXELS_A_LINE = 2304;
+/** Milliseconds between two turns of a machine that rests. */
+const REST = 50;
 /** What is said of each reason why the machine stopped. */
 const REASONS = { ended: "The program has ended.", watch: "The cycle that you asked for has come.",
   place: "The instruction that you asked for comes next.", mode: "A mode was set.",
@@ -23,13 +29,13 @@ const MISSING = { 0x00: "divides by zero", 0x06: "has an instruction that this p
   0x0d: "reaches past the end of a segment", 0x10: "asks for a video function that is refused",
   0x21: "asks for a function of DOS that is missing" };
 
-function isSameRow(row, all, at) {
-  for (let x = 0; x < row.length; x++) if (row[x] !== all[at + x]) return false;
-  return true;
-}
-
-/** What the software asked for in words. */
-function missingText({ number, value }) {
+/**
+ * What the software asked for last, in words. Of instructions that are lacking it is the first: the others may come of
+ * that.
+ */
+function missingText(missing) {
+  const last = missing.at(-1), isLacking = last.number === 0x06;
+  const { number, value } = isLacking ? missing.find(one => one.number === 0x06) : last;
   const hexadecimal = value.toString(16).toUpperCase().padStart(4, "0");
   return `It ${MISSING[number] ?? "asks for what is missing"} (${hexadecimal}).`;
 }
@@ -38,7 +44,7 @@ function missingText({ number, value }) {
  * A machine in real time. `heard` has `changed()`, when it begins, stops or ends, and `failed(error)`.
  */
 export class Live {
-  /** "off", "running" or "paused". */
+  /** "off", "running", "paused", or "failed" where the machine can't go on. */
   state = "off";
   /** Why it paused, where it did so by itself. */
   reason = "";
@@ -53,8 +59,12 @@ export class Live {
   #stop = NO_STOP;
   #speed = USUAL_SPEED;
   #drawn = -1;
+  #pace = null;
+  #sleep = 0;
+  /** The moment at which a run pauses that comes back: see Machine.moment. */
+  #goal = null;
   #canvas = byId("live");
-  #image = null;
+  #picture = new LivePicture(this.#canvas);
 
   constructor(modules, fonts, heard) {
     this.#modules = modules;
@@ -82,26 +92,55 @@ export class Live {
   /** Starts a run that was saved. What comes from outside comes again, until the user does something. */
   startSaved({ name, software, inputs }) {
     this.#boot(software, name);
-    this.#machine.inputs = inputs;
+    this.#takeInputs(inputs);
     this.#begin();
+  }
+
+  /** Brings a run back to a moment, as fast as it can, and pauses there. */
+  comeBack({ name, software, inputs, moment }) {
+    this.#boot(software, name);
+    this.#takeInputs(inputs);
+    this.#goal = moment;
+    this.#begin();
+  }
+
+  /** Whether a run comes back, and is not there yet. */
+  get isComingBack() {
+    return this.#goal !== null;
+  }
+
+  #takeInputs(inputs) {
+    this.#machine.inputs = inputs;
+    const last = inputs.findLast(({ does }) => does === "set_instruction_time");
+    this.#speed = Object.keys(SPEEDS).find(name => SPEEDS[name] === last?.values[0]) ?? this.#speed;
   }
 
   #boot(software, name) {
     this.name = name;
     this.reason = "";
+    this.#goal = null;
     this.#machine ??= new Machine(this.#modules, this.#fonts);
     this.#machine.boot(software);
   }
 
   #begin() {
     this.snapshots = [this.#machine.snapshot(null)];
-    this.#machine.stopAt(this.#stop.machine);
+    this.#told = { at: 0, instructions: 0, frames: 0 };
+    setText(byId("livestate"), "");
+    this.#machine.stopAt(this.isComingBack ? {} : this.#stop.machine);
     this.#go();
     this.#canvas.focus();
   }
 
-  restart() {
-    this.start(this.#machine.software, this.name);
+  /** Starts the software again as it was; or, `isWarm`, with its disks and files as they are now. */
+  restart(isWarm = false) {
+    this.start(isWarm ? this.#machine.softwareNow : this.#machine.software, this.name);
+  }
+
+  /** Puts a floppy into drive 0 or 1. */
+  changeFloppy(slot, bytes) {
+    this.#machine.changeFloppy(slot, bytes);
+    this.#canvas.focus();
   }
 
   /** Goes on from what the machine is now; what came later is forgotten. */
@@ -121,7 +160,7 @@ export class Live {
   /** What it stops at: see stopOf. */
   set stop(stop) {
     this.#stop = stop;
-    if (this.state === "running") this.#arm();
+    if (this.state === "running" && !this.isComingBack) this.#arm();
   }
 
   /** The machine stops at what was asked for, but not where it is now. */
@@ -134,52 +173,91 @@ export class Live {
     this.state = "running";
     this.#lastTime = performance.now();
     this.#drawn = -1;
-    this.#machine.isShowing = true;
+    const { cpu } = this.#machine;
+    this.#pace = new Pace(cpu, this.#lastTime);
+    this.#told = { at: this.#lastTime, instructions: cpu.instructions(), frames: cpu.frames() };
     this.#heard.changed();
     this.#askTurn();
   }
 
   /** One turn is asked for at a time. */
   #askTurn() {
+    clearTimeout(this.#sleep);
+    this.#sleep = 0;
     cancelAnimationFrame(this.#asked);
     this.#asked = requestAnimationFrame(() => this.#turn());
+  }
+
+  /** Asks for the next turn: later where the machine rests, and without a frame of the browser if it is seen. */
+  #askNext() {
+    if (!this.#pace.isResting || document.hidden) this.#askTurn();
+    else this.#sleep = setTimeout(() => this.#turn(), REST);
+  }
+
+  /** Something was typed: the machine does not rest. */
+  #wake() {
+    this.#pace.wake(performance.now());
+    if (this.#sleep) this.#askTurn();
   }
 
   pause() {
     if (this.state !== "running") return;
     this.state = "paused";
+    this.#goal = null;
     this.#machine.stopAt();
     this.#keepSnapshot();
     this.#heard.changed();
   }
 
+  /** Switches it off. What `takeUp` needs to have it paused as it is now; null where there is nothing. */
   close() {
+    const { name, snapshots, state } = this, machine = this.#machine;
+    const isWhole = state !== "failed" && !this.isComingBack;
+    if (isWhole && state === "running") this.#addSnapshot();
+    if (isWhole) machine.stopAt();
     this.state = "off";
     this.snapshots = [];
     this.#machine = null;
+    this.#goal = null;
+    this.#heard.changed();
+    return isWhole ? { name, machine, snapshots } : null;
+  }
+
+  /** Has a machine paused again as it was when it was switched off. */
+  takeUp({ name, machine, snapshots }) {
+    Object.assign(this, { name, snapshots, reason: "", state: "paused" });
+    this.#machine = machine;
+    machine.restore(snapshots.at(-1));
     this.#heard.changed();
   }
 
   /** The processor whose speed it has: see SPEEDS. */
+  get speed() {
+    return this.#speed;
+  }
+
   set speed(name) {
     this.#speed = name;
-    if (this.state === "running") this.#machine.setSpeed(SPEEDS[name]);
+    if (this.state === "running" && !this.isComingBack) this.#machine.setSpeed(SPEEDS[name]);
   }
 
   #turn() {
+    this.#sleep = 0;
     if (this.state !== "running") return;
     try {
-      this.#run();
+      if (this.isComingBack) this.#runBack();
+      else this.#run();
       this.#draw();
       this.#tell();
     } catch (error) {
-      this.state = "off";
+      this.state = "failed";
       this.#heard.failed(error);
       return;
     }
+    if (this.state !== "running") return;
     if (this.reason) this.pause();
     else if (this.#machine.stopped !== "runs") this.#stopped();
-    else this.#askTurn();
+    else this.#askNext();
   }
 
   /** Runs as long as the time that has passed, for at most a turn. */
@@ -190,7 +268,9 @@ export class Live {
     this.#lastTime = now;
     while (machine.cpu.now() < until && performance.now() < end && machine.stopped === "runs") {
       const frame = machine.cpu.frames();
+      machine.isShowing = this.#pace.isFrameSeen(until);
       machine.runFrame(until);
+      if (machine.cpu.frames() !== frame) this.#pace.passFrame();
       if (this.#isPassed()) this.#goPast();
       this.#keepSnapshot();
       if (frame < this.#stop.frame && machine.cpu.frames() >= this.#stop.frame) {
@@ -198,6 +278,25 @@ export class Live {
         return;
       }
     }
+    this.#pace.passTurn(until, now);
+  }
+
+  /** Runs towards the moment at which a run pauses that comes back; only the last frame of a turn is seen. */
+  #runBack() {
+    const machine = this.#machine, goal = this.#goal, end = performance.now() + LONG_TURN;
+    const until = goal.isAmid ? goal.time - goal.time % QUANTUM : goal.time;
+    const isOnItsWay = () => machine.cpu.now() < until && machine.stopped === "runs";
+    while (isOnItsWay()) {
+      machine.isShowing = performance.now() >= end;
+      machine.runFrame(until);
+      this.#keepSnapshot();
+      if (machine.isShowing) break;
+    }
+    machine.isShowing = true;
+    if (isOnItsWay()) return;
+    machine.runAgainTo(goal);
+    this.reason = machine.cpu.cycles() === goal.cycles ? "" : OTHERWISE;
+    this.pause();
   }
 
   /** Whether it stopped at what was asked for, but the conditions do not hold. */
@@ -210,12 +309,15 @@ export class Live {
     this.#machine.cpu.go_on();
   }
 
-
   #keepSnapshot() {
     const machine = this.#machine, last = this.snapshots.at(-1);
     const isDue = this.state === "paused" || machine.cpu.frames() - last.frames >= SNAPSHOT_FRAMES;
-    if (!isDue || machine.cpu.now() === last.time) return;
-    this.snapshots.push(machine.snapshot());
+    if (isDue) this.#addSnapshot();
+  }
+
+  #addSnapshot() {
+    if (this.#machine.cpu.now() === this.snapshots.at(-1).time) return;
+    this.snapshots.push(this.#machine.snapshot());
     this.#thin();
   }
 
@@ -229,60 +331,45 @@ export class Live {
 
   #stopped() {
     this.reason = REASONS[this.#machine.stopped] ?? "";
-    const last = this.#machine.missing.at(-1);
-    if (this.#machine.stopped === "ended" && last) this.reason += ` ${missingText(last)}`;
+    const { missing, stopped } = this.#machine;
+    if (stopped === "ended" && missing.length) this.reason += ` ${missingText(missing)}`;
     this.pause();
   }
 
   // What is seen.
 
   #draw() {
-    const machine = this.#machine, canvas = this.#canvas, { width, height } = machine;
-    if (machine.shown === this.#drawn || !width || !height) return;
-    this.#drawn = machine.shown;
-    if (canvas.width !== width || canvas.height !== height || !this.#image) {
-      Object.assign(canvas, { width, height });
-      this.#image = new ImageData(width, height);
-    }
-    const { first, last } = this.#copyRows(machine, width, height);
-    if (last < 0) return;
-    const brush = canvas.getContext("2d", { alpha: false });
-    brush.putImageData(this.#image, 0, 0, 0, first, width, last + 1 - first);
-  }
-
-  /** Copies the rows that differ from those that stand there; the first and the last of them. */
-  #copyRows({ calls, pixels }, width, height) {
-    const from = new Uint32Array(calls.memory.buffer, pixels, PIXELS_A_LINE * height);
-    const to = new Uint32Array(this.#image.data.buffer);
-    let first = height, last = -1;
-    for (let y = 0; y < height; y++) {
-      const row = from.subarray(y * PIXELS_A_LINE, y * PIXELS_A_LINE + width);
-      if (isSameRow(row, to, y * width)) continue;
-      to.set(row, y * width);
-      first = Math.min(first, y);
-      last = y;
-    }
-    return { first, last };
+    if (this.#machine.shown === this.#drawn) return;
+    this.#drawn = this.#machine.shown;
+    this.#pace.passDrawing();
+    this.#picture.draw(this.#machine);
   }
 
   #tell() {
+    if (this.isComingBack) return setText(byId("livestate"), this.#wayText());
     const now = performance.now(), passed = now - this.#told.at, { cpu } = this.#machine;
     if (passed < TELLING) return;
-    const instructions = cpu.instructions(), frames = this.#machine.shown;
+    const instructions = cpu.instructions(), frames = cpu.frames();
     const mips = (instructions - this.#told.instructions) / passed / 1000;
     const rate = (frames - this.#told.frames) / passed * 1000;
-    if (this.#told.at) setText(byId("livestate"), this.#stateText(mips, rate));
+    setText(byId("livestate"), this.#stateText(mips, rate));
     this.#told = { at: now, instructions, frames };
   }
 
+  #wayText() {
+    const come = this.#machine.cpu.now(), whole = this.#goal.time, inSeconds = time => (time / SECOND).toFixed(1);
+    byId("liveway").value = come / whole;
+    return `It runs again as it ran: ${inSeconds(come)} of ${inSeconds(whole)} s`;
+  }
+
   #stateText(mips, rate) {
-    const { machine } = this, last = machine.missing.at(-1);
+    const { machine } = this, { missing } = machine;
     const seconds = (machine.cpu.now() / SECOND).toFixed(1);
     const told = `${seconds} s · ${mips.toFixed(1)} million instructions and ${Math.round(rate)} frames a second`;
     const refused = machine.cpu.refusals();
     const more = (refused ? ` · ${grouped(refused)} cycles refused` : "") +
       (machine.isReplaying ? " · the saved keys come; a key of yours takes over" : "");
-    return `${told}${more}${last ? ` · ${missingText(last)}` : ""}`;
+    return `${told}${more}${missing.length ? ` · ${missingText(missing)}` : ""}`;
   }
 
   // What the user does.
@@ -302,18 +389,22 @@ export class Live {
 
   /** Sends bytes of the keyboard, each with the BIOS' word. */
   send(bytes) {
-    if (this.state !== "running") return;
+    if (this.state !== "running" || this.isComingBack) return;
     for (const [byte, word] of bytes) this.#machine.key(byte, word);
+    this.#wake();
   }
 
   #mouse(event) {
-    // A pointer that passes by does not end a run that was saved.
-    if (this.state !== "running" || (this.#machine.isReplaying && !event.buttons)) return;
+    if (this.state !== "running" || this.isComingBack) return;
+    // A pointer that passes by does not end a run that was saved, and is nothing to who does not ask for it.
+    const isMoved = event.type === "pointermove" && !event.buttons;
+    if (isMoved && (this.#machine.isReplaying || !this.#machine.cpu.uses_mouse())) return;
     const box = this.#canvas.getBoundingClientRect();
     const at = (place, from, length, most) =>
       Math.max(0, Math.min(most, Math.floor((place - from) / length * (most + 1))));
     const buttons = event.buttons & 1 | event.buttons & 2 | event.buttons & 4;
     this.#machine.mouse(at(event.clientX, box.left, box.width, 639),
       at(event.clientY, box.top, box.height, 199), buttons);
+    this.#wake();
   }
 }

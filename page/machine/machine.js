@@ -14,6 +14,8 @@ export const RECORD_BYTES = 16, MOST_RECORDS = 1 << 20;
 /** Nanoseconds of an instruction: of an 8088, a 286 and a 386 as they were sold, and of a fast 486. */
 export const SPEEDS = { 8088: 3000, 286: 700, 386: 160, fastest: 60 };
 export const USUAL_SPEED = "386";
+/** What a record has beside its cycle: see machine/pc/records.c. */
+const TEXTS = 2, TIMES = 3;
 const WASM_PAGE = 65536, ROOM_BYTES = 64, MOST_BLOCK = 0x20000, TABLE_BYTES = 1024;
 const WITH_ALPHA = 1, BOOT = 1, PROGRAM = 0;
 const BIOS_DATA = 0x400, MOST_FRAMES = 4096, MOST_MISSING = 64;
@@ -25,7 +27,9 @@ const PROCESSOR = ["EAX", "ECX", "EDX", "EBX", "ESP", "EBP", "ESI", "EDI", "EIP"
 /** The calls of the video BIOS that set a mode have AH 0; a call counts as so many cycles. */
 const SET_MODE = 0, CALL_CYCLES = 2;
 /** Nanoseconds in which the machine looks at nothing else: QUANTUM of machine/pc/run.c. */
-const QUANTUM = 50000;
+export const QUANTUM = 50000;
+/** The names of the drives, by their slots. */
+const DRIVES = ["a", "b", "c"];
 const decoder = new TextDecoder("latin1");
 
 /** The modules, compiled from their bytes. */
@@ -42,15 +46,17 @@ export class Machine {
   #window = null;
   #listed = null;
   #inputs = [];
-  #disks = {};
+  /** The disks: { slot, place, given, since }, with the number of inputs after which each was put in. */
+  #disks = [];
   #isRecording = false;
+  #paint;
   /** Whether frames are drawn as they end. */
   isShowing = true;
   /** The last frame that was drawn: its width and height, and how many there were. */
   width = 0;
   height = 0;
   shown = 0;
-  /** The last things that the software asked for and that are missing: { number, value }. */
+  /** The last things that the software asked for and that are missing: { number, value, time }. */
   missing = [];
   /** When modes were set by interrupt 10: the cycles of the display and the nanoseconds until then. */
   modes = [];
@@ -68,11 +74,13 @@ export class Machine {
       tell: (number, value) => this.#missing(number, value >>> 0),
     };
     this.calls = adapter;
+    this.#paint = reads.paint;
     this.cpu = new WebAssembly.Instance(modules.cpu, { adapter, reads, host }).exports;
     this.base = this.cpu.__heap_base.value;
-    const [card, room, state, pixels, block, table, font] = [CARD_SIZE, ROOM_BYTES, MOST_STATE,
-      4 * WIDEST * HIGHEST, MOST_BLOCK, TABLE_BYTES, fonts.length].map(size => this.#taken(size));
-    Object.assign(this, { card, room, state, pixels, block, table, font });
+    const [card, room, state, pixels, painted, block, table, font] = [CARD_SIZE, ROOM_BYTES, MOST_STATE,
+      4 * WIDEST * HIGHEST, 4 * WIDEST * HIGHEST, MOST_BLOCK, TABLE_BYTES, fonts.length]
+      .map(size => this.#taken(size));
+    Object.assign(this, { card, room, state, pixels, painted, block, table, font });
     this.fontBytes = fonts.length;
     this.adapterBytes.set(fonts, font);
     this.instructions = new Map();
@@ -124,9 +132,10 @@ export class Machine {
   /**
    * Begins anew. `software` has `program` (bytes of a .COM or .EXE), or disks: `a`, `b` and `c`, bytes
    * each; and may have `rom` (a video BIOS), `files` ({ name, bytes } of drive C), `words` behind
-   * the program's name.
+   * the program's name, and `media`, floppies that are put in while it runs. A machine whose cycles are
+   * wanted from the first one on records them with their times.
    */
-  boot(software) {
+  boot(software, isRecorded = false) {
     const { cpu } = this;
     this.#open();
     this.software = software;
@@ -138,10 +147,10 @@ export class Machine {
     cpu.remove_disks();
     cpu.begin_files();
     for (const { name, bytes } of software.files ?? []) this.#addFile(name, bytes);
-    const disks = ["a", "b", "c"].map(name => software[name] ?? null);
+    const disks = DRIVES.map(name => software[name] ?? null);
     const places = disks.map((bytes, slot) => this.#insert(slot, bytes));
-    this.#disks = Object.fromEntries(["a", "b", "c"].map((name, slot) =>
-      [name, { place: places[slot], length: disks[slot]?.length }]).filter(([, { length }]) => length));
+    this.#disks = disks.map((given, slot) => ({ slot, place: places[slot], given, since: 0 }))
+      .filter(({ given }) => given);
     cpu.set_rom(software.rom ? this.#stored(software.rom) : 0, software.rom?.length ?? 0);
     this.#writeText(cpu.arguments(), software.words ? ` ${software.words}` : "", 127);
     this.#inputs = [];
@@ -149,6 +158,7 @@ export class Machine {
     this.#frameCycles.clear();
     this.latest = null;
     this.#window = null;
+    this.record(isRecorded, true);
     const slot = disks.findIndex(bytes => bytes);
     if (software.program) this.#start(PROGRAM, 0, this.#stored(software.program), software.program);
     else this.#start(BOOT, slot === 2 ? 0x80 : slot, places[slot], disks[slot]);
@@ -177,7 +187,7 @@ export class Machine {
   }
 
   #addFile(name, bytes) {
-    this.#writeText(this.cpu.file_name(), name.toUpperCase().replaceAll("/", "\\"), 80);
+    this.#writeText(this.cpu.file_name(), dosName(name), 80);
     if (this.cpu.add_file(this.#stored(bytes), bytes.length) < 0) {
       throw new Trouble("A folder may have 512 files.");
     }
@@ -196,13 +206,47 @@ export class Machine {
     return found;
   }
 
-  /** The disks of which the software has written a sector: { name, bytes }. */
-  changedDisks() {
-    return Object.entries(this.#disks).flatMap(([name, { place, length }]) => {
-      const at = this.cpu.store_at(place), bytes = this.bytes.slice(at, at + length);
-      const given = this.software[name];
-      return bytes.every((byte, i) => byte === given[i]) ? [] : [{ name: `disk-${name}.img`, bytes }];
+  /** The disks that are in the drives now, or were: { slot, given, bytes }, the first ones first. */
+  #disksNow() {
+    return this.#disks.filter(({ since }) => since <= this.cpu.inputs()).map(({ slot, place, given }) => {
+      const at = this.cpu.store_at(place);
+      return { slot, given, bytes: this.bytes.slice(at, at + given.length) };
     });
+  }
+
+  /** The disks of which the software has written a sector, also those that were taken out: { name, bytes }. */
+  changedDisks() {
+    const counts = [0, 0, 0];
+    return this.#disksNow().flatMap(({ slot, given, bytes }) => {
+      const number = ++counts[slot] > 1 ? `-${counts[slot]}` : "";
+      return isSameBytes(bytes, given) ? [] : [{ name: `disk-${DRIVES[slot]}${number}.img`, bytes }];
+    });
+  }
+
+  /**
+   * The software as a restart of the PC finds it: its disks are as they are in the drives now, and the files of
+   * drive C as they were written.
+   */
+  get softwareNow() {
+    const disks = Object.fromEntries(this.#disksNow().map(({ slot, bytes }) => [DRIVES[slot], bytes]));
+    const written = this.changedFiles(), names = new Set(written.map(({ name }) => name));
+    const others = (this.software.files ?? []).filter(({ name }) => !names.has(dosName(name)));
+    return { ...this.software, ...disks, files: [...others, ...written], media: undefined };
+  }
+
+  /** Puts a floppy into drive 0 or 1 while the machine runs; kept with its time. */
+  changeFloppy(slot, bytes) {
+    const media = this.software.media ??= [];
+    let number = media.findIndex(one => one.length === bytes.length && isSameBytes(one, bytes));
+    if (number < 0) number = media.push(bytes) - 1;
+    this.#take({ time: this.cpu.now(), does: "change", values: [slot, number] });
+  }
+
+  #change(slot, number) {
+    const given = this.software.media[number], place = this.#stored(given);
+    this.cpu.change(slot, place, given.length);
+    const since = this.cpu.inputs(), others = this.#disks.filter(one => one.since !== since);
+    this.#disks = [...others, { slot, place, given, since }].sort((one, other) => one.since - other.since);
   }
 
   // What comes from outside, and how it goes on.
@@ -224,13 +268,19 @@ export class Machine {
 
   /** What comes from outside is the last thing to come: what would have come again does not. */
   #take(input) {
-    this.#inputs.length = this.cpu.inputs();
+    this.#forgetInputs();
     this.#inputs.push(input);
     this.#give(input);
   }
 
+  #forgetInputs() {
+    this.#inputs.length = this.cpu.inputs();
+    this.#disks = this.#disks.filter(({ since }) => since <= this.#inputs.length);
+  }
+
   #give({ does, values }) {
-    this.cpu[does](...values);
+    if (does === "change") this.#change(...values);
+    else this.cpu[does](...values);
   }
 
   /** What came from outside, each with its time. */
@@ -278,8 +328,9 @@ export class Machine {
   /** Forgets what comes after now: the machine goes on from here another way. */
   forgetLater() {
     const cycles = this.cpu.cycles();
-    this.#inputs.length = this.cpu.inputs();
+    this.#forgetInputs();
     this.modes = this.modes.filter(set => set.cycles <= cycles);
+    this.missing = this.missing.filter(({ time }) => time <= this.cpu.now());
   }
 
   get stopped() {
@@ -307,8 +358,11 @@ export class Machine {
   }
 
   #missing(number, value) {
+    const time = this.cpu.now(), last = this.missing.at(-1);
+    // What runs again lacks the same.
+    if (last && (time <= last.time || (number === last.number && value === last.value))) return;
     if (this.missing.length === MOST_MISSING) this.missing.shift();
-    this.missing.push({ number, value });
+    this.missing.push({ number, value, time });
     this.#heard.missing?.(number, value);
   }
 
@@ -390,6 +444,30 @@ export class Machine {
     this.width = this.adapterView.getUint32(this.room, true);
     this.height = this.adapterView.getUint32(this.room + 4, true);
     this.shown++;
+  }
+
+  /** The bytes of a canvas that shows the picture; kept until the adapter's memory grows. */
+  get paintedBytes() {
+    const { width, height } = this;
+    return new Uint8ClampedArray(this.calls.memory.buffer, this.painted, 4 * width * height);
+  }
+
+  /** Paints the picture into these bytes; the first row that was another one, and the one behind the last. */
+  paint() {
+    const rows = this.#paint(this.pixels, WIDEST, this.painted, this.width, this.height);
+    return { first: rows & 0xffff, end: rows >>> 16 };
+  }
+
+  /**
+   * Draws what is left of the frame under way, since a machine that has stopped ends none; how many dots
+   * that is. It can't go on from there.
+   */
+  drawRest() {
+    this.calls.zak_clock(this.card, this.room);
+    const dots = this.adapterView.getUint32(this.room, true);
+    this.isShowing = true;
+    this.#passFrame(dots);
+    return dots;
   }
 
   /** The bytes of a call's block, as the registers name it; none where it has none. */
@@ -487,12 +565,15 @@ export class Machine {
     return found;
   }
 
-  /** Records from here on, or no longer. */
-  record(isOn) {
+  /**
+   * Records from here on, or no longer: with the text of each instruction, or else with the microsecond
+   * of each record in the place of its instruction's.
+   */
+  record(isOn, hasTimes = false) {
     this.#isRecording = isOn;
     this.blocks = [];
     this.instructions = new Map();
-    this.cpu.set_recording(isOn ? 2 : 0, this.recordsAt);
+    this.cpu.set_recording(isOn ? (hasTimes ? TIMES : TEXTS) : 0, this.recordsAt);
   }
 
   /** The records: four words each, a copy. */
@@ -540,4 +621,6 @@ export class Machine {
   }
 }
 
+const isSameBytes = (one, other) => one.every((byte, i) => byte === other[i]);
+const dosName = name => name.toUpperCase().replaceAll("/", "\\");
 const placeKey = (segment, place) => segment * 2 ** 32 + place;

@@ -83,6 +83,16 @@ export class Paused {
     this.#again(this.#snapshotBefore(({ time }) => time <= until), machine => machine.runAgain(until));
   }
 
+  /** Whether the machine ran before the window. */
+  get hasEarlier() {
+    return this.#cycle > this.#live.snapshots[0].cycles;
+  }
+
+  /** Goes back to where the window begins. */
+  backToBegin() {
+    this.#seekCycle(this.#cycle);
+  }
+
   /** Goes back to the moment at which a mode was set last before the window's end. */
   backToMode() {
     const set = this.#machine.modes.findLast(({ cycles }) => cycles < this.#end.cycles);

@@ -37,6 +37,16 @@ export function placeOfKey({ code, key }) {
   return code || PLACES[key.toLowerCase()] || key;
 }
 
+/** What a key at a place types, by the same keyboard; its name where it types nothing. */
+export function typedAt(code, isShifted) {
+  const [plain, shifted] = Object.keys(PLACES).filter(sign => PLACES[sign] === code);
+  if (!plain) return code;
+  return isShifted ? shifted ?? plain.toUpperCase() : plain;
+}
+
+/** The keys that are held while others are pressed, and what a key's event calls them. */
+export const HELD = { ShiftLeft: "shiftKey", ControlLeft: "ctrlKey", AltLeft: "altKey" };
+
 /** Letters of keys that the browser tells by a name. */
 const NAMED_LETTERS = { Enter: 13, Escape: 27, Backspace: 8, Tab: 9 };
 const SHIFTS = new Set([0x1d, 0x2a, 0x36, 0x38, 0x3a, 0x45, 0x46]);
@@ -88,10 +98,10 @@ export function bytesOfKey(event) {
 export const ROWS = [
   ["Escape Esc", ...Array.from({ length: 10 }, (_, i) => `F${i + 1} F${i + 1}`)],
   [..."1234567890"].map(digit => `Digit${digit} ${digit}`).concat("Backspace ⌫"),
-  [..."qwertyuiop"].map(letter => `Key${letter.toUpperCase()} ${letter}`),
-  [..."asdfghjkl"].map(letter => `Key${letter.toUpperCase()} ${letter}`).concat("Enter ⏎"),
+  ["Tab ⇥", ...[..."qwertyuiop"].map(letter => `Key${letter.toUpperCase()} ${letter}`)],
+  [..."asdfghjkl"].map(letter => `Key${letter.toUpperCase()} ${letter}`).concat("Semicolon ;", "Enter ⏎"),
   ["ShiftLeft ⇧", ...[..."zxcvbnm"].map(letter => `Key${letter.toUpperCase()} ${letter}`), "Comma ,",
     "Period .", "ArrowUp ↑"],
-  ["ControlLeft Ctrl", "AltLeft Alt", "Space  ", "Slash /", "Minus -", "ArrowLeft ←", "ArrowDown ↓",
-    "ArrowRight →"],
+  ["ControlLeft Ctrl", "AltLeft Alt", "Space  ", "Slash /", "Minus -", "Equal =", "Quote '", "ArrowLeft ←",
+    "ArrowDown ↓", "ArrowRight →"],
 ].map(row => row.map(key => [key.slice(0, key.indexOf(" ")), key.slice(key.indexOf(" ") + 1)]));

@@ -160,6 +160,59 @@ export function rebuilding(bytes, states) {
   return steps.lines;
 }
 
+/** Lines with what their reads answer where a state is the one that they lead to; but for input status 1. */
+function answered(lines, { latches, colour }) {
+  const parts = [...colour];
+  return lines.map(line => {
+    if (line === "get A0000") return `${line} ; = ${hex(latches[0], 2)}`;
+    return line === `in ${PORTS.dacRead}` ? `${line} ; = ${hex(parts.shift(), 2)}` : line;
+  });
+}
+
+const isSame = (one, other) => one.every((value, i) => value === other[i]);
+
+/** Brings memory and latches from one state to another; whether it had to. Registers are then to be set. */
+function moveMemory(steps, before, state) {
+  const numbers = [0, 1, 2, 3], [old, planes] = [before, state].map(one => numbers.map(plane => one.plane(plane)));
+  const hasSameMemory = numbers.every(plane => sameBytes(planes[plane], old[plane]));
+  if (hasSameMemory && isSame(before.latches, state.latches)) return false;
+  openMemory(steps, state.registers.misc);
+  fillMemory(steps, planes, old);
+  fillLatches(steps, state.latches, planes);
+  return true;
+}
+
+function sameBytes(one, other) {
+  for (let at = 0; at < one.length; at++) if (one[at] !== other[at]) return false;
+  return true;
+}
+
+/**
+ * The lines of the cycles that lead from one state to another, without a call of the BIOS: what a call does to
+ * memory and registers, as a program might do it at one moment.
+ */
+export function cyclesBetween(before, state) {
+  const steps = new Steps(), { registers } = state, old = before.registers;
+  const controller = registers.misc & 1 ? 0x3d4 : 0x3b4, differs = name => !isSame(registers[name], old[name]);
+  if (registers.misc !== old.misc) steps.out(PORTS.misc, registers.misc | ENABLE_RAM);
+  const isMoved = moveMemory(steps, before, state);
+  if (isMoved || differs("gfx")) registers.gfx.forEach((value, index) => steps.register(PORTS.graphics, index, value));
+  if (isMoved || differs("seq")) registers.seq.forEach((value, index) => steps.register(PORTS.sequencer, index, value));
+  const isAttribute = differs("attr") || ["attrIndex", "attrIsData"].some(name => registers[name] !== old[name]);
+  if (isAttribute) setAttributes(steps, registers, controller + 6);
+  const dac = ["dacMask", "dacIndex", "dacRed", "dacGreen", "dacComponent"];
+  if (!sameBytes(state.dac, before.dac) || dac.some(name => registers[name] !== old[name])) {
+    setColours(steps, state, registers);
+  }
+  if (differs("crtc")) setController(steps, registers, controller);
+  steps.out(PORTS.graphics, registers.gfxIndex);
+  steps.out(PORTS.sequencer, registers.seqIndex);
+  steps.out(controller, registers.crtcIndex);
+  if (!(registers.misc & ENABLE_RAM)) steps.out(PORTS.misc, registers.misc);
+  const { latches } = state;
+  return answered(steps.lines, { latches, colour: state.colour(registers.dacIndex) });
+}
+
 /** What tells states, by a card of the adapter that is open for as long. */
 export function statesOf(adapter, fonts) {
   const told = does => {

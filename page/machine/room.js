@@ -1,17 +1,19 @@
 // The machine in the page: what is dropped runs, a pause shows its last frames in the debugger, and it goes
 // on from any of their steps.
+import { Keeper } from "./keeper.js";
 import { Live } from "./live.js";
 import { Paused } from "./paused.js";
-import { ROWS, bytesOfKey } from "./pckeys.js";
+import { HELD, ROWS, bytesOfKey, typedAt } from "./pckeys.js";
 import { SPEEDS, USUAL_SPEED, compiledModules } from "./machine.js";
-import { isSavedRun, savedRunOf, savedRunText } from "./savedrun.js";
+import { MOST_MEDIA, isSavedRun, savedRunOf, savedRunText } from "./savedrun.js";
 import { saveFile } from "../files/saving.js";
 import { byId, element, setText } from "../common/dom.js";
 import { bytesOfBase64, hex } from "../common/bytes.js";
 import { STOPS, stopOf } from "./stops.js";
-import { MOST_CHOICES, filesBeside, softwareIn, softwareOf } from "./software.js";
+import { MOST_CHOICES, filesBeside, floppyOf, softwareIn, softwareOf } from "./software.js";
 import { ask } from "../compare/asking.js";
 import { filesOfZip, isZip } from "./zip.js";
+import { traceOfRecording } from "./windowtrace.js";
 import { Trouble } from "../common/trouble.js";
 import { unzipped } from "../module/packed.js";
 
@@ -20,6 +22,11 @@ const BEFORE = 12, AFTER = 24;
 const REGISTER_LINES = ["EAX EBX ECX EDX", "ESI EDI EBP ESP", "CS DS ES SS FS GS", "EIP FLAGS"];
 /** So many milliseconds after a step is shown, the processor's registers are. */
 const REGISTERS_SOON = 250;
+/** What is said of the steps before the software's own. */
+const HEAD_TEXT = "The first steps make the display as it was when these frames began. What the software did " +
+  "before that stands in earlier frames: press “back 1 s” or “back 10 s”.";
+/** What is told of a run that was left behind by who stopped its way back, or went on from a step before its end. */
+const NOT_WHOLE = "has not come back whole", HAS_LATER = "has the keys that came after this step";
 const TO_RESTART = [0x1d, 0x38, 0x53, 0xd3, 0xb8, 0x9d];
 
 const placeText = ({ segment, offset, text }) => `${hex(segment, 4)}:${hex(offset, 4)}  ${text}`;
@@ -36,32 +43,41 @@ export class MachineRoom {
   #live = null;
   #paused = null;
   #rom = null;
+  /** Which of shiftKey, ctrlKey and altKey are held on the screen's keyboard. */
+  #held = {};
   #timer = 0;
+  #keeper;
+  /** The machine that was switched off last, as Live.takeUp has it, with its run's `id`; null for none. */
+  #aside = null;
 
   /**
-   * `data` is what the page was built with, `module` the adapter's bytes. `heard` has `adapter()`,
-   * `fonts()`, `show(session)`, which shows a session in the debugger, `steps()`, how many are shown,
-   * `script(text, name)`, `end()`, after which the page has its own script again, `tell(text)` and
+   * `data` is what the page was built with, `module` the adapter's bytes, `runs` those that the browser
+   * keeps. `heard` has `adapter()`, `fonts()`, `show(session)`, which shows a session in the debugger,
+   * `steps()`, how many are shown, `script(text, name)`, `end()`, after which the page has its own script
+   * again, `named(words)`, which program is on, `left({ id, title })`, a run was switched off, `cameBack(id)`, it
+   * was brought back, `tell(text, isKept)`, `offer(text, title, does)`, `withdraw()`, which takes an offer away, and
    * `guarded(does)`.
    */
-  constructor(data, module, heard) {
+  constructor(data, module, runs, heard) {
     this.#data = data;
     this.#module = module;
     this.#heard = heard;
+    this.#keeper = new Keeper(runs, () => this.#live, text => heard.tell(text, true));
     const clicks = {
       livepause: () => this.#live.pause(),
-      liverestart: () => this.#live.restart(),
+      liverestart: () => this.#restart(),
       livekeyboard: () => this.#toggleKeyboard(),
+      livefloppy: () => byId("file").click(),
       livedelete: () => this.#sendRestart(),
       liveclose: () => this.#close(),
       pausedgo: () => this.#goOn(),
       pausedstep: () => this.#goOnFromStep(),
-      pausedback: () => this.#back(1),
-      pausedfar: () => this.#back(10),
+      pausedback: () => this.back(1),
+      pausedfar: () => this.back(10),
       pausedmode: () => this.#backToMode(),
       pausedsave: () => this.#saveRun(),
       pausedfiles: () => this.#saveWritten(),
-      pausedstart: () => this.#toStart(),
+      pausedstart: () => this.#restart(),
       pausedscript: () => this.#openScript(),
       pausedclose: () => this.#close(),
     };
@@ -116,15 +132,41 @@ export class MachineRoom {
   }
 
   #screenKey(code, label) {
-    const made = element("button", { type: "button", title: code }, label);
-    const key = label.length === 1 && code !== "Space" ? label : code === "Space" ? " " : code;
-    const send = type => this.#live?.send(bytesOfKey({ type, code, key }));
+    const made = element("button", { type: "button", title: code }, label), held = HELD[code];
+    const send = type => this.#sendKey(type, code);
     made.addEventListener("pointerdown", event => {
       event.preventDefault();
-      send("keydown");
+      if (held) this.#toggleHeld(made, code);
+      else send("keydown");
     });
-    for (const type of ["pointerup", "pointercancel"]) made.addEventListener(type, () => send("keyup"));
+    const release = () => {
+      if (held) return;
+      send("keyup");
+      this.#releaseHeld();
+    };
+    for (const type of ["pointerup", "pointercancel"]) made.addEventListener(type, release);
+    if (held) made.ariaPressed = "false";
     return made;
+  }
+
+  #sendKey(type, code) {
+    const { shiftKey = false, ctrlKey = false, altKey = false } = this.#held;
+    const key = typedAt(code, shiftKey);
+    this.#live?.send(bytesOfKey({ type, code, key, shiftKey, ctrlKey, altKey }));
+  }
+
+  /** Shift, Ctrl and Alt of the keyboard on the screen are held from a press until the key after it. */
+  #toggleHeld(button, code) {
+    const isHeld = button.ariaPressed !== "true";
+    this.#sendKey(isHeld ? "keydown" : "keyup", code);
+    button.ariaPressed = String(isHeld);
+    this.#held[HELD[code]] = isHeld;
+  }
+
+  #releaseHeld() {
+    for (const button of byId("livekeys").querySelectorAll("[aria-pressed=true]")) {
+      this.#toggleHeld(button, button.title);
+    }
   }
 
   #toggleKeyboard() {
@@ -135,7 +177,9 @@ export class MachineRoom {
   /** Takes a file if it is software; whether it is. */
   async open(bytes, name) {
     if (isSavedRun(bytes)) return this.#openSaved(bytes);
-    if (isZip(bytes)) return this.#openFiles(await filesOfZip(bytes), name);
+    const { isFloppy, isBootable } = floppyOf(bytes, name);
+    if (isFloppy && this.isOn) return this.#openFloppy(bytes, name, isBootable);
+    if (isZip(bytes)) return this.#openZip(bytes, name);
     const found = softwareOf(bytes, name);
     if (!found) return false;
     if (found.rom) {
@@ -146,21 +190,90 @@ export class MachineRoom {
     return this.#start(found, name);
   }
 
+  /** Puts a floppy into a drive of the machine that is on, or starts it in place of what is on. */
+  async #openFloppy(bytes, name, isBootable) {
+    const chosen = await ask(`${name} is a floppy.`, [["0", "Put it into drive A"], ["1", "Put it into drive B"],
+      ...isBootable ? [["start", "Start it"]] : []]);
+    if (chosen === "start") return this.#start({ a: bytes }, name);
+    if (!chosen || !this.isOn) return true;
+    if (this.#live.isComingBack) throw new Trouble("Wait until the run is back, or stop it.");
+    const { machine } = this.#live;
+    if (machine.software.media?.length === MOST_MEDIA) throw new Trouble(`A run may have ${MOST_MEDIA} floppies.`);
+    // It comes as keys do: while the machine runs.
+    if (this.#paused) this.#goOn();
+    this.#live.changeFloppy(Number(chosen), bytes);
+    this.#heard.tell(`${name} is in drive ${"AB"[Number(chosen)]} now.`);
+    return true;
+  }
+
   async #start(software, name) {
     await this.#prepare();
-    this.#end();
+    this.#endRun("was switched off");
     this.#takeStop();
     this.#live.speed = byId("livespeed").value;
     this.#live.start({ ...software, rom: this.#rom }, name);
     return true;
   }
 
-  /** Runs one of some files; a program of DOS has the others on its drive C. */
-  async #openFiles(files, name) {
+  /** What is on ends, since something else begins; a press brings it back. */
+  #endRun(how) {
+    this.#heard.withdraw();
+    if (!this.isOn) return;
+    const run = this.#keeper.end();
+    this.#end();
+    this.#aside = null;
+    if (run) this.#offer(run, how);
+  }
+
+  #offer(run, how) {
+    this.#heard.left(run);
+    this.#heard.offer(`${run.title}: it ${how}.`, "bring it back", () =>
+      this.#heard.guarded(() => this.bringBack(run.id)));
+  }
+
+  /** Brings back a run that was switched off: it pauses where it was. */
+  async bringBack(id) {
+    const run = await this.#keeper.read(id);
+    if (!run) throw new Trouble("This run is gone from the browser's storage.");
+    await this.#prepare();
+    const aside = this.#aside?.id === id ? this.#aside : null;
+    this.#endRun("was switched off");
+    this.#takeStop();
+    this.#keeper.begin(run);
+    if (aside) this.#live.takeUp(aside);
+    else this.#live.comeBack(run);
+    this.#aside = null;
+    byId("livespeed").value = this.#live.speed;
+    this.#heard.cameBack(id);
+  }
+
+  /** The runs that can be brought back: { id, title, time } each. */
+  get runs() {
+    return this.#keeper.list();
+  }
+
+  /** Offers to bring back the run that was on when the page was left. */
+  offerLeft() {
+    const run = this.#keeper.left();
+    if (run) this.#offer(run, "ran here when the page was left");
+  }
+
+  #restart(isWarm = false) {
+    const run = this.#keeper.end();
+    this.#end();
+    this.#live.restart(isWarm);
+    if (run.hasKeys) this.#offer(run, "was started again");
+  }
+
+  async #openZip(bytes, name) {
+    if (await this.openFiles(await filesOfZip(bytes), name)) return true;
+    throw new Trouble(`In ${name} nothing runs: no program for DOS, and no disk that starts.`);
+  }
+
+  /** Runs one of some files, with the others on drive C of DOS; whether there is one that runs. */
+  async openFiles(files, name) {
     const found = softwareIn(files), names = found.map(one => one.name);
-    if (!found.length) {
-      throw new Trouble(`In ${name} nothing runs: no program for DOS, and no disk that starts.`);
-    }
+    if (!found.length) return false;
     const chosen = found.length === 1 ? names[0] :
       await ask(`What of ${name} is to run?`, names.slice(0, MOST_CHOICES).map(one => [one, one]));
     if (!chosen) return true;
@@ -171,19 +284,23 @@ export class MachineRoom {
   async #openSaved(bytes) {
     const run = await savedRunOf(bytes);
     await this.#prepare();
-    this.#end();
+    this.#endRun("was switched off");
     this.#takeStop();
     this.#live.startSaved(run);
+    byId("livespeed").value = this.#live.speed;
     return true;
   }
 
-  /** Saves the software and what came from outside, up to where it was paused. */
-  async #saveRun() {
+  /** The software and what came from outside until now, or until it was paused, as the text of a file. */
+  runText() {
     const { machine, name } = this.#live;
-    this.#paused.seekEnd();
-    const inputs = machine.inputs.slice(0, machine.cpu.inputs());
-    const text = await savedRunText(name, machine.software, inputs);
-    saveFile(`${name}.run.json`, text, "application/json");
+    this.#paused?.seekEnd();
+    return savedRunText(name, machine.software, machine.inputs.slice(0, machine.cpu.inputs()));
+  }
+
+  async #saveRun() {
+    const { name } = this.#live;
+    saveFile(`${name}.run.json`, await this.runText(), "application/json");
   }
 
   /** Saves the files and disks that the software has written. */
@@ -209,7 +326,13 @@ export class MachineRoom {
     const modules = await compiledModules({ adapter: this.#module, cpu: await unzipped(cpu),
       reads: await unzipped(reads) });
     this.#live = new Live(modules, this.#heard.fonts(), { changed: () => this.#changed(),
-      failed: error => this.#heard.guarded(() => { throw error; }) });
+      failed: error => this.#fail(error) });
+  }
+
+  /** The machine can't go on. What was typed can be looked at, up to where it stopped. */
+  #fail(error) {
+    this.leave();
+    this.#heard.guarded(() => { throw error; });
   }
 
   /** Whether the page shows a machine, running or paused. */
@@ -217,10 +340,25 @@ export class MachineRoom {
     return this.#live !== null && this.#live.state !== "off";
   }
 
+  /** The last frames of the machine, if it is paused: { text, name }; else null. */
+  get frames() {
+    return this.#paused && { text: this.#paused.recording.text, name: `${this.#live.name}-frames` };
+  }
+
+  /** The same as a trace. */
+  get trace() {
+    return traceOfRecording(this.#paused.recording, this.#heard.adapter(), this.#heard.fonts());
+  }
+
   #changed() {
-    const { state } = this.#live;
+    const { state, isComingBack } = this.#live, split = this.#keeper.note();
+    if (split) this.#offer(split, state === "paused" ? NOT_WHOLE : HAS_LATER);
+    byId("liveway").hidden = !isComingBack;
+    setText(byId("livepause"), isComingBack ? "stop here" : "pause and explain");
+    this.#heard.named(state === "off" ? "" : `${this.#live.name}, ${state}`);
     byId("machine").hidden = state !== "running";
     byId("pausedbar").hidden = state !== "paused";
+    byId("savetrace").hidden = state !== "paused";
     document.body.classList.toggle("paused", state === "paused");
     byId(state === "paused" ? "pausedstop" : "livestop").append(byId("stops"));
     setText(byId("livename"), this.#live.name ?? "");
@@ -242,7 +380,9 @@ export class MachineRoom {
     clearTimeout(this.#timer);
     const { outline } = session;
     if (!this.#paused || !outline.placeOf) return;
-    byId("code").replaceChildren(...this.#linesBefore(outline, steps));
+    const isHead = steps <= outline.head.length;
+    const lines = isHead ? [element("div", { className: "earlier" }, HEAD_TEXT)] : this.#linesBefore(outline, steps);
+    byId("code").replaceChildren(...lines);
     byId("code").lastElementChild?.scrollIntoView({ block: "nearest" });
     byId("liveregisters").replaceChildren();
     this.#timer = setTimeout(() => this.#heard.guarded(() => this.#showProcessor(steps)), REGISTERS_SOON);
@@ -287,19 +427,26 @@ export class MachineRoom {
     this.#live.goOn();
   }
 
-  #back(seconds) {
+  /** Shows the frames of some seconds before. */
+  back(seconds) {
     this.#paused.back(seconds);
+    this.#showWindow();
+  }
+
+  /** Whether there are frames before those that are shown. */
+  get hasEarlier() {
+    return this.#paused?.hasEarlier ?? false;
+  }
+
+  /** Shows the frames that end where those begin that are shown. */
+  backToBegin() {
+    this.#paused.backToBegin();
     this.#showWindow();
   }
 
   #backToMode() {
     this.#paused.backToMode();
     this.#showWindow();
-  }
-
-  #toStart() {
-    this.#end();
-    this.#live.restart();
   }
 
   #openScript() {
@@ -310,7 +457,7 @@ export class MachineRoom {
 
   #sendRestart() {
     this.#live.send(TO_RESTART.map(byte => [byte, 0]));
-    this.#live.restart();
+    this.#restart(true);
   }
 
   #end() {
@@ -320,15 +467,19 @@ export class MachineRoom {
   }
 
   #close() {
-    this.#end();
+    const isPaused = this.#paused !== null;
     this.leave();
+    if (isPaused) this.#heard.end();
   }
 
-  /** Switches the machine off, since a script stands there now. */
+  /** Switches the machine off, since a script stands there now; a press brings the run back. */
   leave() {
     if (!this.isOn) return;
+    const run = this.#keeper.end();
     clearTimeout(this.#timer);
     this.#paused = null;
-    this.#live.close();
+    const aside = this.#live.close();
+    this.#aside = run && aside && { ...aside, id: run.id };
+    if (run) this.#offer(run, "was switched off");
   }
 }

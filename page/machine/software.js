@@ -42,21 +42,35 @@ export function softwareOf(bytes, name) {
     return { c: bytes };
   }
   if (FLOPPIES.includes(bytes.length) || IMAGE_NAME.test(name)) {
-    throw new Trouble(`${name} does not start: a boot sector ends with 55 AA, and this one does not.`);
+    throw new Trouble(`${name} does not start: a boot sector ends with 55 AA, and this one does not. ` +
+      "Open it while software runs, and it is put into a drive.");
   }
   return null;
+}
+
+/** Whether some bytes are the image of a floppy, which may be put into a drive; and whether it starts. */
+export function floppyOf(bytes, name) {
+  const isFloppy = FLOPPIES.includes(bytes.length) && !PROGRAM_NAME.test(name);
+  return { isFloppy, isBootable: isBootable(bytes) };
 }
 
 /** The most files among which the page lets you choose. */
 export const MOST_CHOICES = 20;
 
-/** Those of some files that run: { name, software } each. */
+/** Those of some files that run: { name, software } each. A Trouble where all that would are too large. */
 export function softwareIn(files) {
-  return files.flatMap(({ name, bytes }) => {
-    if (!PROGRAM_NAME.test(name) && !isBootable(bytes)) return [];
-    const software = softwareOf(bytes, name);
-    return software && !software.rom ? [{ name, software }] : [];
-  });
+  const found = [];
+  let trouble = null;
+  for (const { name, bytes } of files.filter(one => PROGRAM_NAME.test(one.name) || isBootable(one.bytes))) {
+    try {
+      const software = softwareOf(bytes, name);
+      if (software && !software.rom) found.push({ name, software });
+    } catch (error) {
+      trouble ??= error;
+    }
+  }
+  if (trouble && !found.length) throw trouble;
+  return found;
 }
 
 /** The files as a program finds them on drive C, in whose first folder it stands. */

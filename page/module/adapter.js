@@ -19,7 +19,11 @@ export const MOST_PICTURE = 3 * WIDEST * HIGHEST + 32;
 const AHEAD = 2;
 /** A call answers so if what it would write is longer than its room. */
 export const STATUS_NO_ROOM = 25;
-const STATUS_MEMORY = 23, STATUS_BAD_LINE = 107, STATUS_TOO_LONG = 106;
+/** A call answers so if what it would write is longer than a script may be. */
+export const STATUS_TOO_LONG = 106;
+const STATUS_MEMORY = 23, STATUS_BAD_LINE = 107;
+/** The room for a list of cycles, before a call tells that it needs more. */
+const FIRST_LIST = 1 << 21;
 const NO_MEMORY = "The module has no memory left for this.";
 
 /** The module, and rooms in its memory that calls write into. */
@@ -203,6 +207,17 @@ export class Card {
     if (status) throw new Trouble(`The module answers ${status} to steps that it has read before.`);
     const bytes = adapter.bytes.subarray(report.at, report.at + adapter.number(0));
     return { taken: adapter.number(1), report: bytes };
+  }
+
+  /**
+   * The cycles that a call of the video BIOS would make on the card as it is, as the bytes of a script:
+   * { status, bytes }. `registers` are the call's four, as eight bytes. The card stays as it is.
+   */
+  cycles({ registers, block }) {
+    const { adapter, at: card } = this, given = adapter.given("block", block);
+    const { at: call } = adapter.given("registers", registers), length = adapter.lengths.at;
+    return adapter.written("cycles", FIRST_LIST, room => adapter.calls.zak_cycles(card, call, given.at,
+      given.length, room.at, room.length, length));
   }
 
   /** What a call writes into a struct of the header; its other arguments stand before that. */

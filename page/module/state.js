@@ -100,6 +100,11 @@ export function windowShape(registers) {
   };
 }
 
+/** The counter of a character of a line that begins with the counter `base` (docs/RASTER.md). */
+export function counterOf(base, character) {
+  return base + character & 65535;
+}
+
 /** The place in each plane at which a counter's bytes stand (docs/RASTER.md). */
 export function fetchAddress(registers, counter) {
   const { crtc } = registers;

@@ -31,8 +31,9 @@ export class BiosPanel {
     this.root = element("div", {}, hint, this.table.made);
   }
 
-  made({ before, after }) {
-    setText(this.said, after.hasMode ? "" : " No mode is set yet, so all of them are 0.");
+  made({ session, before, after }) {
+    const none = after.hasMode ? "" : " No mode is set yet, so all of them are 0.";
+    setText(this.said, session.isCall ? " A call changes them after its last cycle." : none);
     this.table.fill(rowsOfStates(before, after, biosRows));
     return this.root;
   }

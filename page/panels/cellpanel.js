@@ -1,6 +1,6 @@
 // The cells of text that the adapter shows, with their characters' glyphs in plane 2.
 import { LETTERS_437 } from "../module/codepage.js";
-import { characterWidth, dacEntry, fetchAddress, windowShape } from "../module/state.js";
+import { characterWidth, counterOf, dacEntry, fetchAddress, windowShape } from "../module/state.js";
 import { displayedLines } from "../explain/walk.js";
 import { glyphPlace, mapOf } from "../explain/dot.js";
 import { element, setAll, setText } from "../common/dom.js";
@@ -33,7 +33,7 @@ export function cellsOf(state) {
     [codes, attributes] = [state.plane(0), state.plane(1)];
   return textRows(registers).map(({ base, lines }) =>
     ({ lines, cells: Array.from({ length: characters }, (_, column) => {
-    const counter = (base + column) & 65535, address = fetchAddress(registers, counter);
+    const counter = counterOf(base, column), address = fetchAddress(registers, counter);
     return { character: codes[address], attribute: attributes[address], address,
       isCursor: counter === cursor };
   }) }));

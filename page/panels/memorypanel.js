@@ -9,74 +9,93 @@ import { shownBytes } from "../explain/walk.js";
 const PLANE_LENGTH = 65536, WIDEST_PITCH = 2040, HEX_ROWS = 16, HEX_COLUMNS = 16, USUAL_PITCH = 80;
 const COLOURS = { on: 0xffffffff, off: 0xff000000, shownOff: 0xff4a2a14, hiddenOn: 0xff8a8a8a,
   changedOn: 0xff44c3f6, changedOff: 0xff104a6a };
-/** Of each byte, the words of its eight dots, the highest bit first, where its ones and zeros look so. */
-const wordsOfDots = (one, zero) =>
-  Uint32Array.from({ length: 8 * 256 }, (_, at) => (at >> 3 >> 7 - (at & 7) & 1 ? one : zero));
-const SHOWN_DOTS = wordsOfDots(COLOURS.on, COLOURS.shownOff),
-  HIDDEN_DOTS = wordsOfDots(COLOURS.hiddenOn, COLOURS.off),
-  CHANGED_DOTS = wordsOfDots(COLOURS.changedOn, COLOURS.changedOff);
+/**
+ * Of each byte, the words of its dots, the highest bits first, where those with a one and those without look so.
+ * A dot stands for `scale` bits.
+ */
+const wordsOfDots = (scale, one, zero) => Uint32Array.from({ length: 8 / scale * 256 }, (_, at) => {
+  const dots = 8 / scale, byte = Math.floor(at / dots), bits = byte >> scale * (dots - 1 - at % dots);
+  return bits & (1 << scale) - 1 ? one : zero;
+});
+/** By the scale, the words of bytes that are not shown by a frame, of those that are, and of changed ones. */
+const DOTS = Object.fromEntries([1, 2].map(scale => [scale, [[COLOURS.hiddenOn, COLOURS.off],
+  [COLOURS.on, COLOURS.shownOff], [COLOURS.changedOn, COLOURS.changedOff]]
+  .map(([one, zero]) => wordsOfDots(scale, one, zero))]));
 /** So many rows of dots that stand as they are part what is put on a canvas at once. */
 const APART_ROWS = 8;
 const ZOOMS = [["fit", "four planes, to fit"], ["1", "one plane, × 1"], ["2", "one plane, × 2"],
   ["4", "one plane, × 4"]];
 
-/** A plane as a bitmap, of which only what has changed is painted anew. */
+/**
+ * A plane as a bitmap, of which only what has changed is painted anew. Its dots are bits; or two by two of them, lit
+ * where one is 1: so four planes side by side are small, and another pitch costs little.
+ */
 class PlaneBitmap {
   constructor(plane, heard) {
     const label = `plane ${plane} as a bitmap`;
     this.canvas = element("canvas", { className: "sharp", role: "img", "aria-label": label });
     this.canvas.addEventListener("click", event => {
-      const { canvas, pitch } = this, box = canvas.getBoundingClientRect();
-      const x = (event.clientX - box.left) * canvas.width / box.width;
-      const y = (event.clientY - box.top) * canvas.height / box.height;
+      const { canvas, pitch, scale } = this, box = canvas.getBoundingClientRect();
+      const x = (event.clientX - box.left) * canvas.width * scale / box.width;
+      const y = (event.clientY - box.top) * canvas.height * scale / box.height;
       heard(plane, Math.floor(y) * pitch + Math.floor(x / 8));
     });
     this.brush = this.canvas.getContext("2d", { alpha: false });
     const nothing = new Uint8Array(PLANE_LENGTH);
-    Object.assign(this, { bytes: nothing, shown: nothing, isNew: true, used: 0 });
-    // The dots of byte after byte stand the same way at each pitch; a last row may go on behind them.
-    this.words = new Uint32Array(8 * (PLANE_LENGTH + WIDEST_PITCH));
+    Object.assign(this, { bytes: nothing, shown: nothing, used: 0, rooms: {} });
     // Marks of the bytes that have changed, and those which stand on the canvas: they take turns.
     this.marks = [new Marks(), new Marks()];
   }
 
   /** Paints bytes; `shown` has a 1 for each byte that is so, and `found` the numbers of those changed. */
-  paint(bytes, shown, found, pitch) {
+  paint(bytes, shown, found, pitch, scale) {
     const [old, marks] = this.marks = [...this.marks].reverse();
     marks.set(found);
-    const isBlack = pitch !== this.pitch;
-    if (isBlack) this.shape(pitch);
-    this.put(this.paintWords(bytes, shown, marks.bytes, old.bytes, isBlack));
-    Object.assign(this, { bytes, shown, isNew: false });
+    const isNew = pitch !== this.pitch || scale !== this.scale;
+    if (isNew) this.shape(pitch, scale);
+    this.put(this.paintWords(bytes, shown, marks.bytes, old.bytes, isNew));
+    Object.assign(this, { bytes, shown });
   }
 
   /**
-   * Paints the words, four bytes each, that differ from what is painted. The rows that have some; of a black
-   * canvas those that are not black.
+   * Paints the bytes, four at a time, that differ from what is painted. The rows of the canvas that have some; of a
+   * new canvas, which is black, those that are not black.
    */
-  paintWords(bytes, shown, marks, oldMarks, isBlack) {
-    const [now, old] = [bytes, this.bytes].map(wordsOfBytes), { isNew, pitch } = this;
+  paintWords(bytes, shown, marks, oldMarks, isNew) {
+    const [now, old] = [bytes, this.bytes].map(wordsOfBytes), { pitch, scale } = this;
     const [grounds, oldGrounds, marked, oldMarked] = [shown, this.shown, marks, oldMarks].map(wordsOfBytes);
     const isShownSame = shown === this.shown, rows = [];
     for (let word = 0; word < now.length; word++) {
-      const isSame = now[word] === old[word] && marked[word] === oldMarked[word] && !isNew &&
+      const isSame = now[word] === old[word] && marked[word] === oldMarked[word] &&
         (isShownSame || grounds[word] === oldGrounds[word]);
-      if (!isSame) this.paintWord(4 * word, bytes, shown, marks);
-      if (isBlack ? !(now[word] | grounds[word] | marked[word]) : isSame) continue;
-      const row = Math.floor(4 * word / pitch), last = Math.floor((4 * word + 3) / pitch);
-      if (rows.at(-1)?.last >= row - APART_ROWS) rows.at(-1).last = last;
+      if (isNew ? !(now[word] | grounds[word] | marked[word]) && isSame : isSame) continue;
+      this.paintWord(4 * word, bytes, shown, marks);
+      const row = Math.floor(4 * word / pitch / scale), last = Math.floor((4 * word + 3) / pitch / scale);
+      if (rows.at(-1)?.last >= row - APART_ROWS) rows.at(-1).last = Math.max(last, rows.at(-1).last);
       else rows.push({ row, last });
     }
     return rows;
   }
 
   paintWord(from, bytes, shown, marks) {
-    const { words, bytes: old } = this;
+    const { bytes: old, scale } = this;
     for (let at = from; at < from + 4; at++) {
-      const byte = bytes[at], dots = marks[at] ? CHANGED_DOTS : shown[at] ? SHOWN_DOTS : HIDDEN_DOTS;
-      this.used += (byte ? 1 : 0) - (old[at] ? 1 : 0);
-      for (let bit = 0; bit < 8; bit++) words[8 * at + bit] = dots[8 * byte + bit];
+      this.used += (bytes[at] ? 1 : 0) - (old[at] ? 1 : 0);
+      if (scale === 1) this.paintDots(at, bytes[at], marks[at] ? 2 : shown[at]);
+      else this.paintPair(at, bytes, shown, marks);
     }
+  }
+
+  /** Paints the dots of a byte together with those of the one above or below. */
+  paintPair(at, bytes, shown, marks) {
+    const { pitch } = this, row = Math.floor(at / pitch), one = at - (row & 1) * pitch, other = one + pitch;
+    const isShown = shown[one] | shown[other], isMarked = marks[one] | marks[other];
+    this.paintDots((row >> 1) * pitch + at % pitch, bytes[one] | bytes[other], isMarked ? 2 : isShown);
+  }
+
+  paintDots(cell, byte, look) {
+    const { words, scale } = this, dots = DOTS[scale][look], count = 8 / scale;
+    for (let dot = 0; dot < count; dot++) words[count * cell + dot] = dots[count * byte + dot];
   }
 
   /** Puts rows of dots on the canvas. */
@@ -86,10 +105,13 @@ class PlaneBitmap {
     }
   }
 
-  shape(pitch) {
-    const width = 8 * pitch, height = Math.ceil(PLANE_LENGTH / pitch);
+  shape(pitch, scale) {
+    const width = 8 * pitch / scale, height = Math.ceil(PLANE_LENGTH / pitch / scale);
+    Object.assign(this, { pitch, scale });
     Object.assign(this.canvas, { width, height });
-    this.pitch = pitch;
+    // A last row may go on behind the bytes.
+    this.rooms[scale] ??= new Uint32Array(8 * (PLANE_LENGTH + scale * WIDEST_PITCH) / scale / scale);
+    this.words = this.rooms[scale].fill(COLOURS.off);
     this.image = new ImageData(new Uint8ClampedArray(this.words.buffer, 0, 4 * width * height), width, height);
   }
 }
@@ -116,8 +138,8 @@ class PlaneFigure {
       element("div", { className: "scroll" }, this.bitmap.canvas));
   }
 
-  show(bytes, shown, found, pitch) {
-    this.bitmap.paint(bytes, shown, found, pitch);
+  show(bytes, shown, found, pitch, scale) {
+    this.bitmap.paint(bytes, shown, found, pitch, scale);
     const used = counted(this.bitmap.used, "byte");
     const said = `plane ${this.plane}: ${used} not 0, ${grouped(found.length)} changed`;
     setText(this.said, said);
@@ -218,21 +240,27 @@ export class MemoryPanel {
     const key = registers.crtc.join();
     if (key !== this.shownBy) Object.assign(this, { shownBy: key, shown: shownBytes(registers) });
     this.changed = changedPlanes(seen.before, seen.after);
-    const pitch = own ? `${own} bytes a row, as the offset register says`
-      : `${USUAL_PITCH} bytes a row, since the offset register is 0`;
-    setText(this.hint, `A dot for each bit, ${pitch}. Blue ground: shown by a frame with these ` +
-      "registers; yellow: changed by the last step. Click to see the bytes.");
     this.fill();
     return this.root;
   }
 
   fill() {
+    setText(this.hint, this.hintText());
     this.jump.disabled = this.changed.every(found => !found.length);
     setAll(this.planes, { value: String(this.plane) });
     setAll(this.place, { value: hex(this.offset, 4) });
     this.fillFigures();
     const { before, after } = this.seen, { plane, offset, shown } = this;
     this.table.show(plane, offset, after.plane(plane), before.plane(plane), shown);
+  }
+
+  hintText() {
+    const own = rowBytes(this.seen.after.registers);
+    const pitch = own ? `${own} bytes a row, as the offset register says`
+      : `${USUAL_PITCH} bytes a row, since the offset register is 0`;
+    const dots = this.zoom === "fit" ? "A dot for two by two bits, lit where one is 1" : "A dot for each bit";
+    return `${dots}, ${pitch}. Blue ground: shown by a frame with these registers; yellow: changed by the last ` +
+      "step. Click to see the bytes.";
   }
 
   controls() {
@@ -283,7 +311,7 @@ export class MemoryPanel {
       const { made, bitmap: { canvas } } = figure, isPicked = plane === this.plane;
       setAll(made, { hidden: isOne && !isPicked, className: isPicked ? "picked" : "" });
       if (made.hidden) return;
-      figure.show(this.seen.after.plane(plane), this.shown, this.changed[plane], this.pitch);
+      figure.show(this.seen.after.plane(plane), this.shown, this.changed[plane], this.pitch, isOne ? 1 : 2);
       setAll(canvas.style, { width: isOne ? canvas.width * zoom + "px" : "" });
     });
   }

@@ -45,8 +45,8 @@ function noneText(kind) {
   if (kind !== KIND.int) {
     return `The last step neither writes display memory nor reads it. ${where}`;
   }
-  return "A BIOS call makes many cycles, and they are not shown one by one. The line above and " +
-    "the yellow marks in the other tabs show what they changed.";
+  return "A BIOS call makes many cycles. Step into it by the button above or I, and each of them is " +
+    "shown here. The yellow marks in the other tabs show what all of them changed.";
 }
 
 /** The panel of the last step's write or read. */

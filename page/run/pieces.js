@@ -47,6 +47,8 @@ export class Pieces {
 
   /** The bytes of a script of some entries, all of them taken so many times. */
   bytes(from, count, turns) {
+    // Some steps were never a text.
+    if (this.outline.bytesOf) return this.outline.bytesOf(from, count);
     const key = `${from} ${count} ${turns}`, old = this.#cache.get(key);
     if (old) return old;
     const steps = this.outline.textOf(from, count);

@@ -146,9 +146,9 @@ export class Search {
   }
 
   /** Whether a step meets a point by its answer. */
-  isAnswered(step, entry) {
+  isAnswered(step) {
     if (this.refuses && this.isRefused(step)) return true;
-    return this.expects && this.session.outline.marked[entry] === 1 && this.session.isWrong(step);
+    return this.expects && this.session.isWrong(step);
   }
 
   * forward(from) {
@@ -198,7 +198,7 @@ export class Search {
         const entry = run.from + within, known = this.known[entry] || this.knownOf(entry);
         if (++within === run.size) within = 0;
         const isFound = known & WATCHED ? yield* this.look(step, entry) : false;
-        if (isFound || known & MET || this.isAnswered(step, entry)) yield step + 1;
+        if (isFound || known & MET || this.isAnswered(step)) yield step + 1;
         if (step % MOST_AHEAD === 0) {
           this.looked = step;
           yield null;

@@ -56,6 +56,8 @@ export class Runner {
   #shownAt = 0;
   #isAwake = false;
   #isFinished = false;
+  /** The session around the one that is run, and how far it is: { session, steps, run, isFinished }. */
+  #around = null;
 
   constructor(clock, heard) {
     this.#clock = clock;
@@ -65,9 +67,13 @@ export class Runner {
   /** Starts a session, which is closed with the next one. `awaited` steps are shown, or all. */
   start(session, awaited = Infinity) {
     this.close();
+    this.#awaited = awaited;
+    this.#begin(session);
+  }
+
+  #begin(session) {
     this.session = session;
     this.run = RUN.running;
-    this.#awaited = awaited;
     this.#shownAt = this.#clock.now();
     this.#isFinished = false;
     this.#wake();
@@ -78,9 +84,48 @@ export class Runner {
   close(isBroken = false) {
     this.#drop();
     if (!isBroken) this.session?.close();
-    this.session = null;
+    if (!isBroken) this.#around?.session.close();
+    this.session = this.#around = null;
     this.run = RUN.none;
     this.#heard.changed();
+  }
+
+  /** Whether the session that is run stands within another. */
+  get isWithin() {
+    return this.#around !== null;
+  }
+
+  /** The session that stands within no other, and after how many of its steps the page is. */
+  get outer() {
+    return this.#around ?? { session: this.session, steps: this.steps };
+  }
+
+  /** Runs a session within the one that is run, which waits until `leave` after so many steps. */
+  enter(session, steps) {
+    this.#drop();
+    this.#around = { session: this.session, steps, run: this.run, isFinished: this.#isFinished };
+    this.steps = this.#goal = 0;
+    this.#begin(session);
+  }
+
+  /** Ends the session within another, which goes on, unless it is halted, after so many steps. */
+  leave({ steps = this.outer.steps, isHalted = false } = {}) {
+    if (!this.#around) return;
+    const { session, run, isFinished } = this.#around;
+    this.session.close();
+    Object.assign(this, { session, run: isHalted && run === RUN.running ? RUN.halted : run });
+    this.#isFinished = isFinished;
+    this.#around = null;
+    this.steps = steps;
+    this.go(steps);
+  }
+
+  /** Goes a step forward, or back with -1; past either end of a session within another, out of it. */
+  step(by) {
+    const to = this.goal + by, { session } = this;
+    if (!this.isWithin || (to >= 0 && to <= session.length)) return this.go(to);
+    const { steps } = this.outer;
+    return this.leave({ steps: to < 0 ? steps - 1 : steps });
   }
 
   /** Stops what is under way. The state that is shown stays. */
@@ -130,7 +175,8 @@ export class Runner {
   /** After so many steps is what is to be shown of a text that is changed; Infinity for its end. */
   get wanted() {
     if (this.#awaited !== null) return this.#awaited;
-    return this.session && this.steps < this.session.length ? this.steps : Infinity;
+    const { session, steps } = this.outer;
+    return session && steps < session.length ? steps : Infinity;
   }
 
   /** The step that a search looks at, from 1; 0 if there is no search. */
@@ -345,7 +391,9 @@ export class Runner {
     const { steps, ended } = found;
     this.#search = null;
     if (heard) {
+      // A session whose search has found nothing is shown all the same.
       if (!ended) this.#goal = steps;
+      else if (!this.isShown) this.#goal = this.steps;
       heard(found);
       return;
     }
@@ -364,15 +412,15 @@ export function stateText(runner, { bad = null, drawn = null } = {}) {
   const { session, run, task } = runner;
   if (bad) return `line ${bad.line} is no step: ${bad.message}`;
   if (run === RUN.none) return "no run";
-  const of = step => `${grouped(step)} of ${grouped(session.length)}`;
-  if (drawn !== null) return `drawing: step ${of(drawn)}`;
+  const { noun } = session, of = step => `${noun} ${grouped(step)} of ${grouped(session.length)}`;
+  if (drawn !== null) return `drawing: step ${grouped(drawn)} of ${grouped(runner.outer.session.length)}`;
   const isSlow = runner.isSlow && !runner.isPlaying;
-  if (task === TASK.searching && isSlow) return `looking at step ${of(runner.searched)}`;
-  if (run === RUN.running) return `running: step ${of(session.ran)}`;
+  if (task === TASK.searching && isSlow) return `looking at ${of(runner.searched)}`;
+  if (run === RUN.running) return `running: ${of(session.ran)}`;
   if (task === TASK.seeking && isSlow) {
-    return `going to step ${grouped(runner.goal)}: at ${grouped(Math.max(0, session.at))}`;
+    return `going to ${noun} ${grouped(runner.goal)}: at ${grouped(Math.max(0, session.at))}`;
   }
-  if (run !== RUN.done) return `stopped: step ${of(session.ran)}`;
+  if (run !== RUN.done) return `stopped: ${of(session.ran)}`;
   return `${session.summary()} · ${timeText(session.time)}`;
 }
 

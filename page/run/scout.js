@@ -4,9 +4,11 @@
 import { Card } from "../module/adapter.js";
 import { KIND } from "../script/steplist.js";
 
-const MAGIC = 5, VERSION_TWO = 2, REPEAT = 13, END = 14, MOST_TABLE = 768;
+/** A script's bytes begin with four letters and its version. */
+export const MAGIC = 5;
+const VERSION_TWO = 2, REPEAT = 13, END = 14, MOST_TABLE = 768;
 /** Bytes of the steps by their kinds, but for `int`, which has a block, and `show`. */
-const SIZES = { [KIND.out]: 4, [KIND.outw]: 5, [KIND.in]: 3, [KIND.inw]: 3, [KIND.put]: 6,
+export const SIZES = { [KIND.out]: 4, [KIND.outw]: 5, [KIND.in]: 3, [KIND.inw]: 3, [KIND.put]: 6,
   [KIND.putw]: 7, [KIND.get]: 5, [KIND.getw]: 5, [KIND.advance]: 5, [KIND.frame]: 1 };
 /** Bytes of `show`, by what it shows. */
 const SHOW_SIZES = [2, 3, 2, 2, 7, 2, 2];

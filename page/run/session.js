@@ -77,12 +77,18 @@ export class Session {
   spacing = SPACING;
   /** Dots of a picture that is no longer shown: the next one is written into them. */
   spare = null;
+  /** What its steps are called, and whether they are the cycles of a call. */
+  noun = "step";
+  isCall = false;
   #sinceCheckpoint = 0;
   #sinceNear = 0;
   #scout = null;
 
-  /** `judged` is the text as `judgedText` tells it: then no text is needed. */
-  constructor(adapter, fonts, text, judged = judgedText(adapter, text)) {
+  /**
+   * `judged` is the text as `judgedText` tells it: then no text is needed. `begin` is the saved state
+   * in which the run begins; else that is power-on.
+   */
+  constructor(adapter, fonts, text, judged = judgedText(adapter, text), begin = null) {
     this.adapter = adapter;
     this.fonts = fonts;
     this.judged = judged;
@@ -97,6 +103,7 @@ export class Session {
       this.ahead.close();
       throw trouble;
     }
+    if (begin) for (const card of [this.ahead, this.card]) card.restore([begin]);
     this.#checkpoint();
   }
 
@@ -326,7 +333,7 @@ export class Session {
 
   /** The result of the run so far, in a few words. */
   summary() {
-    const parts = [counted(this.length, "step")];
+    const parts = [counted(this.length, this.noun)];
     if (this.pictures) parts.push(counted(this.pictures, "picture"));
     if (this.refused) parts.push(`${grouped(this.refused)} refused`);
     if (this.expected) {

@@ -136,6 +136,24 @@ test("a trace is compared cycle by cycle; what was read is told where it differs
   session.close();
 });
 
+test("calls of a trace are those of the run, or the comparison ends at them", () => {
+  const session = sessionOf("int ax=3\nint ax=1301 bx=7 cx=2 block 4142\nput B8000 43\n");
+  const trace = (first, second, byte) =>
+    new OtherTrace("a.trace", `0+0 int ${first}\n5+9 int ${second}\n7+2 w m B8000 ${byte} 1\n`);
+  const same = trace("0003 0 0 0", "1301 0007 0002 0000 4142", "43");
+  assert.deepEqual([compared(same, session).steps, same.note], [[], ""]);
+  assert.deepEqual(compared(trace("3 0 0 0", "1301 7 2 0 4142", "44"), session).steps, [2]);
+  for (const other of [trace("0013 0 0 0", "1301 7 2 0 4142", "43"), trace("3 0 0 0", "1301 7 2 0 4143", "43"),
+    trace("3 0 0 0", "1301 7 2 0", "43"), trace("3 0 0 0", "1301 7 3 0 4142", "43")]) {
+    assert.match(compared(other, session).note, /is a BIOS call/);
+  }
+  // A cycle here, a call there.
+  const parted = new OtherTrace("b.trace", "0 int 3 0 0 0\n1 int 1301 7 2 0 4142\n2 int 0012 0 0 0\n");
+  assert.match(compared(parted, session).note, /From step 3 on the trace has other cycles/);
+  assert.match(parted.differences[0].text, /int ax=0012/);
+  session.close();
+});
+
 test("bytes of a word may be cycles of their own, and the other way round", () => {
   const session = sessionOf("outw 3C4 0F02\nout 3CE 04\nout 3CF 01\n");
   const other = new OtherTrace("a.trace",

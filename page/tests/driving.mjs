@@ -192,7 +192,7 @@ export class Browser {
       modifiers = (shift ? 8 : 0) + (control ? 2 : 0);
     const codes = { ArrowLeft: 37, ArrowRight: 39, Home: 36, End: 35, Enter: 13, Escape: 27, Tab: 9, Backspace: 8,
       ArrowUp: 38, ArrowDown: 40, PageUp: 33, PageDown: 34, F8: 119,
-      F1: 112, F3: 114, F9: 120, F10: 121, F12: 123, Delete: 46, "'": 222, ",": 188, "-": 189, ".": 190, "/": 191 };
+      F1: 112, F3: 114, F9: 120, F10: 121, F11: 122, F12: 123, Delete: 46, "'": 222, ",": 188, "-": 189, ".": 190, "/": 191 };
     const windowsVirtualKeyCode = codes[key] ?? key.toUpperCase().charCodeAt(0);
     await this.send("Input.dispatchKeyEvent", { type: text ? "keyDown" : "rawKeyDown", key, text, modifiers,
       windowsVirtualKeyCode });

@@ -29,6 +29,12 @@ test("links that are damaged are told, and those that unpack without an end", as
     /more than 16,777,216 bytes/);
 });
 
+test("a link to a run gives back its text", async () => {
+  const text = '{"is":"zaklimot run","version":1}', fragment = `#run=${await packed(bytesOf(text))}`;
+  const { run, wrong } = await readFragment(fragment, { tabs: [], examples: [] });
+  assert.deepEqual([new TextDecoder().decode(run), wrong], [text, []]);
+});
+
 test("what a fragment asks for, and what is wrong in a hostile one", async () => {
   const names = { tabs: ["registers", "BIOS data"], examples: ["hunt"] };
   const asked = fragment => readFragment(fragment, names), fonts = await packed(FONTS);
@@ -41,6 +47,9 @@ test("what a fragment asks for, and what is wrong in a hostile one", async () =>
     ["step=abc", /^step=abc names no step/], ["step=-5", /names no step/], ["step=0.5", /names no step/],
     ["step=", /names no step/], ["step=1e3", /names no step/], [`step=${"9".repeat(99)}`, /^step=9{40} … names no/],
     ["tab=none", /names none of registers, BIOS data/], ["example=<b>", /^example=<b> names no example/],
+    ["run=AAAA", /The run in this link is damaged/], ["run=", /The run in this link is damaged/],
+    [`run=${script}`, /The run in this link is damaged/],
+    [`run=${base64OfBytes(deflateRawSync(Buffer.alloc(1 << 25)))}`, /run in this link is damaged: it unpacks to more/],
     ["fonts=AAAA", /The font file in this link is damaged/], ["fonts=", /The font file in this link is damaged/],
     [`fonts=${short}`, /has 9,727 bytes, and needs 9,728/], [`fonts=${long}`, /more than 9,728 bytes/],
     ["script=%%%", /script in this link is damaged/], ["script=AAAA", /damaged/], ["script=", /damaged/],

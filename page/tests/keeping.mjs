@@ -413,7 +413,7 @@ const CHECKS = {
         await browser.send("Input.dispatchDragEvent", { type, x: 300, y: 300,
           data: { items: [], files: [folder], dragOperationsMask: 1 } });
       }
-      await until("document.getElementById('notice').textContent.includes('is a folder')");
+      await until("document.getElementById('notice').textContent.includes('nothing runs')");
       assert.equal(await browser.value("document.getElementById('drop').hidden"), true);
     }
     assert.equal(await value("text"), OWN);

@@ -1,36 +1,11 @@
 // What the tests stand on: the module, the fonts and the examples. The module is that of
 // ZAKLIMOT_MODULE, a file of wasm, or else that of the page as built.
-import { createDeflateRaw, createInflateRaw, gunzipSync } from "node:zlib";
 import { mkdtempSync, readFileSync, readdirSync, rmSync } from "node:fs";
 import { tmpdir } from "node:os";
-import { Duplex } from "node:stream";
-import { fileURLToPath } from "node:url";
 import { Adapter } from "../module/adapter.js";
-import { compiledModules } from "../machine/machine.js";
+import { TOP, moduleBytes } from "../../tools/vga_trace/parts.mjs";
 
-/** Streams as browsers have them: those of node 18 know no raw deflate, which its zlib knows. */
-function withRaw(Stream, create) {
-  try {
-    return new Stream("deflate-raw") && Stream;
-  } catch {
-    return function (format) {
-      return format === "deflate-raw" ? Duplex.toWeb(create()) : new Stream(format);
-    };
-  }
-}
-
-globalThis.CompressionStream = withRaw(CompressionStream, createDeflateRaw);
-globalThis.DecompressionStream = withRaw(DecompressionStream, createInflateRaw);
-
-export const TOP = fileURLToPath(new URL("../../", import.meta.url));
-export const PAGE = process.env.ZAKLIMOT_PAGE ?? TOP + "page/zaklimot.html";
-
-/** The JSON object that the page as built has in it. */
-export function pageData(page = PAGE) {
-  const found = readFileSync(page, "utf-8").match(
-    /<script type="application\/json" id="zaklimot-data">([^]*?)<\/script>/);
-  return JSON.parse(found[1]);
-}
+export { FONTS, PAGE, TOP, machineParts, moduleBytes, pageData } from "../../tools/vga_trace/parts.mjs";
 
 /** The style sheets of the page, joined as tools/vga_page/page.py joins them. */
 export function pageStyle() {
@@ -39,24 +14,9 @@ export function pageStyle() {
   return ["style.css", ...others].map(name => readFileSync(`${TOP}page/${name}`, "utf-8")).join("");
 }
 
-/** The module's bytes. */
-export function moduleBytes() {
-  const file = process.env.ZAKLIMOT_MODULE;
-  return file ? readFileSync(file) : gunzipSync(Buffer.from(pageData().module, "base64"));
-}
-
 /** A new instance of the module. */
 export async function loadAdapter() {
   return Adapter.opened(moduleBytes());
-}
-
-/** The machine's modules, compiled, and its programs: { name, bytes }. */
-export async function machineParts() {
-  const { cpu, reads, programs } = pageData().machine;
-  const [two, three] = [cpu, reads].map(text => gunzipSync(Buffer.from(text, "base64")));
-  const modules = await compiledModules({ adapter: moduleBytes(), cpu: two, reads: three });
-  return { modules, programs: programs.map(({ name, bytes }) =>
-    ({ name, bytes: new Uint8Array(Buffer.from(bytes, "base64")) })) };
 }
 
 /** The number that LEB128 writes, and where it ends. */
@@ -87,8 +47,6 @@ export function withMemory(module, pages) {
   }
   throw new Error("the module has no memory");
 }
-
-export const FONTS = new Uint8Array(readFileSync(TOP + "fonts/zaklimot.fnt"));
 
 /** The examples: { name, text }. */
 export function examples() {

@@ -53,6 +53,7 @@ class TestClock {
 
 /** A session that runs and seeks so many steps in a slice, and fails where the test says so. */
 class SlowSession {
+  noun = "step";
   ran = 0;
   at = 0;
   time = 3.14;

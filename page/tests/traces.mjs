@@ -96,6 +96,26 @@ test("traces at random are the texts that vga-trace makes of them", () => {
   assert.ok(advances > 500, `${advances} advances`);
 });
 
+test("calls, dots and frames that were kept are those of vga-trace", () => {
+  const calls = ["int 0003 0 0 0", "int 1301 0007 0003 0000 41624D", "int 13 0 0 0 ; mode 13", "int 0012 1 2 3"];
+  const trace = `0+0 ${calls[0]}\n4+122 ${calls[1]}\n9+5 w m B8000 41 1\n9+0 w m B8001 07 1\n` +
+    `900+20000 frame\n99999+40000000 r p 3DA 9 1\n99999+0 w p 3C2 63 1\n99999+7 r m A0000 1122334455667788 8\n`;
+  assert.equal(traceForm(trace), "plain");
+  const text = textOfTrace(trace);
+  assert.equal(text, toolText(trace, "--time"));
+  // Each dot passes, in steps that a script may have; bytes with dots between them stay bytes.
+  const passed = text.match(/(?<=advance )\d+/g).map(Number);
+  assert.deepEqual(passed, [122, 5, 16777216, 16777216, 6465568, 7]);
+  assert.match(text, /^int ax=1301 bx=0007 cx=0003 dx=0000 block 41624D$/m);
+  assert.match(text, /^put B8000 41\nput B8001 07$/m);
+  // Without dots the time between calls is that of the modes that they set.
+  const micros = calls.map((call, i) => `${100 + i * 40} ${call}\n${120 + i * 40} w p 3C4 ${i}02 2\n`).join("") +
+    "99999999 w p 3D4 6300 2\n199999999 w p 3C8 1 1\n";
+  assert.equal(textOfTrace(micros), toolText(micros, "--time"));
+  assert.equal(textOfTrace(micros).match(/advance/g).length, 4);
+  assert.throws(() => textOfTrace("0 w p 3C2 67 1\n1 int 0003 0 0\n"), /Line 2 of the trace/);
+});
+
 /** A line of qemu's log; the time is in seconds. */
 function event(kind, address, value, size, region, front = "7@1.000001:") {
   return `${front}memory_region_ops_${kind} cpu 0 mr 0x55 ` +

@@ -7,7 +7,7 @@ import { IDLE, fragmentOf } from "./jumps.mjs";
 import { PAGE } from "./loading.mjs";
 
 export const ADDRESS = pathToFileURL(resolve(PAGE)).href;
-const PATIENCE = 40000;
+const PATIENCE = 90000;
 
 /** The page in a browser. */
 export class Use {

@@ -6,7 +6,7 @@ import { pasting } from "./editing.mjs";
 
 const PAUSE = 20;
 // WebDriver's numbers of keys.
-const KEY_CODES = { Tab: 0xe004, F1: 0xe031, F3: 0xe033, F9: 0xe039, F12: 0xe03c, Delete: 0xe017, Backspace: 0xe003, Enter: 0xe007, Shift: 0xe008, Control: 0xe009, Escape: 0xe00c,
+const KEY_CODES = { Tab: 0xe004, F1: 0xe031, F3: 0xe033, F9: 0xe039, F10: 0xe03a, F11: 0xe03b, F12: 0xe03c, Delete: 0xe017, Backspace: 0xe003, Enter: 0xe007, Shift: 0xe008, Control: 0xe009, Escape: 0xe00c,
   End: 0xe010, Home: 0xe011, ArrowLeft: 0xe012, ArrowUp: 0xe013, ArrowRight: 0xe014, ArrowDown: 0xe015,
   PageUp: 0xe00e, PageDown: 0xe00f };
 const ELEMENT = "element-6066-11e4-a52e-4f735466cecf";

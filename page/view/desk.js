@@ -1,6 +1,6 @@
 // The script that stands in the editor: which one it is, its breakpoints, and the way back to the
 // one before.
-import { PROGRAM } from "../editor/scripts.js";
+import { PROGRAM, RUN } from "../editor/scripts.js";
 import { Trouble } from "../common/trouble.js";
 import { byId } from "../common/dom.js";
 import { LONG_TEXT } from "../run/judging.js";
@@ -22,8 +22,9 @@ export class Desk {
 
   /**
    * `points`: the panel of breakpoints. `heard` has `changed()`, the text is another one now;
-   * `run(awaited)`, it is to be run, and so many steps shown, undefined for as many as before; and
-   * `program(name)`, a program of the list is to run.
+   * `run(awaited)`, it is to be run, and so many steps shown, undefined for as many as before;
+   * `program(name)`, a program of the list is to run; `leave()`, which switches the machine off, where
+   * it is on; and `bringBack(id)`, a run is to be brought back.
    */
   constructor(editor, scripts, points, heard) {
     this.#editor = editor;
@@ -49,6 +50,10 @@ export class Desk {
       this.#scripts.choose();
       return this.#heard.program(value.slice(PROGRAM.length));
     }
+    if (value.startsWith(RUN)) {
+      this.#scripts.choose();
+      return this.#heard.bringBack(value.slice(RUN.length));
+    }
     const found = this.#scripts.chosen(value);
     if (found) return this.load(found.text, found.script);
     this.#scripts.fill();
@@ -62,23 +67,42 @@ export class Desk {
    */
   load(text, script, { asked = Infinity, isAsked = false } = {}) {
     const editor = this.#editor, old = { text: editor.text, script: editor.script };
+    this.#before = old.script && old.script !== script ? { ...old, title: this.#scripts.title(old.script, old.text) }
+      : this.#before;
+    this.#heard.leave();
     editor.load(text, script);
-    if (old.script && old.script !== script) this.#offerBack(old);
+    this.#showBack();
     this.#swapPoints(old.script, script);
     this.#scripts.show(script, editor, isAsked);
     if (editor.isLong) byId("about").textContent = `${script.name}. ${editor.note}`;
     this.run(asked);
   }
 
-  /** Loads the script that stood there before. */
+  /** Loads the script that stood there before, or brings back the run that was switched off. */
   takeBack() {
-    if (this.#before) this.load(this.#before.text, this.#before.script);
+    const before = this.#before;
+    if (before?.run) return this.#heard.bringBack(before.run);
+    return before && this.load(before.text, before.script);
   }
 
-  #offerBack({ text, script }) {
-    this.#before = { text, script };
-    byId("takeback").hidden = !text.trim();
-    byId("takeback").textContent = `↶ ${this.#scripts.title(script, text)}`;
+  /** A run was switched off: { id, title }. */
+  left({ id, title }) {
+    this.#before = { run: id, title };
+    this.#showBack();
+  }
+
+  /** A run is on again: the way back leads to the script that stands in the editor. */
+  cameBack(id) {
+    if (this.#before?.run !== id) return;
+    const { text, script } = this.#editor;
+    this.#before = script && { text, script, title: this.#scripts.title(script, text) };
+    this.#showBack();
+  }
+
+  #showBack() {
+    const { run, text, title } = this.#before ?? {};
+    byId("takeback").hidden = !run && !text?.trim();
+    byId("takeback").textContent = `↶ ${title}`;
   }
 
   /** Takes what was typed; which script the text is now. */

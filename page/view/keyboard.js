@@ -37,13 +37,18 @@ export class Keyboard {
     if ((inText || !isTyping) && this.#pressedUndo(event)) return event.preventDefault();
     if (event.altKey || event.metaKey) return;
     if (inText && this.#pressedInText(event)) return event.preventDefault();
-    if (event.key === "Escape") return document.activeElement?.blur();
+    if (event.key === "Escape") return this.#escape(isTyping);
     const isFunction = /^F\d+$/.test(event.key);
     if (event.ctrlKey || (isTyping && !isFunction) || this.#hasOwnKeys(event)) return;
     const found = KEYS.find(([, , names]) => names.includes(keyName(event)));
     if (!found) return;
     event.preventDefault();
     this.#press(found[3], event.key);
+  }
+
+  /** Takes the keys from what has them, and out of a call, but not both at once while a text has them. */
+  #escape(isTyping) {
+    if (isTyping || !this.#orders.out()) document.activeElement?.blur();
   }
 
   /** Whether a key undoes a change of the script, or does one again. */

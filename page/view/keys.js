@@ -5,6 +5,9 @@ import { element } from "../common/dom.js";
 export const KEYS = [
   ["→ or F10", "a step forward", ["ArrowRight", "F10"], "next"],
   ["← or Shift+F10", "a step back", ["ArrowLeft", "Shift+F10"], "back"],
+  ["I", "into the BIOS call of this step: its cycles one by one", ["i"], "into"],
+  ["F11", "a step forward, into a BIOS call", ["F11"], "intonext"],
+  ["Esc or Shift+F11", "out of a BIOS call, back to its step", ["Shift+F11"], "out"],
   ["Shift+→", "to the end of the next frame", ["Shift+ArrowRight"], "frameafter"],
   ["Shift+←", "to the frame before", ["Shift+ArrowLeft"], "framebefore"],
   ["R or F8", "run to the next breakpoint, or stop", ["r", "F8"], "run"],
@@ -29,7 +32,7 @@ export const KEYS = [
   ["", "", ["Shift+N"], "lastdifference"],
   ["T, V", "the other run's picture and this one by turns, the next view", ["t"], "flip"],
   ["", "", ["v"], "nextview"],
-  ["U", "back to the script that stood here before", ["u"], "takeback"],
+  ["U", "back to the script that stood here before, or the run that was switched off", ["u"], "takeback"],
   ["O, L, S", "open a file, make a link, save", ["o"], "openfile"],
   ["", "", ["l"], "share"], ["", "", ["s"], "savemenu"],
   ["/ or Ctrl+Shift+F", "find a step by its words or its answer", ["/", "Shift+/"], "findsteps"],
@@ -45,7 +48,7 @@ const IN_THE_SCRIPT = [
   ["Ctrl+Space", "what can stand at the caret: Enter or Tab takes it, Esc closes the list"],
   ["Ctrl+I or Shift+F1", "what the word at the caret means; Esc closes it"],
   ["Tab", "leaves the script, as Esc does"],
-  ["F8, F10", "run, a step forward"],
+  ["F8, F10, F11", "run, a step forward, a step forward into a BIOS call"],
 ];
 
 /** What keys do in the list of steps; the others do there what they do in the page. */
@@ -80,7 +83,7 @@ export function keyTables() {
     element("tbody", {}, ...rows.filter(([keys]) => keys).map(row)));
   const hints = ["Click a line's number to set a breakpoint. " +
     "Click a dot of the picture to ask where it comes from.",
-  "Drop a script, a font or a trace anywhere. " +
+  "Drop a script, a program, a folder with one, a disk, a font or a trace anywhere. " +
     "A report, a trace or a PNG of another adapter is compared with the run. " +
     "Drag a line between two parts of the page, or go to it by Tab: arrows move it.",
   ].map(text => element("p", {}, text));

@@ -2,6 +2,7 @@
 import { byId, element, pageLink, setText } from "../common/dom.js";
 import { changesOf } from "../run/changes.js";
 import { grouped } from "../common/bytes.js";
+import { isCallAt } from "../run/call.js";
 import { isRefusal } from "../script/expecting.js";
 import { whyRefused } from "../script/refusals.js";
 
@@ -16,10 +17,13 @@ export class LastStep {
   #place = new Text();
   #step = element("code");
   #answer = element("code");
+  #into = element("button", { type: "button", id: "into", title: "The call's cycles, one by one (I)" },
+    "step into it");
 
-  /** `pages`: the address of the documentation's folder. */
-  constructor(pages) {
+  /** `pages`: the address of the documentation's folder. `into` goes into the call that is shown. */
+  constructor(pages, into) {
     this.#pages = pages;
+    this.#into.addEventListener("click", into);
   }
 
   /** Shows what is seen: { session, steps, before, after }. */
@@ -27,20 +31,22 @@ export class LastStep {
     const { session, steps } = seen;
     this.#refusal.hidden = true;
     if (steps) return this.#showStep(seen);
-    this.#box.replaceChildren(`Power-on: no step of ${grouped(session.length)} is taken yet.`);
+    const { noun, isCall, length } = session, begin = isCall ? "Before the call" : "Power-on";
+    this.#box.replaceChildren(`${begin}: no ${noun} of ${grouped(length)} is taken yet.`);
     return setText(this.#changes, "");
   }
 
   #showStep({ session, steps, before, after }) {
     const { outline } = session, entry = outline.entryOf(steps - 1);
     const words = outline.wordsOf(entry), answer = session.answerOf(steps - 1);
-    this.#place.data = `After step ${grouped(steps)} of ${grouped(session.length)}, ` +
-      `line ${grouped(outline.lineOf(entry))}: `;
+    const line = session.isCall ? "" : `, line ${grouped(outline.lineOf(entry))}`;
+    this.#place.data = `After ${session.noun} ${grouped(steps)} of ${grouped(session.length)}${line}: `;
     setText(this.#step, words.slice(0, MOST_WORDS));
     setText(this.#answer, answer.slice(0, MOST_WORDS));
     if (this.#place.parentNode !== this.#box) {
-      this.#box.replaceChildren(this.#place, this.#step, " answers ", this.#answer);
+      this.#box.replaceChildren(this.#place, this.#step, " answers ", this.#answer, " ", this.#into);
     }
+    this.#into.hidden = !isCallAt(session, steps) || isRefusal(answer);
     if (isRefusal(answer)) this.#showRefusal(words, answer, before);
     const changes = changesOf(before, after);
     setText(this.#changes, changes.length ? `Changed: ${changes.join("; ")}.` : "Nothing changed.");

@@ -6,6 +6,8 @@ import { byId, setAll, setText } from "../common/dom.js";
 const FRAMES = [{ kind: "frame" }];
 const BACKWARD = ["first", "back", "framebefore", "runback"];
 const FORWARD = ["next", "frameafter", "last"];
+/** Those that lead out of a call. */
+const OUTWARD = ["back", "framebefore", "next", "frameafter"];
 
 /** The controls that go from step to step. */
 export class Transport {
@@ -19,16 +21,21 @@ export class Transport {
   constructor(runner, points, guarded) {
     this.#runner = runner;
     this.#points = points;
+    // No frame ends inside a call: who asks for one leaves the call.
+    const outside = does => () => {
+      runner.leave();
+      return does();
+    };
     const clicks = {
       first: () => runner.go(0),
       runback: () => runner.find(points(), { isBack: true }),
-      framebefore: () => runner.find(FRAMES, { isBack: true }),
-      back: () => runner.go(runner.goal - 1),
-      next: () => runner.go(runner.goal + 1),
-      frameafter: () => runner.find(FRAMES),
+      framebefore: outside(() => runner.find(FRAMES, { isBack: true })),
+      back: () => runner.step(-1),
+      next: () => runner.step(1),
+      frameafter: outside(() => runner.find(FRAMES)),
       run: () => this.run(),
       last: () => runner.toEnd(),
-      play: () => runner.play(!runner.isPlaying),
+      play: outside(() => runner.play(!runner.isPlaying)),
     };
     for (const [name, does] of Object.entries(clicks)) {
       byId(name).addEventListener("click", () => guarded(does));
@@ -53,6 +60,8 @@ export class Transport {
     const number = Number(text.replace(/[, ]/g, "")), runner = this.#runner;
     if (!/^[\d, ]+$/.test(text.trim())) throw new Trouble("Type a number of a step or a line.");
     if (!runner.session) throw new Trouble("There is no run: mend the script first.");
+    // The cycles of a call have no lines.
+    if (kind === "line") runner.leave();
     runner.go(kind === "step" ? number : this.#stepOfLine(number) + 1);
   }
 
@@ -72,12 +81,14 @@ export class Transport {
     setText(byId("play"), isPlaying ? "pause" : "play");
     if (runner.run === RUN.none) return;
     setAll(byId("slider"), { max: String(session.ran) });
-    for (const name of BACKWARD) setAll(byId(name), { disabled: goal === 0 });
-    for (const name of FORWARD) setAll(byId(name), { disabled: isAtEnd });
+    const isOut = name => runner.isWithin && OUTWARD.includes(name);
+    for (const name of BACKWARD) setAll(byId(name), { disabled: goal === 0 && !isOut(name) });
+    for (const name of FORWARD) setAll(byId(name), { disabled: isAtEnd && !isOut(name) });
   }
 
   /** Puts the slider at the step that is shown. */
-  show({ steps }) {
+  show({ session, steps }) {
+    setAll(byId("gotokind").options[0], { text: session.noun });
     byId("slider").max = this.#runner.session.ran;
     byId("slider").value = steps;
   }

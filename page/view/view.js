@@ -2,6 +2,7 @@
 import { Adapter } from "../module/adapter.js";
 import { Asking } from "../explain/asking.js";
 import { BiosPanel } from "../panels/biospanel.js";
+import { CallRoom } from "./callroom.js";
 import { CellPanel } from "../panels/cellpanel.js";
 import { CheckLine } from "./checkline.js";
 import { ColourPanel } from "../panels/colourpanel.js";
@@ -24,6 +25,7 @@ import { PictureSize } from "../picture/size.js";
 import { PointPanel } from "../panels/pointpanel.js";
 import { RegisterPanel } from "../panels/registerpanel.js";
 import { Runner, TASK, stateText } from "../run/runner.js";
+import { Runs } from "../machine/runs.js";
 import { Saver } from "../files/saver.js";
 import { Screen } from "../picture/screen.js";
 import { Scripts } from "../editor/scripts.js";
@@ -39,7 +41,7 @@ import { byId, setText } from "../common/dom.js";
 import { bytesOfBase64, grouped } from "../common/bytes.js";
 import { Helper } from "../help/helper.js";
 import { Judge, LONG_TEXT } from "../run/judging.js";
-import { copyLink, showLink } from "../files/linking.js";
+import { copyLink, showLink, showRunLink } from "../files/linking.js";
 import { followRowHeight } from "../common/rows.js";
 import { frameSeconds } from "../files/saving.js";
 import { keyTables } from "./keys.js";
@@ -54,6 +56,8 @@ export class View {
   notice = new Notice();
   /** The trouble of the line that is no step; null if there is none. */
   bad = null;
+  /** What is to be asked in the frames that are shown next: a subject, or null. */
+  #lookedFor = null;
 
   constructor(adapter, module, data) {
     this.adapter = adapter;
@@ -68,7 +72,8 @@ export class View {
     this.#makeFiles();
     this.#makeControls();
     followRowHeight(() => this.#resized());
-    this.#follow();
+    this.scripts.fill();
+    this.#follow().then(() => this.room.offerLeft());
   }
 
   #makeRun() {
@@ -87,7 +92,7 @@ export class View {
     const { textContent } = document.querySelector("script[type=module]");
     this.checkLine = new CheckLine(this.module, textContent);
     this.judge = new Judge(this.module, textContent);
-    this.lastStep = new LastStep(this.data.pages);
+    this.lastStep = new LastStep(this.data.pages, () => this.#enterCall());
     const settings = new Settings();
     this.panes = new Panes(settings);
     this.screen = new Screen({ clicked: (line, dot) => this.asking.askDot(line, dot),
@@ -95,12 +100,14 @@ export class View {
     this.size = new PictureSize(this.screen, settings);
     this.comparison = new Comparison(this.runner, this.screen, () => this.editor.isStale,
       this.guarded);
-    this.listing = new Listing(steps => this.runner.go(steps), () => this.runner.goal);
+    this.listing = new Listing({ go: steps => this.runner.go(steps), step: by => this.runner.step(by),
+      goal: () => this.runner.goal });
   }
 
   #makeScript() {
     this.scripts = new Scripts(this.data.scripts, new Drafts(),
-      text => this.notice.tell(text, true), this.data.machine.programs);
+      text => this.notice.tell(text, true),
+      { programs: this.data.machine.programs, runs: () => this.room?.runs ?? [] });
     this.editor = new Editor({
       typed: (change, old) => this.desk.typed(change, old),
       switched: (change, old) => this.desk.switched(change.after.script, change, old),
@@ -108,12 +115,17 @@ export class View {
     });
     this.pointPanel = new PointPanel({ changed: points => this.#pointsChanged(points) });
     this.desk = new Desk(this.editor, this.scripts, this.pointPanel, {
-      changed: () => this.#forget(),
+      changed: () => {
+        this.#forget();
+        this.runner.leave();
+      },
       run: awaited => this.guarded(() => {
         this.room?.leave();
         this.#run(awaited);
       }),
       program: name => this.room.runProgram(name),
+      leave: () => this.room?.leave(),
+      bringBack: id => this.room.bringBack(id),
     });
     this.desk.listenTo(byId("examples"), this.guarded);
   }
@@ -141,7 +153,13 @@ export class View {
 
   /** What the user asks about a dot, or about what a panel shows. */
   #makeAsking() {
-    this.finder = new Finder(this.runner, text => this.notice.tell(text));
+    this.finder = new Finder(this.runner, {
+      tell: text => this.notice.tell(text),
+      hasEarlier: () => this.room.hasEarlier,
+      older: text => this.notice.offer(text, "look in the frames before", () => this.#lookBefore("backToBegin")),
+    });
+    this.calls = new CallRoom(this.runner, this.finder, outer => this.#showPlace(outer), this.guarded);
+    byId("foundcycle").addEventListener("click", () => this.guarded(() => this.calls.enterFound()));
     this.asking = new Asking({
       drawn: (line, dot) => this.#toDot(line, dot),
       change: subject => this.#findChange(subject),
@@ -180,8 +198,29 @@ export class View {
     asking.askDot(line, dot);
   }
 
+  /** Shows frames that come before those of the machine that is paused, and asks there what was asked last. */
+  #lookBefore(way) {
+    const { subject } = this.asking;
+    return this.guarded(() => {
+      this.room[way](1);
+      this.#lookedFor = subject;
+    });
+  }
+
+  /** Asks what was asked in other frames, once these have run. */
+  #lookOn() {
+    const { runner } = this, subject = this.#lookedFor;
+    if (!subject || !runner.session?.isDone || !runner.isShown) return;
+    this.#lookedFor = null;
+    this.#findChange(subject);
+  }
+
   #findChange(subject) {
     return this.guarded(() => this.finder.find(subject));
+  }
+
+  #enterCall() {
+    return this.guarded(() => this.calls.enter());
   }
 
   /** Goes on to the change before, of what was asked about last. */
@@ -198,26 +237,37 @@ export class View {
       isEmpty: () => !runner.session && !editor.script,
       script: (text, script, asked) => this.desk.load(text, script, asked),
       software: (bytes, name) => this.room.open(bytes, name),
-      other: (found, name) => this.comparison.open(found, name),
+      folder: (files, name) => this.room.openFiles(files, name),
+      other: (found, name) => {
+        runner.leave();
+        return this.comparison.open(found, name);
+      },
       fonts: (fonts, name) => (name ? this.#useFonts(fonts, name) : this.fonts.use(fonts)),
       tab: name => this.tabs.open(name),
       step: number => runner.go(number),
     });
-    this.room = new MachineRoom(this.data, this.module, {
+    this.room = new MachineRoom(this.data, this.module, new Runs(), {
       adapter: () => this.adapter,
       fonts: () => this.fonts.bytes,
       show: session => this.#showSession(session),
-      steps: () => runner.steps,
+      steps: () => runner.outer.steps,
       script: (text, name) => this.desk.load(text, this.scripts.made(name, name, true)),
       end: () => this.#run(0),
-      tell: text => this.notice.tell(text),
+      named: words => { this.scripts.program = words; },
+      left: run => this.desk.left(run),
+      cameBack: id => this.desk.cameBack(id),
+      tell: (text, isKept) => this.notice.tell(text, isKept),
+      offer: (text, title, does) => this.notice.offer(text, title, does),
+      withdraw: () => this.notice.withdraw(),
       guarded: this.guarded,
     });
-    listenToFiles(files => this.guarded(() => this.opener.openFiles(files)));
+    listenToFiles((files, entries) => this.guarded(() => this.opener.openFiles(files, entries)));
     this.saver = new Saver({
-      text: () => editor.text,
-      name: () => this.scripts.now.name,
+      text: () => this.room.frames?.text ?? editor.text,
+      trace: () => this.room.trace,
+      name: () => this.room.frames?.name ?? this.scripts.now.name,
       seen: () => (runner.isShown && !editor.isStale ? runner.seen : null),
+      outer: () => runner.outer,
       drawn: () => this.#update(),
     }, this.guarded);
   }
@@ -230,6 +280,8 @@ export class View {
       help: () => byId("helpbox").showModal(),
       ownfonts: () => this.#useFonts(null),
       takeback: () => this.desk.takeBack(),
+      olderframes: () => this.#lookBefore("backToBegin"),
+      oldersecond: () => this.#lookBefore("back"),
     };
     for (const [name, does] of Object.entries(clicks)) {
       byId(name).addEventListener("click", () => this.guarded(does));
@@ -240,7 +292,8 @@ export class View {
       togglePoint: line => this.pointPanel.toggleLine(line),
       orders: { larger: () => this.size.step(1), smaller: () => this.size.step(-1),
         fill: () => this.size.choose(0), nextview: () => this.comparison.nextView(), ask: () => this.#ask(),
-        again: () => this.#findAgain() } });
+        again: () => this.#findAgain(), into: () => this.#enterCall(),
+        intonext: () => this.guarded(() => this.calls.enterNext()), out: () => this.calls.leave() } });
     byId("keys").append(...keyTables());
     byId("version").textContent = `Zaklimot ${this.data.version}.`;
     byId("pagedoc").href = `${this.data.pages}PAGE.md#what-is-proved`;
@@ -264,6 +317,7 @@ export class View {
     const { runner, editor: { text, length } } = this, here = () => judgedText(this.adapter, text);
     this.#forget();
     runner.halt();
+    runner.leave({ isHalted: true });
     if (length <= LONG_TEXT) return this.#runJudged(text, awaited, here);
     this.judge.start(text, there =>
       this.guarded(() => this.#runJudged(text, awaited, there ?? here)));
@@ -311,8 +365,8 @@ export class View {
   #show(seen) {
     const { session, steps } = seen;
     this.transport.show(seen);
-    if (this.room.isOn) this.room.shown(seen);
-    else this.editor.show(session, steps);
+    // While the page is inside a call, the script stays at it.
+    if (!session.isCall) this.#showPlace(seen);
     this.listing.show(session, steps);
     session.spare = this.screen.show(seen);
     this.lastStep.show(seen);
@@ -320,11 +374,20 @@ export class View {
     this.asking.show(seen);
     this.tabs.show(seen);
     this.comparison.shown();
+    this.#lookOn();
+    this.calls.shown(seen);
+  }
+
+  /** Shows the place in the script, or in the machine's code. */
+  #showPlace(seen) {
+    if (this.room.isOn) this.room.shown(seen);
+    else this.editor.show(seen.session, seen.steps);
   }
 
   /** Shows what the run does. It may tell so before the page is put together. */
   #update() {
     this.transport?.update();
+    this.calls?.update();
     const told = { bad: this.bad, drawn: this.saver?.drawn };
     setText(byId("state"), this.judge.isAtWork ? READING : stateText(this.runner, told));
   }
@@ -332,23 +395,30 @@ export class View {
   /** Tells why the page is at a step, if a search for a change has found it. */
   #showFound({ session, steps }) {
     const text = this.finder.textAt(session, steps), said = byId("found");
-    setText(said, text);
+    setText(said.firstElementChild, text);
     said.hidden = !text;
+    byId("older").hidden = !this.finder.isOlderAt(session, steps);
+    byId("foundcycle").hidden = !this.finder.leadsWithin(session, steps);
   }
 
   /** All steps are taken: their answers stand there, and are compared with those of zak_run. */
   #finished(session) {
     const { runner } = this;
-    this.checkLine.start(session);
-    this.comparison.finished(session).catch(error => this.#failed(error));
+    if (session.isCall) this.calls.finished(session);
+    else {
+      this.checkLine.start(session);
+      this.comparison.finished(session).catch(error => this.#failed(error));
+    }
     if (!runner.isShown) return;
+    this.#lookOn();
     this.listing.show(session, runner.steps);
-    if (!this.room.isOn) this.editor.draw();
+    if (!this.room.isOn && !session.isCall) this.editor.draw();
   }
 
   #tellNoneFound({ points, isBack }) {
     const what = points.map(pointText).join(", ").slice(0, MOST_WORDS);
-    this.notice.tell(`No ${isBack ? "earlier" : "later"} step meets ${what}.`);
+    const { isCall, noun } = this.runner.session;
+    this.notice.tell(`No ${isBack ? "earlier" : "later"} ${noun}${isCall ? " of this call" : ""} meets ${what}.`);
   }
 
   /** Goes to the step that draws a dot of the picture. */
@@ -357,6 +427,8 @@ export class View {
     if (!seen || isBusy) return;
     const isBack = seen.picture.isWhole || dot < seen.picture.drawn[line];
     const points = [{ kind: "drawn", line, dot }];
+    // No cycle of a call draws a dot.
+    this.runner.leave();
     this.guarded(() => this.runner.find(points, { isBack, isInclusive: true }));
   }
 
@@ -414,8 +486,9 @@ export class View {
     if (name) this.notice.tell(`Mode sets load the glyphs of ${name} now.`);
   }
 
-  #showLink() {
-    const { runner: { session, steps }, tabs: { selected }, fonts } = this;
+  async #showLink() {
+    if (this.room.isOn) return showRunLink(await this.room.runText());
+    const { runner: { outer: { session, steps } }, tabs: { selected }, fonts } = this;
     return showLink({ text: this.editor.text,
       step: session && steps < session.length ? steps : undefined,
       tab: selected === TABS[0] ? undefined : selected,

@@ -20,6 +20,8 @@ except ImportError:
 
 MEMORY, CODE_SEGMENT, OFFSET = 0x100000, 0x1000, 0x100
 CODE, CODE_BYTES = 16 * CODE_SEGMENT + OFFSET, 16
+# Where tables of descriptors stand, and what is told where there is no fault.
+TABLES, NO_FAULT = 0x40000, 0xFFFFFFFF
 # Memory is compared in parts of so many bytes, and a case may change so many bytes.
 PART, MOST_CHANGED = 4096, 400
 PREFIXES = (0x26, 0x2E, 0x36, 0x3E, 0x64, 0x65, 0x66, 0x67, 0xF0, 0xF2, 0xF3)
@@ -172,9 +174,14 @@ def _undefined_of_two(one: Instruction, count: int) -> int:
 
 
 class Case(NamedTuple):
-    """The processor before an instruction, and what is left of it."""
+    """The processor before an instruction, and what is left of it.
 
-    is_protected: bool
+    The kind is 0 in real mode, 1 in protected mode whose segments are all of memory, and 2 by tables of descriptors: first
+    those of segments, then those of interrupts. Bytes of memory may be given, and several instructions be done. Of a fault
+    only the number counts.
+    """
+
+    kind: int
     registers: tuple[int, ...]
     flags: int
     code: bytes
@@ -185,11 +192,21 @@ class Case(NamedTuple):
     segments: tuple[int, ...]
     written: tuple[tuple[int, int], ...]
     ports: tuple[tuple[int, int, int], ...]
+    count: int = 1
+    tables: bytes = b""
+    given: tuple[tuple[int, bytes], ...] = ()
+    fault: int | None = None
+    interrupts: bytes = b""
 
     def packed(self) -> bytes:
         """The bytes that `processor.c` reads."""
-        front = struct.pack("<I8II16s", self.is_protected, *self.registers, self.flags, self.code.ljust(CODE_BYTES, b"\0"))
-        left = struct.pack("<8IIII6H", *self.after, self.flags_after, self.compared, self.place, *self.segments)
+        given = [(place + i, byte) for place, data in self.given for i, byte in enumerate(data)]
+        sizes = self.count, len(self.tables), len(self.interrupts), len(given)
+        code = self.code.ljust(CODE_BYTES, b"\0")
+        front = struct.pack("<I8II16s4I", self.kind, *self.registers, self.flags, code, *sizes)
+        front += self.tables + self.interrupts + b"".join(struct.pack("<IB", *one) for one in given)
+        fault = NO_FAULT if self.fault is None else self.fault
+        left = struct.pack("<8IIIII6H", *self.after, self.flags_after, self.compared, self.place, fault, *self.segments)
         counts = struct.pack("<HH", len(self.written), len(self.ports))
         written = b"".join(struct.pack("<IB", *one) for one in self.written)
         return front + left + counts + written + b"".join(struct.pack("<HBI", *one) for one in self.ports)

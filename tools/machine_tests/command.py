@@ -24,10 +24,10 @@ from .manual import cases as manual_cases
 
 HERE = Path(__file__).resolve().parent
 COMPILER = "cc"
-OF_MANUAL, OF_UNICORN = "manual", "unicorn"
-CHECKS = OF_MANUAL, OF_UNICORN
+OF_MANUAL, OF_UNICORN, OF_DESCRIPTORS = "manual", "unicorn", "descriptors"
+CHECKS = OF_MANUAL, OF_UNICORN, OF_DESCRIPTORS
 # What is compared once makes so many cases, of which one process makes so many: a process may end amid them.
-USUAL, CHUNK, MOST_CASES = 20_000, 2000, 10_000_000
+USUAL, CHUNK, MOST_CASES, DESCRIBED = 20_000, 2000, 10_000_000, 2000
 SECONDS = 600
 COUNT = re.compile(r"^([0-9]+) cases: ([0-9]+) differ, ([0-9]+) lacking, ([0-9]+) beyond a segment's end$", re.M)
 UNICORN = "python3-unicorn"
@@ -75,12 +75,14 @@ def python_with_unicorn() -> Optional[str]:
     return None
 
 
-def _compared(program: Path, python: str, folder: Path, is_ended: Event, seed: int) -> list[int]:
-    """A chunk of cases. Unicorn may end the process amid them: those before count."""
+def _compared(
+    program: Path, python: str, folder: Path, is_ended: Event, seed: int, module: str = "cases", chunk: int = CHUNK,
+) -> list[int]:
+    """A chunk of cases of a module. Unicorn may end the process amid them: those before count."""
     made = folder / f"{seed}.cases"
-    words = [python, HERE / "cases.py", str(CHUNK), str(seed)]
+    words = [python, "-m", f"machine_tests.{module}", str(chunk), str(seed)]
     with open(made, "wb") as stream:
-        stream.write(captured(words, seconds=SECONDS, is_ended=is_ended).output)
+        stream.write(captured(words, HERE.parent, seconds=SECONDS, is_ended=is_ended).output)
     done = captured([program], given=made.read_bytes(), seconds=SECONDS, is_ended=is_ended)
     made.unlink()
     return judged(done.output.decode("ascii", "replace"))
@@ -101,6 +103,14 @@ def check_unicorn(program: Path, python: str, folder: Path, count: int, seed: in
     return f"{total[0]:,} instructions as Unicorn does them; {total[3]:,} beyond a segment's end are left out"
 
 
+def check_descriptors(program: Path, python: str, folder: Path, seed: int) -> str:
+    """Loads of segments, and far jumps, by tables of descriptors."""
+    counts = _compared(program, python, folder, Event(), seed, "descriptors", DESCRIBED)
+    if counts[0] < DESCRIBED // 2:
+        raise Wrong(f"only {counts[0]:,} of {DESCRIBED:,} cases of descriptors came of Unicorn")
+    return f"{counts[0]:,} loads of segments and far jumps as Unicorn does them"
+
+
 def _parser() -> argparse.ArgumentParser:
     parser = cli.tool_parser(
         "vga-machine-tests", "Tests the processor of the page's machine, an instruction at a time.",
@@ -116,18 +126,22 @@ def _parser() -> argparse.ArgumentParser:
 
 def _run(words: argparse.Namespace, _: Progress) -> None:
     wanted = words.only or CHECKS
-    python = python_with_unicorn() if OF_UNICORN in wanted else None
-    if words.only and OF_UNICORN in wanted and python is None:
+    of_unicorn = [name for name in (OF_UNICORN, OF_DESCRIPTORS) if name in wanted]
+    python = python_with_unicorn() if of_unicorn else None
+    if words.only and of_unicorn and python is None:
         raise Trouble(f"no Python has it: install the package {UNICORN}", "unicorn")
     with tempfile.TemporaryDirectory(prefix="vga-machine-tests-") as name:
         folder = Path(name)
         program = built_processor(folder)
         if OF_MANUAL in wanted:
             make_check(OF_MANUAL, partial(check_manual, program))
-        if python is not None:
-            make_check(OF_UNICORN, partial(check_unicorn, program, python, folder, words.cases, words.seed))
-        elif OF_UNICORN in wanted:
-            print(f"{OF_UNICORN}: not tried: install the package {UNICORN}", flush=True)
+        for name in of_unicorn:
+            if python is None:
+                print(f"{name}: not tried: install the package {UNICORN}", flush=True)
+            elif name == OF_UNICORN:
+                make_check(name, partial(check_unicorn, program, python, folder, words.cases, words.seed))
+            else:
+                make_check(name, partial(check_descriptors, program, python, folder, words.seed))
 
 
 # Runs a command line, and answers its exit status.

@@ -8,6 +8,7 @@ from __future__ import annotations
 
 from typing import Iterator, Mapping, NamedTuple
 
+from .descriptors import FLAT_CODE, FLAT_DATA, descriptor
 from .cases import (
     ADJUST, ALL, CARRY, CODE, CODE_SEGMENT, CONTROL, OFFSET, OVERFLOW, PARITY, REAL, SIGN, ZERO, Case, pattern,
 )
@@ -40,11 +41,24 @@ class Left(NamedTuple):
     pushed: tuple[tuple[int, int, int], ...] = ()
 
 
-def case(code: str, given: Mapping[str, int], left: Left, flags: int = FLAGS, is_protected: bool = False) -> Case:
+class Tables(NamedTuple):
+    """Tables of descriptors for a case, how many instructions it has, and the number of a fault that it ends with."""
+
+    segments: bytes = b""
+    interrupts: bytes = b""
+    count: int = 1
+    fault: int | None = None
+
+
+def case(
+    code: str, given: Mapping[str, int], left: Left, flags: int = FLAGS, is_protected: bool = False, tables: Tables = Tables(),
+) -> Case:
     """A case of an instruction, whose bytes are spelt in hexadecimal."""
     before = {"esp": 0x90000 if is_protected else STACK, **given}
     after = {**before, **left.registers}
     segments = [0] * 6 if is_protected else list(REAL)
+    if tables.segments:
+        segments = [FLAT_CODE if index == 1 else FLAT_DATA for index in range(6)]
     for index, value in left.segments.items():
         segments[index] = value
     start = CODE if is_protected else OFFSET
@@ -53,9 +67,10 @@ def case(code: str, given: Mapping[str, int], left: Left, flags: int = FLAGS, is
     }
     changed = tuple((place, byte) for place, byte in sorted(written.items()) if byte != pattern(place))
     return Case(
-        is_protected, tuple(before.get(name, 0) for name in NAMES), flags, bytes.fromhex(code),
+        2 if tables.segments else int(is_protected), tuple(before.get(name, 0) for name in NAMES), flags, bytes.fromhex(code),
         tuple(after.get(name, 0) for name in NAMES), left.flags, left.compared,
         start + left.length if left.place is None else left.place, tuple(segments), changed, (),
+        tables.count, tables.segments, (), tables.fault, tables.interrupts,
     )
 
 
@@ -139,6 +154,64 @@ def others() -> Iterator[Case]:
     yield case("D3E0", {"eax": 1, "ecx": 33}, Left(2, {"eax": 2}, compared=ALL & ~ADJUST))
 
 
+# A small segment, one that grows down, and code of 16 bits: what a case has beside flat segments.
+BASE, SMALL, DOWN, NARROW_CODE = 0x20000, 0x18, 0x20, 0x28
+SEGMENTS = bytes(8) + b"".join((
+    descriptor(0, 0xFFFFF, 0x9B, 0xC), descriptor(0, 0xFFFFF, 0x93, 0xC), descriptor(BASE, 0xFF, 0x93, 4),
+    descriptor(BASE, 0xFFF, 0x97, 4), descriptor(0x10000, 0xFFFF, 0x9B, 0),
+))
+
+
+def limits() -> Iterator[Case]:
+    """Reads and writes at a segment's end, of one that grows down, and of none."""
+    for selector, read, place, is_inside in (
+        (SMALL, "268B17", 0xFC, True), (SMALL, "268B17", 0xFD, False), (SMALL, "268A17", 0xFF, True),
+        (SMALL, "268A17", 0x100, False), (SMALL, "268917", 0xFD, False), (SMALL, "26668B17", 0xFE, True),
+        (SMALL, "26668B17", 0xFF, False), (SMALL, "268B17", 0xFFFFFFFE, False),
+        (DOWN, "268B17", 0x1000, True), (DOWN, "268B17", 0xFFD, False), (DOWN, "268A17", 0xFFF, False),
+        (0, "268A17", 0, False), (3, "268A17", 0x100, False),
+    ):
+        given = {"eax": selector, "edi": place}
+        bytes_read = 1 if "8A" in read else 2 if "66" in read else 4
+        value = long_at(BASE + place) & (1 << 8 * bytes_read) - 1
+        left = Left(2 + len(read) // 2, {"edx": value}, segments={0: selector}) if is_inside else Left()
+        tables = Tables(SEGMENTS, count=2, fault=None if is_inside else 13)
+        yield case(f"8EC0{read}", given, left, is_protected=True, tables=tables)
+
+
+def gates() -> Iterator[Case]:
+    """INT by gates of both widths, which keep interrupts or not; by one that is absent, or none, or past the table's end."""
+    asked, place, top = FLAGS | INTERRUPT | TRAP | CARRY, 0x23456, 0x90000
+
+    def gate(kind: int, selector: int = FLAT_CODE) -> bytes:
+        one = place.to_bytes(4, "little")
+        return bytes(8 * 0x21) + one[:2] + selector.to_bytes(2, "little") + bytes([0, kind]) + one[2:]
+
+    def left(kind: int, code: int, back: int, old: int) -> Left:
+        size = 4 if kind & 8 else 2
+        pushed = tuple((top - size * (i + 1), value, size) for i, value in enumerate((asked, old, back)))
+        flags = asked & ~TRAP if kind & 1 else asked & ~(TRAP | INTERRUPT)
+        return Left(
+            registers={"esp": top - 3 * size}, flags=flags, compared=EVERY, place=place if size == 4 else place & 0xFFFF,
+            segments={1: code}, pushed=pushed,
+        )
+
+    for kind in (0x8E, 0x8F, 0x86, 0x87):
+        for selector in (FLAT_CODE, NARROW_CODE):
+            wanted = left(kind, selector, CODE + 2, FLAT_CODE)
+            tables = Tables(SEGMENTS, gate(kind, selector))
+            yield case("CD21", {}, wanted, asked, True, tables)
+    # From code of 16 bits, to which a jump leads first.
+    for kind in (0x8E, 0x86):
+        jump = f"EA{(OFFSET + 7).to_bytes(4, 'little').hex()}{NARROW_CODE:02X}00CD21"
+        wanted = left(kind, FLAT_CODE, OFFSET + 9, NARROW_CODE)
+        yield case(jump, {}, wanted, asked & ~TRAP | TRAP, True, Tables(SEGMENTS, gate(kind), 2))
+    for interrupts_of, fault in (
+        (gate(0x0E), 11), (gate(0x8C), 13), (gate(0x93), 13), (gate(0x8E)[:-1], 13), (gate(0x8E, 0), 13), (gate(0x8E, FLAT_DATA), 13),
+    ):
+        yield case("CD21", {}, Left(), asked, True, Tables(SEGMENTS, interrupts_of, 1, fault))
+
+
 def cases() -> list[Case]:
     """All of them."""
-    return [*interrupts(), *returns(), *frames(), *others()]
+    return [*interrupts(), *returns(), *frames(), *others(), *limits(), *gates()]

@@ -12,12 +12,17 @@
 enum { MEMORY = 0x100000, OFFSET = 0x100, CODE = 0x10100, MOST_WRITTEN = 512, MOST_PORTS = 64, OPCODES = 512 };
 enum { INVALID_OPCODE = 6, GENERAL_PROTECTION = 13, DIVIDE = 0, MOST_TURNS = 100 };
 
+enum kind { REAL, FLAT, DESCRIBED };
+enum { TABLES = 0x40000, MOST_TABLES = 4096, FLAT_CODE = 0x08, FLAT_DATA = 0x10 };
+#define NO_FAULT 0xFFFFFFFFu
+
 struct before {
-    u32 is_protected, registers[8], flags;
+    u32 kind, registers[8], flags;
     u8 code[16];
+    u32 count, segment_bytes, interrupt_bytes, given;
 };
 struct after {
-    u32 registers[8], flags, compared, place;
+    u32 registers[8], flags, compared, place, fault;
     u16 segments[6], written, ports;
 };
 #pragma pack(push, 1)
@@ -78,8 +83,23 @@ static unsigned reach(x86emu_t *emu, u32 place, u32 *value, unsigned type)
     return 0;
 }
 
+/* The segments that a case of descriptors begins with: all of memory, by the first two descriptors. */
+static void begin_described(x86emu_t *emu, const struct before *given)
+{
+    emu->x86.R_GDT_BASE = TABLES;
+    emu->x86.R_GDT_LIMIT = given->segment_bytes - 1;
+    emu->x86.R_IDT_BASE = TABLES + given->segment_bytes;
+    emu->x86.R_IDT_LIMIT = given->interrupt_bytes ? given->interrupt_bytes - 1 : 0;
+    for (int i = 0; i < 6; i++) {
+        sel_t *segment = emu->x86.seg + i;
+        segment->sel = i == R_CS_INDEX ? FLAT_CODE : FLAT_DATA;
+        segment->acc = (i == R_CS_INDEX ? 0x9B : 0x93) | 0xC00;
+    }
+}
+
 static void begin(x86emu_t *emu, const struct before *given)
 {
+    int is_protected = given->kind != REAL;
     static const u16 SEGMENTS[] = {0x3000, 0x1000, 0x4000, 0x2000, 0x5000, 0x6000};
     static u64 registers[X86EMU_MSRS];
     memset(emu, 0, sizeof *emu);
@@ -88,19 +108,28 @@ static void begin(x86emu_t *emu, const struct before *given)
     emu->x86.disasm_ptr = emu->x86.disasm_buf;
     for (int i = 0; i < 6; i++) {
         sel_t *segment = emu->x86.seg + i;
-        segment->sel = given->is_protected ? 0 : SEGMENTS[i];
-        segment->base = given->is_protected ? 0 : SEGMENTS[i] * 16u;
-        segment->limit = given->is_protected ? 0xFFFFFFFF : 0xFFFF;
-        segment->acc = (i == R_CS_INDEX ? 0x9B : 0x93) | (given->is_protected ? 0xC00 : 0);
+        segment->sel = is_protected ? 0 : SEGMENTS[i];
+        segment->base = is_protected ? 0 : SEGMENTS[i] * 16u;
+        segment->limit = is_protected ? 0xFFFFFFFF : 0xFFFF;
+        segment->acc = (i == R_CS_INDEX ? 0x9B : 0x93) | (is_protected ? 0xC00 : 0);
     }
-    if (given->is_protected) emu->x86.R_CR0 |= 1;
+    if (is_protected) emu->x86.R_CR0 |= 1;
+    if (given->kind == DESCRIBED) begin_described(emu, given);
     u32 *all_of[] = {&emu->x86.R_EAX, &emu->x86.R_ECX, &emu->x86.R_EDX, &emu->x86.R_EBX,
                      &emu->x86.R_ESP, &emu->x86.R_EBP, &emu->x86.R_ESI, &emu->x86.R_EDI};
     for (int i = 0; i < 8; i++) *all_of[i] = given->registers[i];
     emu->x86.R_EFLG = given->flags;
-    emu->x86.R_EIP = given->is_protected ? CODE : OFFSET;
+    emu->x86.R_EIP = is_protected ? CODE : OFFSET;
     memcpy(memory + CODE, given->code, sizeof given->code);
     touched_count = port_count = 0;
+}
+
+/* The number of the fault that came first: none by INT. */
+static u32 fault_of(const x86emu_t *emu)
+{
+    static const u8 FAULTS[] = {0, 6, 8, 10, 11, 12, 13, 14};
+    for (unsigned i = 0; i < sizeof FAULTS; i++) if (emu->x86.intr_stats[FAULTS[i]]) return FAULTS[i];
+    return NO_FAULT;
 }
 
 /* An instruction; of one that is repeated, all of its turns. */
@@ -121,6 +150,11 @@ static int opcode_of(const u8 *code)
     return code[i] == 0x0F ? 256 + code[i + 1] : code[i];
 }
 
+/* Bytes of memory before a case: the pattern, and what the case gives. */
+enum { MOST_GIVEN = 64 };
+static u8 given_before[MEMORY];
+static u32 given_places[MOST_GIVEN], given_count;
+
 static int by_place(const void *one, const void *other)
 {
     u32 a = *(const u32 *)one, b = *(const u32 *)other;
@@ -134,7 +168,7 @@ static int is_same_memory(const struct after *wanted, const struct written *writ
     qsort(touched, touched_count, sizeof *touched, by_place);
     for (unsigned i = 0; i < touched_count; i++) {
         u32 place = touched[i];
-        if (memory[place] == pattern(place) || place - CODE < 16) continue;
+        if (memory[place] == given_before[place] || place - CODE < 16) continue;
         if (changed == wanted->written || place != written[changed].place) return 0;
         if (memory[place] != written[changed++].value) return 0;
     }
@@ -146,8 +180,11 @@ static int is_same(x86emu_t *emu, const struct before *given, const struct after
 {
     u32 found[] = {emu->x86.R_EAX, emu->x86.R_ECX, emu->x86.R_EDX, emu->x86.R_EBX,
                    emu->x86.R_ESP, emu->x86.R_EBP, emu->x86.R_ESI, emu->x86.R_EDI};
-    u32 place = given->is_protected ? emu->x86.R_EIP : emu->x86.R_IP;
-    u32 wanted_place = given->is_protected ? wanted->place : wanted->place & 0xFFFF;
+    u32 place = given->kind != REAL ? emu->x86.R_EIP : emu->x86.R_IP;
+    u32 wanted_place = given->kind != REAL ? wanted->place : wanted->place & 0xFFFF;
+    if (given->kind == DESCRIBED && (fault_of(emu) != NO_FAULT || wanted->fault != NO_FAULT)) {
+        return fault_of(emu) == wanted->fault;
+    }
     if (memcmp(found, wanted->registers, sizeof found) || place != wanted_place) return 0;
     for (int i = 0; i < 6; i++) if (emu->x86.seg[i].sel != wanted->segments[i]) return 0;
     if ((emu->x86.R_FLG ^ wanted->flags) & wanted->compared) return 0;
@@ -160,7 +197,7 @@ static void tell(x86emu_t *emu, const struct before *given, const struct after *
     static const char *const NAMES[] = {"eax", "ecx", "edx", "ebx", "esp", "ebp", "esi", "edi"};
     u32 found[] = {emu->x86.R_EAX, emu->x86.R_ECX, emu->x86.R_EDX, emu->x86.R_EBX,
                    emu->x86.R_ESP, emu->x86.R_EBP, emu->x86.R_ESI, emu->x86.R_EDI};
-    printf("  %s", given->is_protected ? "protected:" : "real:");
+    printf("  %s", given->kind == DESCRIBED ? "described:" : given->kind == FLAT ? "protected:" : "real:");
     for (int i = 0; i < 10; i++) printf(" %02X", given->code[i]);
     for (int i = 0; i < 8; i++) {
         if (found[i] != wanted->registers[i]) {
@@ -170,6 +207,36 @@ static void tell(x86emu_t *emu, const struct before *given, const struct after *
     printf(", flags %X -> %X, not %X (of %X), eip %X, not %X, %u bytes, not %u, %u ports, not %u\n", given->flags,
            wanted->flags, emu->x86.R_FLG, wanted->compared, wanted->place, emu->x86.R_EIP, wanted->written,
            touched_count, wanted->ports, port_count);
+    if (given->kind != DESCRIBED) return;
+    printf("    fault %d, not %d; selectors", (int)wanted->fault, (int)fault_of(emu));
+    for (int i = 0; i < 6; i++) printf(" %X not %X", wanted->segments[i], emu->x86.seg[i].sel);
+    puts("");
+}
+
+/* Reads what a case gives: tables, and bytes of memory; whether all was there. */
+static int read_given(const struct before *given)
+{
+    struct written one;
+    u32 bytes = given->segment_bytes + given->interrupt_bytes;
+    if (bytes > MOST_TABLES || fread(memory + TABLES, 1, bytes, stdin) != bytes) return 0;
+    memcpy(given_before + TABLES, memory + TABLES, bytes);
+    for (u32 i = 0; i < given->given; i++) {
+        if (fread(&one, sizeof one, 1, stdin) != 1 || one.place >= MEMORY) return 0;
+        memory[one.place] = given_before[one.place] = one.value;
+        given_places[given_count++ % MOST_GIVEN] = one.place;
+    }
+    return 1;
+}
+
+static void restore_given(const struct before *given)
+{
+    u32 bytes = given->segment_bytes + given->interrupt_bytes;
+    for (u32 i = TABLES; i < TABLES + bytes; i++) memory[i] = given_before[i] = pattern(i);
+    for (u32 i = 0; i < given_count; i++) {
+        u32 place = given_places[i % MOST_GIVEN];
+        memory[place] = given_before[place] = pattern(place);
+    }
+    given_count = 0;
 }
 
 static void restore(void)
@@ -190,18 +257,20 @@ int main(int count, char **words)
     struct before given;
     struct after wanted;
     unsigned total = 0, wrong = 0, illegal = 0, beyond = 0;
-    for (u32 i = 0; i < MEMORY; i++) memory[i] = pattern(i);
-    while (fread(&given, sizeof given, 1, stdin) == 1 && fread(&wanted, sizeof wanted, 1, stdin) == 1) {
+    for (u32 i = 0; i < MEMORY; i++) memory[i] = given_before[i] = pattern(i);
+    while (fread(&given, sizeof given, 1, stdin) == 1 && read_given(&given)) {
+        if (fread(&wanted, sizeof wanted, 1, stdin) != 1) break;
         if (wanted.written > MOST_WRITTEN || wanted.ports > MOST_PORTS) return 2;
         if (fread(written, sizeof *written, wanted.written, stdin) != wanted.written) break;
         if (fread(wanted_ports, sizeof *wanted_ports, wanted.ports, stdin) != wanted.ports) break;
         begin(&emu, &given);
-        take(&emu);
+        for (u32 i = 0; i < given.count && fault_of(&emu) == NO_FAULT; i++) take(&emu);
         int opcode = opcode_of(given.code);
-        if (!has_faults && emu.x86.intr_stats[INVALID_OPCODE]) {
+        int is_described = given.kind == DESCRIBED;
+        if (!has_faults && !is_described && emu.x86.intr_stats[INVALID_OPCODE]) {
             illegal++;
             lacking[opcode]++;
-        } else if (!has_faults && emu.x86.intr_stats[GENERAL_PROTECTION]) {
+        } else if (!has_faults && !is_described && emu.x86.intr_stats[GENERAL_PROTECTION]) {
             /* A word beyond a segment's end: QEMU lets it pass. */
             beyond++;
         } else {
@@ -213,6 +282,7 @@ int main(int count, char **words)
             }
         }
         restore();
+        restore_given(&given);
     }
     for (int i = 0; i < OPCODES; i++) {
         const char *front = i > 255 ? "0F " : "";

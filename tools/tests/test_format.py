@@ -86,13 +86,14 @@ class Table(unittest.TestCase):
         words = {"regs": "REGISTERS", "bda": "BIOS_DATA"}
         own.update({f"SHOW_{words.get(name, name.upper())}": form.code[1] for name, form in SHOWN.items()})
         self.assertEqual(constants, own)
-        reading = (CRATES / "vga_script" / "src" / "step_bytes.rt").read_text("utf-8")
+        reading = (CRATES / "vga_script" / "src" / "plain_steps.rt").read_text("utf-8")
         arms = re.findall(r"([A-Z_]+) => (\w+) \{ (.*?) \},", reading)
-        sizes = {"one": 1, "two": 2, "four": 4}
+        sizes = {"one": 1, "two": 2, "four": 4, "dots": 4}
         for opcode, name, fields in arms:
             form = CODES[bytes([constants[opcode]])]
             self.assertEqual(name.replace("Word", "w").lower(), form.name)
-            self.assertEqual([sizes[one] for one in re.findall(r": (\w+)", fields)], [one.size for one in form.fields])
+            kinds = re.findall(r": (\w+)", fields)
+            self.assertEqual([sizes[kind] for kind in kinds], [one.size for one in form.fields])
         self.assertEqual(len(arms), 9)
         bits = CRATES / "vga_bits" / "src"
         refusals = re.findall(r'=> "E(\d+) (\w+)"', (bits / "refusal.rt").read_text("utf-8"))

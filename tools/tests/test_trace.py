@@ -92,7 +92,7 @@ class Lines(unittest.TestCase):
             (BEGIN + b"0 w p 3C4 302 1\n", "2: the value 302 has more than 1 bytes"),
             (BEGIN + b"0 w p FFFF 302 2\n", "2: there is no port of address FFFF"),
             (BEGIN + b"0 w m FFFFFFFF 302 2\n", "2: there is no memory of address FFFFFFFF"),
-            (BEGIN + SCREEN + b"\n", no_cycle), (BEGIN + bytes(1 << 17), "2: the line is longer than any of a trace"),
+            (BEGIN + SCREEN + b"\n", no_cycle), (BEGIN + bytes(1 << 18), "2: the line is longer than any of a trace"),
             (b";\n0 w p 3C2 67\n" + BEGIN, "2: a line before the first cycle is neither a cycle nor a comment"),
             (b"", f" {none}"), (b"; nothing\n", f" {none}"),
             # The line of a mistake, where no line has a cycle.
@@ -100,6 +100,35 @@ class Lines(unittest.TestCase):
             (b"0 x p 3C2 67 1", f"1: {none}; this line is the first that is no comment"),
             (b"; good\n\nhello\noh\n", f"3: {none}; this line is the first that is no comment"),
         )))
+
+    def test_calls_dots_and_frames_that_were_kept(self) -> None:
+        data = b"0+5 int 0003 0 0 0 ; mode 3\n1+7 w m B8000 41 1\n1+0 w m B8001 7 1\n" \
+            b"9+30 frame\n9+20 frame\n12+4 r p 3DA 1 1\n13+6 r p 3DA 1 1\n14+20000000 int 1301 7 2 0 4142\n15+2 frame\n"
+        call, other = "int ax=0003 bx=0000 cx=0000 dx=0000", "int ax=1301 bx=0007 cx=0002 dx=0000 block 4142"
+        # The last dot of a frame is its own.
+        timed = ["advance 5", call, "advance 7", "put B8000 41", "put B8001 07", "advance 29", "frame", "advance 19", "frame",
+                 "advance 4", "in 3DA", "advance 6", "in 3DA", "advance 16777216", "advance 3222784", other]
+        plain = [call, "put B8000 41", "put B8001 07", "in 3DA", "in 3DA", other, "frame"]
+        hold(self, lambda wanted: listed(data, **wanted), (
+            ({"has_time": True, "frames": "screens"}, [*timed, "advance 1", "frame", "frame", "frame"]),
+            ({"has_time": True}, [*timed[:5], "advance 54", *timed[10:], "frame", "frame"]),
+            ({"has_time": True, "keeps_polls": False},
+             [*timed[:5], "advance 54", "in 3DA", "advance 16777216", "advance 3222790", other, "frame", "frame"]),
+            ({}, plain), ({"frames": "screens"}, [*plain[:3], "frame", "frame", *plain[3:], "frame"]),
+        ))
+        self.assertEqual(warned(data), [])
+        self.assertEqual(count(cycles(data)), {
+            "call of interrupt 10, AH 00": 1, "call of interrupt 10, AH 13": 1, "write memory B8000 size 1": 2,
+            "read port 3DA size 1": 2,
+        })
+        told = "trace: cycle 1 is a call of interrupt 10, and --from follows cycles alone: what comes after it begins at power-on"
+        self.assertEqual(refused(partial(listed, data, first=3)), told)
+        hold(self, partial(refused, cycles), (
+            (BEGIN + b"0 int 0003 0 0\n", "trace:2: it is no cycle: `TIME r|w p|m ADDRESS VALUE SIZE` is one"),
+            (BEGIN + b"0 int 10003 0 0 0\n", "trace:2: it is no cycle: `TIME r|w p|m ADDRESS VALUE SIZE` is one"),
+            (BEGIN + b"0 int 0003 0 0 0 123\n", "trace:2: it is no cycle: `TIME r|w p|m ADDRESS VALUE SIZE` is one"),
+            (BEGIN + b"0 int 0003 0 0 0 " + b"00" * 65536 + b"\n", "trace:2: a call's block has 65,535 bytes at most"),
+        ))
 
     def test_what_a_trace_lacks(self) -> None:
         def vbe(index: str, value: str) -> bytes:

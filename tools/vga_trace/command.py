@@ -23,6 +23,7 @@ from vga_report.words import add_program, add_shape, number_to, seconds
 from zaklimot.format import Picture
 
 from .converting import CLOCK, END, FLIP, SCREENS, Listing, check, convert, count
+from . import inpage
 from .recording import TRACE, Deed, Machine, chain_4, record
 from .replaying import replay, shown
 from .trace import Trace, opened
@@ -76,11 +77,18 @@ def _add_record(parser: argparse.ArgumentParser) -> None:
     told = "dumps the screen, among the keys in the order of the words (default: at the end, once it is quiet)"
     screen = {"dest": "deeds", "action": "append", "type": lambda word: Deed(None if word == QUIET else seconds(word))}
     add(parser, "--screen quiet|SECONDS", told, **screen)
+    told = "runs this file on the machine of the page, in node, instead of on qemu: a program for DOS, a floppy, a disk, a " \
+        "ZIP, or a run that the page has saved, whose keys come again. Seconds are the machine's then, and not the clock's"
+    add(parser, "--in-page FILE", told, type=to_read)
+    told = f"the processor's speed in the page's machine: {', '.join(inpage.SPEEDS)} (default: {inpage.USUAL_SPEED})"
+    add(parser, "--speed NAME", told, choices=inpage.SPEEDS)
+    add(parser, "--rom FILE", "the ROM of a video BIOS, which serves interrupt 10 of the page's machine", type=to_read)
+    add(parser, "--start NAME", "what the page's machine runs of a ZIP in which several files can run")
     told = "takes the software as quiet after so long without a cycle (default: 3)"
     add(parser, "--quiet SECONDS", told, type=seconds, default=3)
     add(parser, "--seconds SECONDS", "ends the machine after so many seconds (default: 60)", type=seconds, default=60)
     add(parser, "--chain-4", "records mode 13 too, by a plugin for qemu 7.2 that gcc builds")
-    add(parser, "--card DEVICE", "takes this VGA of qemu's devices (default: VGA)", default="VGA")
+    add(parser, "--card DEVICE", "takes this VGA of qemu's devices (default: VGA)")
     add_program(parser)
 
 
@@ -115,8 +123,8 @@ def _parser(qemu: Sequence[str] = ()) -> argparse.ArgumentParser:
     _add_trace(made)
     _add_pictures(made)
     made = cli.command(
-        commands, "record", _record, "records on qemu, replays, and compares the screens of both",
-        usage="vga-trace record [OPTION..] FOLDER -- QEMU-WORD..",
+        commands, "record", _record, "records on qemu or on the page's machine, replays, and compares the screens of both",
+        usage="vga-trace record [OPTION..] FOLDER -- QEMU-WORD..\n       vga-trace record [OPTION..] FOLDER --in-page FILE",
         epilog="After `--` stand qemu's words for what it boots: -cdrom disc.iso",
     )
     made.set_defaults(qemu=qemu)
@@ -154,7 +162,7 @@ def _check(words: argparse.Namespace, _: Progress) -> int:
     name = name_of(words.report)
     with _opened(words) as trace, reading(words.report) as stream:
         listing = _listing(trace, words)
-        checked = check(listing.steps(), Report(stream, name).steps(), name)
+        checked = check(listing.steps(), Report(stream, name).steps(), name, words.time)
     _warn(listing, name_of(words.trace))
     print("\n".join(checked.lines(words.most)))
     return AGREED if checked.agrees else DIFFERED
@@ -208,9 +216,22 @@ def _write_moving(path: str, animation: Animation, pictures: Iterator[tuple[Pict
     print(told, file=sys.stderr if path == STANDARD else sys.stdout)
 
 
+# The options of a recording by the one machine that mean nothing to the other.
+OF_QEMU, OF_PAGE = ("qemu", "chain_4", "card"), ("speed", "rom", "start")
+
+
+def _check_record(words: argparse.Namespace) -> None:
+    is_own = words.in_page is not None
+    if not is_own and not words.qemu:
+        raise Trouble("qemu needs words after `--`, as `-- -cdrom disc.iso`; and the page's machine, --in-page FILE")
+    for name in OF_QEMU if is_own else OF_PAGE:
+        if getattr(words, name):
+            called = "what stands behind `--`" if name == "qemu" else f"--{name.replace('_', '-')}"
+            raise Trouble(f"{called} is for {'qemu, and not for --in-page' if is_own else '--in-page alone'}")
+
+
 def _record(words: argparse.Namespace, progress: Progress) -> int:
-    if not words.qemu:
-        raise Trouble("qemu needs words after `--`, as `-- -cdrom disc.iso`")
+    _check_record(words)
     program, folder = found_program(words.vga), Path(words.folder)
     check_folder(words.folder)
     if folder.exists() and any(folder.iterdir()):
@@ -221,7 +242,12 @@ def _record(words: argparse.Namespace, progress: Progress) -> int:
     try:
         with TemporaryDirectory(prefix="vga-trace-") as made:
             plugin = chain_4(Path(made)) if words.chain_4 else []
-            machine = Machine(["-device", words.card, *plugin, *words.qemu], deeds, words.quiet, words.seconds)
+            machine: Union[Machine, inpage.PageMachine]
+            if words.in_page is None:
+                machine = Machine(["-device", words.card or "VGA", *plugin, *words.qemu], deeds, words.quiet, words.seconds)
+            else:
+                options = words.speed, words.rom, words.start
+                machine = inpage.PageMachine(words.in_page, deeds, words.quiet, words.seconds, *options)
             return _judge(machine, folder, program, words.fonts, progress)
     finally:
         for left in folder.glob(".dump.*.ppm"):
@@ -230,19 +256,25 @@ def _record(words: argparse.Namespace, progress: Progress) -> int:
             folder.rmdir()
 
 
-def _judge(machine: Machine, folder: Path, program: str, fonts: str, progress: Progress) -> int:
+def _judge(machine: Union[Machine, inpage.PageMachine], folder: Path, program: str, fonts: str, progress: Progress) -> int:
     def say(text: str) -> None:
         progress.clear()
         print(f"vga-trace: {text}", file=sys.stderr)
 
-    screens = record(machine, folder, say, progress)
+    is_own, refusals = isinstance(machine, inpage.PageMachine), 0
+    if isinstance(machine, inpage.PageMachine):
+        screens, refusals = inpage.record(machine, folder, say, progress)
+    else:
+        screens = record(machine, folder, say, progress)
     if progress.is_due():
         progress.tell(f"{folder / TRACE}: a script is made")
-    done = replay(folder, program, fonts, progress)
+    done = replay(folder, program, fonts, progress, is_own)
     progress.clear()
     _warn(done.listing, str(folder / TRACE))
     lines = [done.written.line(done.listing), *done.checked.lines(MOST_TOLD)]
-    are_equal = done.checked.agrees and bool(screens)
+    # What the page's machine has refused is refused here as well.
+    agrees = not done.checked.differing and sum(done.checked.refused.values()) == refusals
+    are_equal = agrees and bool(screens)
     for number, at in enumerate(screens, 1):
         screen, front = done.screens.get(number - 1), f"screen {number} at {at:.1f} s"
         are_equal &= screen is not None and screen.is_equal

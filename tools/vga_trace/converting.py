@@ -17,7 +17,7 @@ from zaklimot.format.picture import Digest
 from zaklimot.format.report import REFUSAL, SKIPPED, VALUE
 
 from .state import State, rebuilt
-from .step import ADVANCE, BEAM_BITS, FRAME, NAMES, OUT, OUTW, PORTS, PUT, PUTW, Step, steps_of, without_polls
+from .step import ADVANCE, BEAM_BITS, FRAME, INT, NAMES, OUT, OUTW, PORTS, PUT, PUTW, Step, steps_of, without_polls
 from .trace import MEMORY, PORT, Cycle, Trace
 
 # When a script has a frame: at its end alone, before each page flip, where a screen was taken, once in each frame of the dot
@@ -34,7 +34,7 @@ AHEAD, FETCHED = 64, 4096
 Code = Callable[[Step], bytes]
 # Microseconds that are put together before they become a step: about a line.
 LEAST_PAUSE = 30
-WRITES = (OUT, OUTW, PUT, PUTW)
+WRITES = (OUT, OUTW, PUT, PUTW, INT)
 CONTROLLERS = (0x3D4, 0x3B4)
 # The CRT controller's registers of the start address, which a page flip writes.
 START_ADDRESS = (0x0C, 0x0D)
@@ -42,8 +42,14 @@ START_ADDRESS = (0x0C, 0x0D)
 WINDOWS = {0x14: "A0000", 0x15: "A0000", 0x16: "B0000", 0x17: "B8000"}
 
 
+def advances(dots: int) -> Iterator[Step]:
+    """The steps by which so many dots pass."""
+    for left in range(dots, 0, -MOST_ADVANCE):
+        yield Step(ADVANCE, min(left, MOST_ADVANCE))
+
+
 class Pauses:
-    """The time between steps, as dots of the clock that the steps before have chosen."""
+    """The time between steps, as dots of the clock that the steps before have chosen; exact where the trace tells them."""
 
     def __init__(self) -> None:
         self._registers = Registers()
@@ -54,11 +60,15 @@ class Pauses:
     def steps(self, steps: Iterable[Step]) -> Iterator[Step]:
         """The steps, with the clock advanced before those to which time has passed."""
         for step in steps:
-            dots = self._dots(step.time)
-            if dots:
-                yield Step(ADVANCE, dots)
+            dots = self._dots(step.time) if step.dots is None else self._exact(step)
+            yield from advances(dots)
             self._registers.take(step.step)
             yield step
+
+    def _exact(self, step: Step) -> int:
+        """The dots before a step that the trace tells. A frame lets its last dot pass itself."""
+        self._last, self._owed = step.time, 0
+        return max(0, (step.dots or 0) - (step.opcode == FRAME))
 
     def _dots(self, now: Optional[int]) -> int:
         """The dots of the time that has passed until now, a frame's at most; 0 of less than a line, kept for later."""
@@ -117,9 +127,7 @@ class Clocked:
             self.shortened += 1
             self.left_out += seconds - self.longest
         speed, frames = self._registers.speed(), round(min(seconds, self.longest) / self._registers.frame()) - 1
-        dots = 0 if speed is None else speed[0] * max(frames, 0)
-        for left in range(dots, 0, -MOST_ADVANCE):
-            yield Step(ADVANCE, min(left, MOST_ADVANCE))
+        yield from advances(0 if speed is None else speed[0] * max(frames, 0))
 
 
 def with_flips(steps: Iterable[Step]) -> Iterator[Step]:
@@ -171,6 +179,7 @@ class Listing:
         self._keeps_polls, self._has_time, self._frames = keeps_polls, has_time, frames
         self._is_timed = has_time or frames == CLOCK or isinstance(frames, float)
         self._most, self._first = most, first
+        self.has_time = has_time
         self._pauses, self._clocked = Pauses(), Clocked(longest)
         self.rebuilding = 0
 
@@ -211,6 +220,9 @@ class Listing:
         for step in steps:
             if step.cycle >= self._first:
                 break
+            if step.opcode == INT:
+                reason = "a call of interrupt 10, and --from follows cycles alone: what comes after it begins at power-on"
+                raise Trouble(f"cycle {step.cycle:,} is {reason}", self.trace.name)
             state.take(step)
         else:
             told = f"it has {self.trace.count:,} cycles, and none from {self._first:,} on becomes a step"
@@ -222,13 +234,16 @@ class Listing:
         yield from steps
 
     def _with_screens(self, steps: Iterator[Step]) -> Iterator[Step]:
-        screens, taken = self.trace.screens, 0
+        screens, dots, taken = self.trace.screens, self.trace.screen_dots, 0
         for step in steps:
+            passed = 0
             while taken < len(screens) and screens[taken] < step.cycle:
-                yield Step(FRAME, time=step.time)
+                yield Step(FRAME, time=step.time, dots=dots[taken])
+                passed += dots[taken] or 0
                 taken += 1
-            yield step
-        yield from [Step(FRAME)] * (len(screens) - taken)
+            # The dots of the screens are among those since the cycle before.
+            yield step if step.dots is None else step._replace(dots=step.dots - passed)
+        yield from (Step(FRAME, dots=last) for last in dots[taken:])
 
     def _timed(self, steps: Iterator[Step]) -> Iterator[Step]:
         for number, step in enumerate(steps):
@@ -389,8 +404,10 @@ class Checked:
         kinds[kind] += 1
         self.examples.setdefault(kind, f"first at step {told}")
 
-    def take(self, step: Step, answer: Answer, kind: str) -> None:
-        """Counts a step and its answer. No trace tells where the beam is: these bits of input status 1 don't count."""
+    def take(self, step: Step, answer: Answer, kind: str, is_exact: bool = False) -> None:
+        """Counts a step and its answer. A trace without dots doesn't tell where the beam is: of input status 1 these bits
+        don't count then.
+        """
         self.steps += 1
         if answer.answer == SKIPPED:
             self.skipped += 1
@@ -398,7 +415,7 @@ class Checked:
             self.note(self.refused, f"{answer.answer}: {kind}", f"{self.steps:,}")
         elif answer.kind == VALUE:
             self.reads[kind] += 1
-            if (int(answer.answer, 16) ^ step.value) & ~(BEAM_BITS if step.is_status else 0):
+            if (int(answer.answer, 16) ^ step.value) & ~(BEAM_BITS if step.is_status and not is_exact else 0):
                 traced = f"{step.value:0{len(answer.answer)}X}"
                 self.note(self.differing, kind, f"{self.steps:,}: traced {traced}, answered {answer.answer}")
 
@@ -415,12 +432,16 @@ def _judged(step: Step, number: int, answer: Optional[Answer], name: str) -> Ans
     return answer
 
 
-def check(steps: Iterable[Step], answers: Iterator[Answer], name: str) -> Checked:
-    """Holds the answers of a report, which messages call by a name, against the steps of a trace."""
+def check(steps: Iterable[Step], answers: Iterator[Answer], name: str, has_time: bool = False) -> Checked:
+    """Holds the answers of a report, which messages call by a name, against the steps of a trace.
+
+    Where time has passed by the dots of the trace, the beam is where it was.
+    """
     checked, registers = Checked(), Registers()
     for number, step in enumerate(steps, 1):
         answer = _judged(step, number, next(answers, None), name)
-        checked.take(step, answer, f"{NAMES[step.opcode]} {_place(step, registers)}")
+        is_exact = has_time and step.dots is not None
+        checked.take(step, answer, f"{NAMES[step.opcode]} {_place(step, registers)}", is_exact)
         registers.take(step.step)
     if next(answers, None) is not None:
         raise Trouble(f"it has more than the {checked.steps:,} steps of the trace: it is of another script", name)
@@ -436,6 +457,9 @@ def count(cycles: Iterable[Cycle]) -> Counter[str]:
     """How many cycles there are of each kind: direction, port or window, and bytes."""
     found: Counter[str] = Counter()
     for cycle in cycles:
+        if cycle.call is not None:
+            found[f"call of interrupt 10, AH {cycle.call.registers[0] >> 8:02X}"] += 1
+            continue
         place = place_of(cycle.address) if cycle.space == MEMORY else f"{cycle.space} {cycle.address:03X}"
         # A VBE port is none of the adapter's, and is called so.
         found[f"{'write' if cycle.is_write else 'read'} {place} size {cycle.size}"] += 1
@@ -443,7 +467,9 @@ def count(cycles: Iterable[Cycle]) -> Counter[str]:
 
 
 def _place(step: Step, registers: Registers) -> str:
-    """What a step is about: a window of memory, or a port; of a port of data also the index of its register."""
+    """What a step is about: a function of the BIOS, a window of memory, or a port, of data with its register's index."""
+    if step.call is not None:
+        return f"AH {step.call.registers[0] >> 8:02X}"
     if step.opcode not in PORTS:
         return place_of(step.address)
     group = ATTRIBUTES if step.address == ATTRIBUTE + 1 else INDEX_PORTS.get(step.address - 1)

@@ -67,9 +67,9 @@ class Machine:
 class Keeper(Thread):
     """Keeps the lines of a pipe in a file, and tells how many bytes there were, and when the last came."""
 
-    def __init__(self, source: BinaryIO, target: BinaryIO) -> None:
+    def __init__(self, source: BinaryIO, target: BinaryIO, name: str = QEMU) -> None:
         super().__init__(daemon=True)
-        self._source, self._target = source, target
+        self._source, self._target, self._name = source, target, name
         self.size, self.last = 0, time.monotonic()
         self.trouble: Optional[Trouble] = None
 
@@ -82,9 +82,9 @@ class Keeper(Thread):
                     if self.size <= MOST_LINES:
                         self._target.write(chunk)
                     else:
-                        self.trouble = Trouble(f"its trace has more than {MOST_LINES:,} bytes: end it sooner", QEMU)
+                        self.trouble = Trouble(f"its trace has more than {MOST_LINES:,} bytes: end it sooner", self._name)
                 except OSError as error:
-                    self.trouble = Trouble(f"its trace can't be kept: {error.strerror or error}", QEMU)
+                    self.trouble = Trouble(f"its trace can't be kept: {error.strerror or error}", self._name)
 
 
 @dataclass

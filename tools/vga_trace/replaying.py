@@ -46,7 +46,8 @@ class Screen:
     """A dump of a screen, held against the picture here, and the names of what is known of how they differ.
 
     `state` is that of the moment, `cycle` how many cycles came before, and `lacking` what the trace lacks up to there.
-    What was held of the picture is all of it, or its front where qemu leaves out the last lines.
+    What was held of the picture is all of it, or its front where qemu leaves out the last lines. Of the page's own machine
+    nothing is known that differs.
     """
 
     state: State
@@ -55,16 +56,17 @@ class Screen:
     dump: Path = Path()
     cycle: int = 0
     lacking: str = ""
+    is_own: bool = False
 
     def __post_init__(self) -> None:
         self.part, self.held = self.picture, held(self.picture, self.image)
-        if self.held.count is None:
+        if self.held.count is None and not self.is_own:
             front = whole_rows(self.state, self.picture)
             found = held(front, self.image)
             if found.count is not None:
                 self.part, self.held = front, found
         # The state goes on from here: what it tells is asked now.
-        self.names = {} if self.is_equal else _known(self)
+        self.names = {} if self.is_equal or self.is_own else _known(self)
 
     @property
     def is_equal(self) -> bool:
@@ -98,6 +100,8 @@ class Screen:
     def lines(self, front: str) -> Iterator[str]:
         """What is told of it, behind words that tell which screen it is."""
         yield f"{front}, after cycle {self.cycle:,}: {self._told()}"
+        if self.is_own:
+            return
         if not self.is_equal and self.lacking:
             yield f"  {self.lacking}"
         elif not self.is_equal:
@@ -222,7 +226,8 @@ def _known(screen: Screen) -> dict[str, list[str]]:
 class Replay:
     """The steps of a trace and the answers to them, as they pass: the script's figures, the reads, and the screens.
 
-    `cycles` tells how many cycles stand before each dump, of which a screen has several: `screens` keeps the nearest.
+    `cycles` tells how many cycles stand before each dump, of which a screen has several: `screens` keeps the nearest. A
+    recording of the page's own machine tells the dots between its cycles, and has one dump of a screen.
     """
 
     written: Written
@@ -232,12 +237,14 @@ class Replay:
     checked: Checked = field(default_factory=Checked)
     state: State = field(default_factory=State)
     screens: dict[int, Screen] = field(default_factory=dict)
+    is_own: bool = False
     _dumps: int = 0
 
     def steps(self) -> Iterator[Step]:
-        """The steps, of which the state is kept."""
+        """The steps, of which the state is kept, as far as something hangs on it."""
         for step in self.listing.steps():
-            self.state.take(step)
+            if not self.is_own:
+                self.state.take(step)
             yield step
 
     def answers(self, answers: Iterator[Answer]) -> Iterator[Answer]:
@@ -250,9 +257,11 @@ class Replay:
             yield answer
 
     def _judge(self, picture: Picture) -> None:
-        path, number = dump(self.folder, self._dumps), self._dumps // PHASES
+        path, number = dump(self.folder, self._dumps), self._dumps // (1 if self.is_own else PHASES)
+        if not path.exists():
+            return
         image, cycle = image_of(image_bytes(str(path)), str(path)), self.cycles[self._dumps]
-        screen = Screen(self.state, picture, image, path, cycle, self.listing.trace.lacking)
+        screen = Screen(self.state, picture, image, path, cycle, self.listing.trace.lacking, self.is_own)
         if number not in self.screens or screen.distance < self.screens[number].distance:
             self.screens[number] = screen
 
@@ -267,16 +276,20 @@ def _run_script(program: str, fonts: str, script: Path, report: Path) -> None:
         answers.replace(report)
 
 
-def replay(folder: Path, program: str, fonts: str, progress: Progress) -> Replay:
-    """Makes script.bin and report.txt beside a trace and its screens in a folder, and holds all against one another."""
+def replay(folder: Path, program: str, fonts: str, progress: Progress, is_own: bool = False) -> Replay:
+    """Makes script.bin and report.txt beside a trace and its screens in a folder, and holds all against one another.
+
+    In a recording of the page's own machine time passes, dot by dot.
+    """
     trace, script, report = str(folder / TRACE), folder / "script.bin", folder / "report.txt"
     with opened(trace) as read, writing(str(script)) as stream:
-        written = convert(Listing(read, frames=SCREENS), stream)
+        written = convert(Listing(read, has_time=is_own, frames=SCREENS), stream)
         cycles = read.screens
     _run_script(program, fonts, script, report)
     with opened(trace) as read, reading(str(report)) as answers:
-        done, name = Replay(written, Listing(read, frames=SCREENS), folder, cycles), str(report)
-        done.checked = check(done.steps(), done.answers(Report(answers, name, progress).steps()), name)
+        listing, name = Listing(read, has_time=is_own, frames=SCREENS), str(report)
+        done = Replay(written, listing, folder, cycles, is_own=is_own)
+        done.checked = check(done.steps(), done.answers(Report(answers, name, progress).steps()), name, is_own)
     return done
 
 

@@ -14,14 +14,16 @@ from typing import BinaryIO, Iterator, NamedTuple, Optional
 
 from vga_report.streams import name_of, reading
 from vga_report.trouble import Trouble
+from zaklimot.format import MOST_BLOCK
 
-# Where a cycle goes: a port, display memory, or a port of the Bochs VBE extensions, which is none of a VGA's.
-PORT, MEMORY, VBE = "port", "memory", "vbe"
+# Where a cycle goes: a port, display memory, or a port of the Bochs VBE extensions, which is none of a VGA's. A call of
+# interrupt 10, which the adapter's own BIOS serves, stands for all of its cycles.
+PORT, MEMORY, VBE, CALL = "port", "memory", "vbe", "call"
 SIZES = (1, 2, 4, 8)
 # Addresses above these are none.
 MOST_PORT, MOST_ADDRESS = 0xFFFF, 0xFFFFFFFF
-# Longer lines are none of a trace's, and no trace has more before its first cycle.
-MOST_LINE, MOST_BEFORE = 1 << 16, 1 << 26
+# Longer lines are none of a trace's, and no trace has more before its first cycle. A call's block has two digits a byte.
+MOST_LINE, MOST_BEFORE = 1 << 18, 1 << 26
 GZIP = b"\x1f\x8b"
 # What each cycle of qemu's log has, of whatever device.
 EVENT = b"memory_region_ops_"
@@ -29,10 +31,18 @@ QEMU = re.compile(
     rb"(?:\d+@(?P<time>\d+\.\d{6}):)?memory_region_ops_(?P<kind>read|write) cpu -?\d+ mr (?:0x[0-9a-f]+|\(nil\)) "
     rb"addr 0x(?P<address>[0-9a-f]+) value 0x(?P<value>[0-9a-f]+) size (?P<size>\d) name '(?P<place>[^']*)'\s*"
 )
+# The time of the plain form: microseconds, and the dots since the line before where they are known.
+TIME = rb"\s*(?:-|(?P<time>[0-9]{1,18})(?:\+(?P<dots>[0-9]{1,12}))?)\s+"
 PLAIN = re.compile(
-    rb"\s*(?:-|(?P<time>[0-9]{1,18}))\s+(?P<kind>[rw])\s+(?P<place>[pm])\s+(?P<address>[0-9A-Fa-f]{1,8})\s+"
+    TIME + rb"(?P<kind>[rw])\s+(?P<place>[pm])\s+(?P<address>[0-9A-Fa-f]{1,8})\s+"
     rb"(?P<value>[0-9A-Fa-f]{1,16})\s+(?P<size>\d)\s*(?:;.*)?", re.DOTALL
 )
+# A call of interrupt 10 in the plain form, and the end of a frame whose picture was kept.
+PLAIN_CALL = re.compile(
+    TIME + rb"int\s+(?P<registers>(?:[0-9A-Fa-f]{1,4}\s+){3}[0-9A-Fa-f]{1,4})(?:\s+(?P<block>(?:[0-9A-Fa-f]{2})+))?"
+    rb"\s*(?:;.*)?", re.DOTALL
+)
+PLAIN_FRAME = re.compile(TIME + rb"frame\s*(?:;.*)?", re.DOTALL)
 # What the plain form's letters are, and the regions of qemu's VGA cards, and of a plugin that sees chain 4.
 SPACES = {
     b"p": PORT, b"vga": PORT, b"cirrus-io": PORT, b"vbe": VBE,
@@ -49,8 +59,19 @@ MAP_MASK, MEMORY_MODE, VBE_ENABLE = (SEQUENCER, 2), (SEQUENCER, 4), (VBE_INDEX, 
 ALL_PLANES, CHAIN_4 = 0x0F, 0x08
 
 
+class Call(NamedTuple):
+    """A call of interrupt 10: AX, BX, CX and DX, and the bytes of its block."""
+
+    registers: tuple[int, ...]
+    block: bytes = b""
+
+
 class Cycle(NamedTuple):
-    """A cycle of 1, 2, 4 or 8 bytes. The value is what was written or read; the time is in microseconds, if known."""
+    """A cycle of 1, 2, 4 or 8 bytes. The value is what was written or read; the time is in microseconds, if known.
+
+    `dots` is how many dots the display has drawn since the cycle before, if that is known: the time is exact then. Of a
+    call all else is 0.
+    """
 
     is_write: bool
     space: str
@@ -58,9 +79,14 @@ class Cycle(NamedTuple):
     value: int
     size: int
     time: Optional[int]
+    dots: Optional[int] = None
+    call: Optional[Call] = None
 
     def fault(self) -> Optional[str]:
         """Why there can't be such a cycle, if there can't."""
+        if self.call is not None:
+            is_long = len(self.call.block) > MOST_BLOCK
+            return f"a call's block has {MOST_BLOCK:,} bytes at most" if is_long else None
         if self.size not in SIZES:
             return f"a cycle has 1, 2, 4 or 8 bytes, and not {self.size}"
         if self.value >> 8 * self.size:
@@ -80,8 +106,12 @@ class Trace:
         self.line = 0
         # How many cycles came so far, and how many of them have no time.
         self.count = self.untimed = 0
-        # How many cycles stand before each screen that was taken.
+        # How many cycles stand before each screen that was taken; and the dots until then since the line before, if known.
         self.screens: list[int] = []
+        self.screen_dots: list[Optional[int]] = []
+        # Dots of screens since the last cycle; whether dots are told at all.
+        self._dots = 0
+        self.has_dots = False
         self._damaged = self._first_damaged = 0
         # The first write, where that is not one of power-on; and the first that turned VBE on; 0 if never.
         self._begins_late: Optional[int] = None
@@ -136,7 +166,7 @@ class Trace:
     def _cycle(self, line: bytes) -> Optional[Cycle]:
         """The cycle of a line, where it has one of a VGA. The first line that has one says which form it is."""
         if not self._is_plain and line.startswith(SCREEN):
-            self.screens.append(self.count)
+            self._take_screen(None)
             return None
         if self._is_plain is None:
             self._is_plain = self._found_form(line)
@@ -145,18 +175,47 @@ class Trace:
             return None
         found = (PLAIN if self._is_plain else QEMU).fullmatch(line)
         if found is None:
-            self._pass(line)
-            return None
+            return self._other(line)
         time, kind, place, address, value, size = found.group("time", "kind", "place", "address", "value", "size")
         if place not in SPACES:
             return None
         # A log has seconds with six digits behind the point.
         micros = None if time is None else int(time.replace(b".", b""))
-        cycle = Cycle(kind[:1] == b"w", SPACES[place], int(address, 16), int(value, 16), int(size), micros)
+        dots = self._passed(found["dots"]) if self._is_plain else None
+        cycle = Cycle(kind[:1] == b"w", SPACES[place], int(address, 16), int(value, 16), int(size), micros, dots)
+        return self._judged(cycle)
+
+    def _judged(self, cycle: Cycle) -> Cycle:
         fault = cycle.fault()
         if fault is not None:
             raise self.trouble(fault)
         return cycle
+
+    def _other(self, line: bytes) -> Optional[Cycle]:
+        """What the plain form has beside cycles: calls, and frames. All else is passed."""
+        call, frame = (form.fullmatch(line) if self._is_plain else None for form in (PLAIN_CALL, PLAIN_FRAME))
+        if frame is not None:
+            self._take_screen(None if frame["dots"] is None else int(frame["dots"]))
+        if call is None:
+            if frame is None:
+                self._pass(line)
+            return None
+        given = Call(tuple(int(word, 16) for word in call["registers"].split()), bytes.fromhex((call["block"] or b"").decode()))
+        micros = None if call["time"] is None else int(call["time"])
+        return self._judged(Cycle(True, CALL, 0, 0, 0, micros, self._passed(call["dots"]), given))
+
+    def _take_screen(self, dots: Optional[int]) -> None:
+        self.screens.append(self.count)
+        self.screen_dots.append(dots)
+        self._dots += dots or 0
+
+    def _passed(self, dots: Optional[bytes]) -> Optional[int]:
+        """The dots since the cycle before, where a line tells those since the line before."""
+        if dots is None:
+            return None
+        self.has_dots = True
+        passed, self._dots = int(dots) + self._dots, 0
+        return passed
 
     def _pass(self, line: bytes) -> None:
         """Passes a line that is no cycle: one of a log is damaged, and the plain form has nothing else but comments."""
@@ -169,7 +228,7 @@ class Trace:
     def _found_form(self, line: bytes) -> Optional[bool]:
         if EVENT in line:
             return False
-        if PLAIN.fullmatch(line) is None:
+        if PLAIN.fullmatch(line) is None and PLAIN_CALL.fullmatch(line) is None:
             if self._first_other == 0 and PASSED.fullmatch(line) is None:
                 self._first_other = self.line
             return None
@@ -185,7 +244,7 @@ class Trace:
         if not cycle.is_write:
             return
         if self._begins_late is None:
-            self._begins_late = 0 if cycle.address == MISCELLANEOUS_OUTPUT else self.count
+            self._begins_late = 0 if cycle.address == MISCELLANEOUS_OUTPUT or cycle.space == CALL else self.count
         if cycle.space == VBE:
             self._write(cycle.address, cycle.value)
         elif cycle.space == PORT:
@@ -211,11 +270,13 @@ class Trace:
         """Why a picture may be another one here: what the cycles lack so far that a screen shows."""
         if self._vbe_enabled:
             return "VBE is on: what qemu shows is no VGA's"
-        return "chain 4 is on, and no memory was recorded since: --chain-4 does so" if self._silent else ""
+        is_silent = self._silent and not self.has_dots
+        return "chain 4 is on, and no memory was recorded since: --chain-4 does so" if is_silent else ""
 
     def warnings(self) -> Iterator[str]:
         """What the cycles up to now lack, a line each."""
-        silent = self._first_silent or self._silent
+        # What tells dots tells all cycles.
+        silent = 0 if self.has_dots else self._first_silent or self._silent
         if self._damaged:
             yield f"{self._damaged:,} lines of cycles are damaged and left out, line {self._first_damaged:,} first"
         # The first write of a video BIOS is that of miscellaneous output.

@@ -1,0 +1,139 @@
+// The last frames of a machine as a trace of cycles with their times (docs/TRACES.md). A trace knows no calls of
+// the BIOS: what one did becomes cycles that leave the same.
+import { LEAST_PAUSE, TimingRegisters } from "../files/pauses.js";
+import { Session } from "../run/session.js";
+import { Trouble } from "../common/trouble.js";
+import { cyclesBetween } from "./rebuilding.js";
+import { grouped, hex } from "../common/bytes.js";
+import { judgedRecording } from "./recording.js";
+
+/** The cursor and blinking text go by the number of a frame modulo this. */
+const FRAMES = 32;
+const MISC_READ = 0x3cc, LEAST = Number(LEAST_PAUSE), MILLION = 1000000;
+/** Each call takes two states of the adapter, so there may be so many. */
+const MOST_CALLS = 2000;
+const HEAD = ["; The last frames of a machine: TIME r|w p|m ADDRESS VALUE SIZE, of microseconds.",
+  "; The first cycles make the state with which they begin. What the video BIOS did stands as cycles at one moment.",
+  "; A read of port 3CC passes each frame in which nothing else happens.", ""];
+
+/**
+ * The times of cycles, such that who makes pauses of them (see pauses.js) comes to the same dots: what is owed to
+ * him goes on to the next time.
+ */
+class TraceClock {
+  micros = 0;
+  #registers = new TimingRegisters();
+  #last = 0;
+  /** Dots that have passed, and dots that the pauses have until #last. */
+  #dots = 0;
+  #given = 0;
+
+  get speed() {
+    return this.#registers.speed;
+  }
+
+  /** So many dots pass. */
+  pass(dots) {
+    this.#dots += dots;
+  }
+
+  /** A cycle comes now: { name, isWord, address, value }. */
+  take(step) {
+    const { speed } = this;
+    if (!speed) this.#given = this.#dots;
+    else this.#advance(speed);
+    this.#registers.take(step);
+  }
+
+  #advance({ dots, rate }) {
+    const owed = Math.max(0, this.#dots - this.#given);
+    // A whole frame is exact: a longer pause has its dots too.
+    const micros = owed >= dots ? Math.ceil(dots * MILLION / rate) + 1 : Math.round(owed * MILLION / rate);
+    this.micros = Math.max(this.micros, this.#last + micros);
+    if (this.micros - this.#last < LEAST) return;
+    this.#given += Math.min(dots, Math.trunc((this.micros - this.#last) * rate / MILLION));
+    this.#last = this.micros;
+  }
+}
+
+/** The cycle of a line of a script: { name, isPort, isWord, address, value }. */
+function cycleOf(line) {
+  const [name, address, value = "0"] = line.split(" "), isPort = /^(in|out)/.test(name);
+  return { name: name.replace(/w$/, ""), isPort, isWord: name.endsWith("w"), address: parseInt(address, 16),
+    value: parseInt(value, 16) };
+}
+
+/** Writes a trace. */
+class TraceWriter {
+  lines = [...HEAD];
+  #clock = new TraceClock();
+
+  /** A cycle; `read` is what a read has answered. */
+  add(line, read = "0") {
+    const cycle = cycleOf(line), { name, isPort, isWord, address, value } = cycle;
+    const isRead = name === "in" || name === "get";
+    this.#clock.take(cycle);
+    const told = isRead ? read : hex(value, isWord ? 4 : 2);
+    this.lines.push(`${this.#clock.micros} ${isRead ? "r" : "w"} ${isPort ? "p" : "m"} ` +
+      `${hex(address, isPort ? 3 : 5)} ${told} ${isWord ? 2 : 1}`);
+  }
+
+  /** Cycles at one moment, as cyclesBetween tells them. */
+  addAll(lines) {
+    for (const line of lines) this.add(...line.split(" ; = "));
+  }
+
+  passFrames(count, misc) {
+    this.pass(count * (this.#clock.speed?.dots ?? 0), misc);
+  }
+
+  /** Dots pass; of more than a frame's, each whole frame ends with a read that changes nothing. */
+  pass(dots, misc) {
+    const frame = this.#clock.speed?.dots ?? Infinity;
+    for (let left = dots; left > 0; left -= frame) {
+      this.#clock.pass(Math.min(left, frame));
+      if (left >= frame) this.add(`in ${hex(MISC_READ, 3)}`, hex(misc, 2));
+    }
+  }
+}
+
+/** The steps of a recording from one on, each { step, entry }. */
+function* stepsFrom(recording, first) {
+  for (let step = first; step < recording.length; step++) yield { step, entry: recording.entryOf(step) };
+}
+
+function checkCalls(recording) {
+  const calls = recording.blockOf.size;
+  if (calls <= MOST_CALLS) return;
+  throw new Trouble(`These frames have ${grouped(calls)} calls of the video BIOS, and a trace may have ` +
+    `${grouped(MOST_CALLS)}. Go on, and pause it where it calls less.`);
+}
+
+/** The trace of a recording whose session begins at power-on. */
+export function traceOfRecording(recording, adapter, fonts) {
+  checkCalls(recording);
+  const session = new Session(adapter, fonts, "", judgedRecording(adapter, recording)), writer = new TraceWriter();
+  const stateAt = step => {
+    session.seek(step);
+    return session.state();
+  };
+  try {
+    const first = recording.head.length, begin = stateAt(first);
+    let { misc } = begin.registers;
+    writer.addAll(cyclesBetween(stateAt(0), begin));
+    writer.passFrames(begin.beam.frame % FRAMES, misc);
+    for (const { step, entry } of stepsFrom(recording, first)) {
+      const name = recording.nameOf(entry), words = recording.wordsOf(entry);
+      if (name === "advance") writer.pass(Number(words.slice(8)), misc);
+      else if (name === "int") {
+        const before = stateAt(step), after = stateAt(step + 1);
+        ({ misc } = after.registers);
+        writer.addAll(cyclesBetween(before, after));
+      } else writer.add(words, recording.expectedOf(entry) ?? (name.endsWith("w") ? "FFFF" : "FF"));
+      if (/^out 3C2/.test(words)) misc = parseInt(words.slice(8), 16);
+    }
+    return `${writer.lines.join("\n")}\n`;
+  } finally {
+    session.close();
+  }
+}
