@@ -30,6 +30,8 @@ static zak_size size;
 static size_t len;
 static uint8_t byte;
 static uint16_t word;
+/* Where the memory of the mode begins. */
+static uint32_t window;
 static size_t place, taken, script_len;
 static uint8_t text_of_puts[LINE_BYTES * LINES], printed[LINE_BYTES * LINES];
 static uint8_t script[HEADER_BYTES + STEP_BYTES * LINES], report[ANSWER_BYTES * PUTS];
@@ -74,6 +76,21 @@ static zak_status do_advance_0(uint32_t i) { return zak_advance(&card, i & 0); }
 static zak_status do_advance_1(uint32_t i) { return zak_advance(&card, 1 + (i & 0)); }
 static zak_status do_advance_25(uint32_t i) { return zak_advance(&card, 25 + (i & 0)); }
 static zak_status do_advance_line(uint32_t i) { return zak_advance(&card, 800 + (i & 0)); }
+
+/* A cycle after an advance, as a core makes them that lets the clock run for each instruction. The
+ * addresses are those of 32 KiB that the mode has. */
+static zak_status do_advance_put(uint32_t i)
+{
+    return do_advance_25(i) | zak_put(&card, window + (i & 0x7FFF), (uint8_t)i);
+}
+
+static zak_status do_advance_get(uint32_t i)
+{
+    return do_advance_25(i) | zak_get(&card, window + (i & 0x7FFF), &byte);
+}
+
+static zak_status do_advance_in(uint32_t i) { return do_advance_25(i) | do_in(i); }
+static zak_status do_advance_out_word(uint32_t i) { return do_advance_25(i) | do_out_word(i); }
 
 /* Many bytes by one call, and by as many calls: a screen of mode 13, a page of text, and 8,400 bytes
  * that are copied by the latches. */
@@ -321,6 +338,10 @@ static const struct call {
     {"advance_1", do_advance_1, NULL},
     {"advance_25", do_advance_25, NULL},
     {"advance_line", do_advance_line, NULL},
+    {"advance_put", do_advance_put, NULL},
+    {"advance_get", do_advance_get, NULL},
+    {"advance_in", do_advance_in, NULL},
+    {"advance_out_word", do_advance_out_word, NULL},
     {"put_bytes", do_put_bytes, NULL},
     {"put_each", do_put_each, NULL},
     {"fill_bytes", do_fill, NULL},
@@ -374,7 +395,9 @@ int main(int argc, char **argv)
         return 2;
     fclose(file);
     zak_status status = zak_open(&card, fonts, sizeof fonts);
-    status |= call_int10((uint16_t)strtoul(argv[2], NULL, 16), 0);
+    uint16_t mode = (uint16_t)strtoul(argv[2], NULL, 16);
+    window = mode < 4 ? 0xB8000 : 0xA0000;
+    status |= call_int10(mode, 0);
     /* From the first dot of a whole frame on. */
     status |= zak_frame(&card, &size, rgb, sizeof rgb);
     for (size_t i = 0; i < sizeof CALLS / sizeof *CALLS; i++)

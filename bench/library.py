@@ -36,6 +36,8 @@ CALLS = (
     Call("get_word", "13"), Call("out", "13"), Call("out_word", "13"), Call("in", "13"),
     Call("advance_0", "13"), Call("advance_1", "13"), Call("advance_25", "13", timed=1_000_000),
     Call("advance_line", "13", 1000, 100_000),
+    # A cycle after an advance.
+    *(Call(f"advance_{cycle}", mode, timed=1_000_000) for cycle in ("put", "get", "in", "out_word") for mode in ("13", "12", "3")),
     # Many bytes by one call, and by as many calls.
     Call("put_bytes", "13", 10, 2000), Call("put_each", "13", 10, 500), Call("fill_bytes", "13", 10, 5000),
     Call("get_bytes", "13", 10, 1000), Call("get_each", "13", 10, 500),

@@ -2,9 +2,9 @@
  *
  * SPDX-License-Identifier: MIT
  *
- * Each function is the call of the same name; zaklimot.h tells what it does. Where a call is not
- * done it throws zaklimot::error, whose status() is one of zaklimot.h. What the header says of
- * pointers and lengths holds by itself: buffers are vectors, or a zaklimot::span.
+ * Each function is the call of the same name; zaklimot.h says what it does. If a call answers another
+ * status than ZAK_OK, the function throws zaklimot::error with that status. Buffers are vectors or a
+ * zaklimot::span, so you need not check what zaklimot.h says of pointers and lengths.
  */
 #ifndef ZAKLIMOT_HPP
 #define ZAKLIMOT_HPP
@@ -21,7 +21,7 @@
 
 namespace zaklimot {
 
-/* A call that is not done, with its status; and with the place where a script is bad, or 0. */
+/* The status of a call that failed, and the place of the fault in a script, or 0. */
 class error : public std::runtime_error {
 public:
     error(zak_status status, std::size_t place = 0)
@@ -42,7 +42,7 @@ inline void check(zak_status status, std::size_t place = 0)
         throw error(status, place);
 }
 
-/* So many elements of somebody else's memory. A vector, a string and an array become one. */
+/* Elements of somebody else's memory. Vectors, strings and arrays convert to a span. */
 template <typename T> class span {
 public:
     span() noexcept : data_(&nothing()), size_(0) {}
@@ -56,7 +56,7 @@ public:
     T &operator[](std::size_t at) const { return data_[at]; }
 
 private:
-    /* No pointer of a call is NULL. */
+    /* Calls take no NULL pointers. */
     static T &nothing() noexcept
     {
         static std::remove_const_t<T> one{};
@@ -68,13 +68,13 @@ private:
 
 using bytes = span<const std::uint8_t>;
 
-/* A picture: three bytes a dot, red, green and blue, 0 to 63 each, rows from the top. */
+/* A picture: three bytes per dot, red, green and blue, 0 to 63 each, rows from the top. */
 struct picture {
     std::uint32_t width, height;
     span<const std::uint8_t> rgb;
 };
 
-/* A VGA adapter with its video BIOS, open as long as it lives. It moves, and is not copied. */
+/* A VGA adapter with its video BIOS, open as long as the object lives. You can move it, but not copy it. */
 class card {
 public:
     explicit card(bytes fonts) { check(zak_open(&raw_, fonts.data(), fonts.size())); }
@@ -102,7 +102,7 @@ public:
     std::uint8_t get(std::uint32_t address) { return read<std::uint8_t>(zak_get, address); }
     std::uint16_t get_word(std::uint32_t address) { return read<std::uint16_t>(zak_get_word, address); }
 
-    /* Each answers how many addresses are decoded. */
+    /* These return how many addresses are decoded. */
     std::size_t put_bytes(std::uint32_t address, bytes data, bool down = false)
     {
         return decoded(zak_put_bytes, address, data.data(), data.size(), down);
@@ -123,7 +123,7 @@ public:
     void advance(std::uint32_t dots) { check(zak_advance(&raw_, dots)); }
     zak_timing clock() { return read<zak_timing>(zak_clock); }
 
-    /* The picture lies in memory that the card keeps, until its next frame. */
+    /* The picture lies in the card's memory, until its next frame. */
     picture frame()
     {
         zak_size size;
@@ -138,7 +138,7 @@ public:
         return size;
     }
 
-    /* Each pixel once, or in another form: the flags are those of zak_frame_words. */
+    /* Writes each pixel once, or in another form: the flags are those of zak_frame_words. */
     zak_picture frame_words(span<std::uint32_t> pixels, std::size_t pitch, std::uint32_t flags = ZAK_ONCE)
     {
         zak_picture picture;
@@ -146,7 +146,7 @@ public:
         return picture;
     }
 
-    /* The line under way, to its end: ZAK_OPAQUE or 0. */
+    /* Draws the line under way to its end. The flags are ZAK_OPAQUE or 0. */
     zak_scan_line line(span<std::uint32_t> pixels, std::uint32_t flags = 0)
     {
         zak_scan_line line;
@@ -154,10 +154,10 @@ public:
         return line;
     }
 
-    /* What int10 reads of the caller's memory with these registers. */
+    /* What int10 with these registers reads from the caller's memory. */
     zak_source block(const zak_regs &regs) { return read<zak_source>(zak_block, &regs); }
 
-    /* Answers what a function writes at ES:DX; regs are afterwards what it answers. */
+    /* Returns what a function writes at ES:DX. regs are the answer afterwards. */
     std::vector<std::uint8_t> int10(zak_regs &regs, bytes block = bytes())
     {
         std::uint8_t table[ZAK_MOST_TABLE];
@@ -166,7 +166,7 @@ public:
         return std::vector<std::uint8_t>(table, table + len);
     }
 
-    /* The script of the cycles that int10 with these registers would make; nothing changes. */
+    /* Lists the cycles that int10 with these registers would make, as a script. Nothing changes. */
     std::vector<std::uint8_t> cycles(const zak_regs &regs, bytes block = bytes())
     {
         std::vector<std::uint8_t> script(4096);
@@ -209,11 +209,11 @@ public:
         return state;
     }
     void restore(bytes state) { check(zak_restore(&raw_, state.data(), state.size())); }
-    /* All of the bytes are the state, with zeros and a checksum after it. */
+    /* Fills the span with the state, zeros, and a checksum at the end. */
     void save_fixed(span<std::uint8_t> into) { check(zak_save_fixed(&raw_, into.data(), into.size())); }
     void restore_fixed(bytes state) { check(zak_restore_fixed(&raw_, state.data(), state.size())); }
 
-    /* For the calls that this header lacks. */
+    /* For calls that have no function here. */
     zak_card *raw() noexcept { return &raw_; }
 
 private:
@@ -231,7 +231,7 @@ private:
     std::vector<std::uint8_t> rgb_;
 };
 
-/* The bytes of the script that a text spells. Where a line is bad, the error's place is its number. */
+/* Assembles a text into a script. If a line is bad, the error's place is its number. */
 inline std::vector<std::uint8_t> assemble(const std::string &text)
 {
     std::vector<std::uint8_t> script(1);
@@ -246,7 +246,7 @@ inline std::vector<std::uint8_t> assemble(const std::string &text)
     return script;
 }
 
-/* The report of a whole run. */
+/* Runs a script, and returns its report. */
 inline std::vector<std::uint8_t> run(bytes script, bytes fonts)
 {
     std::vector<std::uint8_t> report(std::size_t(1) << 20);

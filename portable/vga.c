@@ -39,7 +39,7 @@ enum { DONE = 0, FAULT = 1, USAGE = 2 };
 #define RUN_OPTIONS                                                                                \
     "Options:\n"                                                                                   \
     "      --fonts <FILE>  The font file, of 9,728 bytes\n"                                        \
-    "      --until <N>     Stops after so many steps, and shows the card\n"                        \
+    "      --until <N>     Stops after N steps, and shows the card\n"                        \
     "  -h, --help          Print help\n"
 
 static const char HELP[] =
@@ -647,7 +647,7 @@ static int check_count(const struct job *job)
     uint32_t count;
     if (!job->value[UNTIL] || count_of(job->value[UNTIL], &count))
         return GOES_ON;
-    say("error: the number behind '--until' is decimal digits alone, 0 to 4294967295");
+    say("error: the number after '--until' must be decimal digits, 0 to 4294967295");
     return refuse(USAGE_LINE);
 }
 

@@ -99,7 +99,7 @@ class Words(Program):
         for words, number in product(JOBS, NO_NUMBERS):
             with self.subTest((*words, number)):
                 hold_undone(self, self.ran(*words, "--fonts", "fonts", "--until", number), ".")
-        hold_undone(self, self.ran("run", "script", "--fonts", "fonts", "--until=+1"), "^error: the number behind '--until'")
+        hold_undone(self, self.ran("run", "script", "--fonts", "fonts", "--until=+1"), "^error: the number after '--until'")
 
     def test_no_file_is_opened(self) -> None:
         # Whoever opens a pipe that nobody writes waits, and the test then fails by its time.

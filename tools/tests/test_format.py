@@ -86,7 +86,7 @@ class Table(unittest.TestCase):
         words = {"regs": "REGISTERS", "bda": "BIOS_DATA"}
         own.update({f"SHOW_{words.get(name, name.upper())}": form.code[1] for name, form in SHOWN.items()})
         self.assertEqual(constants, own)
-        reading = (CRATES / "vga_script" / "src" / "plain_steps.rt").read_text("utf-8")
+        reading = (CRATES / "vga_script" / "src" / "numeric_steps.rt").read_text("utf-8")
         arms = re.findall(r"([A-Z_]+) => (\w+) \{ (.*?) \},", reading)
         sizes = {"one": 1, "two": 2, "four": 4, "dots": 4}
         for opcode, name, fields in arms:

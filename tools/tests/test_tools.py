@@ -62,6 +62,8 @@ signal.signal(signal.SIGTERM, lambda *_: (child.kill(), child.wait(), sys.exit(1
 open(os.environ['CHILD'], 'w').write(f'{child.pid} {os.getpid()}\\n')
 time.sleep(600)
 """
+# What it says of a wrong body, as a line after `noting.sh`; and of one that a contract refuses.
+SAYING, REFUSED = "echo 'rt: must-fail vga_host/{}.edit: {}'\n", "refused, as it must be: src/host.rt:1:1: error"
 # What stands in the place of `vga`, for the fuzzer.
 SLEEPING = """import os, time
 open(os.environ['CHILD'], 'w').write(f'{os.getpid()}\\n')
@@ -451,18 +453,19 @@ class Checking(Folder):
 
 @unittest.skipIf(sys.platform == "win32", "a script is a program on POSIX")
 class Gate(Folder):
-    def run_gate(self, tests: str, memory: str = "") -> tuple[int, str]:
-        """Exit status of the gate over these two programs and others that note their words; and the notes."""
+    def run_gate(self, tests: str, memory: str = "", prover: str = NOTING) -> tuple[int, str, str]:
+        """Status of the gate over these programs and others that note their words; the notes; its standard error."""
         gate, notes = self.folder / "gate", Path(self.write("notes", ""))
         shutil.copytree(TOP / ".ci", gate / ".ci")
-        fakes = dict.fromkeys(("vga-page-tests", "vga-bindings-tests", "vga-library-tests", "rt"), NOTING)
-        for name, text in {**fakes, "vga-memory": memory, "vga-check": tests, "tests-of-tools": NOTING}.items():
+        fakes = dict.fromkeys(("vga-page-tests", "vga-bindings-tests", "vga-library-tests", "tests-of-tools"), NOTING)
+        for name, text in {**fakes, "vga-memory": memory, "vga-check": tests, "rt": prover}.items():
             self.program(f"gate/tools/{name}", text)
         # The gate fetches these where they are lacking.
         for name in ("wasm-opt", "wasm2c"):
             self.program(f"gate/tools/{name}", NOTING)
         given = {"NOTES": str(notes), "PATH": f"{gate / 'tools'}:{os.environ['PATH']}", "TMPDIR": self.temporary()}
-        return ended(gate / ".ci" / "run", env={**os.environ, **given})[0], notes.read_text("utf-8")
+        status, _, error = ended(gate / ".ci" / "run", env={**os.environ, **given})
+        return status, notes.read_text("utf-8"), error
 
     def test_nothing_runs_on_where_a_test_fails(self) -> None:
         number = self.folder / "number"
@@ -472,7 +475,21 @@ class Gate(Folder):
         self.assert_ended(int(number.read_text()))
 
     def test_all_tests_run_again_once_the_program_is_built(self) -> None:
-        status, notes = self.run_gate(NOTING)
+        status, notes, _ = self.run_gate(NOTING, prover=NOTING + SAYING.format("turned", REFUSED))
         self.assertEqual(status, 0)
         self.assertIn("\nvga-check \nrt ci\ntests-of-tools --built\n", notes)
         self.assertIn("\nvga-library-tests --portable --gated --proof ", notes)
+
+    def test_a_wrong_body_that_no_contract_refuses(self) -> None:
+        names = "only because a proof file names"
+        told = {
+            "unread": ("BAD EDIT: the prover cannot read the edited text", "BAD EDIT"),
+            "untried": ("NOT TRIED: its check was killed", "NOT TRIED"),
+            "renamed": (f"refused, as it must be ({names} what the edit took away)", names),
+        }
+        said = "".join(SAYING.format(edit, text) for edit, (text, _) in told.items())
+        status, notes, error = self.run_gate(NOTING, prover=NOTING + SAYING.format("turned", REFUSED) + said)
+        self.assertEqual(status, 1)
+        shown = "".join(f"vga_host/{edit}.edit: {reason}\n" for edit, (_, reason) in told.items())
+        self.assertEqual(error.partition("\n")[2], shown)
+        self.assertNotIn("tests-of-tools", notes)

@@ -5,7 +5,7 @@ use Rattle.std.specs.Prelude.{ℕ, ◌≡◌, ◌≢◌, ◌*◌, List, length, 
 use Rattle.vga_bits.specs.declared.fault.Fault.{Fault}
 use Rattle.vga_bits.specs.declared.fault.Fault.TheVariants.{FontSize, OutOfMemory}
 
--- the three fonts, each the bytes of its 256 characters, a byte a row, top row first
+-- the three fonts: the bytes of 256 characters each, one byte for a row, top row first
 pub record FontSet : Type 0 where
   pub f8 : List ℕ
   pub f14 : List ℕ
@@ -15,7 +15,7 @@ pub record FontSet : Type 0 where
 abbrev pub font_len : ℕ → ℕ
 font_len h = 256 * h
 
--- row r of character c in a font of height h: bit 7 is the leftmost dot
+-- row r of character c in a font of height h; bit 7 is the leftmost dot
 abbrev pub glyph_row : ℕ → List ℕ → ℕ → ℕ → ℕ
 glyph_row h font c r = slice_index font (h * c + r)
 
@@ -26,14 +26,14 @@ file_len = 9728
 -- the fonts of a file: that of 8 rows, then that of 14, then that of 16
 unfoldable pub fonts_of : List ℕ → FontSet
 fonts_of file =
-    let behind = drop (font_len 8) file in
+    let rest = drop (font_len 8) file in
     record {
       f8 = take (font_len 8) file;
-      f14 = take (font_len 14) behind;
-      f16 = drop (font_len 14) behind;
+      f14 = take (font_len 14) rest;
+      f16 = drop (font_len 14) rest;
     }
 
--- why there are no fonts of a file: it has another length, or memory ran out
+-- why a file gives no fonts: it has another length, or memory was refused
 abbrev pub IsFontFault : List ℕ → Fault → Type 0
 IsFontFault file FontSize = length file ≢ file_len
 IsFontFault file OutOfMemory = length file ≡ file_len

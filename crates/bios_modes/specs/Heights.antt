@@ -1,4 +1,4 @@
--- The text-height table: what the height of characters makes of a text mode.
+-- The text-height table: the values of a text mode that depend on the height of characters.
 -- From the IBM PS/2 and PC BIOS Interface Technical Reference, "Interrupt 10H - Video", (AH) = 11H,
 -- and the IBM PS/2 Hardware Interface Technical Reference, Video Subsystems, "Alphanumeric Modes";
 -- the values are this adapter's choice.
@@ -11,7 +11,7 @@ use Rattle.bios_modes.specs.declared.palette.Palette.{Palette}
 use Rattle.bios_modes.specs.declared.palette.Palette.TheVariants.{Monochrome}
 use Rattle.bios_modes.specs.Modes.{mode_row}
 
--- characters of 8 scan lines, 50 rows on a page, underlined in this scan line
+-- characters of 8 scan lines: 50 rows on a page; the argument is the scan line of underlines
 abbrev pub fifty_rows : ℕ → TextRow
 fifty_rows underline = record {
   height = 8;
@@ -24,7 +24,7 @@ fifty_rows underline = record {
   cursor_type = 0x0607;
 }
 
--- characters of 14 scan lines, 28 rows on a page
+-- characters of 14 scan lines: 28 rows on a page
 abbrev pub twenty_eight_rows : ℕ → TextRow
 twenty_eight_rows underline = record {
   height = 14;
@@ -37,7 +37,7 @@ twenty_eight_rows underline = record {
   cursor_type = 0x0B0C;
 }
 
--- characters of 16 scan lines, 25 rows on a page
+-- characters of 16 scan lines: 25 rows on a page
 abbrev pub twenty_five_rows : ℕ → TextRow
 twenty_five_rows underline = record {
   height = 16;
@@ -50,7 +50,7 @@ twenty_five_rows underline = record {
   cursor_type = 0x0D0E;
 }
 
--- the rows of text in colour, which underlines in no scan line of a character
+-- the row of a height for text in colour, where no scan line of a character is underlined
 abbrev pub colour_rows : ℕ → Option TextRow
 colour_rows height =
     if height == 8 then Some (fifty_rows 0x1F)
@@ -58,7 +58,7 @@ colour_rows height =
     else if height == 16 then Some (twenty_five_rows 0x1F)
     else None
 
--- the rows of text without colours, which underlines in the last one
+-- the row of a height for monochrome text, where the last scan line of a character is underlined
 abbrev pub monochrome_rows : ℕ → Option TextRow
 monochrome_rows height =
     if height == 8 then Some (fifty_rows 0x07)
@@ -66,26 +66,27 @@ monochrome_rows height =
     else if height == 16 then Some (twenty_five_rows 0x0F)
     else None
 
--- what hangs on a row, if there is one
+-- a value that a row gives, if there is a row
 abbrev pub if_row : {A : Type 0} → Option ModeRow → (ModeRow → Option A) → Option A
 if_row None f = None
 if_row (Some row) f = f row
 
--- what a mode has with characters of this height, if it is one of text, and there are characters of
--- this height
+-- the text-height table's row for a kind of mode and a height, if there is one
 abbrev pub text_rows : Kind → Palette → ℕ → Option TextRow
 text_rows Text Monochrome height = monochrome_rows height
 text_rows Text _ height = colour_rows height
 text_rows Planar _ height = None
 text_rows Packed _ height = None
 
+-- the text-height table's row for a mode's row and a height, if there is one
 abbrev pub text_row_in : ModeRow → ℕ → Option TextRow
 text_row_in row height = text_rows row.kind row.palette height
 
+-- the text-height table's row for a mode and a height, if there is one
 abbrev pub text_row : ℕ → ℕ → Option TextRow
 text_row mode height = if_row (mode_row mode) (λ row. text_row_in row height)
 
--- a text mode with characters of another height
+-- a mode's row with the values of a height
 abbrev pub with_text : ModeRow → TextRow → ModeRow
 with_text row text = record row {
   crtc = slice_set (slice_set (slice_set row.crtc 0x09 text.maximum_scan_line) 0x12
@@ -97,20 +98,21 @@ with_text row text = record row {
   cursor_type = text.cursor_type;
 }
 
+-- a mode's row with the values of a height, if there are such
 abbrev pub with_height : ModeRow → Option TextRow → Option ModeRow
 with_height row None = None
 with_height row (Some text) = Some (with_text row text)
 
--- a mode with characters of this height: of text by the table; of graphics the mode's own, whatever
--- the height is
+-- a mode's row at a height: for text by the table, for graphics the row as it is
 abbrev pub by_kind : Kind → ModeRow → ℕ → Option ModeRow
 by_kind Text row height = with_height row (text_row_in row height)
 by_kind Planar row height = Some row
 by_kind Packed row height = Some row
 
+-- a mode's row at a height, if there is one
 abbrev pub at_height : ModeRow → ℕ → Option ModeRow
 at_height row height = by_kind row.kind row height
 
--- the row of a mode whose characters have this height
+-- the row of a mode, by its number, at a height, if there is one
 abbrev pub row_at : ℕ → ℕ → Option ModeRow
 row_at mode height = if_row (mode_row mode) (λ row. at_height row height)

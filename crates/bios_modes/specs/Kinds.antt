@@ -1,5 +1,5 @@
--- The three ways in which modes use the memory: text, a bit of each plane for a dot, and a byte for
--- a dot.
+-- The three ways in which modes use the memory: text, a bit of each plane for a pixel, and a byte
+-- for a pixel.
 -- From the IBM PS/2 Hardware Interface Technical Reference, Video Subsystems, "Video Memory
 -- Organization".
 use Rattle.std.specs.Prelude.{ℕ, Bool, true, false, Option, Some, None}
@@ -8,28 +8,31 @@ use Rattle.bios_modes.specs.declared.kind.Kind.TheVariants.{Text, Planar, Packed
 use Rattle.bios_modes.specs.declared.modes.ModeRow.{ModeRow}
 use Rattle.bios_modes.specs.Modes.{mode_row}
 
--- how a mode uses the memory, by its row; a number that is no mode's is taken for one of 16 colours
+-- how a mode uses the memory, by its row of the mode table; without a row, as 16 colours do
 abbrev pub kind_in : Option ModeRow → Kind
 kind_in None = Planar
 kind_in (Some row) = row.kind
 
+-- how a mode uses the memory, by its number
 abbrev pub kind_of : ℕ → Kind
 kind_of mode = kind_in (mode_row mode)
 
--- whether it is the use of text, and whether it is a byte for a dot
+-- whether this is the use of text
 abbrev pub is_text_kind : Kind → Bool
 is_text_kind Text = true
 is_text_kind Planar = false
 is_text_kind Packed = false
 
+-- whether this is a byte for a pixel
 abbrev pub is_packed_kind : Kind → Bool
 is_packed_kind Text = false
 is_packed_kind Planar = false
 is_packed_kind Packed = true
 
--- whether a mode is one of text, and whether it is one of 256 colours
+-- whether a mode is text
 abbrev pub is_text : ℕ → Bool
 is_text mode = is_text_kind (kind_of mode)
 
+-- whether a mode has 256 colours
 abbrev pub is_packed : ℕ → Bool
 is_packed mode = is_packed_kind (kind_of mode)

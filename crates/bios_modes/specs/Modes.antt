@@ -1,5 +1,5 @@
--- The mode table: the registers that each mode sets, what the BIOS data say of it, how it uses the
--- memory, and its palette.
+-- The mode table: the registers that each mode sets, its BIOS data, how it uses the memory, and its
+-- palette.
 -- From the IBM PS/2 Hardware Interface Technical Reference, Video Subsystems, "Register Settings
 -- for BIOS Modes", and the IBM PS/2 and PC BIOS Interface Technical Reference, "Interrupt 10H -
 -- Video" and "BIOS Data Area"; the values are this adapter's choice.
@@ -31,7 +31,7 @@ colour_text = record {
   palette = Colours64;
 }
 
--- mode 7: text of 80 columns without colours
+-- mode 7: monochrome text of 80 columns
 abbrev pub monochrome_text : ModeRow
 monochrome_text = record {
   misc = 0x66;
@@ -53,7 +53,7 @@ monochrome_text = record {
   palette = Monochrome;
 }
 
--- mode 0D: 320 by 200 dots in 16 colours
+-- mode 0D: 320 by 200 pixels in 16 colours
 abbrev pub planes_320_by_200 : ModeRow
 planes_320_by_200 = record {
   misc = 0x63;
@@ -75,7 +75,7 @@ planes_320_by_200 = record {
   palette = Colours16;
 }
 
--- mode 10: 640 by 350 dots in 16 colours
+-- mode 10: 640 by 350 pixels in 16 colours
 abbrev pub planes_640_by_350 : ModeRow
 planes_640_by_350 = record {
   misc = 0xA3;
@@ -97,7 +97,7 @@ planes_640_by_350 = record {
   palette = Colours64;
 }
 
--- mode 12: 640 by 480 dots in 16 colours
+-- mode 12: 640 by 480 pixels in 16 colours
 abbrev pub planes_640_by_480 : ModeRow
 planes_640_by_480 = record {
   misc = 0xE3;
@@ -119,7 +119,7 @@ planes_640_by_480 = record {
   palette = Colours64;
 }
 
--- mode 13: 320 by 200 dots in 256 colours
+-- mode 13: 320 by 200 pixels in 256 colours
 abbrev pub bytes_320_by_200 : ModeRow
 bytes_320_by_200 = record {
   misc = 0x63;

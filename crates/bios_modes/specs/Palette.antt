@@ -11,27 +11,27 @@ use Rattle.bios_modes.specs.declared.palette.Palette.TheVariants.{Colours16, Col
 use Rattle.bios_modes.specs.declared.palette.Palette.TheVariants.{Monochrome}
 use Rattle.bios_modes.specs.Modes.{mode_row}
 
--- red, green and blue
+-- the three components of a colour: red, green and blue
 abbrev pub rgb : ℕ → ℕ → ℕ → List ℕ
 rgb red green blue = red ∷ green ∷ blue ∷ []
 
--- a component of two bits of n: two thirds of the full 3F for one, one third for the other
+-- a component made of two bits of n: one adds two thirds of the full 3F, the other one third
 abbrev pub component : ℕ → ℕ → ℕ → ℕ
 component n strong weak = 0x2A * bit_at n strong + 0x15 * bit_at n weak
 
--- 64 colours: each component has two bits of its own
+-- 64 colours: each component has two bits of the number
 abbrev pub of_six_bits : ℕ → List ℕ
 of_six_bits n = rgb (component n 2 5) (component n 1 4) (component n 0 3)
 
--- 16 colours of a bit for each component and a bright one, which stands at `bright`; the dark
--- yellow is a brown
+-- 16 colours: each component has a bit of the number, and bit `bright` makes all brighter; dark
+-- yellow is brown
 abbrev pub of_bright_bit : ℕ → ℕ → List ℕ
 of_bright_bit bright n =
     rgb (component n 2 bright)
     (if (field n 2 0 == 6) && not (is_set n bright) then 0x15 else component n 1 bright)
     (component n 0 bright)
 
--- a grey
+-- a grey, of three equal components
 abbrev pub grey : ℕ → List ℕ
 grey level = rgb level level level
 
@@ -39,8 +39,8 @@ grey level = rgb level level level
 abbrev pub of_intensity : ℕ → List ℕ
 of_intensity n = grey (if is_set n 3 then 0x2A + 0x15 * bit_at n 4 else 0)
 
--- 256 colours: 16 colours, 16 greys from black to white, and colours of three bits of red, three of
--- green and two of blue
+-- 256 colours: 16 colours, 16 greys from black to white, and 224 colours whose number gives red and
+-- green three bits each and blue two
 abbrev pub of_byte : ℕ → List ℕ
 of_byte n =
     if nat_lt n 0x10 then of_bright_bit 3 n
@@ -54,11 +54,12 @@ palette_entry Monochrome n = of_intensity n
 palette_entry Colours16 n = of_bright_bit 4 n
 palette_entry Colours256 n = of_byte n
 
--- the palette of a mode, by its row; of a number that is no mode's it is that of mode 3
+-- the palette of a mode, by its row of the mode table; without a row, that of mode 3
 abbrev pub palette_in : Option ModeRow → Palette
 palette_in None = Colours64
 palette_in (Some row) = row.palette
 
+-- the palette of a mode, by its number
 abbrev pub palette_of : ℕ → Palette
 palette_of mode = palette_in (mode_row mode)
 
@@ -66,13 +67,13 @@ palette_of mode = palette_in (mode_row mode)
 abbrev pub dac_entry : ℕ → ℕ → List ℕ
 dac_entry mode n = palette_entry (palette_of mode) n
 
--- whether a palette has no colours
+-- whether a palette has only black and greys
 abbrev pub is_grey : Palette → Bool
 is_grey Colours64 = false
 is_grey Monochrome = true
 is_grey Colours16 = false
 is_grey Colours256 = false
 
--- whether a mode shows no colours
+-- whether a mode is monochrome
 abbrev pub is_monochrome_mode : ℕ → Bool
 is_monochrome_mode mode = is_grey (palette_of mode)

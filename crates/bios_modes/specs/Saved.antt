@@ -1,34 +1,34 @@
--- The BIOS data as bytes, in the order of their offsets: a byte is a byte, and a word two, the low
--- one first.
+-- The BIOS data as bytes, in the order of their offsets; a word is two bytes, the low one first.
 use Rattle.std.specs.Prelude.{ℕ, ◌≡◌, List, [], ◌∷◌, ◌++◌, length, drop, slice_index}
 use Rattle.std.specs.List.{flat_map}
 use Rattle.vga_bits.specs.Saved.{word_bytes, word_at, words_in}
 use Rattle.bios_modes.specs.Bda.{BiosData}
 use Rattle.bios_modes.specs.Valid.{IsValid}
 
--- the bytes before the places of the cursor: mode, columns, size and start
+-- the bytes before the cursor positions: mode, columns, size and start
 abbrev pub saved_prefix : BiosData → List ℕ
 saved_prefix d =
     (d.mode ∷ []) ++ (word_bytes d.columns ++ (word_bytes d.size ++ word_bytes d.start))
 
--- the bytes behind them: the cursor's type, the page, the CRT controller's address, the last row
--- and the height
+-- the bytes after the cursor positions: the cursor's type, the page, the CRT controller's address,
+-- the last row and the height
 abbrev pub saved_back : BiosData → List ℕ
 saved_back d = word_bytes d.cursor_type ++ ((d.page ∷ []) ++ (word_bytes d.crtc_address
     ++ ((d.last_row ∷ []) ++ word_bytes d.height)))
 
--- the bytes of BIOS data
+-- all bytes of BIOS data
 unfoldable pub saved_bda : BiosData → List ℕ
 saved_bda d = saved_prefix d ++ (flat_map word_bytes d.cursor_places ++ saved_back d)
 
--- what follows the prefix, and what follows the places of the cursor
+-- the bytes that follow the prefix
 abbrev pub past_prefix : List ℕ → List ℕ
 past_prefix bytes = drop 7 bytes
 
+-- the bytes that follow the cursor positions
 abbrev pub past_places : List ℕ → List ℕ
 past_places bytes = drop 16 (past_prefix bytes)
 
--- the BIOS data that have these bytes
+-- the BIOS data that these bytes spell
 unfoldable pub bda_from : List ℕ → BiosData
 bda_from bytes = record {
   mode = slice_index bytes 0;
@@ -43,7 +43,7 @@ bda_from bytes = record {
   height = word_at (past_places bytes) 6;
 }
 
--- bytes of valid BIOS data
+-- the bytes are those of valid BIOS data
 pub record IsSavedBda (bytes : List ℕ) : Type 0 where
   pub size : length bytes ≡ 31
   pub valid : IsValid (bda_from bytes)

@@ -1,5 +1,5 @@
--- When BIOS data are those of the adapter: all 0 before a mode is set, and after that the mode's
--- own, in text those of the height of characters.
+-- Which BIOS data are valid: all 0 before a mode is set, and afterwards those of the mode, in text
+-- at the height of its characters.
 -- From the IBM PS/2 and PC BIOS Interface Technical Reference, "BIOS Data Area", "Video Control
 -- Data Area".
 use Rattle.std.specs.Prelude.{◌≡◌, ◌*◌, ◌<◌, ◌⊎◌, Option, Some, None}
@@ -7,7 +7,7 @@ use Rattle.bios_modes.specs.declared.modes.ModeRow.{ModeRow}
 use Rattle.bios_modes.specs.Heights.{row_at}
 use Rattle.bios_modes.specs.Bda.{BiosData, power_on_data}
 
--- the constants are those of a mode, the page is one of its pages, and begins where that stands
+-- the data have the constants of a mode's row, one of its pages, and the beginning of that page
 pub record IsOf (row : ModeRow) (d : BiosData) : Type 0 where
   pub columns : d.columns ≡ row.columns
   pub size : d.size ≡ row.size
@@ -17,11 +17,12 @@ pub record IsOf (row : ModeRow) (d : BiosData) : Type 0 where
   pub page : d.page < row.pages
   pub start : d.start ≡ d.size * d.page
 
+-- there is a row, and the data are its own
 abbrev pub Fits : Option ModeRow → BiosData → Type 0
 Fits None d = ⊥
 Fits (Some row) d = IsOf row d
 
--- the data are all 0, or those of their mode with characters of their height; the cursor's places
--- and type may then be any
+-- the data are all 0, or those of their mode at their height; the cursor's positions and type may
+-- be any in a mode
 abbrev pub IsValid : BiosData → Type 0
 IsValid d = (d ≡ power_on_data) ⊎ Fits (row_at d.mode d.height) d

@@ -1,4 +1,4 @@
-//! The video BIOS's data.
+//! The data of the video BIOS.
 ghost use Rattle.std.specs.Prelude.{◌≡◌, ◌<◌, slice_index};
 
 mod saved;
@@ -8,12 +8,12 @@ mod writers;
 use crate::bounds::words_fit;
 use std::marker::Model;
 
-/// How many pages have a place for their cursor.
+/// How many pages have a cursor position.
 const PAGES: usize = 8;
 
-/// The data that the video BIOS keeps of its mode, its pages and its cursors.
+/// The data that the video BIOS keeps about its mode, its pages and its cursors.
 ///
-/// Contracts see one record of the fields; the cursor places are a list there.
+/// Contracts see one record of the fields; the cursor positions are a list there.
 #[derive(Drop)]
 pub struct Bda {
     mode: u8,
@@ -69,7 +69,7 @@ impl Bda {
         }
     }
 
-    /// The same data once more.
+    /// A copy of the data.
     pub fn copy(&self) -> Bda
         ensures { result ≡ self.now }
     {
@@ -87,8 +87,8 @@ impl Bda {
         }
     }
 
-    /// The eight places of the cursor are words, whatever was written. The clause is for proofs:
-    /// nothing runs.
+    /// The eight cursor positions are words, whatever was written. The clause is for proofs: the
+    /// function does nothing.
     pub fn bounds(&self)
         ensures { IsBda self.now }
     {
@@ -123,8 +123,8 @@ impl Bda {
         self.start
     }
 
-    /// The place of the cursor on a page, 0 to 7, with the row as its high byte and the column as
-    /// its low one; the eight stand at offset 50.
+    /// The cursor position on a page, 0 to 7: the row is the high byte, the column the low one. The
+    /// eight positions lie at offset 50.
     pub fn cursor_place(&self, page: usize) -> u16
         requires { page < 8 }
         ensures { result ≡ slice_index self.now.cursor_places page }

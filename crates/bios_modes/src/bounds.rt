@@ -1,4 +1,5 @@
-//! What BIOS data and fonts hold. The clauses are for proofs: nothing runs.
+//! Bounds on the numbers in BIOS data and fonts. The clauses are for proofs: the functions do
+//! nothing.
 ghost use Rattle.std.specs.Prelude.{ℕ, ◌<◌, slice_index};
 ghost use Rattle.bios_modes.specs.Bounds.{AreBytes};
 

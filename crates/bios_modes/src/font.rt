@@ -8,7 +8,7 @@ use std::alloc::Global;
 use std::marker::Model;
 use vga_bits::{Bytes, Fault};
 
-/// The glyphs of 256 characters, each of H rows, 8, 14 or 16.
+/// The glyphs of 256 characters, each of H rows: 8, 14 or 16.
 ///
 /// Contracts see the list of bytes: a byte for each row, top row first, characters in the order of
 /// their codes.
@@ -28,7 +28,7 @@ impl<const H: usize> Model for Font<H> {
 }
 
 impl<const H: usize> Font<H> {
-    /// A font of these bytes, 256 times H. It fails with `OutOfMemory` alone.
+    /// A font of these bytes, of which there are 256 times H. It can only fail with `OutOfMemory`.
     pub(crate) fn of_bytes(alloc: Global, bytes: &[u8]) -> Result<Font<H>, Fault>
         requires { length bytes.now ≡ 256 * H }
         ensures ok { IfOk result (λ font. font ≡ bytes.now) }
@@ -38,14 +38,14 @@ impl<const H: usize> Font<H> {
         Ok(Font { rows })
     }
 
-    /// The rows are bytes. The clause is for proofs: nothing runs.
+    /// The rows are bytes. The clause is for proofs: the function does nothing.
     pub fn bounds(&self)
         ensures { AreBytes self.now }
     {
         bytes_fit(self.rows.as_slice());
     }
 
-    /// Row r of character c, below H: a dot for each bit, bit 7 the leftmost.
+    /// Row r of character c; r is below H. Bit 7 is the leftmost dot.
     pub fn byte(&self, c: u8, r: usize) -> u8
         requires { r < H }
         ensures { result ≡ glyph_row H self.now c r }

@@ -10,9 +10,9 @@ use vga_bits::Fault;
 
 /// How many bytes a font file has.
 const FILE_LEN: usize = 9728;
-/// How many of them its first font has, and its second.
+/// How many bytes the font of 8 rows has.
 const LEN_8: usize = 2048;
-
+/// How many bytes the font of 14 rows has.
 const LEN_14: usize = 3584;
 
 /// The fonts of 8, 14 and 16 rows.
@@ -35,7 +35,8 @@ impl Fonts {
     /// The fonts of a file: 2,048 bytes of the font with 8 rows, then 3,584 with 14, then 4,096
     /// with 16.
     ///
-    /// It fails with `FontSize` where the file has not 9,728 bytes, and with `OutOfMemory`.
+    /// It fails with `FontSize` if the file does not have 9,728 bytes, and with `OutOfMemory` if
+    /// memory is refused.
     #[tactic(auto, unfolding(crate::specs::Fonts::fonts_of))]
     pub fn from_bytes(alloc: Global, file: &[u8]) -> Result<Fonts, Fault>
         ensures ok { IfOk result (λ fonts. (length file.now ≡ file_len)
@@ -45,8 +46,8 @@ impl Fonts {
         if file.len() != FILE_LEN {
             return Err(Fault::FontSize);
         }
-        let (f8, behind) = file.split_at(LEN_8);
-        let (f14, f16) = behind.split_at(LEN_14);
+        let (f8, rest) = file.split_at(LEN_8);
+        let (f14, f16) = rest.split_at(LEN_14);
         Ok(Fonts {
             f8: Font::of_bytes(alloc, f8)?,
             f14: Font::of_bytes(alloc, f14)?,
@@ -54,7 +55,7 @@ impl Fonts {
         })
     }
 
-    /// The glyphs are bytes, in each font. The clause is for proofs: nothing runs.
+    /// The glyphs of each font are bytes. The clause is for proofs: the function does nothing.
     pub fn bounds(&self)
         ensures { AreFonts self.now }
     {

@@ -1,4 +1,4 @@
-//! What the height of characters makes of a text mode.
+//! The values of a text mode that depend on the height of characters.
 ghost use Rattle.std.specs.Prelude.{◌≡◌};
 ghost use Rattle.bios_modes.specs.Heights.{at_height, colour_rows, fifty_rows, monochrome_rows};
 ghost use Rattle.bios_modes.specs.Heights.{row_at as row_at_of, text_row as text_row_of};
@@ -9,16 +9,15 @@ use super::kind::Kind;
 use super::modes::{ModeRow, mode_row};
 use super::palette::Palette;
 
-/// The registers of the CRT controller that the height of characters changes: the maximum scan
-/// line, the end of the vertical display, and the location of underlines.
+/// The CRT controller's register of the height of characters.
 const MAXIMUM_SCAN_LINE: usize = 0x09;
-
+/// The CRT controller's register of the last line of the display.
 const VERTICAL_DISPLAY_END: usize = 0x12;
-
+/// The CRT controller's register of the scan line of underlines.
 const UNDERLINE: usize = 0x14;
 
-/// A row of the text-height table: what the BIOS data and the CRT controller hold in a text mode
-/// whose characters have so many scan lines.
+/// A row of the text-height table: the values of the BIOS data and of the CRT controller in a text
+/// mode at one height of characters.
 #[derive(Clone, Copy, PartialEq, Eq, Debug)]
 pub struct TextRow {
     /// How many scan lines a character has: 8, 14 or 16.
@@ -33,14 +32,14 @@ pub struct TextRow {
     pub maximum_scan_line: u8,
     /// Register 12 of the CRT controller: the low byte of the last scan line that is displayed.
     pub vertical_display_end: u8,
-    /// Register 14 of the CRT controller: the scan line of a character that underlines it.
+    /// Register 14 of the CRT controller: the scan line of underlines.
     pub underline: u8,
-    /// The cursor's first and last scan line, high and low.
+    /// The cursor's first scan line as the high byte, its last as the low one.
     pub cursor_type: u16,
 }
 
 impl TextRow {
-    /// Characters of 8 scan lines, 50 rows on a page, underlined in this scan line.
+    /// Characters of 8 scan lines: 50 rows on a page. The argument is the scan line of underlines.
     fn fifty(underline: u8) -> TextRow
         ensures { result ≡ fifty_rows underline }
     {
@@ -56,7 +55,7 @@ impl TextRow {
         }
     }
 
-    /// Characters of 14 scan lines, 28 rows on a page.
+    /// Characters of 14 scan lines: 28 rows on a page.
     fn twenty_eight(underline: u8) -> TextRow
         ensures { result ≡ twenty_eight_rows underline }
     {
@@ -72,7 +71,7 @@ impl TextRow {
         }
     }
 
-    /// Characters of 16 scan lines, 25 rows on a page, as a mode set leaves them.
+    /// Characters of 16 scan lines: 25 rows on a page. A mode set gives this height.
     fn twenty_five(underline: u8) -> TextRow
         ensures { result ≡ twenty_five_rows underline }
     {
@@ -88,7 +87,7 @@ impl TextRow {
         }
     }
 
-    /// The rows of text in colour, which underlines in no scan line of a character.
+    /// The row of a height for text in colour, where no scan line of a character is underlined.
     fn of_colour(height: u8) -> Option<TextRow>
         ensures { result ≡ colour_rows height }
     {
@@ -100,7 +99,8 @@ impl TextRow {
         }
     }
 
-    /// The rows of text without colours, which underlines in the last one.
+    /// The row of a height for monochrome text, where the last scan line of a character is
+    /// underlined.
     fn of_monochrome(height: u8) -> Option<TextRow>
         ensures { result ≡ monochrome_rows height }
     {
@@ -114,7 +114,7 @@ impl TextRow {
 }
 
 impl ModeRow {
-    /// A text mode with characters of another height.
+    /// The mode's row with the values of another height.
     fn with_text(self, text: TextRow) -> ModeRow
         ensures { result ≡ with_text self text }
     {
@@ -130,8 +130,7 @@ impl ModeRow {
         row
     }
 
-    /// What the mode has with characters of this height, if it is one of text, and there are
-    /// characters of this height.
+    /// The text-height table's row for the mode and a height, if there is one.
     fn text_row(&self, height: u8) -> Option<TextRow>
         ensures { result ≡ text_row_in self.now height }
     {
@@ -142,7 +141,7 @@ impl ModeRow {
         }
     }
 
-    /// The mode with characters of this height, if it is one of text; else the mode as it is.
+    /// The mode's row at a height: for text by the table, for graphics the row as it is.
     fn at_height(self, height: u16) -> Option<ModeRow>
         ensures { result ≡ at_height self height }
     {
@@ -157,16 +156,16 @@ impl ModeRow {
     }
 }
 
-/// What a text mode, 3 or 7, has with characters of 8, 14 or 16 scan lines. There is no row of any
-/// other mode or height.
+/// The text-height table's row for a text mode, 3 or 7, and a height of 8, 14 or 16 scan lines. No
+/// other mode or height has one.
 pub fn text_row(mode: u8, height: u8) -> Option<TextRow>
     ensures { result ≡ text_row_of mode height }
 {
     mode_row(mode)?.text_row(height)
 }
 
-/// The row of a mode whose characters have this height: of a text mode by the text-height table, if
-/// there is one; of a graphics mode its own, whatever the height is.
+/// The row of a mode at a height: for a text mode by the text-height table, if that has a row; for
+/// a graphics mode its own row, whatever the height is.
 pub fn row_at(mode: u8, height: u16) -> Option<ModeRow>
     ensures { result ≡ row_at_of mode height }
 {

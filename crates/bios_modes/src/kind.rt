@@ -8,16 +8,15 @@ use super::modes::mode_row;
 /// How a mode uses the memory.
 #[derive(Clone, Copy, PartialEq, Eq, Debug)]
 pub enum Kind {
-    /// Characters and attributes in turn.
+    /// Characters and attributes by turns.
     Text,
-    /// 16 colours: a bit of each of four planes for a dot.
+    /// 16 colours: a bit of each of four planes for a pixel.
     Planar,
-    /// 256 colours: a byte for a dot.
+    /// 256 colours: a byte for a pixel.
     Packed,
 }
 
-/// How a mode uses the memory, by its row; a number that is no mode's is taken for one of 16
-/// colours.
+/// How a mode uses the memory, by its number; a number without a mode gives 16 colours.
 pub fn kind_of(mode: u8) -> Kind
     ensures { result ≡ kind_of_mode mode }
 {
@@ -27,7 +26,7 @@ pub fn kind_of(mode: u8) -> Kind
     }
 }
 
-/// Whether a mode is one of text.
+/// Whether a mode is text.
 pub fn is_text(mode: u8) -> bool
     ensures { result ≡ is_text_mode mode }
 {
@@ -37,7 +36,7 @@ pub fn is_text(mode: u8) -> bool
     }
 }
 
-/// Whether a mode is one of 256 colours.
+/// Whether a mode has 256 colours.
 pub fn is_packed(mode: u8) -> bool
     ensures { result ≡ is_packed_mode mode }
 {

@@ -1,5 +1,5 @@
-//! What the video BIOS knows of its modes: what each sets, its palette, the fonts, and the data
-//! that it keeps.
+//! What the video BIOS knows of its modes: the registers and palette of each, the fonts, and the
+//! BIOS data.
 #![tactic(auto)]
 
 pub mod bda;

@@ -1,4 +1,4 @@
-//! What each mode sets: registers, BIOS data, and where its pages stand.
+//! The mode table: the registers of each mode, its BIOS data, and where its pages lie.
 ghost use Rattle.std.specs.Prelude.{◌≡◌};
 ghost use Rattle.bios_modes.specs.Modes.{mode_row as row_of};
 
@@ -6,8 +6,7 @@ use super::kind::Kind;
 use super::palette::Palette;
 
 /// A mode's row of the mode table: the values of the adapter's registers, in the order of their
-/// numbers, what the BIOS data say of the mode, how it uses the memory, and the colours that it
-/// begins with.
+/// numbers, the mode's BIOS data, how it uses the memory, and its palette.
 #[derive(Clone, Copy, PartialEq, Eq, Debug)]
 pub struct ModeRow {
     /// The miscellaneous output register.
@@ -32,13 +31,13 @@ pub struct ModeRow {
     pub height: u8,
     /// The port of the CRT controller's index: 3D4 or 3B4.
     pub crtc_address: u16,
-    /// The cursor's first and last scan line, high and low.
+    /// The cursor's first scan line as the high byte, its last as the low one.
     pub cursor_type: u16,
     /// The address of page 0 in the processor's memory.
     pub base: u32,
     /// How the mode uses the memory.
     pub kind: Kind,
-    /// The colours that the mode begins with.
+    /// The palette that a mode set loads.
     pub palette: Palette,
 }
 
@@ -67,7 +66,7 @@ const COLOUR_TEXT: ModeRow = ModeRow {
     palette: Palette::Colours64,
 };
 
-/// Mode 7: text of 80 columns without colours.
+/// Mode 7: monochrome text of 80 columns.
 const MONOCHROME_TEXT: ModeRow = ModeRow {
     misc: 0x66,
     sequencer: [0x03, 0x00, 0x03, 0x00, 0x02],
@@ -92,7 +91,7 @@ const MONOCHROME_TEXT: ModeRow = ModeRow {
     palette: Palette::Monochrome,
 };
 
-/// Mode 0D: 320 by 200 dots in 16 colours.
+/// Mode 0D: 320 by 200 pixels in 16 colours.
 const PLANES_320_BY_200: ModeRow = ModeRow {
     misc: 0x63,
     sequencer: [0x03, 0x09, 0x0F, 0x00, 0x06],
@@ -117,7 +116,7 @@ const PLANES_320_BY_200: ModeRow = ModeRow {
     palette: Palette::Colours16,
 };
 
-/// Mode 10: 640 by 350 dots in 16 colours.
+/// Mode 10: 640 by 350 pixels in 16 colours.
 const PLANES_640_BY_350: ModeRow = ModeRow {
     misc: 0xA3,
     sequencer: [0x03, 0x01, 0x0F, 0x00, 0x06],
@@ -142,7 +141,7 @@ const PLANES_640_BY_350: ModeRow = ModeRow {
     palette: Palette::Colours64,
 };
 
-/// Mode 12: 640 by 480 dots in 16 colours.
+/// Mode 12: 640 by 480 pixels in 16 colours.
 const PLANES_640_BY_480: ModeRow = ModeRow {
     misc: 0xE3,
     sequencer: [0x03, 0x01, 0x0F, 0x00, 0x06],
@@ -167,7 +166,7 @@ const PLANES_640_BY_480: ModeRow = ModeRow {
     palette: Palette::Colours64,
 };
 
-/// Mode 13: 320 by 200 dots in 256 colours.
+/// Mode 13: 320 by 200 pixels in 256 colours.
 const BYTES_320_BY_200: ModeRow = ModeRow {
     misc: 0x63,
     sequencer: [0x03, 0x01, 0x0F, 0x00, 0x0E],
@@ -192,7 +191,7 @@ const BYTES_320_BY_200: ModeRow = ModeRow {
     palette: Palette::Colours256,
 };
 
-/// The row of a mode: 3, 7, 0D, 10, 12 or 13 (hexadecimal). There is none of any other.
+/// The row of a mode: 3, 7, 0D, 10, 12 or 13 (hexadecimal). No other mode has one.
 pub fn mode_row(mode: u8) -> Option<ModeRow>
     ensures { result ≡ row_of mode }
 {

@@ -12,19 +12,19 @@ use super::modes::mode_row;
 /// The default palettes.
 #[derive(Clone, Copy, PartialEq, Eq, Debug)]
 pub enum Palette {
-    /// 64 colours, of two bits for each component.
+    /// 64 colours, with two bits for each component.
     Colours64,
     /// Black and two greys.
     Monochrome,
-    /// 16 colours, of a bit for each component and a bright one.
+    /// 16 colours, with a bit for each component and one for brightness.
     Colours16,
-    /// 16 colours, 16 greys, and colours by the bits of a byte.
+    /// 16 colours, 16 greys, and 224 colours by the bits of a byte.
     Colours256,
 }
 
-/// Two thirds of a component's full 3F, and one third.
+/// Two thirds of the full 3F, which the strong bit of a component adds.
 const STRONG: u8 = 0x2A;
-
+/// One third of the full 3F, which the weak bit of a component adds.
 const WEAK: u8 = 0x15;
 
 /// Bit i of a byte.
@@ -36,7 +36,7 @@ fn bit(n: u8, i: u32) -> u8
     (n >> i) & 1
 }
 
-/// A component of two bits.
+/// A component made of two bits.
 fn component(n: u8, strong: u32, weak: u32) -> u8
     requires strong { strong < 8 }
     requires weak { weak < 8 }
@@ -45,14 +45,14 @@ fn component(n: u8, strong: u32, weak: u32) -> u8
     STRONG * bit(n, strong) + WEAK * bit(n, weak)
 }
 
-/// A colour of two bits for each component.
+/// A colour with two bits for each component.
 fn of_six_bits(n: u8) -> [u8; 3]
     ensures { result ≡ six_bits_of n }
 {
     [component(n, 2, 5), component(n, 1, 4), component(n, 0, 3)]
 }
 
-/// One of 16 colours, of a bit for each component and a bright one.
+/// One of 16 colours, with a bit for each component and one for brightness.
 fn of_bright_bit(n: u8, bright: u32) -> [u8; 3]
     requires { bright < 8 }
     ensures { result ≡ bright_bit_of bright n }
@@ -103,7 +103,7 @@ impl Palette {
     }
 }
 
-/// The default palette of a mode, by its row; of a number that is no mode's it is that of mode 3.
+/// The default palette of a mode; a number without a mode gives that of mode 3.
 pub fn palette_of(mode: u8) -> Palette
     ensures { result ≡ palette_of_mode mode }
 {
@@ -120,7 +120,7 @@ pub fn dac_entry(mode: u8, n: u8) -> [u8; 3]
     palette_of(mode).entry(n)
 }
 
-/// Whether a mode shows no colours.
+/// Whether a mode is monochrome.
 pub fn is_monochrome(mode: u8) -> bool
     ensures { result ≡ is_monochrome_mode mode }
 {

@@ -1,4 +1,4 @@
--- What stands on no mode: flat memories of cells and what loops leave of them, lists, plans, and registers of memory cycles.
+-- What depends on no mode: flat memories of cells and what loops leave of them, lists, plans, and registers of memory cycles.
 pub mod Flat
 pub mod Plans
 pub mod Ports

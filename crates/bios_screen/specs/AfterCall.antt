@@ -1,4 +1,5 @@
--- What the laws say: from a state that shows a screen a service leads to one that shows the next.
+-- The claims of the laws: from a state that shows a screen, a service leads to a state that shows
+-- the next screen.
 use Rattle.std.specs.Prelude.{ℕ, ◌≡◌, ◌<◌, true, false, List, length, Some, None, Ok}
 use Rattle.vga_card.specs.Card.{CardState}
 use Rattle.vga_card.specs.Bounds.{IsCard}
@@ -23,14 +24,14 @@ use Rattle.bios_screen.specs.Shown.{shown}
 use Rattle.bios_screen.specs.Step.{refusal_on, next, answer_on}
 use Rattle.bios_screen.specs.Fresh.{fresh_screen}
 
--- the adapter, and the registers and data that a service answers on the page that it means
+-- the adapter, the registers and the data after a service, with the page that its number means
 abbrev pub after_service : Service → FontSet → Regs → List ℕ → CardState → BiosData → CardState
     × Outcome
 after_service service fonts r block c d =
     run card_meaning (plan_of (on_page_named d service) fonts d r block) c
 
--- a service is refused as on the screen; one that is not answers as on the screen, leaves the next
--- screen, and leaves the beam
+-- a service is refused for the screen's reason, or else gives the screen's answer and the next
+-- screen; it leaves the beam
 pub record IsServed (service : Service) (fonts : FontSet) (r : Regs) (block : List ℕ)
     (c : CardState) (d : BiosData) (s : Screen) : Type 0 where
   pub refusal : refusal_in_mode (on_page_named d service) d (length block)
@@ -47,13 +48,13 @@ abbrev pub FitsBytes : ColourService → Type 0
 FitsBytes (SetOverscan value) = value < 256
 FitsBytes service = Unit {0}
 
--- from every state that shows a screen the service leads to one that shows the next
+-- from every state that shows a screen, the service leads to a state that shows the next screen
 abbrev pub Serves : Service → Type 0
 Serves service = (fonts : FontSet) (r : Regs) (block : List ℕ) (c : CardState) (d : BiosData)
     (s : Screen) → AreBytes block → IsCard c → IsBda d → shown c d ≡ Some s →
     IsServed service fonts r block c d s
 
--- from every state that shows a screen of text, whatever its arguments are
+-- the same from every state that shows a screen of text
 abbrev pub ServesText : Service → Type 0
 ServesText service = (fonts : FontSet) (r : Regs) (block : List ℕ) (c : CardState) (d : BiosData)
     (s : Screen) → AreBytes block → IsCard c → IsBda d → shown c d ≡ Some s →
@@ -61,7 +62,7 @@ ServesText service = (fonts : FontSet) (r : Regs) (block : List ℕ) (c : CardSt
 
 -- ---- a clearing mode set
 
--- the adapter, and the reply and the data of a call
+-- the adapter, the reply and the data after a call
 abbrev pub after_call : FontSet → Regs → List ℕ → CardState → BiosData → CardState × Answered
 after_call fonts r block c d = run card_meaning (whole_service fonts d r block) c
 
@@ -73,7 +74,8 @@ pub record IsFreshlySet (mode : ℕ) (row : ModeRow) (fonts : FontSet) (r : Regs
       ≡ Some (fresh_screen mode row fonts.f16 c.crtc.beam.frame)
   pub beam : (after_call fonts r block c d).0.crtc.beam ≡ c.crtc.beam
 
--- from every state, with any data, the call that sets the mode and clears the memory does so
+-- from every state and with any data, a call that sets the mode and clears the memory shows the
+-- fresh screen
 abbrev pub SetsFresh : ℕ → ModeRow → Type 0
 SetsFresh mode row = (fonts : FontSet) (r : Regs) (block : List ℕ) (c : CardState) (d : BiosData) →
     IsCard c → AreBytes fonts.f16 → call_of r ≡ Some (SetMode mode false) →

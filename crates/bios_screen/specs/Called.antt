@@ -1,5 +1,5 @@
--- A call on a plain screen: its reply or refusal, and the screen afterwards; and a call that wants
--- memory.
+-- A call on a plain screen: its reply or refusal, and the screen afterwards; and a call to which
+-- memory is refused.
 -- From the IBM PS/2 and PC BIOS Interface Technical Reference, "Interrupt 10H - Video".
 use Rattle.std.specs.Prelude.{ℕ, ◌≡◌, ◌<◌, List, length, Option, Some, None, Result, Ok, Err}
 use Rattle.vga_bits.specs.declared.refusal.Refusal.{Refusal}
@@ -31,21 +31,21 @@ pub record AreWords (r : Regs) : Type 0 where
   pub cx : r.cx < 65536
   pub dx : r.dx < 65536
 
--- registers and a table are replied, unless the call is refused
+-- the reply of registers and a table, unless the call is refused
 abbrev pub table_unless : Option Refusal → Table → Regs → Result Reply Refusal
 table_unless None table r = Ok (record { regs = r; table = table })
 table_unless (Some why) table r = Err why
 
--- the reply of a service, unless it is refused
+-- the reply of registers alone, unless the call is refused
 abbrev pub reply_unless : Option Refusal → Regs → Result Reply Refusal
 reply_unless refusal r = table_unless refusal Empty r
 
--- the screen after it, unless it is refused
+-- the next screen, unless the call is refused; then the old one
 abbrev pub screen_unless : Option Refusal → Screen → Screen → Screen
 screen_unless None old new = new
 screen_unless (Some why) old new = old
 
--- a call for a service replies as on the screen, leads to the next screen, and leaves the beam
+-- a call for a service gives the screen's reply, leads to the next screen and leaves the beam
 pub record IsCalled (service : Service) (fonts : FontSet) (r : Regs) (block : List ℕ)
     (c : CardState) (d : BiosData) (s : Screen) : Type 0 where
   pub reply : (after_call fonts r block c d).1.0 ≡ reply_unless
@@ -54,8 +54,8 @@ pub record IsCalled (service : Service) (fonts : FontSet) (r : Regs) (block : Li
       ≡ Some (screen_unless (refusal_on s service (length block)) s (next fonts s service block))
   pub beam : (after_call fonts r block c d).0.crtc.beam ≡ c.crtc.beam
 
--- a call that loads glyphs replies with its registers, unless it is refused, leads to the screen
--- with them, and leaves the beam
+-- a call that loads glyphs replies with its registers and leads to the screen with these glyphs,
+-- unless it is refused; it leaves the beam
 pub record IsLoaded (load : GlyphLoad) (fonts : FontSet) (r : Regs) (block : List ℕ) (c : CardState)
     (d : BiosData) (s : Screen) : Type 0 where
   pub reply : (after_call fonts r block c d).1.0 ≡ reply_unless
@@ -65,7 +65,8 @@ pub record IsLoaded (load : GlyphLoad) (fonts : FontSet) (r : Regs) (block : Lis
       (load_glyphs fonts s load block))
   pub beam : (after_call fonts r block c d).0.crtc.beam ≡ c.crtc.beam
 
--- a call for a table replies with that of the screen, and leaves screen and beam
+-- a call for a table gives the screen's table, unless it is refused; it leaves the screen and the
+-- beam
 pub record IsRead (service : TableService) (fonts : FontSet) (r : Regs) (block : List ℕ)
     (c : CardState) (d : BiosData) (s : Screen) : Type 0 where
   pub reply : (after_call fonts r block c d).1.0 ≡ table_unless (table_refusal service)
@@ -79,7 +80,7 @@ abbrev pub WantsMemory : FontSet → Regs → List ℕ → CardState → BiosDat
 WantsMemory fonts r block c d y after = MayAnswer card_meaning (whole_service fonts d r block) c d
     (Err OutOfMemory) y after
 
--- they show the screen as before, and the beam is where it was
+-- the adapter and the data show the same screen as before, and the beam is where it was
 pub record IsLeft (c : CardState) (s : Screen) (y : CardState) (after : BiosData) : Type 0 where
   pub shows : shown y after ≡ Some s
   pub beam : y.crtc.beam ≡ c.crtc.beam

@@ -1,4 +1,4 @@
--- What function 10 does to the colours of a plain screen, and what it answers in registers and as a
+-- What function 10 does to the colours of a plain screen, and what it answers in registers or as a
 -- table.
 -- From the IBM PS/2 and PC BIOS Interface Technical Reference, "Interrupt 10H - Video", (AH) = 10H.
 use Rattle.std.specs.Prelude.{ℕ, zero, suc, ◌+◌, ◌-◌, ◌*◌, ◌==◌, ◌&&◌, nat_lt, nat_le}
@@ -21,11 +21,11 @@ use Rattle.bios_services.specs.Registers.{with_high, with_low}
 use Rattle.bios_screen.specs.Listing.{listing}
 use Rattle.bios_screen.specs.Screen.{Palette, Screen}
 
--- values of the palette, and components of the DAC's entries, have six bits
+-- the six bits that the palette's values and the components of the DAC's entries have
 abbrev pub six_bits : ℕ → ℕ
 six_bits v = bit_and v 0x3F
 
--- another value of the palette
+-- the screen with another value of the palette
 abbrev pub with_value : Screen → ℕ → ℕ → Screen
 with_value s i v = record s {
   palette = record s.palette {
@@ -34,21 +34,22 @@ with_value s i v = record s {
   };
 }
 
--- the palette's values are the first sixteen bytes of a block, and the overscan the next
+-- the screen with a palette from the first sixteen bytes of a block, and the overscan from the next
 abbrev pub with_block : Screen → List ℕ → Screen
 with_block s block = record s {
   palette = record s.palette { values = listing (λ i. six_bits (slice_index block i)) 0 16 };
   overscan = slice_index block 16;
 }
 
--- a component of the entries, of which count from the first on are those of a block that has three
--- bytes for each: 0 red, 1 green, 2 blue
+-- one component of all entries, 0 red, 1 green or 2 blue, after count entries from entry `first` on
+-- got theirs from a block of three bytes each
 abbrev pub component_over : List ℕ → ℕ → ℕ → List ℕ → ℕ → List ℕ
 component_over old first count block i =
     listing (λ k. if nat_le first k && nat_lt k (first + count)
     then six_bits (slice_index block (3 * (k - first) + i))
     else slice_index old k) 0 (length old)
 
+-- the screen after count entries from entry `first` on got their colours from a block
 abbrev pub with_entries : Screen → ℕ → ℕ → List ℕ → Screen
 with_entries s first count block = record s {
   palette = record s.palette {
@@ -73,8 +74,8 @@ with_colours s (ReadEntry entry) block = s
 with_colours s (SetMask mask) block = record s { palette = record s.palette { mask = mask } }
 with_colours s ReadMask block = s
 
--- the registers that it answers: a value or the overscan in BH; red in DH, green in CH and blue in
--- CL; the mask in BL
+-- the registers that a subfunction answers: a palette value or the overscan in BH; red in DH, green
+-- in CH and blue in CL; the mask in BL
 unfoldable pub colours_answer : Screen → ColourService → Regs → Regs
 colours_answer s (SetRegister register value) r = r
 colours_answer s (SetOverscan value) r = r
@@ -101,7 +102,7 @@ entries_from p k zero = []
 entries_from p k (suc n) = slice_index p.reds k ∷ slice_index p.greens k ∷ slice_index p.blues k
     ∷ entries_from p (k + 1) n
 
--- the table that it answers: the palette's values and then the overscan, or some entries
+-- the table that a subfunction answers: the palette's values and then the overscan, or entries
 abbrev pub table_answer : Screen → TableService → Table
 table_answer s ReadPalette = PaletteTable (s.palette.values ++ s.overscan ∷ [])
 table_answer s (ReadEntries first count) = DacTable (entries_from s.palette first count)

@@ -16,26 +16,24 @@ use Rattle.bios_screen.specs.Raster.{join}
 use Rattle.bios_screen.specs.Drawing.{Drawing, dots_a_line, dots_a_frame, page_shown, so_far}
 use Rattle.bios_screen.specs.Drawing.{is_of_picture, colour_of, take_frame}
 
--- the beam is at dot n of a frame whose counter began at start: where dots from dot 0 on have led
--- it, or at the first dot, with the start still to take
+-- the beam is at dot n of a frame whose counter began at `start`; at dot 0, the frame has not begun
 abbrev pub BeamIsAt : CardState → ℕ → ℕ → Type 0
 BeamIsAt c start zero = IsFrameStart c.crtc.beam
 BeamIsAt c start (suc n) = c.crtc.beam ≡ beam_at (character_width c) c.crtc.registers start
     c.crtc.beam.frame (suc n)
 
--- dots from dot n of a frame of this page on, as long as it has not ended before the last, join
--- what is drawn of it
+-- dots from dot n of a frame of this page on join what is drawn of the frame, up to its end
 abbrev pub RowsJoin : CardState → Screen → ℕ → ℕ → Type 0
 RowsJoin c s page n = (j : ℕ) → 0 < j → n + j ≤ dots_a_frame s.mode →
     bytes_of (dots j c).drawn ≡ bytes_of (fresh c) ++ join (λ i. colour_of s page (n + i)) j
 
--- the lines of the dots of the picture among the first n
+-- the line of each dot of the picture among the first n dots of a frame
 unfoldable pub lines_before : Screen → ℕ → List ℕ
 lines_before s zero = []
 lines_before s (suc n) = lines_before s n ++ (if is_of_picture s n then n / dots_a_line s.mode ∷ []
     else [])
 
--- it shows the screen, its beam is at the dot that comes next, in a frame of the page, and it has
+-- the adapter shows the screen, its beam is at the next dot of a frame of the page, and it has
 -- drawn the picture so far
 pub record Follows (c : CardState) (d : BiosData) (b : Drawing) : Type 0 where
   pub shows : shown c d ≡ Some b.screen
@@ -45,8 +43,7 @@ pub record Follows (c : CardState) (d : BiosData) (b : Drawing) : Type 0 where
   pub lines : lines_of (fresh c) ≡ lines_before b.screen b.dot
   pub bytes : bytes_of (fresh c) ≡ so_far b
 
--- a frame ends with the picture so far and the dots that were left of it, and what follows is dot 0
--- of the next
+-- the frame ends with the picture so far and the dots that remained, and dot 0 of the next follows
 pub record EndsFrame (c : CardState) (d : BiosData) (b : Drawing) : Type 0 where
   pub size : shape (frame c).drawn ≡ Some (record {
     width = picture_width b.screen;

@@ -10,8 +10,8 @@ use Rattle.bios_screen.specs.Shown.{shown}
 use Rattle.bios_screen.specs.Picture.{dot_at, picture_width, picture_height, next_frame}
 use Rattle.bios_screen.specs.Raster.{picture_bytes}
 
--- a frame draws the screen's picture, of the active page, and leaves the screen with the next
--- frame's number, again at the first dot of a frame
+-- a frame draws the picture of the screen's active page, and leaves the screen with the next frame
+-- number, again at the first dot of a frame
 pub record IsFramed (c : CardState) (d : BiosData) (s : Screen) : Type 0 where
   pub size : shape (frame c).drawn ≡ Some (record {
     width = picture_width s;

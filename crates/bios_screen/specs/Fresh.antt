@@ -15,7 +15,7 @@ use Rattle.bios_screen.specs.Shown.{all_cells}
 unfoldable pub blank_cells : ℕ → List Cell
 blank_cells n = replicate n (0x20, 0x07)
 
--- n pixels 0
+-- n pixels of colour 0
 unfoldable pub blank_pixels : ℕ → List ℕ
 blank_pixels n = replicate n 0
 
@@ -27,7 +27,7 @@ default_component palette i n = listing (λ k. slice_index (palette_entry palett
 unfoldable pub font_bytes : List ℕ → ℕ → List ℕ
 font_bytes font n = listing (slice_index font) 0 n
 
--- the colours of a mode
+-- the palette that a mode set loads
 abbrev pub fresh_palette : ModeRow → Palette
 fresh_palette row = record {
   values = take 16 row.attribute;
@@ -37,7 +37,7 @@ fresh_palette row = record {
   mask = 0xFF;
 }
 
--- how its screen is cut that has so many cells from a page to the next
+-- the layout of a mode, with this many cells from the beginning of a page to the next
 abbrev pub fresh_layout : ModeRow → ℕ → Layout
 fresh_layout row distance = record {
   columns = row.columns;
@@ -47,8 +47,8 @@ fresh_layout row distance = record {
   pages = row.pages;
 }
 
--- these contents and glyphs, the cursors in the upper left corner, the mode's type and colours; the
--- frame number stays
+-- a screen of these contents and glyphs, with the cursors in the upper left corner and the mode's
+-- cursor type and colours; the frame number stays
 abbrev pub fresh_by : ℕ → ModeRow → ℕ → Contents → List ℕ → ℕ → Screen
 fresh_by mode row distance contents glyphs frame = record {
   mode = mode;
@@ -64,17 +64,18 @@ fresh_by mode row distance contents glyphs frame = record {
   frame = frame;
 }
 
--- text: blank cells, and the font's glyphs
+-- the fresh screen of text: blank cells, and the glyphs of a font
 abbrev pub fresh_text : ℕ → ModeRow → List ℕ → ℕ → Screen
 fresh_text mode row font frame = fresh_by mode row (row.size / 2) (Cells (blank_cells all_cells))
     (font_bytes font 4096) frame
 
--- graphics: pages of pixels 0
+-- the fresh screen of graphics: pages of pixels of colour 0
 abbrev pub fresh_pixels : ℕ → ModeRow → ℕ → Screen
 fresh_pixels mode row frame = fresh_by mode row 0 (Pixels
     (replicate row.pages (blank_pixels (8 * row.columns * (row.height * (row.last_row + 1)))))) []
     frame
 
+-- the fresh screen of a mode
 abbrev pub fresh_screen : ℕ → ModeRow → List ℕ → ℕ → Screen
 fresh_screen mode row font frame = if is_text mode then fresh_text mode row font frame
     else fresh_pixels mode row frame

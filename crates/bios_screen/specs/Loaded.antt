@@ -1,4 +1,4 @@
--- Loading glyphs on a plain screen of text, with which the height of characters changes.
+-- Loading glyphs on a plain screen of text, which also sets the height of characters.
 -- From the IBM PS/2 and PC BIOS Interface Technical Reference, "Interrupt 10H - Video", (AH) = 11H.
 use Rattle.std.specs.Prelude.{ℕ, ◌+◌, ◌/◌, ◌%◌, ◌&&◌, nat_lt, nat_le, if◌then◌else◌, List, length}
 use Rattle.std.specs.Prelude.{replicate, slice_index, Option, Some, None}
@@ -13,18 +13,18 @@ use Rattle.bios_services.specs.GlyphLoads.{load_refusal, loaded_line}
 use Rattle.bios_screen.specs.Listing.{listing}
 use Rattle.bios_screen.specs.Screen.{Layout, Screen}
 
--- there is no row of text of this height
+-- the text-height table has no row
 abbrev pub height_refusal_on : Option TextRow → Option Refusal
 height_refusal_on None = Some BadHeight
 height_refusal_on (Some text) = None
 
--- why a load of glyphs is refused on a screen, with a block of this length
+-- why a load of glyphs is refused on a screen with a block of this length
 abbrev pub load_refusal_on : Screen → GlyphLoad → ℕ → Option Refusal
 load_refusal_on s load len = load_refusal load s.mode len
     or height_refusal_on (text_row s.mode load.height)
 
--- byte i of the glyphs, of which a character has sixteen: of a character that is loaded the first
--- lines are new, and all else stays
+-- byte i of the glyphs, sixteen for a character, after a load: the first lines of each loaded
+-- character are new, and all others stay
 abbrev pub load_byte : FontSet → GlyphLoad → List ℕ → (ℕ → ℕ) → ℕ → ℕ
 load_byte fonts load block old i =
     if nat_le load.first (i / 16) && (nat_lt (i / 16) (load.first + load.count)
@@ -32,7 +32,7 @@ load_byte fonts load block old i =
     then loaded_line fonts load block (i / 16) (i % 16)
     else old i
 
--- how a screen of text is cut with characters of another height
+-- the layout of text with the values of a row of the text-height table
 abbrev pub layout_with : Layout → TextRow → Layout
 layout_with l text = record {
   columns = l.columns;
@@ -42,8 +42,8 @@ layout_with l text = record {
   pages = text.pages;
 }
 
--- the screen with them: its cells stay and are cut anew, the cursors stand in the upper left
--- corner, and page 0 is active
+-- the screen after a load, by the row of its height: the cells stay and are laid out anew, the
+-- cursors stand in the upper left corner, and page 0 is active
 abbrev pub load_at_height : Option TextRow → FontSet → Screen → GlyphLoad → List ℕ → Screen
 load_at_height None fonts s load block = s
 load_at_height (Some text) fonts s load block = record s {

@@ -1,4 +1,4 @@
--- A plain screen: what programs see that use the video BIOS alone, with no register and no address.
+-- A plain screen: what a program sees that uses only the video BIOS, and no register or address.
 -- From the IBM PS/2 and PC BIOS Interface Technical Reference, "Interrupt 10H - Video".
 use Rattle.std.specs.Prelude.{ℕ, ◌+◌, ◌*◌, Bool, List, get_or, slice_index}
 use Rattle.bios_services.specs.Cursor.{row_of, column_of}
@@ -7,14 +7,15 @@ use Rattle.bios_services.specs.Cursor.{row_of, column_of}
 abbrev pub Cell : Type 0
 Cell = ℕ × ℕ
 
--- what is on the screen: the cells of text, page after page, or the pixels of each page, row after
--- row
+-- the contents of a screen: the cells of text, page after page, or the pixels of each page, line
+-- after line
 pub data Contents : Type 0 where
   Cells : List Cell → Contents
   Pixels : List (List ℕ) → Contents
 
--- how the contents are cut: columns and rows of characters on a page, scan lines of a character,
--- how many cells lead from a page to the next, which is 0 for pixels, and how many pages there are
+-- how the contents are laid out: columns and rows of characters on a page, scan lines of a
+-- character, the number of cells from the beginning of a page to the next, which is 0 for pixels,
+-- and the number of pages
 pub record Layout : Type 0 where
   pub columns : ℕ
   pub rows : ℕ
@@ -22,8 +23,8 @@ pub record Layout : Type 0 where
   pub distance : ℕ
   pub pages : ℕ
 
--- the colours: sixteen values of a palette, red, green and blue of the entries that they name, and
--- the mask of these names
+-- the colours: sixteen palette values, red, green and blue of the DAC's entries, and the mask of
+-- entry numbers
 pub record Palette : Type 0 where
   pub values : List ℕ
   pub reds : List ℕ
@@ -31,9 +32,9 @@ pub record Palette : Type 0 where
   pub blues : List ℕ
   pub mask : ℕ
 
--- the places of the cursor, one for each page, have the row as high byte and the column as low one;
+-- a screen. Each page has a cursor position, with the row as high byte and the column as low one;
 -- the cursor's type has its first scan line as high byte and its last as low one; glyphs have
--- sixteen bytes a character, top row first, and pixels have none
+-- sixteen bytes a character, top row first, and a screen of pixels has none
 pub record Screen : Type 0 where
   pub mode : ℕ
   pub layout : Layout
@@ -47,11 +48,11 @@ pub record Screen : Type 0 where
   pub glyphs : List ℕ
   pub frame : ℕ
 
--- a cell that is none
+-- the cell that stands for one that is not there
 abbrev pub no_cell : Cell
 no_cell = (0, 0)
 
--- the cells of a list by their numbers
+-- cell k of a list
 abbrev pub cell_of : List Cell → ℕ → Cell
 cell_of cells k = get_or cells k no_cell
 
@@ -63,14 +64,14 @@ page_cells s = s.layout.columns * s.layout.rows
 abbrev pub page_start : Screen → ℕ → ℕ
 page_start s page = s.layout.distance * page
 
--- the number of the cell at a place, counted along the rows of its page
-abbrev pub place_number : Screen → ℕ → ℕ
-place_number s place = s.layout.columns * row_of place + column_of place
+-- the number of the cell at a position, counted along the rows of its page
+abbrev pub position_number : Screen → ℕ → ℕ
+position_number s position = s.layout.columns * row_of position + column_of position
 
--- the cursor's place on a page
-abbrev pub cursor_place : Screen → ℕ → ℕ
-cursor_place s page = slice_index s.places page
+-- the cursor's position on a page
+abbrev pub cursor_position : Screen → ℕ → ℕ
+cursor_position s page = slice_index s.places page
 
 -- the number of the cell at a page's cursor, counted from the first cell of page 0
 abbrev pub cursor_cell : Screen → ℕ → ℕ
-cursor_cell s page = page_start s page + place_number s (cursor_place s page)
+cursor_cell s page = page_start s page + position_number s (cursor_position s page)

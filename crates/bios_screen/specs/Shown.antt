@@ -1,5 +1,5 @@
--- Whether the adapter shows a screen, and which: a test of registers and BIOS data, and then a
--- reading.
+-- Whether the adapter shows a plain screen, and which one: a test of registers and BIOS data, and
+-- then a reading of memory.
 -- From the IBM PS/2 Hardware Interface Technical Reference, Video Subsystems, and the IBM PS/2 and
 -- PC BIOS Interface Technical Reference, "BIOS Data Area".
 use Rattle.std.specs.Prelude.{ℕ, ◌+◌, ◌-◌, ◌*◌, ◌/◌, ◌%◌, ◌==◌, ◌&&◌, nat_lt, Bool, if◌then◌else◌}
@@ -22,13 +22,13 @@ use Rattle.bios_screen.specs.Screen.{Cell, Contents, Cells, Pixels, Layout, Pale
 
 -- ---- the test
 
--- the registers that memory cycles look at are the mode's
+-- whether the registers that memory cycles depend on are the mode's
 abbrev pub shows_memory : ModeRow → CardState → Bool
 shows_memory row c = (c.misc == row.misc) && (bytes_eq c.host.seq row.sequencer
     && bytes_eq c.host.gfx row.graphics)
 
--- register i of the CRT controller for this cursor's type, start address and cursor location; all
--- others are the mode's
+-- register i of the CRT controller for this cursor type, start address and cursor location; the
+-- other registers are the mode's
 abbrev pub crtc_register : ModeRow → ℕ → ℕ → ℕ → ℕ → ℕ
 crtc_register row cursor_type start location i =
     if i == 0x0A then bit_and (cursor_type / 256) 0x3F
@@ -39,31 +39,31 @@ crtc_register row cursor_type start location i =
     else if i == 0x0F then location % 256
     else slice_index row.crtc i
 
--- all 25 of them
+-- all 25 registers of the CRT controller
 abbrev pub crtc_registers : ModeRow → ℕ → ℕ → ℕ → List ℕ
 crtc_registers row cursor_type start location = listing
     (crtc_register row cursor_type start location) 0 25
 
--- the cursor's location: in text that of the active page; in graphics no cursor is shown, and the
--- location is what it is
+-- the cursor location: in text that of the active page; in graphics, which shows no cursor, the one
+-- that the registers contain
 abbrev pub location_shown : BiosData → List ℕ → ℕ
 location_shown d registers = if is_text d.mode then cursor_address d d.page
     else 256 * slice_index registers 0x0E + slice_index registers 0x0F
 
--- as the data say: the active page is shown, with its cursor
+-- the registers of the CRT controller that show the active page of the data, with its cursor
 abbrev pub crtc_shown : ModeRow → BiosData → List ℕ → List ℕ
 crtc_shown row d registers = crtc_registers row d.cursor_type (start_address d d.page)
     (location_shown d registers)
 
--- the attribute controller shows its palette, and its registers from mode control on are the
--- mode's, but blink, which is bit 3 of mode control, and overscan
+-- whether the attribute controller shows its palette, and its registers from mode control on are
+-- the mode's, except for bit 3 of mode control, which is blinking, and for overscan
 abbrev pub shows_attribute : ModeRow → AttrState → Bool
 shows_attribute row a =
     is_palette_shown a && ((bit_and (slice_index a.registers 0x10) 0xF7
     == bit_and (slice_index row.attribute 0x10) 0xF7)
     && bytes_eq (drop 0x12 a.registers) (drop 0x12 row.attribute))
 
--- the data are those of the mode, and the page is one of its pages
+-- whether the data are those of the mode, with one of its pages
 abbrev pub shows_data : ModeRow → BiosData → Bool
 shows_data row d =
     (d.columns == row.columns) && ((d.size == row.size)
@@ -71,7 +71,7 @@ shows_data row d =
     && ((d.crtc_address == row.crtc_address) && ((d.start == d.size * d.page)
     && nat_lt d.page row.pages)))))
 
--- the adapter and the data show a screen
+-- whether the adapter and the data show a screen of the mode
 unfoldable pub shows : ModeRow → CardState → BiosData → Bool
 shows row c d =
     shows_memory row c && (shows_data row d && (bytes_eq c.crtc.registers
@@ -83,11 +83,11 @@ shows row c d =
 abbrev pub cell_in : List ℕ → List ℕ → ℕ → Cell
 cell_in plane0 plane1 k = (slice_index plane0 (2 * k), slice_index plane1 (2 * k))
 
--- the first n cells
+-- the first n cells of text memory
 unfoldable pub cells_in : List ℕ → List ℕ → ℕ → List Cell
 cells_in plane0 plane1 n = listing (cell_in plane0 plane1) 0 n
 
--- byte i of the glyphs, of which each has 16 rows at the head of 32 bytes in plane 2
+-- byte i of the glyphs; each glyph has 16 rows, the first 16 of 32 bytes in plane 2
 abbrev pub glyph_byte : List ℕ → ℕ → ℕ
 glyph_byte plane2 i = slice_index plane2 (32 * (i / 16) + i % 16)
 
@@ -95,8 +95,8 @@ glyph_byte plane2 i = slice_index plane2 (32 * (i / 16) + i % 16)
 unfoldable pub glyphs_in : List ℕ → ℕ → List ℕ
 glyphs_in plane2 n = listing (glyph_byte plane2) 0 n
 
--- pixel k of a page of 16 colours that begins at byte z: its bit p stands in plane p, eight pixels
--- to a byte, the first as the highest bit
+-- pixel k of a page of 16 colours that begins at byte z: its bit p lies in plane p, eight pixels to
+-- a byte, the first one as the highest bit
 abbrev pub planar_pixel : Four (List ℕ) → ℕ → ℕ → ℕ
 planar_pixel memory z k =
     bit_at (byte_at memory 0 (z + k / 8)) (7 - k % 8)
@@ -104,8 +104,8 @@ planar_pixel memory z k =
     + 4 * bit_at (byte_at memory 2 (z + k / 8)) (7 - k % 8)
     + 8 * bit_at (byte_at memory 3 (z + k / 8)) (7 - k % 8)
 
--- pixel n of 256 colours is a byte: the two low bits of its number are its plane, and are cleared
--- in its place there
+-- pixel n of 256 colours is a byte: the two low bits of its number select the plane, and the number
+-- with these bits cleared is the offset there
 abbrev pub packed_pixel : Four (List ℕ) → ℕ → ℕ
 packed_pixel memory n = byte_at memory (n % 4) (n / 4 * 4)
 
@@ -114,7 +114,7 @@ abbrev pub pixel_in : ℕ → Four (List ℕ) → ℕ → ℕ → ℕ
 pixel_in mode memory z k = if is_packed mode then packed_pixel memory (z + k)
     else planar_pixel memory z k
 
--- the first n of them
+-- the first n pixels of a page that begins at byte z
 unfoldable pub pixels_in : ℕ → Four (List ℕ) → ℕ → ℕ → List ℕ
 pixels_in mode memory z n = listing (pixel_in mode memory z) 0 n
 
@@ -122,11 +122,11 @@ pixels_in mode memory z n = listing (pixel_in mode memory z) 0 n
 abbrev pub page_pixels : BiosData → ℕ
 page_pixels d = dots_across d * dots_down d
 
--- so many pages of n pixels, each of which begins `size` bytes behind the one before
+-- the pages, of n pixels each; each begins `size` bytes after the one before
 unfoldable pub pixel_pages : ℕ → Four (List ℕ) → ℕ → ℕ → ℕ → List (List ℕ)
 pixel_pages mode memory size n pages = listing (λ p. pixels_in mode memory (size * p) n) 0 pages
 
--- the palette's registers, the DAC's entries and its mask
+-- the colours of the adapter: the palette registers, the DAC's entries and its mask
 abbrev pub palette_in : CardState → Palette
 palette_in c = record {
   values = take 16 c.attr.registers;
@@ -136,7 +136,7 @@ palette_in c = record {
   mask = c.dac.mask;
 }
 
--- how a screen is cut that has so many cells from a page to the next
+-- the layout of a mode and its data, with this many cells from the beginning of a page to the next
 abbrev pub layout_of : ModeRow → BiosData → ℕ → Layout
 layout_of row d distance = record {
   columns = d.columns;
@@ -146,7 +146,7 @@ layout_of row d distance = record {
   pages = row.pages;
 }
 
--- the screen with these contents and glyphs
+-- the screen of the adapter and the data, with these contents and glyphs
 abbrev pub screen_by : ModeRow → CardState → BiosData → ℕ → Contents → List ℕ → Screen
 screen_by row c d distance contents glyphs = record {
   mode = d.mode;
@@ -166,26 +166,26 @@ screen_by row c d distance contents glyphs = record {
 abbrev pub all_cells : ℕ
 all_cells = 16384
 
--- the text screen with these cells, of which each has two bytes of a page
+-- the text screen with these cells; a cell is two bytes of a page
 abbrev pub screen_with : ModeRow → CardState → BiosData → List Cell → Screen
 screen_with row c d cells = screen_by row c d (d.size / 2) (Cells cells)
     (glyphs_in c.host.memory.plane2 4096)
 
--- the text screen
+-- the text screen of the adapter and the data
 abbrev pub text_screen : ModeRow → CardState → BiosData → Screen
 text_screen row c d = screen_with row c d (cells_in c.host.memory.plane0 c.host.memory.plane1
     all_cells)
 
--- the screen of pixels
+-- the screen of pixels of the adapter and the data
 abbrev pub pixel_screen : ModeRow → CardState → BiosData → Screen
 pixel_screen row c d = screen_by row c d 0 (Pixels (pixel_pages d.mode c.host.memory d.size
     (page_pixels d) row.pages)) []
 
--- the screen of the mode
+-- the screen of the mode's kind: text or pixels
 abbrev pub screen_of : ModeRow → CardState → BiosData → Screen
 screen_of row c d = if is_text d.mode then text_screen row c d else pixel_screen row c d
 
--- the screen that is shown, if there is one, where the mode has this row with characters of their
+-- the screen that the adapter shows with these data, if it shows one, by the mode's row at its
 -- height
 abbrev pub shown_by : Option ModeRow → CardState → BiosData → Option Screen
 shown_by None c d = None

@@ -26,81 +26,86 @@ use Rattle.bios_modes.specs.Palette.{is_monochrome_mode}
 use Rattle.bios_services.specs.Registers.{low, with_low}
 use Rattle.bios_services.specs.Scroll.{window_among, whole_page, lines_of}
 use Rattle.bios_services.specs.Teletype.{line_start, dots_in}
-use Rattle.bios_services.specs.Strings.{string_len, character_at, colouring_at}
-use Rattle.bios_services.specs.Colours.{colour_refusal}
+use Rattle.bios_services.specs.Strings.{character_at, colouring_at}
+use Rattle.bios_services.specs.Colours.{colour_reason}
 use Rattle.bios_services.specs.Reasons.{◌or◌, no_pixels, no_page, outside_cells, outside_page}
-use Rattle.bios_services.specs.Reasons.{outside_pixels, past_cells, wrong_block}
-use Rattle.bios_services.specs.Refusals.{page_among}
+use Rattle.bios_services.specs.Reasons.{outside_pixels, past_cells, or_wrong_block}
+use Rattle.bios_services.specs.Refusals.{page_among, service_block}
 use Rattle.bios_services.specs.Cursor.{row_of, column_of}
 use Rattle.bios_services.specs.Glyphs.{glyph_line, first_character}
 use Rattle.bios_screen.specs.Listing.{listing}
 use Rattle.bios_screen.specs.Colours.{with_colours, colours_answer}
 use Rattle.bios_screen.specs.Screen.{Cell, Contents, Cells, Pixels, Screen, cell_of, page_cells}
-use Rattle.bios_screen.specs.Screen.{page_start, place_number, cursor_place, cursor_cell}
+use Rattle.bios_screen.specs.Screen.{page_start, position_number, cursor_position, cursor_cell}
 
 -- ---- why a service is refused
 
--- the page that a call names
+-- the page that a number means on a screen
 abbrev pub page_meant : Screen → ℕ → ℕ
 page_meant s page = page_among s.layout.pages page
 
 -- the number of the cell at the cursor of a page, counted along the rows of that page
 abbrev pub cursor_number : Screen → ℕ → ℕ
-cursor_number s page = place_number s (cursor_place s page)
+cursor_number s page = position_number s (cursor_position s page)
 
--- why a service is refused on a screen, with a block of this length: of its reasons the first
-unfoldable pub refusal_on : Screen → Service → ℕ → Option Refusal
-refusal_on s (SetCursorType cursor_type) len = None
-refusal_on s (SetCursor page place) len = no_page s.layout.pages (page_meant s page)
-refusal_on s (ReadCursor page) len = no_page s.layout.pages (page_meant s page)
-refusal_on s (SelectPage page) len = no_page s.layout.pages page
-refusal_on s (ScrollUp window) len = None
-refusal_on s (ScrollDown window) len = None
-refusal_on s (ReadCell page) len =
+-- why a service is refused on a screen whatever its block: the first of its reasons
+abbrev pub reason_on : Screen → Service → Option Refusal
+reason_on s (SetCursorType cursor_type) = None
+reason_on s (SetCursor page position) = no_page s.layout.pages (page_meant s page)
+reason_on s (ReadCursor page) = no_page s.layout.pages (page_meant s page)
+reason_on s (SelectPage page) = no_page s.layout.pages page
+reason_on s (ScrollUp window) = None
+reason_on s (ScrollDown window) = None
+reason_on s (ReadCell page) =
     no_page s.layout.pages (page_meant s page)
     or outside_cells (page_cells s) (cursor_number s (page_meant s page))
-refusal_on s (WriteCells cells) len =
+reason_on s (WriteCells cells) =
     no_page s.layout.pages (page_meant s cells.page)
     or outside_cells (page_cells s) (cursor_number s (page_meant s cells.page))
     or past_cells (page_cells s) (cursor_number s (page_meant s cells.page)) cells.count
-refusal_on s (WritePixel page x y colour) len =
+reason_on s (WritePixel page x y colour) =
     no_pixels s.mode
     or no_page s.layout.pages (page_meant s page)
     or outside_pixels (8 * s.layout.columns) (s.layout.height * s.layout.rows) x y
-refusal_on s (ReadPixel page x y) len =
+reason_on s (ReadPixel page x y) =
     no_pixels s.mode
     or no_page s.layout.pages (page_meant s page)
     or outside_pixels (8 * s.layout.columns) (s.layout.height * s.layout.rows) x y
-refusal_on s (Teletype character colour) len = outside_page s.layout.rows s.layout.columns
-    (cursor_place s s.page)
-refusal_on s ReadMode len = None
-refusal_on s (Colours service) len = colour_refusal service len
-refusal_on s ReadAdapter len = None
-refusal_on s (WriteString call) len =
+reason_on s (Teletype character colour) = outside_page s.layout.rows s.layout.columns
+    (cursor_position s s.page)
+reason_on s ReadMode = None
+reason_on s (Colours service) = colour_reason service
+reason_on s ReadAdapter = None
+reason_on s (WriteString call) =
     no_page s.layout.pages (page_meant s call.page)
-    or outside_page s.layout.rows s.layout.columns call.place
-    or wrong_block (string_len call) len
-refusal_on s ReadDisplay len = None
+    or outside_page s.layout.rows s.layout.columns call.position
+reason_on s ReadDisplay = None
+
+-- why a service is refused on a screen with a block of this length
+unfoldable pub refusal_on : Screen → Service → ℕ → Option Refusal
+refusal_on s service len = or_wrong_block (reason_on s service) (service_block service) len
 
 -- ---- what it does to the cells
 
--- the cells of a screen, and cell k of them; where there are none, that is 00 in attribute 00
+-- the cells of a screen; pixels have none
 abbrev pub cells_on : Contents → List Cell
 cells_on (Cells cells) = cells
 cells_on (Pixels pages) = []
 
+-- cell k of a screen; if there is none, the character 00 in attribute 00
 abbrev pub cell_on : Screen → ℕ → Cell
 cell_on s k = cell_of (cells_on s.contents) k
 
--- as many cells, each given by its number and all the old ones
+-- new cells, each given by its number and all the old ones; pixels stay
 abbrev pub change_cells : ((ℕ → Cell) → ℕ → Cell) → Contents → Contents
 change_cells new (Cells cells) = Cells (listing (new (cell_of cells)) 0 (length cells))
 change_cells new (Pixels pages) = Pixels pages
 
+-- a screen with new cells, each given by its number and all the old ones
 abbrev pub with_cells : Screen → ((ℕ → Cell) → ℕ → Cell) → Screen
 with_cells s new = record s { contents = change_cells new s.contents }
 
--- a character with an attribute; where none is given the cell keeps its own
+-- a cell with another character, and with another attribute if one is given
 abbrev pub character_over : ℕ → Colouring → Cell → Cell
 character_over character colouring cell = (
   character,
@@ -108,38 +113,39 @@ character_over character colouring cell = (
       then colouring.colour else cell.1,
 )
 
--- count cells from the first on become a character, and all others stay
+-- count cells from cell `first` on get a character, and all others stay
 abbrev pub write_characters : ℕ → ℕ → ℕ → Colouring → (ℕ → Cell) → ℕ → Cell
 write_characters first count character colouring old k =
     if nat_le first k && nat_lt k (first + count) then character_over character colouring (old k)
     else old k
 
--- row and column of cell k on a page
+-- the row of cell k on a page
 abbrev pub row_on : Screen → ℕ → ℕ → ℕ
 row_on s page k = (k - page_start s page) / s.layout.columns
 
+-- the column of cell k on a page
 abbrev pub column_on : Screen → ℕ → ℕ → ℕ
 column_on s page k = (k - page_start s page) % s.layout.columns
 
--- whether a window has this row and this column
+-- whether a row and a column lie in a window
 abbrev pub in_window : Window → ℕ → ℕ → Bool
 in_window w row column = nat_le w.top row && (nat_lt row (w.top + w.height)
     && (nat_le w.left column && nat_lt column (w.left + w.width)))
 
--- whether a row of a window that goes by n rows takes another's contents: going up all but the last
--- n do, and going down all but the first n
+-- whether a row of a window that moves by n rows gets another row's contents: all but the last n do
+-- if it moves up, and all but the first n if it moves down
 abbrev pub has_source : Direction → Window → ℕ → ℕ → Bool
 has_source Up w n row = nat_lt (row + n) (w.top + w.height)
 has_source Down w n row = nat_le (w.top + n) row
 
--- the number of what is taken: so many further where the window goes up, so many before where it
--- goes down
+-- the number of the cell or pixel whose contents number k gets: `distance` after it if the window
+-- moves up, `distance` before it if the window moves down
 abbrev pub source : Direction → ℕ → ℕ → ℕ
 source Up k distance = k + distance
 source Down k distance = k - distance
 
--- a window of a page goes by n rows: a cell takes what stood so many rows below or above it, the
--- rows that are left are blank with an attribute, and all outside stays
+-- a window of a page moves by n rows: a cell gets the contents of the one n rows below or above it,
+-- the n rows that the window leaves become blank in an attribute, and all cells outside stay
 abbrev pub scroll_cells : Screen → ℕ → Window → Direction → ℕ → ℕ → (ℕ → Cell) → ℕ → Cell
 scroll_cells s page w direction n attribute old k =
     if nat_le (page_start s page) k && in_window w (row_on s page k) (column_on s page k)
@@ -149,29 +155,31 @@ scroll_cells s page w direction n attribute old k =
 
 -- ---- what it does to the pixels
 
--- the pixels of a screen, page after page; pixel k of a page; and the number of a pixel, counted
--- along the lines of its page
+-- the pixels of a screen, page after page; text has none
 abbrev pub pages_on : Contents → List (List ℕ)
 pages_on (Cells cells) = []
 pages_on (Pixels pages) = pages
 
+-- pixel k of a page
 abbrev pub pixel_of : Screen → ℕ → ℕ → ℕ
 pixel_of s page k = slice_index (get_or (pages_on s.contents) page []) k
 
+-- the number of the pixel at column x of line y, counted along the lines of its page
 abbrev pub pixel_number : Screen → ℕ → ℕ → ℕ
 pixel_number s x y = 8 * s.layout.columns * y + x
 
--- a page drawn anew, each pixel given by its number and all the old ones
+-- new pixels on a page, each given by its number and all the old ones; cells stay
 abbrev pub change_pixels : ℕ → ((ℕ → ℕ) → ℕ → ℕ) → Contents → Contents
 change_pixels page new (Cells cells) = Cells cells
 change_pixels page new (Pixels pages) = Pixels (set pages page
     (listing (new (slice_index (get_or pages page []))) 0 (length (get_or pages page []))))
 
+-- a screen with new pixels on a page, each given by its number and all the old ones
 abbrev pub with_pixels : Screen → ℕ → ((ℕ → ℕ) → ℕ → ℕ) → Screen
 with_pixels s page new = record s { contents = change_pixels page new s.contents }
 
--- what a colour makes of a pixel: one of 256 stands there; of 16 the four low bits do, or by bit 7
--- their XOR with the pixel
+-- a pixel after a colour is written to it: of 256 colours it is that colour; of 16 it is the four
+-- low bits, or their XOR with the old pixel if bit 7 is 1
 abbrev pub colour_over : ℕ → ℕ → ℕ → ℕ
 colour_over mode colour old = if is_packed mode then colour else if is_set colour 7
     then bit_xor old (colour % 16) else colour % 16
@@ -180,29 +188,30 @@ colour_over mode colour old = if is_packed mode then colour else if is_set colou
 abbrev pub change_pixel : ℕ → (ℕ → ℕ) → (ℕ → ℕ) → ℕ → ℕ
 change_pixel n change old k = if k == n then change (old k) else old k
 
--- the row and the column of characters in which pixel k of a page lies, of which each column has
--- eight pixels
+-- the row of characters in which pixel k of a page lies
 abbrev pub pixel_row : Screen → ℕ → ℕ
 pixel_row s k = k / (8 * s.layout.columns) / s.layout.height
 
+-- the column of characters in which pixel k of a page lies; each is eight pixels wide
 abbrev pub pixel_column : Screen → ℕ → ℕ
 pixel_column s k = k % (8 * s.layout.columns) / 8
 
--- its cell, and the line there
+-- the number of the cell in which pixel k of a page lies
 abbrev pub pixel_cell : Screen → ℕ → ℕ
 pixel_cell s k = s.layout.columns * pixel_row s k + pixel_column s k
 
+-- the line of its cell in which pixel k of a page lies
 abbrev pub pixel_line : Screen → ℕ → ℕ
 pixel_line s k = k / (8 * s.layout.columns) % s.layout.height
 
--- what a character makes of a pixel where its glyph has a dot, and where it has none: that becomes
--- 0, or by XOR stays
+-- a pixel after a character is written: a dot of the glyph writes the colour; where it has none,
+-- the pixel becomes 0, or stays by XOR
 abbrev pub glyph_pixel : ℕ → ℕ → Bool → ℕ → ℕ
 glyph_pixel mode colour is_dot old = if is_dot then colour_over mode colour old
     else if not (is_packed mode) && is_set colour 7 then old else 0
 
--- count cells from the first on get a character by the font of the mode's height, and all other
--- pixels stay
+-- count cells from cell `first` on get a character from the font of the mode's height, and all
+-- other pixels stay
 abbrev pub draw_characters : FontSet → Screen → ℕ → ℕ → ℕ → ℕ → (ℕ → ℕ) → ℕ → ℕ
 draw_characters fonts s first count character colour old k =
     if nat_le first (pixel_cell s k) && nat_lt (pixel_cell s k) (first + count)
@@ -210,27 +219,27 @@ draw_characters fonts s first count character colour old k =
     (pixel_line s k)) (7 - k % 8)) (old k)
     else old k
 
--- a character is written to count cells of a page from one on, to cells of text or as dots
+-- a character goes to count cells of a page from cell `first` on, as cells of text or as pixels
 abbrev pub put_characters : FontSet → Screen → ℕ → ℕ → ℕ → ℕ → Colouring → Screen
 put_characters fonts s page first count character colouring =
     with_pixels (with_cells s (write_characters (page_start s page + first) count character
     colouring)) page (draw_characters fonts s first count character colouring.colour)
 
--- it is written from the cursor of a page on
+-- a run of cells gets a character, from the cursor of a page on
 abbrev pub write_at_cursor : FontSet → Screen → ℕ → CellRun → Screen
 write_at_cursor fonts s page cells = put_characters fonts s page (cursor_number s page) cells.count
     cells.character cells.colouring
 
--- how many pixels lie between one and that so many rows of characters below it
+-- how far the number of a pixel is from that of the pixel some rows of characters below it
 abbrev pub row_pixels : Screen → ℕ → ℕ
 row_pixels s rows = 8 * s.layout.columns * (s.layout.height * rows)
 
--- a window's colour as a pixel
+-- the pixel with which a window is filled
 abbrev pub fill_pixel : ℕ → ℕ → ℕ
 fill_pixel mode colour = if is_packed mode then colour else colour % 16
 
--- a window of a page goes by n rows: a pixel takes what stood so many rows of characters below or
--- above it, the rows that are left get a colour, and all outside stays
+-- a window of a page moves by n rows: a pixel becomes that n rows of characters below or above it,
+-- the n rows that the window leaves get a colour, and all pixels outside stay
 abbrev pub scroll_pixels : Screen → Window → Direction → ℕ → ℕ → (ℕ → ℕ) → ℕ → ℕ
 scroll_pixels s w direction n colour old k =
     if in_window w (pixel_row s k) (pixel_column s k)
@@ -238,18 +247,19 @@ scroll_pixels s w direction n colour old k =
     then old (source direction k (row_pixels s n)) else fill_pixel s.mode colour)
     else old k
 
--- a window of a page goes by n rows, with its cells or its pixels
+-- a window of a page moves by n rows, with its cells or its pixels
 abbrev pub scroll_window : Screen → ℕ → Window → Direction → ℕ → ℕ → Screen
 scroll_window s page w direction n fill =
     with_pixels (with_cells s (scroll_cells s page w direction n fill)) page
     (scroll_pixels s w direction n fill)
 
--- the window of the active page that is asked for goes; where there is none, nothing does
+-- a window of the active page scrolls; without a window nothing happens
 abbrev pub scroll_asked : Screen → Scroll → Direction → Option Window → Screen
 scroll_asked s asked direction None = s
 scroll_asked s asked direction (Some w) =
     scroll_window s s.page w direction (lines_of w asked.lines) asked.fill
 
+-- the window that a call names scrolls on the active page
 abbrev pub scroll : Screen → Scroll → Direction → Screen
 scroll s asked direction =
     scroll_asked s asked direction (window_among s.layout.rows s.layout.columns asked)
@@ -260,71 +270,72 @@ page_up s page fill = scroll_window s page (whole_page s.layout.rows s.layout.co
 
 -- ---- typing
 
--- the attribute in the last row of a page, at the column of a place; a page of pixels has none
--- there, and that is colour 0
+-- the attribute in the last row of a page, in the column of a position; for pixels it is colour 0
 abbrev pub last_colour : Screen → ℕ → ℕ → ℕ
-last_colour s page place = (cell_on s (page_start s page
-    + (s.layout.columns * (s.layout.rows - 1) + column_of place))).1
+last_colour s page position = (cell_on s (page_start s page
+    + (s.layout.columns * (s.layout.rows - 1) + column_of position))).1
 
--- the row below a place; from the last row the page goes up instead, with a row blank in that
--- attribute or colour
+-- the position one row below; on the last row it stays, and the page goes up by a row, with a new
+-- row in that attribute or colour
 abbrev pub line_feed : Screen → ℕ → ℕ → Screen × ℕ
-line_feed s page place =
-    if nat_lt (row_of place) (s.layout.rows - 1) then (s, place + 256)
-    else (page_up s page (last_colour s page place), place)
+line_feed s page position =
+    if nat_lt (row_of position) (s.layout.rows - 1) then (s, position + 256)
+    else (page_up s page (last_colour s page position), position)
 
--- the place behind: the next column, or the first one of the row below
+-- the position after one: the next column, or the first column of the row below
 abbrev pub cursor_advance : Screen → ℕ → ℕ → Screen × ℕ
-cursor_advance s page place =
-    if nat_lt (column_of place + 1) s.layout.columns then (s, place + 1)
-    else ((line_feed s page place).0, line_start (line_feed s page place).1)
+cursor_advance s page position =
+    if nat_lt (column_of position + 1) s.layout.columns then (s, position + 1)
+    else ((line_feed s page position).0, line_start (line_feed s page position).1)
 
--- a character at a place, and the place behind
+-- a character is written at a position
 abbrev pub put_character : FontSet → Screen → ℕ → ℕ → ℕ → Colouring → Screen
-put_character fonts s page place character colouring =
-    put_characters fonts s page (place_number s place) 1 character colouring
+put_character fonts s page position character colouring =
+    put_characters fonts s page (position_number s position) 1 character colouring
 
--- a character is typed at a place: a bell does nothing, a backspace goes a column back, a line feed
--- a row down, a carriage return to the first column; any other is shown
+-- a character is typed at a position. A bell does nothing; a backspace goes one column back, unless
+-- it is the first; a line feed goes one row down, and a carriage return to the first column. Any
+-- other character is written
 unfoldable pub type_character : FontSet → Screen → ℕ → ℕ → ℕ → Colouring → Screen × ℕ
-type_character fonts s page place character colouring =
-    if character == 0x07 then (s, place)
-    else if character == 0x08 then (s, if column_of place == 0 then place else place - 1)
-    else if character == 0x0A then line_feed s page place
-    else if character == 0x0D then (s, line_start place)
-    else cursor_advance (put_character fonts s page place character colouring) page place
+type_character fonts s page position character colouring =
+    if character == 0x07 then (s, position)
+    else if character == 0x08 then (s, if column_of position == 0 then position else position - 1)
+    else if character == 0x0A then line_feed s page position
+    else if character == 0x0D then (s, line_start position)
+    else cursor_advance (put_character fonts s page position character colouring) page position
 
--- a cursor at another place of a page
-abbrev pub with_place : Screen → ℕ → ℕ → Screen
-with_place s page place = record s { places = slice_set s.places page place }
+-- a screen with the cursor of a page at another position
+abbrev pub with_position : Screen → ℕ → ℕ → Screen
+with_position s page position = record s { places = slice_set s.places page position }
 
--- a character is typed at the cursor of the active page, which then stands behind it; a bell leaves
--- it
+-- a character is typed at the cursor of the active page, and the cursor moves to the position
+-- afterwards; for a bell nothing happens
 abbrev pub type_at_cursor : FontSet → Screen → ℕ → ℕ → Screen
 type_at_cursor fonts s character colour =
-    let after = type_character fonts s s.page (cursor_place s s.page) character (dots_in colour) in
-    if character == 0x07 then s else with_place after.0 s.page after.1
+    let after = type_character fonts s s.page (cursor_position s s.page) character
+    (dots_in colour) in
+    if character == 0x07 then s else with_position after.0 s.page after.1
 
--- n characters of a string, from character i on, are typed one after another on a page, from a
--- screen and a place on
+-- n characters of a string, from character i on, are typed one after another on a page; a screen
+-- and a position lead to those afterwards
 abbrev pub type_characters : FontSet → StringCall → List ℕ → ℕ → ℕ → ℕ → Screen × ℕ → Screen × ℕ
 type_characters fonts call block page zero i at = at
 type_characters fonts call block page (suc n) i at =
     type_characters fonts call block page n (i + 1)
     (type_character fonts at.0 page at.1 (character_at call block i) (colouring_at call block i))
 
--- a whole string is typed on a page, and the cursor goes behind it where that is asked
+-- a whole string is typed on a page, and if AL asks for it, the cursor moves to the position after
 abbrev pub type_string : FontSet → Screen → ℕ → StringCall → List ℕ → Screen
 type_string fonts s page call block =
-    let after = type_characters fonts call block page call.count 0 (s, call.place) in
-    if call.moves_cursor then with_place after.0 page after.1 else after.0
+    let after = type_characters fonts call block page call.count 0 (s, call.position) in
+    if call.moves_cursor then with_position after.0 page after.1 else after.0
 
 -- ---- services
 
 -- the screen after a service that is not refused
 unfoldable pub next : FontSet → Screen → Service → List ℕ → Screen
 next fonts s (SetCursorType cursor_type) block = record s { cursor_type = cursor_type }
-next fonts s (SetCursor page place) block = with_place s (page_meant s page) place
+next fonts s (SetCursor page position) block = with_position s (page_meant s page) position
 next fonts s (ReadCursor page) block = s
 next fonts s (SelectPage page) block = record s { page = page }
 next fonts s (ScrollUp asked) block = scroll s asked Up
@@ -341,25 +352,25 @@ next fonts s ReadAdapter block = s
 next fonts s (WriteString call) block = type_string fonts s (page_meant s call.page) call block
 next fonts s ReadDisplay block = s
 
--- character and attribute at the cursor of a page, as low and high byte
+-- the cell at the cursor of a page: the character is the low byte, the attribute the high one
 abbrev pub cell_word : Screen → ℕ → ℕ
 cell_word s page = (cell_on s (cursor_cell s page)).0 + 256 * (cell_on s (cursor_cell s page)).1
 
--- line r of the cell q of a page of pixels as a byte: which of its eight pixels are not 0, the
--- first as the highest bit
+-- line r of cell q of a page of pixels as a byte: a bit is 1 if its pixel is not 0, and the first
+-- pixel is the highest bit
 abbrev pub cell_line : Screen → ℕ → ℕ → ℕ → ℕ
 cell_line s page q r =
     byte_of (λ i. if pixel_of s page (8 * (s.layout.columns
     * (s.layout.height * (q / s.layout.columns) + r) + q % s.layout.columns) + (7 - i)) == 0
     then 0 else 1)
 
--- the first character whose glyph the pixels at the cursor of a page are, those that are not 0 as
--- its dots, else 0
+-- the first character whose glyph has a dot for each pixel other than 0 of the cell at the cursor
+-- of a page, and no other dot, else 0
 abbrev pub character_at_cursor : FontSet → Screen → ℕ → ℕ
 character_at_cursor fonts s page = first_character fonts s.layout.height
     (listing (cell_line s page (cursor_number s page)) 0 s.layout.height) 256
 
--- a cell of text is answered in AX, and a character of pixels in AL
+-- 08: a cell of text is answered in AX, and a character of pixels in AL
 abbrev pub cell_answer : Contents → FontSet → Screen → ℕ → Regs → Regs
 cell_answer (Cells cells) fonts s page r = record r { ax = cell_word s page }
 cell_answer (Pixels pages) fonts s page r = record r {
@@ -367,13 +378,13 @@ cell_answer (Pixels pages) fonts s page r = record r {
       with_low r.ax (character_at_cursor fonts s page);
 }
 
--- the registers that it answers
+-- the registers that a service answers
 unfoldable pub answer_on : FontSet → Screen → Service → Regs → Regs
 answer_on fonts s (SetCursorType cursor_type) r = r
-answer_on fonts s (SetCursor page place) r = r
+answer_on fonts s (SetCursor page position) r = r
 answer_on fonts s (ReadCursor page) r = record r {
   cx = s.cursor_type;
-  dx = cursor_place s (page_meant s page);
+  dx = cursor_position s (page_meant s page);
 }
 answer_on fonts s (SelectPage page) r = r
 answer_on fonts s (ScrollUp window) r = r

@@ -1,4 +1,4 @@
--- What frames of a plain screen are, whatever adapter shows it.
+-- What frames of a plain screen are, whichever adapter shows it.
 use Rattle.std.specs.Prelude.{ℕ, ◌≡◌, ◌+◌, ◌-◌, ◌<◌, ◌≤◌, ◌++◌}
 use Rattle.bios_screen.specs.Screen.{Screen}
 use Rattle.bios_screen.specs.Picture.{dot_at, picture_width, picture_height, next_frame}
@@ -11,9 +11,8 @@ pub record FitsFrame (s : Screen) : Type 0 where
   pub narrow : picture_width s ≤ dots_a_line s.mode
   pub low : picture_height s ≤ lines_a_frame s.mode
 
--- a frame ends with the first dot, at least one, behind which dot 0 comes; it leaves the screen
--- with the next frame's number, and its picture is the one so far with the colours of the dots that
--- were left
+-- a frame ends with the first dot, at least one, after which dot 0 comes; it leaves the screen with
+-- the next frame number, and its picture is the one so far and the dots that remained
 pub record IsFrameTaken (b : Drawing) : Type 0 where
   pub dot : (take_frame b).dot ≡ 0
   pub first : (m : ℕ) → 0 < m → m < dots_a_frame b.screen.mode - b.dot → ¬ ((take_dots m b).dot ≡ 0)
@@ -21,7 +20,7 @@ pub record IsFrameTaken (b : Drawing) : Type 0 where
   pub picture : (take_frame b).picture ≡ so_far b ++ join (λ i.
       colour_of b.screen (page_shown b) (b.dot + i)) (dots_a_frame b.screen.mode - b.dot)
 
--- from dot 0 on it is the picture of the active page
+-- a frame from dot 0 on is the picture of the active page
 abbrev pub IsWhole : Drawing → Type 0
 IsWhole b = (take_frame b).picture ≡ picture_bytes (picture_width b.screen)
     (picture_height b.screen) (dot_at b.screen b.screen.page)

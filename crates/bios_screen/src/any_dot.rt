@@ -1,5 +1,5 @@
-//! Laws of dots of plain screens, with services between them. Each is a contract, and nothing that
-//! runs.
+//! Laws of the dots of plain screens, with services between them. Each is a contract of a function
+//! that does nothing.
 ghost use Rattle.std.specs.Prelude.{◌≡◌, ◌+◌, ◌<◌, ℕ, List, length, Some};
 ghost use Rattle.vga_crtc.specs.Raster.{IsFrameStart};
 ghost use Rattle.vga_card.specs.Bounds.{IsCard};
@@ -25,7 +25,7 @@ ghost use Rattle.bios_screen.specs.Drawing.{Drawing, dots_a_frame, take_dots, Ma
 ghost use Rattle.bios_screen.specs.Whole.{FitsFrame, IsFrameTaken, IsWhole};
 ghost use Rattle.bios_screen.specs.Follows.{BeamIsAt, RowsJoin, Follows, EndsFrame};
 
-/// A service that sets no mode leaves the mode of a screen, and how it is cut.
+/// A service that sets no mode leaves the mode and the layout of a screen.
 pub fn services_keep_the_layout()
     ensures mode { (fonts : FontSet) (s : Screen) (service : Service) (block : List ℕ) →
         (next fonts s service block).mode ≡ s.mode }
@@ -33,9 +33,9 @@ pub fn services_keep_the_layout()
         (next fonts s service block).layout ≡ s.layout }
 {}
 
-/// Dots of a plain screen: they may be cut anywhere; a frame is the least number of them, at least
-/// one, that leads to dot 0, its picture is the one so far with the dots that were left, and a
-/// whole frame's is that of the active page.
+/// Dots of a plain screen: any number of dots may be split in two; a frame is the least number of
+/// dots, at least one, that leads to dot 0; its picture is the one so far and the dots that
+/// remained, and the picture of a whole frame is that of the active page.
 pub fn frames_are_dots()
     ensures split { (m n : ℕ) (b : Drawing) → take_dots (m + n) b ≡ take_dots n (take_dots m b) }
     ensures frame { (b : Drawing) → b.dot < dots_a_frame b.screen.mode → IsFrameTaken b }
@@ -43,10 +43,10 @@ pub fn frames_are_dots()
         b.dot < dots_a_frame b.screen.mode → IsWhole b }
 {}
 
-/// Dots of the frame under way join what is drawn of it, whatever that is, with the colours of the
-/// screen that is shown. Where the adapter follows a screen it follows it through any number of
-/// dots, and at the end of a frame answers the picture that they collected; dot 0 is the first dot
-/// of a frame, and there it follows each screen that it shows.
+/// Dots join what is drawn of the current frame, whatever that is, in the colours of the shown
+/// screen. An adapter that follows a screen follows it through any number of dots, and at the end
+/// of a frame gives the picture that they collected. At the first dot of a frame, dot 0, it follows
+/// each screen that it shows.
 pub fn dots_follow_screens()
     ensures begins { (c : CardState) (d : BiosData) (b : Drawing) → IsCard c →
         shown c d ≡ Some b.screen → b.dot ≡ 0 → IsFrameStart c.crtc.beam → Follows c d b }
@@ -61,8 +61,8 @@ pub fn dots_follow_screens()
         EndsFrame c d b }
 {}
 
-/// Calls between any two dots that set no mode: the adapter follows the next screen. A load of
-/// glyphs is one at dot 0 of a frame, and where it is refused.
+/// After a call between two dots that sets no mode, the adapter follows the next screen. After a
+/// load of glyphs it does so if that came at dot 0 of a frame, or was refused.
 pub fn calls_follow_screens()
     ensures served { (service : Service) (fonts : FontSet) (r : Regs) (block : List ℕ)
         (c : CardState) (d : BiosData) (b : Drawing) →

@@ -1,5 +1,5 @@
-//! Laws of frames, whatever a mode shows: from the numbers of its lines and the colour of each
-//! place to the picture that a frame draws. Each is a contract, and nothing that runs.
+//! Laws of frames, whatever a mode shows: the numbers of its lines and the colour of each dot give
+//! the picture that a frame draws. Each is a contract of a function that does nothing.
 ghost use Rattle.std.specs.Prelude.{◌≡◌, ℕ, List, Some};
 ghost use Rattle.vga_crtc.specs.Beam.{first_counter};
 ghost use Rattle.vga_crtc.specs.Raster.{IsFrameStart};
@@ -15,9 +15,9 @@ ghost use Rattle.bios_screen.specs.Raster.{Raster, IsRaster, HasRaster, IsAtDot,
 ghost use Rattle.bios_screen.specs.Raster.{PlacesDrawn, GoesOn, FrameEnded, FrameDrawn};
 ghost use Rattle.bios_screen.specs.Raster.{picture_dot, all_dots, IsPictureOf};
 
-/// The dots of a frame are those of the picture, one after another, for any number of dots from any
-/// dot of the frame on, and the adapter is then at the dot of that number; the frame ends with its
-/// last dot, and leaves the first dot of the next.
+/// Any number of dots, from any dot of a frame on, draws the dots of the picture among them, and
+/// moves the adapter on by that number. The frame ends with its last dot, and leaves the adapter at
+/// the first dot of the next frame.
 pub fn dots_are_picture()
     ensures places { (m : Raster) (c : CardState) (start n : ℕ) (f : Colours) → HasRaster m c →
         IsAtDot m c start n → Draws m c start f → PlacesDrawn m c n f }
@@ -29,7 +29,7 @@ pub fn dots_are_picture()
         IsAtDot m c (first_counter c.crtc.registers) 0 }
 {}
 
-/// All dots of a frame, however many calls drew them, are a picture; and so one whole frame is.
+/// All dots of a frame are a picture, however many calls drew them; so is one whole frame.
 pub fn frame_is_picture()
     ensures all { (m : Raster) (drawn : List Dot) (f : Colours) → IsRaster m →
         drawn ≡ collect (picture_dot m f) (all_dots m) → IsPictureOf m drawn f }
@@ -38,7 +38,7 @@ pub fn frame_is_picture()
 {}
 
 /// From a state that shows a screen, at the first dot of a frame, a frame draws the screen's
-/// picture, and leaves the screen with the next frame's number, again at the first dot of a frame.
+/// picture, and leaves the screen with the next frame number, again at the first dot of a frame.
 pub fn frame_draws_screen()
     ensures { (c : CardState) (d : BiosData) (s : Screen) → IsCard c → shown c d ≡ Some s →
         IsFrameStart c.crtc.beam → IsFramed c d s }

@@ -1,5 +1,6 @@
-//! Laws of plain screens, each of which is a contract, and nothing that runs: from a state that
-//! shows a screen a service leads to one that shows the next, with the screen's answer or refusal.
+//! Laws of plain screens: from a state that shows a screen, a service leads to a state that shows
+//! the next screen, with the screen's answer or refusal. Each is a contract of a function that does
+//! nothing.
 ghost use Rattle.std.specs.Prelude.{ℕ, ◌≡◌, ◌<◌, Bool, true, List, Some, None, Err};
 ghost use Rattle.vga_bits.specs.declared.refusal.Refusal.TheVariants.{BadFunction, BadMode};
 ghost use Rattle.vga_card.specs.Bounds.{IsCard};
@@ -35,8 +36,8 @@ ghost use Rattle.bios_modes.specs.Bounds.{AreBytes, AreFonts};
 ghost use Rattle.bios_screen.specs.Called.{AreWords, IsCalled, IsLoaded, IsRead, WantsMemory};
 ghost use Rattle.bios_screen.specs.Called.{IsLeft};
 
-/// Function 00, a mode set that clears the memory, in every mode of the table: from any state to
-/// one that shows the fresh screen of the mode's row.
+/// Function 00, with the memory cleared: in every mode of the table, it leads from any state to one
+/// that shows the fresh screen of the mode's row.
 pub fn mode_set_is_fresh()
     ensures { (mode : ℕ) (row : ModeRow) → mode_row mode ≡ Some row → SetsFresh mode row }
 {}
@@ -49,15 +50,15 @@ pub fn readers_are_served()
     ensures display { Serves ReadDisplay }
 {}
 
-/// Functions 01, 02 and 05: the cursor's type, its place on a page, and the active page are set.
+/// Functions 01, 02 and 05: the cursor's type, its position on a page, and the active page are set.
 pub fn cursor_is_served()
     ensures kind { (cursor_type : ℕ) → Serves (SetCursorType cursor_type) }
-    ensures place { (page place : ℕ) → place < 65536 → Serves (SetCursor page place) }
+    ensures position { (page position : ℕ) → position < 65536 → Serves (SetCursor page position) }
     ensures page { (page : ℕ) → Serves (SelectPage page) }
 {}
 
 /// Functions 08, 09 and 0A: the cell at the cursor is read, and cells from it on are written, in
-/// graphics as dots.
+/// graphics as pixels.
 pub fn cells_are_served()
     ensures read { (page : ℕ) → Serves (ReadCell page) }
     ensures written { (cells : CellRun) → cells.character < 256 → cells.colouring.colour < 256 →
@@ -71,7 +72,7 @@ pub fn windows_are_served()
 {}
 
 /// Functions 0E and 13: a character is typed at the cursor of the active page, and a string from a
-/// place on.
+/// position on.
 pub fn typing_is_served()
     ensures character { (character colour : ℕ) → character < 256 → colour < 256 →
         Serves (Teletype character colour) }
@@ -83,23 +84,22 @@ pub fn colours_are_served()
     ensures { (service : ColourService) → FitsBytes service → Serves (Colours service) }
 {}
 
-/// Functions 0C and 0D: text has no dots.
+/// Functions 0C and 0D in text, which has no pixels.
 pub fn dots_are_refused()
     ensures written { (page x y colour : ℕ) → ServesText (WritePixel page x y colour) }
     ensures read { (page x y : ℕ) → ServesText (ReadPixel page x y) }
 {}
 
-/// Functions 0C and 0D: in graphics a dot is written, and read.
+/// Functions 0C and 0D in graphics: a pixel is written and read.
 pub fn dots_are_served()
     ensures written { (page x y colour : ℕ) → colour < 256 → Serves (WritePixel page x y colour) }
     ensures read { (page x y : ℕ) → Serves (ReadPixel page x y) }
 {}
 
-/// From every state that shows a screen a call for a service replies as on the screen, or is
-/// refused as there, and leads to a state that shows the next screen; so does a call that loads
-/// glyphs of text; a call for a table replies with that of the screen, and leaves it, as does one
-/// for which memory is refused; a call for no service, or for a mode that there is not, changes
-/// nothing.
+/// From every state that shows a screen, a call for a service gives the screen's reply or refusal,
+/// and leads to a state that shows the next screen; so does a call that loads glyphs of text. A
+/// call for a table replies with that of the screen, and leaves the screen, also if memory is
+/// refused. A call for no service, or for a mode that does not exist, changes nothing.
 pub fn calls_lead_to_screens()
     ensures served { (service : Service) (fonts : FontSet) (r : Regs) (block : List ℕ)
         (c : CardState) (d : BiosData) (s : Screen) →

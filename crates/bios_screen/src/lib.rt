@@ -1,5 +1,5 @@
-//! The plain screen that the adapter shows: how it is read, and why services lead from one to the
-//! next.
+//! The plain screen that the adapter shows: how to read it, and the laws by which services lead
+//! from one screen to the next.
 #![tactic(auto)]
 
 pub mod any_dot;

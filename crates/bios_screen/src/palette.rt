@@ -4,8 +4,7 @@ ghost use Rattle.std.specs.Prelude.{◌≡◌, take};
 use vga_attr::Attr;
 use vga_dac::Dac;
 
-/// Sixteen values of a palette, red, green and blue of the entries that they name, and the mask of
-/// these names.
+/// Sixteen palette values, red, green and blue of the DAC's entries, and the mask of entry numbers.
 #[derive(Clone, Copy)]
 pub(crate) struct Palette {
     pub(crate) values: [u8; 16],
@@ -15,7 +14,7 @@ pub(crate) struct Palette {
     pub(crate) mask: u8,
 }
 
-/// The palette's registers.
+/// The palette registers.
 fn read_values(attr: &Attr) -> [u8; 16]
     ensures { result ≡ take 16 attr.now.registers }
 {
@@ -25,7 +24,7 @@ fn read_values(attr: &Attr) -> [u8; 16]
 }
 
 impl Palette {
-    /// The colours that the registers hold.
+    /// The colours in the registers of the attribute controller and the DAC.
     pub(crate) fn read(attr: &Attr, dac: &Dac) -> Palette
         ensures values { result.values ≡ take 16 attr.now.registers }
         ensures reds { result.reds ≡ dac.now.reds }

@@ -6,8 +6,9 @@ use crate::palette::Palette;
 use bios_modes::is_text;
 use std::marker::Model;
 
-/// How a screen is cut: columns and rows of characters on a page, scan lines of a character, how
-/// many cells lead from a page to the next, which is 0 for pixels, and how many pages there are.
+/// How a screen is laid out: columns and rows of characters on a page, scan lines of a character,
+/// the number of cells from the beginning of a page to the next, which is 0 for pixels, and the
+/// number of pages.
 #[derive(Clone, Copy)]
 pub(crate) struct Layout {
     pub(crate) columns: u16,
@@ -17,10 +18,10 @@ pub(crate) struct Layout {
     pub(crate) pages: u8,
 }
 
-/// A plain screen: what programs see that use the video BIOS alone.
+/// A plain screen: what a program sees that uses only the video BIOS.
 ///
-/// Contracts see one record: mode, layout, cells or pixels, places and type of the cursor, active
-/// page, palette, overscan, blinking, glyphs, and the frame's number modulo 32.
+/// Contracts see one record: mode, layout, cells or pixels, positions and type of the cursor,
+/// active page, palette, overscan, blinking, glyphs, and the frame number modulo 32.
 #[derive(Drop)]
 pub struct Screen {
     pub(crate) mode: u8,
@@ -89,9 +90,8 @@ impl Model for Screen {
 }
 
 impl Screen {
-    /// The character and the attribute of the cell at a row and a column of a page, where there is
-    /// one:
-    /// none in graphics.
+    /// The character and the attribute of the cell at a row and a column of a page, if there is
+    /// one. Graphics has none.
     pub fn cell(&self, page: u8, row: u8, column: u8) -> Option<(u8, u8)>
         ensures { result ≡ cell_at self.now page row column }
     {
@@ -108,7 +108,7 @@ impl Screen {
         }
     }
 
-    /// The pixel at column `x` of line `y` of a page, where there is one: none in text.
+    /// The pixel at column `x` of line `y` of a page, if there is one. Text has none.
     pub fn pixel(&self, page: u8, x: u16, y: u16) -> Option<u8>
         ensures { result ≡ pixel_at self.now page x y }
     {
@@ -126,7 +126,7 @@ impl Screen {
         }
     }
 
-    /// Row and column of the cursor on a page, where it is one of eight.
+    /// Row and column of the cursor on a page, if the page is one of eight.
     pub fn cursor(&self, page: u8) -> Option<(u8, u8)>
         ensures { result ≡ cursor_at self.now page }
     {

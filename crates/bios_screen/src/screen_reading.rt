@@ -61,7 +61,7 @@ fn read_glyphs(alloc: Global, planes: &Planes, n: usize) -> Result<Vec<u8>, Faul
     Ok(glyphs)
 }
 
-/// The places of the cursor.
+/// The cursor positions.
 fn read_places(bda: &Bda) -> [u16; 8]
     ensures { result ≡ bda.now.cursor_places }
 {
@@ -104,7 +104,7 @@ fn packed(planes: &Planes, n: u32) -> u8
     planes.byte((n % 4) as usize, (n / 4 * 4) as u16)
 }
 
-/// Pixel k of a page that begins at byte z, where it is known whether the mode has a byte for each.
+/// Pixel k of a page that begins at byte z; `is_byte` says whether the mode has a byte for each.
 fn pixel(planes: &Planes, is_byte: bool, z: u32, k: u32) -> u8
     requires planar { z + k / 8 < 65536 }
     requires packed { IsTrue is_byte → z + k < 65536 }
@@ -136,7 +136,7 @@ fn read_page(planes: &Planes, mode: u8, z: u32, n: u32, pixels: &mut Vec<u8>) ->
     Ok(())
 }
 
-/// The pixels of all pages, page after page, of n each.
+/// The pixels of all pages, page after page, n for each.
 #[tactic(auto, unfolding(crate::specs::Raster::join))]
 fn read_pixels(
     alloc: Global,
@@ -169,7 +169,7 @@ fn page_pixels(bda: &Bda) -> u32
     8 * bda.columns() as u32 * (bda.height() as u32 * (bda.last_row() as u32 + 1))
 }
 
-/// How the screen is cut that has so many cells from a page to the next.
+/// The layout of the screen, with this many cells from the beginning of a page to the next.
 fn layout_of(bda: &Bda, row: &ModeRow, distance: u16) -> Layout
     ensures { result ≡ record {
       columns = bda.now.columns;
@@ -189,7 +189,7 @@ fn layout_of(bda: &Bda, row: &ModeRow, distance: u16) -> Layout
 }
 
 impl Screen {
-    /// The text screen of the adapter and the data, where they show one.
+    /// The text screen of the adapter and the data, which show one.
     fn of_text(alloc: Global, card: &Card, bda: &Bda, row: &ModeRow) -> Result<Screen, Fault>
         requires row { row_at_of bda.now.mode bda.now.height ≡ Some row.now }
         requires shown { shows row.now card.now bda.now ≡ true }
@@ -215,7 +215,7 @@ impl Screen {
         })
     }
 
-    /// The screen of pixels of the adapter and the data, where they show one.
+    /// The screen of pixels of the adapter and the data, which show one.
     fn of_pixels(alloc: Global, card: &Card, bda: &Bda, row: &ModeRow) -> Result<Screen, Fault>
         requires row { row_at_of bda.now.mode bda.now.height ≡ Some row.now }
         requires shown { shows row.now card.now bda.now ≡ true }
@@ -249,8 +249,8 @@ impl Screen {
         })
     }
 
-    /// The plain screen that the adapter shows with these data, where it shows one. It fails with
-    /// `OutOfMemory` alone.
+    /// The plain screen that the adapter shows with these data, if it shows one. It can only fail
+    /// with `OutOfMemory`.
     pub fn read(alloc: Global, card: &Card, bda: &Bda) -> Result<Option<Screen>, Fault>
         ensures ok { IfOk result (λ found. found ≡ shown card.now bda.now) }
         ensures err { IsOkUnless result Fault.OutOfMemory }

@@ -13,7 +13,7 @@ use vga_attr::Attr;
 use vga_card::Card;
 use vga_crtc::Crtc;
 
-/// Whether the registers that memory cycles look at are the mode's.
+/// Whether the registers that memory cycles depend on are the mode's.
 fn shows_memory(card: &Card, row: &ModeRow) -> bool
     ensures { result ≡ shows_memory_of row.now card.now }
 {
@@ -21,7 +21,7 @@ fn shows_memory(card: &Card, row: &ModeRow) -> bool
     regs.misc == row.misc && *regs.host.seq() == row.sequencer && *regs.host.gfx() == row.graphics
 }
 
-/// Whether the data are those of the mode, and the page is one of its pages.
+/// Whether the data are those of the mode, with one of its pages.
 fn shows_data(bda: &Bda, row: &ModeRow) -> bool
     ensures { result ≡ shows_data_of row.now bda.now }
 {
@@ -48,7 +48,8 @@ fn start_of(bda: &Bda) -> u32
     }
 }
 
-/// The location of the cursor: in text that of the active page, in graphics what it is.
+/// The cursor location: in text that of the active page, in graphics the one that the registers
+/// contain.
 fn location_of(bda: &Bda, crtc: &Crtc) -> u32
     requires columns { bda.now.columns ≤ 80 }
     requires start { bda.now.size * bda.now.page < 65536 }
@@ -86,22 +87,22 @@ fn wanted_registers(bda: &Bda, crtc: &Crtc, row: &ModeRow) -> [u8; 25]
     registers
 }
 
-/// The registers of the attribute controller behind the overscan.
-fn behind_overscan(registers: &[u8; 21]) -> &[u8]
+/// The registers of the attribute controller after the overscan.
+fn after_overscan(registers: &[u8; 21]) -> &[u8]
     ensures { result.now ≡ drop 0x12 registers.now }
 {
     &registers[0x12..]
 }
 
-/// Whether the attribute controller shows its palette, and its registers are the mode's but for
-/// blinking and overscan.
+/// Whether the attribute controller shows its palette, and its registers from mode control on are
+/// the mode's, except for blinking and overscan.
 fn shows_attribute(attr: &Attr, row: &ModeRow) -> bool
     ensures { result ≡ shows_attribute_of row.now attr.now }
 {
     let registers = attr.regs();
     attr.is_palette_shown()
         && registers[0x10] & 0xF7 == row.attribute[0x10] & 0xF7
-        && behind_overscan(registers) == behind_overscan(&row.attribute)
+        && after_overscan(registers) == after_overscan(&row.attribute)
 }
 
 /// Whether the CRT controller shows the active page of data that are those of the mode.

@@ -1,4 +1,4 @@
--- How large the numbers of valid BIOS data are.
+-- Bounds on the numbers in valid BIOS data.
 use Rattle.std.proofs.Common.{◌≡◌, ◌≢◌, ℕ, ◌*◌, ◌<◌, ◌≤◌, ap, sym, refl, subst, mul-zero, ◌∙◌, arith, IfSome, Bool, true, false, if◌then◌else◌, Option, Some}
 use Rattle.std.proofs.Common.{None, inl, inr, ◌==◌}
 use Rattle.bios_modes.specs.declared.modes.ModeRow.{ModeRow}
@@ -12,16 +12,16 @@ use Rattle.bios_modes.specs.Begin.{data_of_mode}
 use Rattle.bios_modes.specs.Valid.{IsOf, Fits, IsValid}
 use Rattle.std.specs.Prelude.{◌+◌, ◌&&◌, nat_le, nat_lt}
 use Rattle.std.proofs.lemmas.Bool.Decides.{nat_tests}
-use Rattle.vga_bits.specs.declared.refusal.Refusal.TheVariants.{WrongKind, CountPast, BadBlock}
+use Rattle.vga_bits.specs.declared.refusal.Refusal.TheVariants.{WrongKind, CountPast}
 use Rattle.bios_services.specs.declared.glyph_load.GlyphLoad.{GlyphLoad}
 use Rattle.bios_modes.specs.Kinds.{is_text, is_text_kind, kind_in}
 use Rattle.bios_services.specs.Cells.{base_in, page_base}
-use Rattle.bios_services.specs.Reasons.{refuse_unless, wrong_block}
-use Rattle.bios_services.specs.GlyphLoads.{AreThere, glyphs_len, load_refusal}
+use Rattle.bios_services.specs.Reasons.{refuse_unless}
+use Rattle.bios_services.specs.GlyphLoads.{AreThere, glyphs_block, glyphs_len, load_reason, load_refusal}
 use Rattle.bios_services.specs.Bounds.{IsSet, StaysInMode, pages_in, ports_end}
-use Rattle.bios_services.proofs.ReasonLemmas.{neither, holds}
+use Rattle.bios_services.proofs.ReasonLemmas.{neither, holds, wrong_or}
 
--- what holds of either branch holds of a choice
+-- what holds for both branches holds for a choice
 on_either : {A : Type 0} (P : A → Type 0) (b : Bool) {x y : A} → P x → P y → P (if b then x else y)
 on_either P true px py = px
 on_either P false px py = py
@@ -30,7 +30,7 @@ on_either P false px py = py
 abbrev sized : Option ModeRow → ℕ → Option ModeRow
 sized x height = if_row x (λ row. at_height row height)
 
--- the pages of each mode begin at one of three places
+-- the pages of each mode begin at one of three addresses
 pub base_small : (mode : ℕ) → page_base mode ≤ 0xB8000
 base_small = each_mode (λ _ x. base_in x ≤ 0xB8000) (omega arith) (omega arith) (omega arith) (omega arith) (omega arith) (omega arith) (λ _. omega arith)
 
@@ -146,7 +146,7 @@ fits_again (Some row) old new fits stays page = record {
   start = stays.start;
 }
 
--- valid data of a mode stay valid where its constants stay
+-- valid data of a mode stay valid if its constants stay
 pub stays_valid : (old new : BiosData) → IsValid old → old.mode ≢ 0 → StaysInMode old new → IsValid new
 stays_valid old new (inl unset) set stays = absurd (set (ap (λ (bios : BiosData). bios.mode) unset))
 stays_valid old new (inr fits) set stays =
@@ -166,7 +166,7 @@ begins_as row mode some = record {
   start = sym (mul-zero row.size);
 }
 
--- what is said of each row that begins a mode: it has a page, and is the mode's at its own height
+-- a row that begins a mode has a page, and is the mode's at its own height
 abbrev BeginsAt : (ℕ → Option ModeRow) → ModeRow → Type 0
 BeginsAt rows row = (0 < row.pages) × (rows row.height ≡ Some row)
 
@@ -201,28 +201,24 @@ begins_valid mode row e = begins_valid_at mode row.height row (own_row mode row 
 
 -- ---- function 11
 
--- a small row of text is no higher than a map of glyphs has lines for, and has its height
+-- a row of text is at most 16 scan lines high
 text_height : (mode height : ℕ) (row : ModeRow) → is_text mode ≡ true → row_at mode height ≡ Some row → height ≤ 16
 text_height mode height row =
     each_mode (λ _ x. is_text_kind (kind_in x) ≡ true → sized x height ≡ Some row → height ≤ 16)
     (λ _ e. grind (arith, nat_tests)) (λ _ e. grind (arith, nat_tests)) (λ t _. absurd (cc)) (λ t _. absurd (cc)) (λ t _. absurd (cc)) (λ t _. absurd (cc))
     (λ _ t _. absurd (cc)) mode
 
--- glyphs that are not refused, and whose height there is, are there
+-- the glyphs of a load that is not refused, at a height that the mode has, are there
 pub there_of : (load : GlyphLoad) (mode len : ℕ) (row : ModeRow) → load_refusal load mode len ≡ None → row_at mode load.height ≡ Some row → AreThere load len
 there_of load mode len row allowed e =
-    let text = neither (refuse_unless (is_text mode) WrongKind) _ allowed in
-    let last = neither (refuse_unless (nat_le (load.first + load.count) 256) CountPast) _ text.1 in
-    let fits = holds (nat_le (load.first + load.count) 256) CountPast last.0 in
+    let block = wrong_or (load_reason load mode) (glyphs_block load) len allowed in
+    let reason = neither (refuse_unless (is_text mode) WrongKind) _ block.0 in
+    let fits = holds (nat_le (load.first + load.count) 256) CountPast reason.1 in
     record {
-      height = text_height mode load.height row (holds (is_text mode) WrongKind text.0) e;
+      height = text_height mode load.height row (holds (is_text mode) WrongKind reason.0) e;
       last = grind (arith, nat_tests);
-      whole = whole_block load.is_block last.1;
+      whole = λ z. block.1 (glyphs_len load) (ap (λ (b : Bool). let x : Option ℕ = (if b then Some (glyphs_len load) else None) in x) z);
     }
-  where
-    whole_block : (k : Bool) → (if k then wrong_block (glyphs_len load) len else None) ≡ None → k ≡ true → len ≡ glyphs_len load
-    whole_block true h z = let same = holds (len == glyphs_len load) BadBlock h in grind (arith, nat_tests)
-    whole_block false h z = absurd (cc)
 
 -- the port of a row is small
 pub port_small : (mode height : ℕ) (row : ModeRow) → row_at mode height ≡ Some row → row.crtc_address < ports_end

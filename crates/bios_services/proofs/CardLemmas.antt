@@ -1,5 +1,5 @@
 -- What every plan keeps of an adapter, whatever it reads: its bounds, what is drawn, and the beam; and
--- that none tells a settled adapter from what it was.
+-- that none distinguishes a restored adapter from the original.
 use Rattle.std.proofs.Common.{◌≡◌, ◌∙◌, ℕ, ap, refl}
 use Rattle.vga_card.specs.Bounds.{IsCard}
 use Rattle.vga_card.specs.Bus.{Place, AtPort, AtAddress, card_meaning, card_write, card_read}

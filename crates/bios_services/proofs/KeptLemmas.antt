@@ -1,4 +1,4 @@
--- What every call keeps of the BIOS data: that they are valid, and their places words.
+-- Every call keeps the BIOS data valid, and their cursor positions words.
 use Rattle.std.proofs.Common.{◌≡◌, ◌≢◌, ℕ, zero, suc, ◌+◌, ◌-◌, ◌<◌, ◌≤◌, inl, refl, ◌∙◌, arith, List, [], ◌∷◌, length, get_or, set, replicate, Option, Some}
 use Rattle.std.proofs.Common.{None, IfSome, Bool, true, false}
 use Rattle.std.specs.Prelude.{◌==◌, ◌&&◌, nat_lt, if◌then◌else◌}
@@ -28,7 +28,7 @@ use Rattle.bios_services.specs.Plan.{Plan, Done, Write, Read, ◌>>=◌, ◌>>�
 use Rattle.bios_services.specs.Registers.{high, low}
 use Rattle.bios_services.specs.Bounds.{IsSet, pages_of}
 use Rattle.bios_services.specs.Data.{AreData}
-use Rattle.bios_services.specs.Cursor.{row_of, column_of, cell_number, place_of, with_place, with_page, start_address, word_plan, cursor_plan, move_cursor_plan}
+use Rattle.bios_services.specs.Cursor.{row_of, column_of, cell_number, position_of, with_position, with_page, start_address, word_plan, cursor_plan, move_cursor_plan}
 use Rattle.bios_services.specs.Cursor.{cursor_type_plan, page_plan}
 use Rattle.bios_services.specs.declared.direction.Direction.TheVariants.{Up, Down}
 use Rattle.bios_services.specs.Drawing.{character_plan}
@@ -42,7 +42,7 @@ use Rattle.bios_services.specs.Reasons.{no_page, outside_page, wrong_block}
 use Rattle.bios_services.specs.Colours.{colours_plan}
 use Rattle.bios_services.specs.Tables.{table_refusal, table_plan}
 use Rattle.bios_services.specs.GlyphLoads.{glyph_load_of, load_refusal, load_plan}
-use Rattle.bios_services.specs.Refusals.{on_page_named, refusal_in_mode}
+use Rattle.bios_services.specs.Refusals.{on_page_named, reason_in_mode, refusal_in_mode}
 use Rattle.bios_services.specs.declared.colours.ColourService.TheVariants.{ReadMask}
 use Rattle.bios_services.specs.Calls.{colours, colour_call_of, service_of, in_mode, call_of, glyphs_or}
 use Rattle.bios_services.specs.Service.{Outcome, Answered, answer_of, answer_with, call_plan, in_mode_plan, load_at, load_unless, load_in_mode_plan, plan_of}
@@ -50,7 +50,7 @@ use Rattle.bios_services.specs.Service.{read_cell_service, read_pixel_service, s
 use Rattle.bios_services.proofs.ReasonLemmas.{neither, holds}
 use Rattle.bios_services.proofs.BoundLemmas.{set_of_valid, stays_valid, begins_valid, begins_valid_at}
 
--- ---- what holds of the answer of a plan, whatever bytes it reads
+-- ---- what holds for the answer of a plan, whatever bytes it reads
 
 abbrev Always : {A : Type 0} → (A → Type 0) → Plan A → Type 0
 Always P (Done a) = P a
@@ -63,20 +63,20 @@ always_runs P m (Done a) s h = h
 always_runs P m (Write place v rest) s h = always_runs P m rest (m.write s place v).0 h
 always_runs P m (Read place rest) s h = let r = m.read s place in always_runs P m (rest (byte_of r.1)) r.0 (h (byte_of r.1))
 
--- of a plan and another, where it does of the other
-behind : {A B : Type 0} (P : B → Type 0) (p : Plan A) (f : A → Plan B) → ((a : A) → Always P (f a)) → Always P (p >>= f)
-behind P (Done a) f k = k a
-behind P (Write place v rest) f k = behind P rest f k
-behind P (Read place rest) f k = λ b. behind P (rest b) f k
+-- for one plan and then another, if it holds for the second
+then_always : {A B : Type 0} (P : B → Type 0) (p : Plan A) (f : A → Plan B) → ((a : A) → Always P (f a)) → Always P (p >>= f)
+then_always P (Done a) f k = k a
+then_always P (Write place v rest) f k = then_always P rest f k
+then_always P (Read place rest) f k = λ b. then_always P (rest b) f k
 
--- and where the first answers what the other needs
-behind_such : {A B : Type 0} (Q : A → Type 0) (P : B → Type 0) (p : Plan A) (f : A → Plan B) → Always Q p → ((a : A) → Q a → Always P (f a)) →
+-- and if the first answers what the second needs
+then_always_such : {A B : Type 0} (Q : A → Type 0) (P : B → Type 0) (p : Plan A) (f : A → Plan B) → Always Q p → ((a : A) → Q a → Always P (f a)) →
     Always P (p >>= f)
-behind_such Q P (Done a) f h k = k a h
-behind_such Q P (Write place v rest) f h k = behind_such Q P rest f h k
-behind_such Q P (Read place rest) f h k = λ b. behind_such Q P (rest b) f (h b) k
+then_always_such Q P (Done a) f h k = k a h
+then_always_such Q P (Write place v rest) f h k = then_always_such Q P rest f h k
+then_always_such Q P (Read place rest) f h k = λ b. then_always_such Q P (rest b) f (h b) k
 
--- of a choice
+-- for a choice
 on_if : {A : Type 0} (P : A → Type 0) (b : Bool) (p q : Plan A) → (b ≡ true → Always P p) → (b ≡ false → Always P q) → Always P (if b then p else q)
 on_if P true p q f g = f refl
 on_if P false p q f g = g refl
@@ -84,44 +84,44 @@ on_if P false p q f g = g refl
 lt_is : (a b : ℕ) → nat_lt a b ≡ true → a < b
 lt_is a b h = grind (arith, nat_tests)
 
--- ---- places
+-- ---- positions
 
--- a place in the first fifty rows
+-- a position in the first fifty rows
 abbrev IsNear : ℕ → Type 0
-IsNear place = place < 12800
+IsNear position = position < 12800
 
-fed_near : (d : BiosData) (page place : ℕ) → d.last_row < 50 → IsNear place → Always IsNear (line_feed_plan d page place)
+fed_near : (d : BiosData) (page position : ℕ) → d.last_row < 50 → IsNear position → Always IsNear (line_feed_plan d page position)
 unfolding line_feed_plan
-fed_near d page place few near =
-    on_if IsNear (nat_lt (row_of place) d.last_row) (Done (place + 256)) _
-    (λ e. let l = lt_is (row_of place) d.last_row e in omega arith)
-    (λ e. behind IsNear (line_feed_fill d page place) (λ colour. page_up_plan d page colour >> Done place)
-    (λ colour. behind IsNear (page_up_plan d page colour) (λ _. Done place) (λ _. near)))
+fed_near d page position few near =
+    on_if IsNear (nat_lt (row_of position) d.last_row) (Done (position + 256)) _
+    (λ e. let l = lt_is (row_of position) d.last_row e in omega arith)
+    (λ e. then_always IsNear (line_feed_fill d page position) (λ colour. page_up_plan d page colour >> Done position)
+    (λ colour. then_always IsNear (page_up_plan d page colour) (λ _. Done position) (λ _. near)))
 
-start_near : (place : ℕ) → IsNear place → IsNear (line_start place)
-start_near place near = omega arith
+start_near : (position : ℕ) → IsNear position → IsNear (line_start position)
+start_near position near = omega arith
 
-advanced_near : (d : BiosData) (page place : ℕ) → d.last_row < 50 → d.columns ≤ 80 → IsNear place → Always IsNear (cursor_advance_plan d page place)
+advanced_near : (d : BiosData) (page position : ℕ) → d.last_row < 50 → d.columns ≤ 80 → IsNear position → Always IsNear (cursor_advance_plan d page position)
 unfolding cursor_advance_plan
-advanced_near d page place few narrow near =
-    on_if IsNear (nat_lt (column_of place + 1) d.columns) (Done (place + 1)) _
-    (λ e. let l = lt_is (column_of place + 1) d.columns e in omega arith)
-    (λ e. behind_such IsNear IsNear (line_feed_plan d page place) (λ below. Done (line_start below)) (fed_near d page place few near) start_near)
+advanced_near d page position few narrow near =
+    on_if IsNear (nat_lt (column_of position + 1) d.columns) (Done (position + 1)) _
+    (λ e. let l = lt_is (column_of position + 1) d.columns e in omega arith)
+    (λ e. then_always_such IsNear IsNear (line_feed_plan d page position) (λ below. Done (line_start below)) (fed_near d page position few near) start_near)
 
-back_near : (place : ℕ) (b : Bool) → IsNear place → IsNear (if b then place else place - 1)
-back_near place true near = near
-back_near place false near = omega arith
+back_near : (position : ℕ) (b : Bool) → IsNear position → IsNear (if b then position else position - 1)
+back_near position true near = near
+back_near position false near = omega arith
 
-typed_near : (fonts : FontSet) (d : BiosData) (page place character : ℕ) (colouring : Colouring) → d.last_row < 50 → d.columns ≤ 80 → IsNear place →
-    Always IsNear (type_plan fonts d page place character colouring)
+typed_near : (fonts : FontSet) (d : BiosData) (page position character : ℕ) (colouring : Colouring) → d.last_row < 50 → d.columns ≤ 80 → IsNear position →
+    Always IsNear (type_plan fonts d page position character colouring)
 unfolding type_plan show_plan
-typed_near fonts d page place character colouring few narrow near =
-    on_if IsNear (character == 0x07) (Done place) _ (λ _. near)
-    (λ _. on_if IsNear (character == 0x08) (Done (if column_of place == 0 then place else place - 1)) _ (λ _. back_near place (column_of place == 0) near)
-    (λ _. on_if IsNear (character == 0x0A) (line_feed_plan d page place) _ (λ _. fed_near d page place few near)
-    (λ _. on_if IsNear (character == 0x0D) (Done (line_start place)) _ (λ _. start_near place near)
-    (λ _. behind IsNear (character_plan fonts d page (cell_number d place) character colouring) (λ _. cursor_advance_plan d page place) (λ _.
-    advanced_near d page place few narrow near)))))
+typed_near fonts d page position character colouring few narrow near =
+    on_if IsNear (character == 0x07) (Done position) _ (λ _. near)
+    (λ _. on_if IsNear (character == 0x08) (Done (if column_of position == 0 then position else position - 1)) _ (λ _. back_near position (column_of position == 0) near)
+    (λ _. on_if IsNear (character == 0x0A) (line_feed_plan d page position) _ (λ _. fed_near d page position few near)
+    (λ _. on_if IsNear (character == 0x0D) (Done (line_start position)) _ (λ _. start_near position near)
+    (λ _. then_always IsNear (character_plan fonts d page (cell_number d position) character colouring) (λ _. cursor_advance_plan d page position) (λ _.
+    advanced_near d page position few narrow near)))))
 
 -- ---- BIOS data
 
@@ -149,10 +149,10 @@ begun_at : (mode height : ℕ) (row : ModeRow) → row_at mode height ≡ Some r
 begun_at mode height row e = record { valid = begins_valid_at mode height row e; words = record { places = refl; words = zero_words 8 } }
 
 module _ (d : BiosData) (a : AreData d) (is : IsSet d) (unset : d.mode ≢ 0) where
-  -- a cursor at another place
-  placed : (page place : ℕ) → place < 65536 → AreData (with_place d page place)
-  placed page place l = record {
-    valid = stays_valid d (with_place d page place) a.valid unset (record {
+  -- a cursor at another position
+  placed : (page position : ℕ) → position < 65536 → AreData (with_position d page position)
+  placed page position l = record {
+    valid = stays_valid d (with_position d page position) a.valid unset (record {
       mode = refl;
       columns = refl;
       size = refl;
@@ -162,12 +162,12 @@ module _ (d : BiosData) (a : AreData d) (is : IsSet d) (unset : d.mode ≢ 0) wh
       page = is.page;
       start = is.start;
     });
-    words = record { places = length-set d.cursor_places page place ∙ a.words.places; words = set_words d.cursor_places page place l a.words.words };
+    words = record { places = length-set d.cursor_places page position ∙ a.words.places; words = set_words d.cursor_places page position l a.words.words };
   }
 
-  moved : (page place : ℕ) → place < 65536 → Always AreData (move_cursor_plan d page place)
+  moved : (page position : ℕ) → position < 65536 → Always AreData (move_cursor_plan d page position)
   unfolding move_cursor_plan
-  moved page place l = behind AreData (cursor_plan (with_place d page place) page) (λ _. Done (with_place d page place)) (λ _. placed page place l)
+  moved page position l = then_always AreData (cursor_plan (with_position d page position) page) (λ _. Done (with_position d page position)) (λ _. placed page position l)
 
   -- another type of the cursor
   typed_cursor : (cursor_type : ℕ) → Always AreData (cursor_type_plan d cursor_type)
@@ -203,60 +203,60 @@ module _ (d : BiosData) (a : AreData d) (is : IsSet d) (unset : d.mode ≢ 0) wh
         });
         words = record { places = a.words.places; words = a.words.words };
       } in
-      behind AreData (word_plan d.crtc_address 0x0C (start_address d page)) (λ _. cursor_plan (with_page d page) page >> Done (with_page d page))
-      (λ _. behind AreData (cursor_plan (with_page d page) page) (λ _. Done (with_page d page)) (λ _. after))
+      then_always AreData (word_plan d.crtc_address 0x0C (start_address d page)) (λ _. cursor_plan (with_page d page) page >> Done (with_page d page))
+      (λ _. then_always AreData (cursor_plan (with_page d page) page) (λ _. Done (with_page d page)) (λ _. after))
 
   -- a character that is typed, and a string
-  typed : (fonts : FontSet) (character colour : ℕ) → IsNear (place_of d d.page) → Always AreData (teletype_plan fonts d character colour)
+  typed : (fonts : FontSet) (character colour : ℕ) → IsNear (position_of d d.page) → Always AreData (teletype_plan fonts d character colour)
   unfolding teletype_plan
   typed fonts character colour near =
       on_if AreData (character == 0x07) (Done d) _ (λ _. a)
-      (λ _. behind_such IsNear AreData (type_plan fonts d d.page (place_of d d.page) character (dots_in colour)) (λ place. move_cursor_plan d d.page place)
-      (typed_near fonts d d.page (place_of d d.page) character (dots_in colour) is.rows is.columns near)
-      (λ place l. moved d.page place (omega arith)))
+      (λ _. then_always_such IsNear AreData (type_plan fonts d d.page (position_of d d.page) character (dots_in colour)) (λ position. move_cursor_plan d d.page position)
+      (typed_near fonts d d.page (position_of d d.page) character (dots_in colour) is.rows is.columns near)
+      (λ position l. moved d.page position (omega arith)))
 
-  characters_near : (fonts : FontSet) (page : ℕ) (s : StringCall) (block : List ℕ) (n i place : ℕ) → IsNear place
-      → Always IsNear (fold (λ i place. type_plan fonts d page place (character_at s block i) (colouring_at s block i)) n i place)
-  characters_near fonts page s block zero i place near = near
-  characters_near fonts page s block (suc n) i place near =
-      let turn : ℕ → ℕ → Plan ℕ = λ i place. type_plan fonts d page place (character_at s block i) (colouring_at s block i) in
-      behind_such IsNear IsNear (turn i place) (λ next. fold turn n (i + 1) next)
-      (typed_near fonts d page place (character_at s block i) (colouring_at s block i) is.rows is.columns near)
+  characters_near : (fonts : FontSet) (page : ℕ) (s : StringCall) (block : List ℕ) (n i position : ℕ) → IsNear position
+      → Always IsNear (fold (λ i position. type_plan fonts d page position (character_at s block i) (colouring_at s block i)) n i position)
+  characters_near fonts page s block zero i position near = near
+  characters_near fonts page s block (suc n) i position near =
+      let turn : ℕ → ℕ → Plan ℕ = λ i position. type_plan fonts d page position (character_at s block i) (colouring_at s block i) in
+      then_always_such IsNear IsNear (turn i position) (λ next. fold turn n (i + 1) next)
+      (typed_near fonts d page position (character_at s block i) (colouring_at s block i) is.rows is.columns near)
       (λ next l. characters_near fonts page s block n (i + 1) next l)
 
-  string : (fonts : FontSet) (s : StringCall) (block : List ℕ) → IsNear s.place → Always AreData (string_plan fonts d s block)
+  string : (fonts : FontSet) (s : StringCall) (block : List ℕ) → IsNear s.position → Always AreData (string_plan fonts d s block)
   unfolding string_plan type_string_plan
   string fonts s block near =
-      behind_such IsNear AreData (type_string_plan fonts d s block) (λ place. if s.moves_cursor then move_cursor_plan d s.page place else Done d)
-      (characters_near fonts s.page s block s.count 0 s.place near)
-      (λ place l. on_if AreData s.moves_cursor (move_cursor_plan d s.page place) (Done d) (λ _. moved s.page place (omega arith)) (λ _. a))
+      then_always_such IsNear AreData (type_string_plan fonts d s block) (λ position. if s.moves_cursor then move_cursor_plan d s.page position else Done d)
+      (characters_near fonts s.page s block s.count 0 s.position near)
+      (λ position l. on_if AreData s.moves_cursor (move_cursor_plan d s.page position) (Done d) (λ _. moved s.page position (omega arith)) (λ _. a))
 
 -- ---- services that are not refused
 
 page_allowed : (pages page : ℕ) → no_page pages page ≡ None → page < pages
 page_allowed pages page h = lt_is page pages (holds (nat_lt page pages) BadPage h)
 
--- a place of a page is in the first fifty rows
-inside_near : (d : BiosData) (place : ℕ) → d.last_row < 50 → outside_page (d.last_row + 1) d.columns place ≡ None → IsNear place
-inside_near d place few h =
-    let inside = holds (nat_lt (row_of place) (d.last_row + 1) && nat_lt (column_of place) d.columns) Outside h in
-    let l : row_of place < d.last_row + 1 = grind (arith, nat_tests) in
+-- a position of a page is in the first fifty rows
+inside_near : (d : BiosData) (position : ℕ) → d.last_row < 50 → outside_page (d.last_row + 1) d.columns position ≡ None → IsNear position
+inside_near d position few h =
+    let inside = holds (nat_lt (row_of position) (d.last_row + 1) && nat_lt (column_of position) d.columns) Outside h in
+    let l : row_of position < d.last_row + 1 = grind (arith, nat_tests) in
     omega arith
 
 -- a string that is not refused begins at one
-string_near : (d : BiosData) (s : StringCall) (len : ℕ) → d.last_row < 50 → refusal_in_mode (WriteString s) d len ≡ None → IsNear s.place
+string_near : (d : BiosData) (s : StringCall) (len : ℕ) → d.last_row < 50 → refusal_in_mode (WriteString s) d len ≡ None → IsNear s.position
 unfolding refusal_in_mode
 string_near d s len few h =
-    let page = neither (no_page (pages_of d) s.page) _ h in
-    inside_near d s.place few (neither (outside_page (d.last_row + 1) d.columns s.place) (wrong_block (string_len s) len) page.1).0
+    let reason = neither (reason_in_mode (WriteString s) d) (wrong_block (string_len s) len) h in
+    inside_near d s.position few (neither (no_page (pages_of d) s.page) (outside_page (d.last_row + 1) d.columns s.position) reason.0).1
 
--- the place that a service names is a word
+-- the position that a service names is a word
 abbrev FitsWords : Service → Type 0
-FitsWords (SetCursor page place) = place < 65536
+FitsWords (SetCursor page position) = position < 65536
 FitsWords service = Unit {0}
 
 fits_there : (d : BiosData) (asked_for : Service) → FitsWords asked_for → FitsWords (on_page_named d asked_for)
-fits_there d (SetCursor page place) fits = fits
+fits_there d (SetCursor page position) fits = fits
 fits_there d (SetCursorType cursor_type) fits = tt
 fits_there d (ReadCursor page) fits = tt
 fits_there d (SelectPage page) fits = tt
@@ -282,32 +282,32 @@ service_keeps : (asked_for : Service) (fonts : FontSet) (d : BiosData) (r : Regs
     → Always OutcomeKept (plan_of asked_for fonts d r block)
 unfolding plan_of refusal_in_mode
 service_keeps (SetCursorType cursor_type) fonts d r block fits a is unset h =
-    behind_such AreData OutcomeKept (cursor_type_plan d cursor_type) (λ after. Done (r, after)) (typed_cursor d a is unset cursor_type) (λ after k. k)
-service_keeps (SetCursor page place) fonts d r block fits a is unset h =
-    behind_such AreData OutcomeKept (move_cursor_plan d page place) (λ after. Done (r, after))
-    (moved d a is unset page place fits) (λ after k. k)
+    then_always_such AreData OutcomeKept (cursor_type_plan d cursor_type) (λ after. Done (r, after)) (typed_cursor d a is unset cursor_type) (λ after k. k)
+service_keeps (SetCursor page position) fonts d r block fits a is unset h =
+    then_always_such AreData OutcomeKept (move_cursor_plan d page position) (λ after. Done (r, after))
+    (moved d a is unset page position fits) (λ after k. k)
 service_keeps (ReadCursor page) fonts d r block fits a is unset h = a
 service_keeps (SelectPage page) fonts d r block fits a is unset h =
-    behind_such AreData OutcomeKept (page_plan d page) (λ after. Done (r, after)) (paged d a is unset page (page_allowed (pages_of d) page h)) (λ after k. k)
-service_keeps (ScrollUp scroll) fonts d r block fits a is unset h = behind OutcomeKept (scroll_plan d scroll Up) (λ _. Done (r, d)) (λ _. a)
-service_keeps (ScrollDown scroll) fonts d r block fits a is unset h = behind OutcomeKept (scroll_plan d scroll Down) (λ _. Done (r, d)) (λ _. a)
-service_keeps (ReadCell page) fonts d r block fits a is unset h = behind OutcomeKept (read_cell_service fonts page d r) (λ after.
+    then_always_such AreData OutcomeKept (page_plan d page) (λ after. Done (r, after)) (paged d a is unset page (page_allowed (pages_of d) page h)) (λ after k. k)
+service_keeps (ScrollUp scroll) fonts d r block fits a is unset h = then_always OutcomeKept (scroll_plan d scroll Up) (λ _. Done (r, d)) (λ _. a)
+service_keeps (ScrollDown scroll) fonts d r block fits a is unset h = then_always OutcomeKept (scroll_plan d scroll Down) (λ _. Done (r, d)) (λ _. a)
+service_keeps (ReadCell page) fonts d r block fits a is unset h = then_always OutcomeKept (read_cell_service fonts page d r) (λ after.
     Done (after, d)) (λ _. a)
-service_keeps (WriteCells cells) fonts d r block fits a is unset h = behind OutcomeKept (cell_run_plan fonts d cells) (λ _.
+service_keeps (WriteCells cells) fonts d r block fits a is unset h = then_always OutcomeKept (cell_run_plan fonts d cells) (λ _.
     Done (r, d)) (λ _. a)
-service_keeps (WritePixel page x y colour) fonts d r block fits a is unset h = behind OutcomeKept (write_pixel_plan d page x y colour) (λ _.
+service_keeps (WritePixel page x y colour) fonts d r block fits a is unset h = then_always OutcomeKept (write_pixel_plan d page x y colour) (λ _.
     Done (r, d)) (λ _. a)
-service_keeps (ReadPixel page x y) fonts d r block fits a is unset h = behind OutcomeKept (read_pixel_service page x y d r) (λ after.
+service_keeps (ReadPixel page x y) fonts d r block fits a is unset h = then_always OutcomeKept (read_pixel_service page x y d r) (λ after.
     Done (after, d)) (λ _. a)
 service_keeps (Teletype character colour) fonts d r block fits a is unset h =
-    behind_such AreData OutcomeKept (teletype_plan fonts d character colour) (λ after. Done (r, after))
-    (typed d a is unset fonts character colour (inside_near d (place_of d d.page) is.rows h)) (λ after k. k)
+    then_always_such AreData OutcomeKept (teletype_plan fonts d character colour) (λ after. Done (r, after))
+    (typed d a is unset fonts character colour (inside_near d (position_of d d.page) is.rows h)) (λ after k. k)
 service_keeps ReadMode fonts d r block fits a is unset h = a
-service_keeps (Colours asked_for) fonts d r block fits a is unset h = behind OutcomeKept (colours_plan asked_for d.crtc_address r block) (λ after.
+service_keeps (Colours asked_for) fonts d r block fits a is unset h = then_always OutcomeKept (colours_plan asked_for d.crtc_address r block) (λ after.
     Done (after, d)) (λ _. a)
 service_keeps ReadAdapter fonts d r block fits a is unset h = a
 service_keeps (WriteString s) fonts d r block fits a is unset h =
-    behind_such AreData OutcomeKept (string_plan fonts d s block) (λ after. Done (r, after))
+    then_always_such AreData OutcomeKept (string_plan fonts d s block) (λ after. Done (r, after))
     (string d a is unset fonts s block (string_near d s (length block) is.rows h)) (λ after k. k)
 service_keeps ReadDisplay fonts d r block fits a is unset h = a
 
@@ -333,7 +333,7 @@ in_mode_keeps asked_for fonts d r block fits a =
     by_refusal : d.mode ≢ 0 → (x : Option Refusal) → refusal_in_mode there d (length block) ≡ x → Always AnswerKept (unless x there fonts d r block)
     by_refusal unset (Some why) e = a
     by_refusal unset None e =
-        behind_such OutcomeKept AnswerKept (plan_of there fonts d r block) (λ outcome. Done (answer_of outcome.0 outcome.1))
+        then_always_such OutcomeKept AnswerKept (plan_of there fonts d r block) (λ outcome. Done (answer_of outcome.0 outcome.1))
         (service_keeps there fonts d r block (fits_there d asked_for fits) a (set_of_valid d a.valid unset) unset e) (λ outcome k. k)
 
 table_keeps : (asked_for : TableService) (d : BiosData) (r : Regs) → AreData d → Always AnswerKept (table_in_mode_plan asked_for d r)
@@ -343,20 +343,20 @@ table_keeps asked_for d r a =
   where
     by_refusal : (x : Option Refusal) → Always AnswerKept (table_unless x asked_for d r)
     by_refusal (Some why) = a
-    by_refusal None = behind AnswerKept (table_plan asked_for d.crtc_address) (λ table. Done (answer_with table r d)) (λ _. a)
+    by_refusal None = then_always AnswerKept (table_plan asked_for d.crtc_address) (λ table. Done (answer_with table r d)) (λ _. a)
 
 set_mode_keeps : (x : Option ModeRow) (mode : ℕ) (keeps : Bool) (fonts : FontSet) (d : BiosData) (r : Regs) → mode_row mode ≡ x → AreData d →
     Always AnswerKept (set_mode_plan x mode keeps fonts d r)
 unfolding set_mode_plan
 set_mode_keeps None mode keeps fonts d r e a = a
-set_mode_keeps (Some row) mode keeps fonts d r e a = behind AnswerKept (mode_set_plan row keeps fonts) (λ _. Done (answer_of r (data_of_mode mode row)))
+set_mode_keeps (Some row) mode keeps fonts d r e a = then_always AnswerKept (mode_set_plan row keeps fonts) (λ _. Done (answer_of r (data_of_mode mode row)))
     (λ _. begun mode row e)
 
 load_keeps : (x : Option ModeRow) (load : GlyphLoad) (fonts : FontSet) (d : BiosData) (r : Regs) (block : List ℕ) → row_at d.mode load.height ≡ x → AreData d →
     Always AnswerKept (load_at x load fonts d r block)
 unfolding load_at
 load_keeps None load fonts d r block e a = a
-load_keeps (Some row) load fonts d r block e a = behind AnswerKept (load_plan fonts load block row) (λ _. Done (answer_of r (data_of_mode d.mode row))) (λ _.
+load_keeps (Some row) load fonts d r block e a = then_always AnswerKept (load_plan fonts load block row) (λ _. Done (answer_of r (data_of_mode d.mode row))) (λ _.
     begun_at d.mode load.height row e)
 
 load_in_mode_keeps : (load : GlyphLoad) (fonts : FontSet) (d : BiosData) (r : Regs) (block : List ℕ) → AreData d →
@@ -443,7 +443,7 @@ call_fits r l =
     glyphs_or_fits None x f = f
     glyphs_or_fits (Some load) x f = tt
 
--- so a call keeps BIOS data valid, and their places words
+-- so a call keeps the BIOS data valid, and their cursor positions words
 pub data_stay : (fonts : FontSet) (d : BiosData) (r : Regs) (block : List ℕ) (c : CardState) → r.dx < 65536 → AreData d →
     AreData (run card_meaning (service fonts d r block) c).1.1
 data_stay fonts d r block c l a = always_runs AnswerKept card_meaning (service fonts d r block) c (asked_keeps (call_of r) fonts d r block (call_fits r l) a)

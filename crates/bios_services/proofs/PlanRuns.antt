@@ -11,7 +11,7 @@ run_bind m (Done a) f s = refl
 run_bind m (Write place v rest) f s = run_bind m rest f (m.write s place v).0
 run_bind m (Read place rest) f s = let r = m.read s place in run_bind m (rest (byte_of r.1)) f r.0
 
--- what each cycle keeps, a plan keeps
+-- a plan keeps what each of its cycles keeps
 pub run_keeps : {S A : Type 0} (m : Meaning S) (P : S → Type 0) → ((s : S) (place : Place) (v : ℕ) → P s → P (m.write s place v).0)
     → ((s : S) (place : Place) → P s → P (m.read s place).0) → (p : Plan A) (s : S) → P s → P (run m p s).0
 run_keeps m P writes reads (Done a) s k = k
@@ -41,7 +41,7 @@ next_down m f b i s t r h now before =
     ∙ sym (ap (λ j. run m (each_down f j b) s) n ∙ run_bind m (f (b + (i - 1 - b))) (λ _. each_down f (i - 1 - b) b) s)
     ∙ before
 
--- a step of a loop that goes on with an answer: what the turns from i on leave and answer at s and x, those from i + 1 on do at
+-- a step of a loop that carries an answer: what the turns from i on leave and answer at s and x, those from i + 1 on do at
 -- what turn i left and answered
 pub next_answer : {S : Type 0} (m : Meaning S) (f : ℕ → ℕ → Plan ℕ) (i e : ℕ) (s t : S) (x y : ℕ) (r : S × ℕ) → i < e → (t, y) ≡ run m (f i x) s →
     run m (fold f (e - i) i x) s ≡ r → run m (fold f (e - (i + 1)) (i + 1) y) t ≡ r
@@ -66,7 +66,7 @@ gather_more {S} m f i e s t x h now =
 abbrev pub with_prefix : {S : Type 0} → List ℕ → S × List ℕ → S × List ℕ
 with_prefix prefix r = (r.0, prefix ++ r.1)
 
--- a step of a loop that reads into the places of a list
+-- a step of a loop that reads into the elements of a list
 pub next_read : {S : Type 0} (m : Meaning S) (f : ℕ → Plan ℕ) (i e : ℕ) (s t : S) (x : ℕ) (into : List ℕ) (r : S × List ℕ) → i < e → i < length into →
     (t, x) ≡ run m (f i) s → with_prefix (take i into) (run m (gather f (e - i) i) s) ≡ r →
     with_prefix (take (i + 1) (set into i x)) (run m (gather f (e - (i + 1)) (i + 1)) t) ≡ r
@@ -86,13 +86,13 @@ all_read {S} m f i e s into r h l before =
     let same : into ≡ take i into ++ [] = sym (append-nil (take i into) ∙ all) in
     ap (λ xs. let p : S × List ℕ = (s, xs) in p) same ∙ ap (λ k. with_prefix (take i into) (run m (gather f k i) s)) (sym n) ∙ before
 
--- a run of writes is the plan of them
+-- a run of writes leaves what their plan leaves
 pub puts_run : {S : Type 0} (m : Meaning S) (first : ℕ) (f : ℕ → ℕ) (n i : ℕ) (s : S) →
     after_puts m first f n i s ≡ (run m (each (λ w. put (first + w) (f w)) n i) s).0
 puts_run m first f zero i s = refl
 puts_run m first f (suc n) i s = puts_run m first f n (i + 1) (m.write s (AtAddress (first + i)) (f i)).0
 
--- a run of moves is the plan of them
+-- a run of moves leaves what their plan leaves
 pub moves_run : {S : Type 0} (m : Meaning S) (from to n i : ℕ) (s : S) → after_moves m from to n i s ≡ (run m (each (λ w. move (from + w) (to + w)) n i) s).0
 moves_run m from to zero i s = refl
 moves_run m from to (suc n) i s = moves_run m from to n (i + 1) (after_move m (from + i) (to + i) s)
@@ -101,7 +101,7 @@ either_way : (d : Bool) (b : ℕ) → (if d then b else b) ≡ b
 either_way true b = refl
 either_way false b = refl
 
--- one byte is two in turn
+-- one byte is two equal bytes by turns
 pub puts_same : {S : Type 0} (m : Meaning S) (first b n i : ℕ) (s : S) → (run m (each (λ w. put (first + w) (in_turn b b w)) n i) s).0
     ≡ (run m (each (λ w. put (first + w) b) n i) s).0
 puts_same m first b n i s = λ j. (run m (each (λ w. put (first + w) (either_way (w % 2 == 0) b j)) n i) s).0

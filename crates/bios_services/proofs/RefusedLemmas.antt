@@ -1,5 +1,5 @@
--- A refused service has no cycle, and leaves the BIOS data.
-use Rattle.std.proofs.Common.{◌≡◌, ◌∙◌, ◌==◌, ℕ, Bool, true, false, if◌then◌else◌, Option, Some, None, List, length, Result, Err, sym, ap}
+-- Why a call is refused; and a refused call has no cycle and leaves the BIOS data.
+use Rattle.std.proofs.Common.{◌≡◌, ◌∙◌, ◌==◌, ℕ, Bool, true, false, if◌then◌else◌, Option, Some, None, List, length, Result, Ok, Err, refl, sym, ap}
 use Rattle.vga_bits.specs.declared.refusal.Refusal.{Refusal}
 use Rattle.vga_bits.specs.declared.refusal.Refusal.TheVariants.{NoMode, BadMode, BadHeight}
 use Rattle.vga_card.specs.Bus.{Meaning}
@@ -21,95 +21,106 @@ use Rattle.bios_services.specs.declared.call.Service.{Service}
 use Rattle.bios_services.specs.Plan.{Plan, Done, ◌>>=◌, run}
 use Rattle.bios_services.specs.Calls.{call_of}
 use Rattle.bios_services.specs.ModeSet.{mode_set_plan}
+use Rattle.bios_services.specs.Reasons.{◌or◌}
 use Rattle.bios_services.specs.GlyphLoads.{load_refusal, load_plan}
 use Rattle.bios_services.specs.Refusals.{on_page_named, refusal_in_mode, unknown_refusal}
 use Rattle.bios_services.specs.Tables.{table_plan, table_refusal}
 use Rattle.bios_services.specs.Service.{RefusedDoNothing, Answered, answer_with, call_plan, in_mode_plan, load_at, load_unless, load_in_mode_plan, plan_of}
-use Rattle.bios_services.specs.Service.{refuse, set_mode_plan, table_in_mode_plan, table_unless, unless}
+use Rattle.bios_services.specs.Service.{refuse, service, set_mode_plan, table_in_mode_plan, table_unless, unless}
 use Rattle.bios_services.proofs.PlanRuns.{run_bind}
 
--- what a plan does where its answer is a refusal: nothing
-abbrev DoesNothing : {S : Type 0} → Meaning S → Plan Answered → BiosData → Type 0
-DoesNothing {S} m p d = (s : S) (e : Refusal) → (run m p s).1.0 ≡ Err e → run m p s ≡ (s, (Err e, d))
+-- a reason, unless there is a row
+abbrev pub no_row : Refusal → Option ModeRow → Option Refusal
+no_row why None = Some why
+no_row why (Some row) = None
 
--- a refusal itself
-refusal_does_nothing : {S : Type 0} (m : Meaning S) (why : Refusal) (d : BiosData) → DoesNothing m (refuse why d) d
-refusal_does_nothing m why d s e is = ap (λ (x : Result Reply Refusal). (s, (x, d))) is
+-- why a call that needs a mode is refused, by its other reason
+abbrev pub in_mode : BiosData → Option Refusal → Option Refusal
+in_mode d why = if d.mode == 0 then Some NoMode else why
 
--- a plan whose answer is always a table and registers is never refused
-answer_is_none : {S A : Type 0} (m : Meaning S) (p : Plan A) (table : A → Table) (regs : A → Regs) (after : A → BiosData) (d : BiosData)
-    → DoesNothing m (p >>= λ a. Done (answer_with (table a) (regs a) (after a))) d
-answer_is_none {S} m p table regs after d s e is =
-    let whole = run_bind m p (λ a. Done (answer_with (table a) (regs a) (after a))) s in
-    let wrong = ap (λ (x : S × Answered). x.1.0) (sym whole) ∙ is in
-    absurd (cc)
+-- why a call is refused with a block of this length
+abbrev pub refusal_of : Option Call → BiosData → ℕ → Option Refusal
+refusal_of None d len = Some (unknown_refusal d)
+refusal_of (Some (SetMode mode keeps)) d len = no_row BadMode (mode_row mode)
+refusal_of (Some (ReadTable asked)) d len = in_mode d (table_refusal asked)
+refusal_of (Some (LoadGlyphs load)) d len = in_mode d (load_refusal load d.mode len or no_row BadHeight (row_at d.mode load.height))
+refusal_of (Some (InMode asked)) d len = in_mode d (refusal_in_mode (on_page_named d asked) d len)
 
-set_mode_does_nothing : {S : Type 0} (m : Meaning S) (row : Option ModeRow) (mode : ℕ) (keeps : Bool) (fonts : FontSet) (d : BiosData) (r : Regs) →
-    DoesNothing m (set_mode_plan row mode keeps fonts d r) d
+-- how a call ends: with a reason, it is refused and nothing has changed; without one, it answers
+abbrev pub Ends : {S : Type 0} → Option Refusal → S → BiosData → S × Answered → Type 0
+Ends (Some why) s d after = after ≡ (s, (Err why, d))
+Ends None s d after = (reply : Reply) × (after.1.0 ≡ Ok reply)
+
+abbrev EndsBy : {S : Type 0} → Meaning S → Option Refusal → Plan Answered → BiosData → Type 0
+EndsBy {S} m why p d = (s : S) → Ends why s d (run m p s)
+
+-- a plan that answers a table and registers is not refused
+answers : {S A : Type 0} (m : Meaning S) (p : Plan A) (table : A → Table) (regs : A → Regs) (after : A → BiosData) (d : BiosData)
+    → EndsBy m None (p >>= λ a. Done (answer_with (table a) (regs a) (after a))) d
+answers {S} m p table regs after d s =
+    let a = (run m p s).1 in
+    let reply : Reply = record { regs = regs a; table = table a } in
+    (reply, ap (λ (x : S × Answered). x.1.0) (run_bind m p (λ a. Done (answer_with (table a) (regs a) (after a))) s))
+
+if_set : {S : Type 0} (m : Meaning S) (unset : Bool) (why : Option Refusal) (p : Plan Answered) (d : BiosData) → EndsBy m why p d →
+    EndsBy m (if unset then Some NoMode else why) (if unset then refuse NoMode d else p) d
+if_set m true why p d h s = refl
+if_set m false why p d h s = h s
+
+set_mode_ends : {S : Type 0} (m : Meaning S) (row : Option ModeRow) (mode : ℕ) (keeps : Bool) (fonts : FontSet) (d : BiosData) (r : Regs) →
+    EndsBy m (no_row BadMode row) (set_mode_plan row mode keeps fonts d r) d
 unfolding set_mode_plan
-set_mode_does_nothing m None mode keeps fonts d r = refusal_does_nothing m BadMode d
-set_mode_does_nothing m (Some row) mode keeps fonts d r = answer_is_none m (mode_set_plan row keeps fonts) (λ _. Empty) (λ _. r) (λ _.
-    data_of_mode mode row) d
+set_mode_ends m None mode keeps fonts d r s = refl
+set_mode_ends m (Some row) mode keeps fonts d r s = answers m (mode_set_plan row keeps fonts) (λ _. Empty) (λ _. r) (λ _. data_of_mode mode row) d s
 
-unless_does_nothing : {S : Type 0} (m : Meaning S) (why : Option Refusal) (asked_for : Service) (fonts : FontSet) (d : BiosData) (r : Regs) (block : List ℕ) →
-    DoesNothing m (unless why asked_for fonts d r block) d
+unless_ends : {S : Type 0} (m : Meaning S) (why : Option Refusal) (asked : Service) (fonts : FontSet) (d : BiosData) (r : Regs) (block : List ℕ) →
+    EndsBy m why (unless why asked fonts d r block) d
 unfolding unless
-unless_does_nothing m (Some why) asked_for fonts d r block = refusal_does_nothing m why d
-unless_does_nothing m None asked_for fonts d r block = answer_is_none m (plan_of asked_for fonts d r block) (λ _. Empty) (λ o. o.0) (λ o. o.1) d
+unless_ends m (Some why) asked fonts d r block s = refl
+unless_ends m None asked fonts d r block s = answers m (plan_of asked fonts d r block) (λ _. Empty) (λ o. o.0) (λ o. o.1) d s
 
-if_does_nothing : {S : Type 0} (m : Meaning S) (unset : Bool) (p : Plan Answered) (d : BiosData) → DoesNothing m p d →
-    DoesNothing m (if unset then refuse NoMode d else p) d
-if_does_nothing m true p d h = refusal_does_nothing m NoMode d
-if_does_nothing m false p d h = h
-
-in_mode_does_nothing : {S : Type 0} (m : Meaning S) (asked_for : Service) (fonts : FontSet) (d : BiosData) (r : Regs) (block : List ℕ) →
-    DoesNothing m (in_mode_plan asked_for fonts d r block) d
-unfolding in_mode_plan
-in_mode_does_nothing m asked_for fonts d r block =
-    let there = on_page_named d asked_for in
-    let why = refusal_in_mode there d (length block) in
-    if_does_nothing m (d.mode == 0) (unless why there fonts d r block) d (unless_does_nothing m why there fonts d r block)
-
-table_does_nothing : {S : Type 0} (m : Meaning S) (why : Option Refusal) (asked_for : TableService) (d : BiosData) (r : Regs) →
-    DoesNothing m (table_unless why asked_for d r) d
+table_ends : {S : Type 0} (m : Meaning S) (why : Option Refusal) (asked : TableService) (d : BiosData) (r : Regs) → EndsBy m why (table_unless why asked d r) d
 unfolding table_unless
-table_does_nothing m (Some why) asked_for d r = refusal_does_nothing m why d
-table_does_nothing m None asked_for d r = answer_is_none m (table_plan asked_for d.crtc_address) (λ table. table) (λ _. r) (λ _. d) d
+table_ends m (Some why) asked d r s = refl
+table_ends m None asked d r s = answers m (table_plan asked d.crtc_address) (λ table. table) (λ _. r) (λ _. d) d s
 
-table_in_mode_does_nothing : {S : Type 0} (m : Meaning S) (asked_for : TableService) (d : BiosData) (r : Regs) →
-    DoesNothing m (table_in_mode_plan asked_for d r) d
-unfolding table_in_mode_plan
-table_in_mode_does_nothing m asked_for d r =
-    let why = table_refusal asked_for in
-    if_does_nothing m (d.mode == 0) (table_unless why asked_for d r) d (table_does_nothing m why asked_for d r)
-
-load_does_nothing : {S : Type 0} (m : Meaning S) (row : Option ModeRow) (load : GlyphLoad) (fonts : FontSet) (d : BiosData) (r : Regs) (block : List ℕ) →
-    DoesNothing m (load_at row load fonts d r block) d
+load_at_ends : {S : Type 0} (m : Meaning S) (row : Option ModeRow) (load : GlyphLoad) (fonts : FontSet) (d : BiosData) (r : Regs) (block : List ℕ) →
+    EndsBy m (no_row BadHeight row) (load_at row load fonts d r block) d
 unfolding load_at
-load_does_nothing m None load fonts d r block = refusal_does_nothing m BadHeight d
-load_does_nothing m (Some row) load fonts d r block = answer_is_none m (load_plan fonts load block row) (λ _. Empty) (λ _. r) (λ _. data_of_mode d.mode row) d
+load_at_ends m None load fonts d r block s = refl
+load_at_ends m (Some row) load fonts d r block s = answers m (load_plan fonts load block row) (λ _. Empty) (λ _. r) (λ _. data_of_mode d.mode row) d s
 
-load_unless_does_nothing : {S : Type 0} (m : Meaning S) (why : Option Refusal) (load : GlyphLoad) (fonts : FontSet) (d : BiosData) (r : Regs) (block : List ℕ) →
-    DoesNothing m (load_unless why load fonts d r block) d
+load_ends : {S : Type 0} (m : Meaning S) (why : Option Refusal) (load : GlyphLoad) (fonts : FontSet) (d : BiosData) (r : Regs) (block : List ℕ) →
+    EndsBy m (why or no_row BadHeight (row_at d.mode load.height)) (load_unless why load fonts d r block) d
 unfolding load_unless
-load_unless_does_nothing m (Some why) load fonts d r block = refusal_does_nothing m why d
-load_unless_does_nothing m None load fonts d r block = load_does_nothing m (row_at d.mode load.height) load fonts d r block
+load_ends m (Some why) load fonts d r block s = refl
+load_ends m None load fonts d r block s = load_at_ends m (row_at d.mode load.height) load fonts d r block s
 
-load_in_mode_does_nothing : {S : Type 0} (m : Meaning S) (load : GlyphLoad) (fonts : FontSet) (d : BiosData) (r : Regs) (block : List ℕ) →
-    DoesNothing m (load_in_mode_plan load fonts d r block) d
-unfolding load_in_mode_plan
-load_in_mode_does_nothing m load fonts d r block =
+-- each call ends as its reason says
+pub call_ends : {S : Type 0} (m : Meaning S) (call : Option Call) (fonts : FontSet) (d : BiosData) (r : Regs) (block : List ℕ) →
+    EndsBy m (refusal_of call d (length block)) (call_plan call fonts d r block) d
+unfolding table_in_mode_plan load_in_mode_plan in_mode_plan
+call_ends m None fonts d r block s = refl
+call_ends m (Some (SetMode mode keeps)) fonts d r block s = set_mode_ends m (mode_row mode) mode keeps fonts d r s
+call_ends m (Some (ReadTable asked)) fonts d r block s =
+    let why = table_refusal asked in
+    if_set m (d.mode == 0) why (table_unless why asked d r) d (table_ends m why asked d r) s
+call_ends m (Some (LoadGlyphs load)) fonts d r block s =
     let why = load_refusal load d.mode (length block) in
-    if_does_nothing m (d.mode == 0) (load_unless why load fonts d r block) d (load_unless_does_nothing m why load fonts d r block)
+    if_set m (d.mode == 0) (why or no_row BadHeight (row_at d.mode load.height)) (load_unless why load fonts d r block) d (load_ends m why load fonts d r block) s
+call_ends m (Some (InMode asked)) fonts d r block s =
+    let there = on_page_named d asked in
+    let why = refusal_in_mode there d (length block) in
+    if_set m (d.mode == 0) why (unless why there fonts d r block) d (unless_ends m why there fonts d r block) s
 
-asked_does_nothing : {S : Type 0} (m : Meaning S) (call : Option Call) (fonts : FontSet) (d : BiosData) (r : Regs) (block : List ℕ) →
-    DoesNothing m (call_plan call fonts d r block) d
-asked_does_nothing m None fonts d r block = refusal_does_nothing m (unknown_refusal d) d
-asked_does_nothing m (Some (SetMode mode keeps)) fonts d r block = set_mode_does_nothing m (mode_row mode) mode keeps fonts d r
-asked_does_nothing m (Some (ReadTable asked_for)) fonts d r block = table_in_mode_does_nothing m asked_for d r
-asked_does_nothing m (Some (LoadGlyphs load)) fonts d r block = load_in_mode_does_nothing m load fonts d r block
-asked_does_nothing m (Some (InMode asked_for)) fonts d r block = in_mode_does_nothing m asked_for fonts d r block
-
--- so a refused service leaves bus and BIOS data
+-- so a refused service leaves the bus and the BIOS data
 pub refused_service : {S : Type 0} (m : Meaning S) → RefusedDoNothing m
-refused_service m fonts d r block = asked_does_nothing m (call_of r) fonts d r block
+refused_service {S} m fonts d r block s e is =
+    by_reason (refusal_of (call_of r) d (length block)) (call_ends m (call_of r) fonts d r block s)
+  where
+    after : S × Answered
+    after = run m (service fonts d r block) s
+
+    by_reason : (why : Option Refusal) → Ends why s d after → after ≡ (s, (Err e, d))
+    by_reason (Some why) ends = ends ∙ ap (λ (x : Result Reply Refusal). (s, (x, d))) (sym (ap (λ (x : S × Answered). x.1.0) ends) ∙ is)
+    by_reason None ends = let both = sym ends.1 ∙ is in absurd (cc)

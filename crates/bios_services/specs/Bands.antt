@@ -1,4 +1,4 @@
--- Some columns of a page, as bytes of its lines: rows that are copied, and rows that are filled.
+-- A band: neighbouring columns of a page, as bytes of its lines. Its rows are copied and filled.
 -- From the IBM PS/2 and PC BIOS Interface Technical Reference, "Interrupt 10H - Video", (AH) = 06H
 -- and 07H.
 use Rattle.std.specs.Prelude.{ℕ, ◌+◌, ◌-◌, ◌*◌, ◌%◌, ◌^◌, ◌<◌, ◌≤◌, ◌==◌, if◌then◌else◌}
@@ -15,14 +15,14 @@ use Rattle.bios_modes.specs.Kinds.{kind_of}
 use Rattle.bios_services.specs.Kinds.{column_bytes, row_lines}
 use Rattle.bios_services.specs.Cells.{page_address}
 use Rattle.bios_services.specs.VideoRegisters.{map_mask, all_planes, graphics_mode, copy_latches}
-use Rattle.bios_services.specs.VideoRegisters.{plain_access, all_bits}
+use Rattle.bios_services.specs.VideoRegisters.{byte_access, all_bits}
 
--- the address of a byte of a line of a row of characters
+-- the address of a byte of the band, by row of characters, line of that row and byte of that line
 abbrev pub address_in : Band → ℕ → ℕ → ℕ → ℕ
 address_in band row line byte = band.start + band.pitch * (band.lines * row + line) + band.left
     + byte
 
--- a band whose bytes the adapter may have: a column of dots has eight, and there are 80 columns
+-- a band in the adapter's memory: 80 columns at most, each of eight bytes at most in a line
 pub record IsBand (band : Band) : Type 0 where
   pub start : band.start < 2 ^ 20
   pub pitch : band.pitch ≤ 8 * 80
@@ -30,7 +30,7 @@ pub record IsBand (band : Band) : Type 0 where
   pub left : band.left ≤ 8 * 80
   pub width : band.width ≤ 8 * 80
 
--- `width` columns of a page from column `left` on, by how the mode uses the memory
+-- `width` columns of a page from column `left` on, by how a mode uses the memory
 abbrev pub band_by : Kind → BiosData → ℕ → ℕ → ℕ → Band
 band_by kind d page left width = record {
   kind = kind;
@@ -41,6 +41,7 @@ band_by kind d page left width = record {
   width = column_bytes kind * width;
 }
 
+-- `width` columns of a page of the mode from column `left` on
 abbrev pub band_of : BiosData → ℕ → ℕ → ℕ → Band
 band_of d = band_by (kind_of d.mode) d
 
@@ -53,61 +54,65 @@ copy_line band from to line = each (λ i. move (address_in band from line i)
 unfoldable pub copy_row : Band → ℕ → ℕ → Plan (Unit {0})
 copy_row band from to = each (copy_line band from to) band.lines 0
 
--- count rows from row `top` on take what stands n rows below them, the highest first, or go n rows
--- down, the lowest first
+-- count rows from row `top` on become copies of the rows n below them, the highest row first; or
+-- they are copied n rows down, the lowest row first
 unfoldable pub move_rows : Band → Direction → ℕ → ℕ → ℕ → Plan (Unit {0})
 move_rows band Up n top count = each (λ row. copy_row band (row + n) row) count top
 move_rows band Down n top count = each_down (λ row. copy_row band row (row + n)) count top
 
--- two bytes in turn: a blank and its attribute, or one byte everywhere
+-- the bytes of blank cells: the character 20 and the attribute by turns
 abbrev pub blank : ℕ → Filling
 blank attribute = record { even = 0x20; odd = attribute }
 
-abbrev pub plain : ℕ → Filling
-plain byte = record { even = byte; odd = byte }
+-- one byte everywhere
+abbrev pub uniform : ℕ → Filling
+uniform byte = record { even = byte; odd = byte }
 
--- what byte i of a line is filled with
+-- the value that byte i of a line is filled with
 abbrev pub filling_byte : Filling → ℕ → ℕ
 filling_byte filling i = if i % 2 == 0 then filling.even else filling.odd
 
--- a line of a row is filled, a row is, and count rows from row `top` on are
+-- a line of a row is filled
 unfoldable pub fill_line : Band → Filling → ℕ → ℕ → Plan (Unit {0})
 fill_line band filling row line = each (λ i. put (address_in band row line i)
     (filling_byte filling i)) band.width 0
 
+-- a row is filled, line by line
 unfoldable pub fill_row : Band → Filling → ℕ → Plan (Unit {0})
 fill_row band filling row = each (fill_line band filling row) band.lines 0
 
+-- count rows from row `top` on are filled
 unfoldable pub fill_rows : Band → Filling → ℕ → ℕ → Plan (Unit {0})
 fill_rows band filling top count = each (fill_row band filling) count top
 
--- the graphics controller's read and write mode, which services change in 16 colours alone
+-- the graphics controller's read and write mode is set, which services do in 16 colours only
 abbrev pub access_plan : Kind → ℕ → Plan (Unit {0})
 access_plan Text mode = Done tt
 access_plan Planar mode = graphics graphics_mode mode
 access_plan Packed mode = Done tt
 
--- count rows from row `top` on get one attribute, or one colour, which goes to the planes of its
--- bits
+-- count rows from row `top` on become blank in an attribute, or pixels of a colour; in 16 colours
+-- all planes become 0, and then the planes of the colour's bits FF
 unfoldable pub fill_plan : Kind → Band → ℕ → ℕ → ℕ → Plan (Unit {0})
 fill_plan Text band colour top count = fill_rows band (blank colour) top count
 fill_plan Planar band colour top count = do
-  fill_rows band (plain 0x00) top count
+  fill_rows band (uniform 0x00) top count
   sequencer map_mask (colour % 16)
-  fill_rows band (plain all_bits) top count
+  fill_rows band (uniform all_bits) top count
   sequencer map_mask all_planes
-fill_plan Packed band colour top count = fill_rows band (plain colour) top count
+fill_plan Packed band colour top count = fill_rows band (uniform colour) top count
 
--- the first of the rows that are new once count rows from row `top` on have moved
+-- the first of the rows that are to be filled after count rows have moved: below them if the window
+-- goes up, and else row `top`
 abbrev pub new_row : Direction → ℕ → ℕ → ℕ
 new_row Up top count = top + count
 new_row Down top count = top
 
--- height rows from row `top` on go up or down by n, and n new ones are filled; planes are copied
--- through the latches
+-- height rows from row `top` on go up or down by n, and the n rows that they leave are filled; four
+-- planes are copied through the latches
 unfoldable pub scroll_rows : Band → Direction → ℕ → ℕ → ℕ → ℕ → Plan (Unit {0})
 scroll_rows band direction top height n colour = do
   access_plan band.kind copy_latches
   move_rows band direction n top (height - n)
-  access_plan band.kind plain_access
+  access_plan band.kind byte_access
   fill_plan band.kind band colour (new_row direction top (height - n)) n

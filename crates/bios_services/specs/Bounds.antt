@@ -1,34 +1,35 @@
--- How large the numbers are that the BIOS data of a mode hold, and those that calls name.
+-- Bounds on the numbers in the BIOS data of a mode, and on those that calls name.
 use Rattle.std.specs.Prelude.{ℕ, ◌≡◌, ◌+◌, ◌*◌, ◌<◌, ◌≤◌, Option, None, Some}
 use Rattle.bios_modes.specs.declared.modes.ModeRow.{ModeRow}
 use Rattle.bios_modes.specs.Heights.{row_at}
 use Rattle.bios_modes.specs.Bda.{BiosData}
 
--- the number of the cell at row 255, column 255, in rows of 80 cells: no place names a further one
+-- the number of the cell at row 255, column 255, in rows of 80 cells: no position names a later one
 abbrev pub furthest_cell : ℕ
 furthest_cell = 80 * 255 + 255
 
--- more cells than calls reach: from any place on as many as a word counts, however few a page has
+-- more cells than calls reach: a word's count of cells from any position on
 abbrev pub reached_cells : ℕ
 reached_cells = 80 * 255 + 255 + 65536
 
--- more rows than windows reach, whose corners are bytes
+-- more rows than windows reach, since their corners are bytes
 abbrev pub reached_rows : ℕ
 reached_rows = 256
 
--- the adapter's ports end below this one
+-- a number above the adapter's last port
 abbrev pub ports_end : ℕ
 ports_end = 0x3E0
 
+-- how many pages a row of the mode table gives; none if there is no row
 abbrev pub pages_in : Option ModeRow → ℕ
 pages_in None = 0
 pages_in (Some row) = row.pages
 
--- how many pages the mode has, in text with characters of their height; none before a mode is set
+-- how many pages the mode has, in text at the height of its characters; none before a mode is set
 abbrev pub pages_of : BiosData → ℕ
 pages_of d = pages_in (row_at d.mode d.height)
 
--- every place that such data name is in the memory that the adapter may have
+-- the data of a mode that is set: each address that they name lies in the adapter's memory
 pub record IsSet (d : BiosData) : Type 0 where
   pub some_columns : 0 < d.columns
   pub columns : d.columns ≤ 80
@@ -40,8 +41,7 @@ pub record IsSet (d : BiosData) : Type 0 where
   pub start : d.start ≡ d.size * d.page
   pub memory : d.size * pages_of d ≤ 65536
 
--- what a service in a mode leaves of the BIOS data: the mode's constants stay, and the page is one
--- of its pages
+-- a service leaves the mode's constants in the BIOS data, and a page of that mode
 pub record StaysInMode (old new : BiosData) : Type 0 where
   pub mode : new.mode ≡ old.mode
   pub columns : new.columns ≡ old.columns

@@ -1,6 +1,6 @@
 -- Which service the registers ask for.
--- From the IBM PS/2 and PC BIOS Interface Technical Reference, "Interrupt 10H - Video": AH has the
--- function.
+-- From the IBM PS/2 and PC BIOS Interface Technical Reference, "Interrupt 10H - Video": AH is the
+-- number of the function.
 use Rattle.std.specs.Prelude.{true, false, ◌%◌, ◌==◌, ◌&&◌, nat_lt, nat_le, if◌then◌else◌, Option}
 use Rattle.std.specs.Prelude.{Some, None}
 use Rattle.bios_services.specs.declared.regs.Regs.{Regs}
@@ -29,8 +29,8 @@ use Rattle.bios_services.specs.CellRuns.{cell_run_of}
 use Rattle.bios_services.specs.Strings.{string_of}
 use Rattle.bios_services.specs.GlyphLoads.{glyph_load_of}
 
--- the window of functions 06 and 07: AL rows, BH the attribute or colour of new rows, CX the upper
--- left corner, DX the lower right one
+-- the scroll of functions 06 and 07: AL is the number of rows, BH the attribute or colour of new
+-- rows, CX the upper left corner and DX the lower right one
 abbrev pub scroll_of : Regs → Scroll
 scroll_of r = record {
   lines = low r.ax;
@@ -41,7 +41,7 @@ scroll_of r = record {
   right = low r.dx;
 }
 
--- the service that needs a mode, by its function
+-- the service of a function other than 00, 10 and 11, if there is one
 abbrev pub service_of : Regs → Option Service
 service_of r =
     let function = high r.ax in
@@ -66,14 +66,16 @@ service_of r =
     else if (function == 0x1A) && (al == 0x00) then Some ReadDisplay
     else None
 
+-- a service as a call that needs a mode
 abbrev pub in_mode : Option Service → Option Call
 in_mode None = None
 in_mode (Some service) = Some (InMode service)
 
--- function 10: its subfunction, by AL; 09 and 17 answer a table
+-- a subfunction of function 10 that answers registers alone, as a call
 abbrev pub colours : ColourService → Option Call
 colours service = Some (InMode (Colours service))
 
+-- the subfunction of function 10, by AL; 09 and 17 answer a table
 abbrev pub colour_call_of : Regs → Option Call
 colour_call_of r =
     let al = low r.ax in
@@ -94,13 +96,13 @@ colour_call_of r =
     else if al == 0x19 then colours ReadMask
     else None
 
--- glyphs, or else another service
+-- a load of glyphs, if the call asks for one, or else another call
 abbrev pub glyphs_or : Option GlyphLoad → Option Call → Option Call
 glyphs_or None call = call
 glyphs_or (Some load) call = Some (LoadGlyphs load)
 
--- what a call asks for; function 00 sets the mode of the low seven bits of AL, and bit 7 keeps the
--- memory
+-- what the registers ask for; function 00 sets the mode in the low seven bits of AL, and keeps the
+-- memory if bit 7 is 1
 abbrev pub call_of : Regs → Option Call
 call_of r =
     if high r.ax == 0x00 then Some (SetMode (low r.ax % 128) (nat_le 128 (low r.ax)))

@@ -1,4 +1,4 @@
--- Writing a character to some cells: functions 09 and 0A.
+-- Writing a character to a run of cells: functions 09 and 0A.
 -- From the IBM PS/2 and PC BIOS Interface Technical Reference, "Interrupt 10H - Video", (AH) = 09H
 -- and 0AH.
 use Rattle.std.specs.Prelude.{Bool}
@@ -11,8 +11,8 @@ use Rattle.bios_services.specs.Registers.{high, low}
 use Rattle.bios_services.specs.Cursor.{cursor_cell}
 use Rattle.bios_services.specs.Drawing.{characters_plan}
 
--- the cells that the registers name: BH the page, AL the character, CX how many; BL is the colour,
--- which text takes as attribute or does not
+-- the run that the registers name: page BH, character AL, CX cells, colour BL; in text the colour
+-- becomes the attribute, or each cell keeps its own
 abbrev pub cell_run_of : Regs → Bool → CellRun
 cell_run_of r is_attribute = record {
   page = high r.bx;
@@ -21,7 +21,7 @@ cell_run_of r is_attribute = record {
   count = r.cx;
 }
 
--- the character goes to each of these cells, from the cursor of their page on
+-- the character goes to each cell of the run, from the cursor of its page on
 abbrev pub cell_run_plan : FontSet → BiosData → CellRun → Plan (Unit {0})
 cell_run_plan fonts d cells = characters_plan fonts d cells.page (cursor_cell d cells.page)
     cells.character cells.colouring cells.count

@@ -1,4 +1,4 @@
--- Cells of characters: where they stand in memory, and how text is read and written.
+-- Cells of characters: where they lie in memory, and how text is read and written.
 -- From the IBM PS/2 and PC BIOS Interface Technical Reference, "Interrupt 10H - Video", (AH) = 08H
 -- to 0AH.
 use Rattle.std.specs.Prelude.{ℕ, ◌+◌, ◌*◌, if◌then◌else◌, Option, Some, None}
@@ -8,16 +8,17 @@ use Rattle.bios_modes.specs.Modes.{mode_row}
 use Rattle.bios_services.specs.declared.colouring.Colouring.{Colouring}
 use Rattle.bios_services.specs.Plan.{Plan, Done, ◌>>=◌, ◌>>◌, put, get}
 
--- where the pages of a mode begin, by its row; those of a number that is no mode's, where pages of
--- graphics do
+-- the address where the pages of a mode begin, by its row of the mode table; without a row, the
+-- address of graphics
 abbrev pub base_in : Option ModeRow → ℕ
 base_in None = 0xA0000
 base_in (Some row) = row.base
 
+-- the address where the pages of a mode begin
 abbrev pub page_base : ℕ → ℕ
 page_base mode = base_in (mode_row mode)
 
--- where a page begins
+-- the address where a page begins
 abbrev pub page_address : BiosData → ℕ → ℕ
 page_address d page = page_base d.mode + d.size * page
 
@@ -29,19 +30,19 @@ cell_address d page q = page_address d page + 2 * q
 abbrev pub cells_of : BiosData → ℕ
 cells_of d = d.columns * (d.last_row + 1)
 
--- the character of a cell as the low byte of a word, its attribute as the high one
+-- a cell is read: the character is the low byte of the answer, the attribute its high byte
 unfoldable pub read_cell_plan : ℕ → Plan ℕ
 read_cell_plan address = do
   character ← get address
   colour ← get (address + 1)
   Done (character + 256 * colour)
 
--- a colour, where it is to be the cell's attribute
+-- a cell's attribute is written, if the colour is one
 abbrev pub attribute_plan : ℕ → Colouring → Plan (Unit {0})
 attribute_plan address colouring = if colouring.is_attribute then put address colouring.colour
     else Done tt
 
--- a character in a cell of text, and then its attribute, where it gets one
+-- a character goes to a cell of text, and then its attribute, if it gets one
 unfoldable pub write_cell_plan : ℕ → ℕ → Colouring → Plan (Unit {0})
 write_cell_plan address character colouring = do
   put address character

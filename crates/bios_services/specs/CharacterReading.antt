@@ -1,4 +1,4 @@
--- The character that stands at a cell of dots.
+-- Reading the character of a cell of pixels.
 -- From the IBM PS/2 and PC BIOS Interface Technical Reference, "Interrupt 10H - Video", (AH) = 08H;
 -- the order of the cycles is this adapter's choice.
 use Rattle.std.specs.Prelude.{ℕ, ◌+◌, ◌-◌, ◌*◌, ◌%◌, ◌==◌, if◌then◌else◌, List}
@@ -9,19 +9,20 @@ use Rattle.bios_modes.specs.declared.kind.Kind.TheVariants.{Text, Planar, Packed
 use Rattle.bios_services.specs.Plan.{Plan, Done, ◌>>=◌, ◌>>◌, get, fold, gather}
 use Rattle.bios_services.specs.Bands.{address_in, access_plan}
 use Rattle.bios_services.specs.Glyphs.{first_character}
-use Rattle.bios_services.specs.VideoRegisters.{compare_colours, plain_access}
+use Rattle.bios_services.specs.VideoRegisters.{compare_colours, byte_access}
 
--- a dot of 256 colours is shifted into a line from the right, as 1 where it is not 0
+-- a pixel of 256 colours is read and shifted into a line from the right: 0 if it is 0, and else 1
 unfoldable pub shift_dot : ℕ → ℕ → Plan ℕ
 shift_dot address line = do
   dot ← get address
   Done ((2 * line + (if dot == 0 then 0 else 1)) % 256)
 
--- the line of eight dots at an address of 256 colours, the first the highest bit
+-- the line of eight pixels at an address of 256 colours; the first is the highest bit
 unfoldable pub packed_line : ℕ → Plan ℕ
 packed_line address = fold (λ i line. shift_dot (address + i) line) 8 0 0
 
--- which dots of a line of a cell are not 0; planes are compared with 0 by the graphics controller
+-- which pixels of a line of a cell are not 0; in 16 colours the graphics controller compares the
+-- planes with 0
 unfoldable pub line_plan : Kind → ℕ → Plan ℕ
 line_plan Text address = Done 0
 line_plan Planar address = do
@@ -29,14 +30,14 @@ line_plan Planar address = do
   Done (255 - same)
 line_plan Packed address = packed_line address
 
--- the lines of a cell
+-- the lines of a cell, which are read from the top
 unfoldable pub lines_plan : Band → ℕ → Plan (List ℕ)
 lines_plan cell row = gather (λ r. line_plan cell.kind (address_in cell row r 0)) cell.lines 0
 
--- the character whose glyph the dots of a cell are, else 0
+-- the first character whose glyph has the dots of a cell, else 0
 unfoldable pub read_character_plan : Band → ℕ → FontSet → Plan ℕ
 read_character_plan cell row fonts = do
   access_plan cell.kind compare_colours
   lines ← lines_plan cell row
-  access_plan cell.kind plain_access
+  access_plan cell.kind byte_access
   Done (first_character fonts cell.lines lines 256)

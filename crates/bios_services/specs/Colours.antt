@@ -1,7 +1,8 @@
 -- Function 10: why a subfunction is refused, and what it does and answers in registers.
 -- From the IBM PS/2 and PC BIOS Interface Technical Reference, "Interrupt 10H - Video", (AH) = 10H;
 -- the refusals are this adapter's choice.
-use Rattle.std.specs.Prelude.{ℕ, Bool, ◌+◌, ◌*◌, ◌&&◌, nat_lt, nat_le, Option, None, List}
+use Rattle.std.specs.Prelude.{ℕ, Bool, ◌+◌, ◌*◌, ◌&&◌, nat_lt, nat_le, Option, Some}
+use Rattle.std.specs.Prelude.{None, List}
 use Rattle.vga_bits.specs.declared.refusal.Refusal.{Refusal}
 use Rattle.vga_bits.specs.declared.refusal.Refusal.TheVariants.{BadRegister}
 use Rattle.bios_services.specs.declared.regs.Regs.{Regs}
@@ -17,39 +18,51 @@ use Rattle.bios_services.specs.Registers.{with_high, with_low}
 use Rattle.bios_services.specs.Palette.{set_register_plan, set_palette_plan, set_blinking_plan}
 use Rattle.bios_services.specs.Palette.{read_register_plan}
 use Rattle.bios_services.specs.Dac.{set_entry_plan, set_entries_plan}
-use Rattle.bios_services.specs.Reasons.{◌or◌, refuse_unless, wrong_block}
+use Rattle.bios_services.specs.Reasons.{refuse_unless, or_wrong_block}
 use Rattle.bios_services.specs.VideoRegisters.{dac_mask, dac_read_index, dac_data}
 
--- there are 16 palette registers
+-- a number is none of the 16 palette registers
 abbrev pub no_register : ℕ → Option Refusal
 no_register register = refuse_unless (nat_lt register 0x10) BadRegister
 
--- there are 256 entries of the DAC
+-- a number is none of the DAC's 256 entries
 abbrev pub no_entry : ℕ → Option Refusal
 no_entry entry = refuse_unless (nat_lt entry 0x100) BadRegister
 
--- whether there are so many from one on
+-- whether the DAC has count entries from entry `first` on
 abbrev pub has_entries : ℕ → ℕ → Bool
 has_entries first count = nat_lt first 0x100 && nat_le (first + count) 0x100
 
+-- the DAC has fewer than count entries from entry `first` on, or no entry `first`
 abbrev pub no_entries : ℕ → ℕ → Option Refusal
 no_entries first count = refuse_unless (has_entries first count) BadRegister
 
--- why a subfunction is refused, with a block of this length
-unfoldable pub colour_refusal : ColourService → ℕ → Option Refusal
-colour_refusal (SetRegister register value) len = no_register register
-colour_refusal (SetOverscan value) len = None
-colour_refusal SetPalette len = wrong_block 17 len
-colour_refusal (SetBlinking blinking) len = refuse_unless (nat_le blinking 1) BadRegister
-colour_refusal (ReadRegister register) len = no_register register
-colour_refusal ReadOverscan len = None
-colour_refusal (SetEntry entry red green blue) len = no_entry entry
-colour_refusal (SetEntries first count) len = no_entries first count or wrong_block (3 * count) len
-colour_refusal (ReadEntry entry) len = no_entry entry
-colour_refusal (SetMask mask) len = None
-colour_refusal ReadMask len = None
+-- how many bytes the block of a subfunction has: the palette registers and the overscan colour, or
+-- three of each entry; None if it reads no block
+abbrev pub colour_block : ColourService → Option ℕ
+colour_block SetPalette = Some 17
+colour_block (SetEntries first count) = Some (3 * count)
+colour_block other = None
 
--- 15: red in DH, green in CH, blue in CL
+-- why a subfunction is refused whatever its block
+abbrev pub colour_reason : ColourService → Option Refusal
+colour_reason (SetRegister register value) = no_register register
+colour_reason (SetOverscan value) = None
+colour_reason SetPalette = None
+colour_reason (SetBlinking blinking) = refuse_unless (nat_le blinking 1) BadRegister
+colour_reason (ReadRegister register) = no_register register
+colour_reason ReadOverscan = None
+colour_reason (SetEntry entry red green blue) = no_entry entry
+colour_reason (SetEntries first count) = no_entries first count
+colour_reason (ReadEntry entry) = no_entry entry
+colour_reason (SetMask mask) = None
+colour_reason ReadMask = None
+
+-- why a subfunction is refused with a block of this length
+abbrev pub colour_refusal : ColourService → ℕ → Option Refusal
+colour_refusal service len = or_wrong_block (colour_reason service) (colour_block service) len
+
+-- 15: an entry of the DAC is read, red into DH, green into CH and blue into CL
 unfoldable pub read_entry_plan : ℕ → Regs → Plan Regs
 read_entry_plan entry r = do
   out dac_read_index entry
@@ -58,19 +71,19 @@ read_entry_plan entry r = do
   blue ← inp dac_data
   Done (record r { cx = 256 * green + blue; dx = with_high r.dx red })
 
--- 07 and 08: a register of the attribute controller in BH
+-- 07 and 08: a register of the attribute controller is read into BH
 unfoldable pub read_register_in_bh : ℕ → ℕ → Regs → Plan Regs
 read_register_in_bh port register r = do
   value ← read_register_plan port register
   Done (record r { bx = with_high r.bx value })
 
--- 19: the mask in BL
+-- 19: the DAC's mask is read into BL
 unfoldable pub read_mask_in_bl : Regs → Plan Regs
 read_mask_in_bl r = do
   mask ← inp dac_mask
   Done (record r { bx = with_low r.bx mask })
 
--- what a subfunction does and answers that is not refused; the CRT controller's index is at this
+-- what a subfunction that is not refused does and answers; the CRT controller's index is at this
 -- port
 unfoldable pub colours_plan : ColourService → ℕ → Regs → List ℕ → Plan Regs
 colours_plan (SetRegister register value) port r block = set_register_plan port register value

@@ -9,46 +9,47 @@ use Rattle.bios_modes.specs.Kinds.{is_text}
 use Rattle.bios_services.specs.VideoRegisters.{cursor_start, cursor_end, start_address_high}
 use Rattle.bios_services.specs.VideoRegisters.{cursor_address_high}
 
--- the row and the column of a place, its high and its low byte
+-- the row of a position, its high byte
 abbrev pub row_of : ℕ → ℕ
-row_of place = place / 256
+row_of position = position / 256
 
+-- the column of a position, its low byte
 abbrev pub column_of : ℕ → ℕ
-column_of place = place % 256
+column_of position = position % 256
 
--- the number of the cell at a place, counted along the rows
+-- the number of the cell at a position, counted along the rows of its page
 abbrev pub cell_number : BiosData → ℕ → ℕ
-cell_number d place = d.columns * row_of place + column_of place
+cell_number d position = d.columns * row_of position + column_of position
 
--- the cursor's place on a page
-abbrev pub place_of : BiosData → ℕ → ℕ
-place_of d page = slice_index d.cursor_places page
+-- the cursor's position on a page
+abbrev pub position_of : BiosData → ℕ → ℕ
+position_of d page = slice_index d.cursor_places page
 
 -- the number of the cell at the cursor of a page
 abbrev pub cursor_cell : BiosData → ℕ → ℕ
-cursor_cell d page = cell_number d (place_of d page)
+cursor_cell d page = cell_number d (position_of d page)
 
--- two registers of the CRT controller that hold a word, the high byte in the first
+-- a word goes to two registers of the CRT controller, the high byte to register i
 unfoldable pub word_plan : ℕ → ℕ → ℕ → Plan (Unit {0})
 word_plan port i n = do
   crtc port i (n / 256)
   crtc port (i + 1) (n % 256)
 
--- which cell of the memory the cursor of a page stands on, as the CRT controller counts them
+-- the number of the cell under the cursor of a page, as the CRT controller counts cells
 abbrev pub cursor_address : BiosData → ℕ → ℕ
-cursor_address d page = d.size * page / 2 + cell_number d (place_of d page)
+cursor_address d page = d.size * page / 2 + cell_number d (position_of d page)
 
--- the cursor is shown where it stands, in text on the active page; otherwise nothing is done
+-- the CRT controller gets the cursor of a page, if that is the active page of a text mode
 unfoldable pub cursor_plan : BiosData → ℕ → Plan (Unit {0})
 cursor_plan d page =
     if is_text d.mode then (if page == d.page then word_plan d.crtc_address cursor_address_high
     (cursor_address d page) else Done tt) else Done tt
 
--- the cursor of a page at another place
-abbrev pub with_place : BiosData → ℕ → ℕ → BiosData
-with_place d page place = record d { cursor_places = slice_set d.cursor_places page place }
+-- the data with the cursor of a page at another position
+abbrev pub with_position : BiosData → ℕ → ℕ → BiosData
+with_position d page position = record d { cursor_places = slice_set d.cursor_places page position }
 
--- another active page
+-- the data with another active page
 abbrev pub with_page : BiosData → ℕ → BiosData
 with_page d page = record d { page = page; start = d.size * page }
 
@@ -56,21 +57,20 @@ with_page d page = record d { page = page; start = d.size * page }
 abbrev pub start_address : BiosData → ℕ → ℕ
 start_address d page = if is_text d.mode then d.size * page / 2 else d.size * page
 
--- the cursor of a page goes to a place, and is shown there
+-- 02: the cursor of a page goes to a position, and is shown there on the active page of text
 unfoldable pub move_cursor_plan : BiosData → ℕ → ℕ → Plan BiosData
-move_cursor_plan d page place = do
-  cursor_plan (with_place d page place) page
-  Done (with_place d page place)
+move_cursor_plan d page position = do
+  cursor_plan (with_position d page position) page
+  Done (with_position d page position)
 
--- the scan lines from which the cursor is drawn and to which it is, the high and the low byte of
--- its type
+-- 01: the first scan line of the cursor is the high byte of its type, the last one the low byte
 unfoldable pub cursor_type_plan : BiosData → ℕ → Plan BiosData
 cursor_type_plan d cursor_type = do
   crtc d.crtc_address cursor_start (cursor_type / 256)
   crtc d.crtc_address cursor_end (cursor_type % 256)
   Done (record d { cursor_type = cursor_type })
 
--- a page is shown from its start address on, with its cursor, and is the active one
+-- 05: a page is shown from its start address on, with its cursor, and becomes the active one
 unfoldable pub page_plan : BiosData → ℕ → Plan BiosData
 page_plan d page = do
   word_plan d.crtc_address start_address_high (start_address d page)

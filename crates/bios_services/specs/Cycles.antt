@@ -1,4 +1,4 @@
--- The cycles that services are made of: registers behind an index, and the palette's source.
+-- The cycles that services are made of: indexed registers, and the source of the palette.
 -- From the IBM PS/2 Hardware Interface Technical Reference, Video Subsystems, "Video Subsystem
 -- Registers".
 use Rattle.std.specs.Prelude.{ℕ, ◌+◌, List, length, slice_index}
@@ -6,38 +6,40 @@ use Rattle.bios_services.specs.Plan.{Plan, Done, ◌>>◌, out, inp, each}
 use Rattle.bios_services.specs.VideoRegisters.{attribute_port, sequencer_port, graphics_port}
 use Rattle.bios_services.specs.VideoRegisters.{palette_shown}
 
--- the register i behind an index port, whose data port is the next
+-- register i of an index port is written; the data port is the next one
 abbrev pub indexed : ℕ → ℕ → ℕ → Plan (Unit {0})
 indexed port i v = do
   out port i
   out (port + 1) v
 
--- a register of the sequencer, of the graphics controller, and of the CRT controller at this port
+-- a register of the sequencer is written
 abbrev pub sequencer : ℕ → ℕ → Plan (Unit {0})
 sequencer i v = indexed sequencer_port i v
 
+-- a register of the graphics controller is written
 abbrev pub graphics : ℕ → ℕ → Plan (Unit {0})
 graphics i v = indexed graphics_port i v
 
+-- a register of the CRT controller is written, whose index is at this port
 abbrev pub crtc : ℕ → ℕ → ℕ → Plan (Unit {0})
 crtc port i v = indexed port i v
 
--- a register of the attribute controller, where its next write is an index
+-- a register of the attribute controller is written, which expects an index
 abbrev pub attribute : ℕ → ℕ → Plan (Unit {0})
 attribute i v = do
   out attribute_port i
   out attribute_port v
 
--- registers 0, 1, .. behind an index port
+-- registers 0, 1, .. of an index port are written
 unfoldable pub group : ℕ → List ℕ → Plan (Unit {0})
 group port values = each (λ i. indexed port i (slice_index values i)) (length values) 0
 
--- registers 0, 1, .. of the attribute controller
+-- registers 0, 1, .. of the attribute controller are written, which expects an index
 unfoldable pub attribute_group : List ℕ → Plan (Unit {0})
 attribute_group values = each (λ i. attribute i (slice_index values i)) (length values) 0
 
--- the read of input status 1 after which the next write to the attribute controller is an index;
--- the CRT controller's index is at this port
+-- input status 1 is read, so that the attribute controller expects an index; the CRT controller's
+-- index is at this port
 abbrev pub expect_index : ℕ → Plan ℕ
 expect_index port = inp (port + 6)
 

@@ -1,9 +1,9 @@
--- BIOS data as an adapter may have them.
+-- BIOS data that a machine can have.
 use Rattle.bios_modes.specs.Bda.{BiosData}
 use Rattle.bios_modes.specs.Bounds.{IsBda}
 use Rattle.bios_modes.specs.Valid.{IsValid}
 
--- they are valid, and each place of the cursor is a word
+-- the data are valid, and each cursor position is a word
 pub record AreData (d : BiosData) : Type 0 where
   pub valid : IsValid d
   pub words : IsBda d

@@ -1,4 +1,4 @@
--- Characters at cells of a page in any mode.
+-- Drawing characters in cells of a page, in any mode.
 -- From the IBM PS/2 and PC BIOS Interface Technical Reference, "Interrupt 10H - Video", (AH) = 09H
 -- and 0AH; the order of the cycles is this adapter's choice.
 use Rattle.std.specs.Prelude.{ℕ, ◌+◌, ◌-◌, ◌/◌, ◌%◌, if◌then◌else◌}
@@ -13,41 +13,44 @@ use Rattle.bios_services.specs.Plan.{Plan, ◌>>◌, put, get, each}
 use Rattle.bios_services.specs.Cycles.{sequencer, graphics}
 use Rattle.bios_modes.specs.Kinds.{kind_of}
 use Rattle.bios_services.specs.Cells.{cell_address, write_cell_plan}
-use Rattle.bios_services.specs.Bands.{band_of, address_in, plain, fill_row}
+use Rattle.bios_services.specs.Bands.{band_of, address_in, uniform, fill_row}
 use Rattle.bios_services.specs.Glyphs.{glyph_line}
 use Rattle.bios_services.specs.VideoRegisters.{map_mask, all_planes, data_rotate, xor, replace}
 
--- cell q of a page of dots as a band of one column, and the row that it stands in
+-- the column of cell q of a page of pixels, as a band
 abbrev pub cell_band : BiosData → ℕ → ℕ → Band
 cell_band d page q = band_of d page (q % d.columns) 1
 
+-- the row of characters in which cell q lies
 abbrev pub cell_row : BiosData → ℕ → ℕ
 cell_row d q = q / d.columns
 
--- a glyph in a cell of planes, line by line
+-- a glyph goes to a cell in 16 colours, line by line
 unfoldable pub put_glyph : Band → ℕ → FontSet → ℕ → Plan (Unit {0})
 put_glyph cell row fonts character = each (λ r. put (address_in cell row r 0)
     (glyph_line fonts cell.lines character r)) cell.lines 0
 
--- the same where each line is read first, so that the latches hold what it is combined with
+-- a byte is read into the latches, and dots are written over it
 abbrev pub put_over : ℕ → ℕ → Plan (Unit {0})
 put_over address dots = do
   get address
   put address dots
 
+-- a glyph goes to a cell in 16 colours, each line over what was read there
 unfoldable pub put_glyph_over : Band → ℕ → FontSet → ℕ → Plan (Unit {0})
 put_glyph_over cell row fonts character = each (λ r.
     put_over (address_in cell row r 0) (glyph_line fonts cell.lines character r)) cell.lines 0
 
--- a character in 16 colours: the cell is blanked, and the planes of the colour get the glyph
-unfoldable pub plain_plan : Band → ℕ → FontSet → ℕ → ℕ → Plan (Unit {0})
-plain_plan cell row fonts character colour = do
-  fill_row cell (plain 0x00) row
+-- a character in 16 colours: the cell becomes 0, and the planes of the colour's bits get the glyph
+unfoldable pub opaque_plan : Band → ℕ → FontSet → ℕ → ℕ → Plan (Unit {0})
+opaque_plan cell row fonts character colour = do
+  fill_row cell (uniform 0x00) row
   sequencer map_mask (colour % 16)
   put_glyph cell row fonts character
   sequencer map_mask all_planes
 
--- a character by XOR: the planes of the colour are turned where the glyph has dots
+-- a character in 16 colours by XOR: where the glyph has dots, the planes of the colour's bits are
+-- inverted
 unfoldable pub xor_plan : Band → ℕ → FontSet → ℕ → ℕ → Plan (Unit {0})
 xor_plan cell row fonts character colour = do
   graphics data_rotate xor
@@ -60,22 +63,23 @@ xor_plan cell row fonts character colour = do
 unfoldable pub planar_plan : Band → ℕ → FontSet → ℕ → ℕ → Plan (Unit {0})
 planar_plan cell row fonts character colour =
     if is_set colour 7 then xor_plan cell row fonts character colour
-    else plain_plan cell row fonts character colour
+    else opaque_plan cell row fonts character colour
 
 -- dot i of a line of a glyph in 256 colours
 abbrev pub dot_of : ℕ → ℕ → ℕ → ℕ
 dot_of dots colour i = if is_set dots (7 - i) then colour else 0
 
--- a line of a glyph in 256 colours, dot by dot, and a character, line by line
+-- a line of a glyph in 256 colours, dot by dot
 unfoldable pub put_dots : Band → ℕ → ℕ → ℕ → ℕ → Plan (Unit {0})
 put_dots cell row line dots colour = each (λ i. put (address_in cell row line i)
     (dot_of dots colour i)) 8 0
 
+-- a character in 256 colours, line by line
 unfoldable pub packed_plan : Band → ℕ → FontSet → ℕ → ℕ → Plan (Unit {0})
 packed_plan cell row fonts character colour = each (λ r.
     put_dots cell row r (glyph_line fonts cell.lines character r) colour) cell.lines 0
 
--- a character at cell q of a page, by how the mode uses the memory
+-- a character goes to cell q of a page, by how a mode uses the memory
 unfoldable pub character_by : Kind → FontSet → BiosData → ℕ → ℕ → ℕ → Colouring → Plan (Unit {0})
 character_by Text fonts d page q character colouring =
     write_cell_plan (cell_address d page q) character colouring
@@ -84,11 +88,12 @@ character_by Planar fonts d page q character colouring =
 character_by Packed fonts d page q character colouring =
     packed_plan (cell_band d page q) (cell_row d q) fonts character colouring.colour
 
+-- a character goes to cell q of a page
 abbrev pub character_plan : FontSet → BiosData → ℕ → ℕ → ℕ → Colouring → Plan (Unit {0})
 character_plan fonts d page q character colouring =
     character_by (kind_of d.mode) fonts d page q character colouring
 
--- a character at n cells from cell q on
+-- a character goes to n cells from cell q on
 unfoldable pub characters_plan : FontSet → BiosData → ℕ → ℕ → ℕ → Colouring → ℕ → Plan (Unit {0})
 characters_plan fonts d page q character colouring n =
     each (λ i. character_plan fonts d page (q + i) character colouring) n 0

@@ -1,4 +1,4 @@
--- Loading glyphs of text, with which the height of characters changes: function 11.
+-- Function 11: loading glyphs of text, which also sets the height of characters.
 -- From the IBM PS/2 and PC BIOS Interface Technical Reference, "Interrupt 10H - Video", (AH) = 11H;
 -- the refusals and the order of the cycles are this adapter's choice.
 use Rattle.std.specs.Prelude.{ℕ, ◌≡◌, ◌≤◌, ◌+◌, ◌-◌, ◌*◌, ◌==◌, ◌&&◌, nat_le, true, false}
@@ -16,17 +16,17 @@ use Rattle.bios_modes.specs.Kinds.{is_text}
 use Rattle.bios_services.specs.ModeSet.{font_plan}
 use Rattle.bios_services.specs.Cursor.{word_plan}
 use Rattle.bios_services.specs.Glyphs.{glyph_line}
-use Rattle.bios_services.specs.Reasons.{◌or◌, refuse_unless, wrong_block}
+use Rattle.bios_services.specs.Reasons.{◌or◌, refuse_unless, or_wrong_block}
 use Rattle.bios_services.specs.VideoRegisters.{miscellaneous, maximum_scan_line, cursor_start}
 use Rattle.bios_services.specs.VideoRegisters.{vertical_display_end, underline_location}
 use Rattle.bios_services.specs.VideoRegisters.{start_address_high, cursor_address_high}
 
--- all characters of the font of this height
+-- a load of all characters of the font of this height
 abbrev pub whole_font : ℕ → GlyphLoad
 whole_font height = record { height = height; first = 0; count = 256; is_block = false }
 
--- what AL names: 10 the glyphs of the block, BH scan lines each, for CX characters from DX on; 11,
--- 12 and 14 a font of 14, 8 and 16 scan lines
+-- the load that AL names: 10 loads glyphs from the block, of BH scan lines each, for CX characters
+-- from DX on; 11, 12 and 14 load the fonts of 14, 8 and 16 scan lines
 abbrev pub load_of : Regs → ℕ → Option GlyphLoad
 load_of r al =
     if al == 0x10 then Some (record {
@@ -40,36 +40,43 @@ load_of r al =
     else if al == 0x14 then Some (whole_font 16)
     else None
 
--- the glyphs that a call loads, if it does: into the one map of glyphs, which BL names
+-- the load that a call asks for, if it does; BL names the map of glyphs, of which there is one
 abbrev pub glyph_load_of : Regs → Option GlyphLoad
 glyph_load_of r = if (high r.ax == 0x11) && (low r.bx == 0x00) then load_of r (low r.ax) else None
 
--- how many bytes the glyphs of a block have
+-- how many bytes the glyphs of a load have
 abbrev pub glyphs_len : GlyphLoad → ℕ
 glyphs_len load = load.height * load.count
 
--- glyphs that there are: no higher than the highest font, of characters up to FF, and whole in a
--- block of this length
+-- the glyphs of a load are there: no higher than 16 scan lines, of characters up to FF, and all in
+-- the block of this length if they come from one
 pub record AreThere (load : GlyphLoad) (len : ℕ) : Type 0 where
   pub height : load.height ≤ 16
   pub last : load.first + load.count ≤ 256
   pub whole : load.is_block ≡ true → len ≡ glyphs_len load
 
--- pixels have no glyphs; there are characters up to FF; and a block has as many bytes as its glyphs
-abbrev pub load_refusal : GlyphLoad → ℕ → ℕ → Option Refusal
-load_refusal load mode len =
+-- how many bytes the block of a load has; None if it reads no block
+abbrev pub glyphs_block : GlyphLoad → Option ℕ
+glyphs_block load = if load.is_block then Some (glyphs_len load) else None
+
+-- why a load is refused whatever its block: the mode is graphics, or a character is above FF
+abbrev pub load_reason : GlyphLoad → ℕ → Option Refusal
+load_reason load mode =
     refuse_unless (is_text mode) WrongKind
     or refuse_unless (nat_le (load.first + load.count) 256) CountPast
-    or (if load.is_block then wrong_block (glyphs_len load) len else None)
 
--- scan line r of character c: a byte of the block, or of the font
+-- why a load is refused with a block of this length
+abbrev pub load_refusal : GlyphLoad → ℕ → ℕ → Option Refusal
+load_refusal load mode len = or_wrong_block (load_reason load mode) (glyphs_block load) len
+
+-- scan line r of character c: a byte of the block or of the font
 abbrev pub loaded_line : FontSet → GlyphLoad → List ℕ → ℕ → ℕ → ℕ
 loaded_line fonts load block c r =
     if load.is_block then slice_index block (load.height * (c - load.first) + r)
     else glyph_line fonts load.height c r
 
--- the glyphs go to plane 2; and the CRT controller gets the height, the cursor and the display of a
--- page's rows, from page 0 on, with the cursor in its upper left corner
+-- the glyphs go to plane 2; the CRT controller gets the height, the cursor's type, the last line
+-- and the underline of this row, and shows page 0 with the cursor in its upper left corner
 unfoldable pub load_plan : FontSet → GlyphLoad → List ℕ → ModeRow → Plan (Unit {0})
 load_plan fonts load block row = do
   font_plan (loaded_line fonts load block) load.height load.count load.first

@@ -1,33 +1,33 @@
--- The glyphs of characters: their lines in the font of the mode's height, and the character that
--- has some lines.
+-- The glyphs of characters: their lines in the font of the mode's height, and the character whose
+-- glyph has given lines.
 -- From the IBM PS/2 and PC BIOS Interface Technical Reference, "Interrupt 10H - Video", "Character
 -- Generator" and (AH) = 08H.
 use Rattle.std.specs.Prelude.{ℕ, Bool, true, zero, suc, ◌+◌, ◌==◌, ◌&&◌, if◌then◌else◌, List}
 use Rattle.std.specs.Prelude.{slice_index}
 use Rattle.bios_modes.specs.Fonts.{FontSet, glyph_row}
 
--- line r of a character in the font of this height, bit 7 the leftmost dot
+-- line r of a character in the font of this height; bit 7 is the leftmost dot
 abbrev pub glyph_line : FontSet → ℕ → ℕ → ℕ → ℕ
 glyph_line fonts height character r =
     if height == 8 then glyph_row 8 fonts.f8 character r
     else if height == 14 then glyph_row 14 fonts.f14 character r
     else glyph_row 16 fonts.f16 character r
 
--- whether a test holds of each of n numbers from i on
+-- whether a test holds for each of n numbers from i on
 abbrev pub all_of : (ℕ → Bool) → ℕ → ℕ → Bool
 all_of test zero i = true
 all_of test (suc n) i = test i && all_of test n (i + 1)
 
--- the first of n numbers from i on of which a test holds, else 0
+-- the first of n numbers from i on for which a test holds, else 0
 abbrev pub first_of : (ℕ → Bool) → ℕ → ℕ → ℕ
 first_of test zero i = 0
 first_of test (suc n) i = if test i then i else first_of test n (i + 1)
 
--- whether a character's glyph is these lines
+-- whether a character's glyph has these lines
 unfoldable pub has_lines : FontSet → ℕ → List ℕ → ℕ → Bool
 has_lines fonts height lines character = all_of (λ r.
     glyph_line fonts height character r == slice_index lines r) height 0
 
--- the first of n characters whose glyph is these lines, else 0
+-- the first of n characters whose glyph has these lines, else 0
 unfoldable pub first_character : FontSet → ℕ → List ℕ → ℕ → ℕ
 first_character fonts height lines n = first_of (has_lines fonts height lines) n 0

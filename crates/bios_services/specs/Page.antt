@@ -1,4 +1,4 @@
--- A page that characters are written to, with the fonts that these have.
+-- A page that characters are written to, with their fonts.
 use Rattle.std.specs.Prelude.{ℕ, ◌<◌}
 use Rattle.bios_modes.specs.Bda.{BiosData}
 use Rattle.bios_modes.specs.Fonts.{FontSet}
@@ -14,7 +14,7 @@ pub record PageState : Type 0 where
 abbrev pub page_of : FontSet → BiosData → ℕ → PageState
 page_of fonts bda number = record { fonts = fonts; bda = bda; number = number }
 
--- a mode is set, and has a page of this number
+-- a mode is set that has a page of this number
 pub record IsPage (page : PageState) : Type 0 where
   pub set : IsSet page.bda
   pub number : page.number < pages_of page.bda

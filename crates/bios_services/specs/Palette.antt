@@ -6,15 +6,15 @@ use Rattle.bios_services.specs.Cycles.{attribute, attribute_group, expect_index,
 use Rattle.bios_services.specs.VideoRegisters.{attribute_port, attribute_data, palette_shown}
 use Rattle.bios_services.specs.VideoRegisters.{mode_control, not_blinking, overscan}
 
--- 00, and 01 with register 11: a register of the attribute controller, whose next write is made an
--- index first; the palette is shown again
+-- 00, and 01 with register 11: a register of the attribute controller is written, and the palette
+-- shown again
 unfoldable pub set_register_plan : ℕ → ℕ → ℕ → Plan (Unit {0})
 set_register_plan port i value = do
   expect_index port
   attribute i value
   show_palette port
 
--- 02: the 16 palette registers and then the overscan colour, from a block of 17 bytes
+-- 02: the 16 palette registers and then the overscan colour are written, from a block of 17 bytes
 unfoldable pub set_palette_plan : ℕ → List ℕ → Plan (Unit {0})
 set_palette_plan port block = do
   expect_index port
@@ -22,7 +22,7 @@ set_palette_plan port block = do
   attribute overscan (slice_index block 16)
   show_palette port
 
--- 03: bit 3 of the mode control register, 10, which makes attributes blink
+-- 03: bit 3 of the mode control register is set or cleared, which makes attributes blink or bright
 unfoldable pub set_blinking_plan : ℕ → ℕ → Plan (Unit {0})
 set_blinking_plan port blinking = do
   expect_index port
@@ -31,8 +31,7 @@ set_blinking_plan port blinking = do
   out attribute_port (bit_or (bit_and control not_blinking) (8 * blinking))
   show_palette port
 
--- what register i of the attribute controller holds, where its next write is an index, and is again
--- afterwards
+-- register i of the attribute controller is read, which expects an index before and afterwards
 unfoldable pub register_plan : ℕ → ℕ → Plan ℕ
 register_plan port i = do
   out attribute_port (palette_shown + i)
@@ -40,7 +39,7 @@ register_plan port i = do
   expect_index port
   Done value
 
--- 07, and 08 with register 11: the same, whatever the next write is
+-- 07, and 08 with register 11: a register of the attribute controller is read, whatever it expects
 unfoldable pub read_register_plan : ℕ → ℕ → Plan ℕ
 read_register_plan port i = do
   expect_index port

@@ -1,4 +1,4 @@
--- Writing and reading one dot.
+-- Writing and reading a pixel: functions 0C and 0D.
 -- From the IBM PS/2 and PC BIOS Interface Technical Reference, "Interrupt 10H - Video", (AH) = 0CH
 -- and 0DH; the order of the cycles is this adapter's choice.
 use Rattle.std.specs.Prelude.{ℕ, ◌+◌, ◌-◌, ◌*◌, ◌/◌, ◌%◌, ◌^◌, if◌then◌else◌}
@@ -10,26 +10,27 @@ use Rattle.bios_services.specs.Plan.{Plan, Done, ◌>>=◌, ◌>>◌, put, get}
 use Rattle.bios_services.specs.Cycles.{graphics}
 use Rattle.bios_services.specs.Cells.{page_address}
 use Rattle.bios_services.specs.VideoRegisters.{data_rotate, bit_mask, xor, replace, graphics_mode}
-use Rattle.bios_services.specs.VideoRegisters.{write_colour, plain_access, all_bits}
+use Rattle.bios_services.specs.VideoRegisters.{write_colour, byte_access, all_bits}
 use Rattle.bios_services.specs.VideoRegisters.{read_map_select}
 
--- how many dots a graphics mode has across, and down
+-- how many pixels a graphics mode has across
 abbrev pub dots_across : BiosData → ℕ
 dots_across d = 8 * d.columns
 
+-- how many pixels a graphics mode has down
 abbrev pub dots_down : BiosData → ℕ
 dots_down d = d.height * (d.last_row + 1)
 
--- the address of a dot: 256 colours have a byte for each, 16 a byte of each plane for eight
+-- the address of a pixel: in 256 colours a byte is one pixel, in 16 a byte of each plane is eight
 abbrev pub pixel_address : BiosData → ℕ → ℕ → ℕ → ℕ
 pixel_address d page x y = page_address d page + (if is_packed d.mode then dots_across d * y + x
     else d.columns * y + x / 8)
 
--- the function of planes, where bit 7 of a colour asks for XOR
+-- the function that combines data with the latches is set, if bit 7 of a colour asks for XOR
 abbrev pub function_plan : ℕ → ℕ → Plan (Unit {0})
 function_plan colour function = if is_set colour 7 then graphics data_rotate function else Done tt
 
--- a dot in 16 colours: its bit alone is written, in write mode 2, over what was read
+-- a pixel is written in 16 colours: its bit only, in write mode 2, over what was read
 unfoldable pub write_dot_plan : ℕ → ℕ → ℕ → Plan (Unit {0})
 write_dot_plan address x colour = do
   graphics bit_mask (0x80 / 2 ^ (x % 8))
@@ -37,23 +38,23 @@ write_dot_plan address x colour = do
   get address
   graphics graphics_mode write_colour
   put address colour
-  graphics graphics_mode plain_access
+  graphics graphics_mode byte_access
   function_plan colour replace
   graphics bit_mask all_bits
 
--- 0C: a dot at a column and a line of a page
+-- 0C: the pixel at column x and line y of a page is written
 unfoldable pub write_pixel_plan : BiosData → ℕ → ℕ → ℕ → ℕ → Plan (Unit {0})
 write_pixel_plan d page x y colour =
     if is_packed d.mode then put (pixel_address d page x y) colour
     else write_dot_plan (pixel_address d page x y) x colour
 
--- the byte of a plane, whose number is put into read map select
+-- the byte of a plane is read, after its number went to read map select
 abbrev pub plane_byte : ℕ → ℕ → Plan ℕ
 plane_byte plane address = do
   graphics read_map_select plane
   get address
 
--- a dot in 16 colours: its bit of each plane
+-- a pixel is read in 16 colours: its bit of each plane, plane 0 lowest
 unfoldable pub read_dot_plan : ℕ → ℕ → Plan ℕ
 read_dot_plan address x = do
   b0 ← plane_byte 0 address
@@ -64,7 +65,7 @@ read_dot_plan address x = do
   Done (bit_at b0 (7 - x % 8) + 2 * bit_at b1 (7 - x % 8) + 4 * bit_at b2 (7 - x % 8)
       + 8 * bit_at b3 (7 - x % 8))
 
--- 0D: the colour of a dot
+-- 0D: the pixel at column x and line y of a page is read
 unfoldable pub read_pixel_plan : BiosData → ℕ → ℕ → ℕ → Plan ℕ
 read_pixel_plan d page x y =
     if is_packed d.mode then get (pixel_address d page x y)

@@ -1,5 +1,5 @@
--- Reasons why a service is refused, over numbers alone: of the BIOS data and of a plain screen the
--- same is said.
+-- Reasons to refuse a service, over numbers alone: the same reasons apply to BIOS data and to a
+-- plain screen.
 -- From the IBM PS/2 and PC BIOS Interface Technical Reference, "Interrupt 10H - Video"; the
 -- refusals are this adapter's choice.
 use Rattle.std.specs.Prelude.{ℕ, Bool, ◌+◌, ◌==◌, ◌&&◌, nat_lt, nat_le, not, if◌then◌else◌, Option}
@@ -10,7 +10,7 @@ use Rattle.vga_bits.specs.declared.refusal.Refusal.TheVariants.{CountPast, BadBl
 use Rattle.bios_modes.specs.Kinds.{is_text}
 use Rattle.bios_services.specs.Cursor.{row_of, column_of}
 
--- of two reasons the first that there is
+-- the first of two reasons, if it is there, or else the second
 infixr 10 ◌or◌
 abbrev pub ◌or◌ : Option Refusal → Option Refusal → Option Refusal
 None or other = other
@@ -20,36 +20,42 @@ None or other = other
 abbrev pub refuse_unless : Bool → Refusal → Option Refusal
 refuse_unless holds why = if holds then None else Some why
 
--- the reason of what is refused, if it is
+-- the reason why something is refused, if it is
 abbrev pub reason_of : Result (Unit {0}) Refusal → Option Refusal
 reason_of (Ok done) = None
 reason_of (Err why) = Some why
 
--- text has no pixels
+-- the mode is text, which has no pixels
 abbrev pub no_pixels : ℕ → Option Refusal
 no_pixels mode = refuse_unless (not (is_text mode)) WrongKind
 
--- there are not so many pages
+-- the mode has no page of this number
 abbrev pub no_page : ℕ → ℕ → Option Refusal
 no_page pages page = refuse_unless (nat_lt page pages) BadPage
 
--- a cell is none of a page
+-- the page has no cell of this number
 abbrev pub outside_cells : ℕ → ℕ → Option Refusal
 outside_cells cells first = refuse_unless (nat_lt first cells) Outside
 
--- the page has no such row or column
+-- the page has no cell at this position
 abbrev pub outside_page : ℕ → ℕ → ℕ → Option Refusal
-outside_page rows columns place = refuse_unless (nat_lt (row_of place) rows
-    && nat_lt (column_of place) columns) Outside
+outside_page rows columns position = refuse_unless (nat_lt (row_of position) rows
+    && nat_lt (column_of position) columns) Outside
 
--- a pixel is none of a page
+-- the page has no pixel at column x and line y
 abbrev pub outside_pixels : ℕ → ℕ → ℕ → ℕ → Option Refusal
 outside_pixels width height x y = refuse_unless (nat_lt x width && nat_lt y height) Outside
 
--- cells go past the page's last
+-- count cells from cell `first` on go past the end of the page
 abbrev pub past_cells : ℕ → ℕ → ℕ → Option Refusal
 past_cells cells first count = refuse_unless (nat_le (first + count) cells) CountPast
 
--- a block has not as many bytes as are taken
+-- the block has another length than the one that is read
 abbrev pub wrong_block : ℕ → ℕ → Option Refusal
 wrong_block size len = refuse_unless (len == size) BadBlock
+
+-- a reason, or else that the block is wrong; a call that reads none may be given a block of any
+-- length
+abbrev pub or_wrong_block : Option Refusal → Option ℕ → ℕ → Option Refusal
+or_wrong_block why None len = why
+or_wrong_block why (Some size) len = why or wrong_block size len

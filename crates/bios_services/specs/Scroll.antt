@@ -11,7 +11,7 @@ use Rattle.bios_services.specs.declared.scroll.Window.{Window}
 use Rattle.bios_services.specs.Plan.{Plan, Done}
 use Rattle.bios_services.specs.Bands.{band_of, scroll_rows}
 
--- the rows and columns of a scroll's window that are among so many; none where it has no cell there
+-- the part of a scroll's window that lies on a page of these rows and columns, if it has a cell
 abbrev pub window_among : ℕ → ℕ → Scroll → Option Window
 window_among rows columns s =
     let bottom = min (s.bottom + 1) rows in
@@ -29,17 +29,17 @@ window_among rows columns s =
 abbrev pub whole_page : ℕ → ℕ → Window
 whole_page rows columns = record { top = 0; height = rows; left = 0; width = columns }
 
--- a window that lies on a page of so many rows and columns, and has a row
+-- a window lies on a page of these rows and columns, and has a row
 pub record IsOnPage (rows columns : ℕ) (window : Window) : Type 0 where
   pub below : window.top + window.height ≤ rows
-  pub behind : window.left + window.width ≤ columns
+  pub after : window.left + window.width ≤ columns
   pub some : 0 < window.height
 
--- by how many rows a window goes: by all of them for 0 or for more than it has
+-- by how many rows a window goes up or down: by all of them for 0 or for more than it has
 abbrev pub lines_of : Window → ℕ → ℕ
 lines_of window asked = if (asked == 0) || nat_lt window.height asked then window.height else asked
 
--- a window of a page goes up or down by n rows, and others are filled
+-- a window of a page goes up or down by n rows, and the n rows that it leaves are filled
 abbrev pub window_plan : BiosData → ℕ → Window → Direction → ℕ → ℕ → Plan (Unit {0})
 window_plan d page window direction n colour =
     scroll_rows (band_of d page window.left window.width) direction window.top window.height n
@@ -49,12 +49,13 @@ window_plan d page window direction n colour =
 abbrev pub page_up_plan : BiosData → ℕ → ℕ → Plan (Unit {0})
 page_up_plan d page colour = window_plan d page (whole_page (d.last_row + 1) d.columns) Up 1 colour
 
--- the window on the active page goes up or down; where there is none, nothing is done
+-- a window of the active page goes up or down; without a window nothing happens
 abbrev pub scroll_within : BiosData → Scroll → Direction → Option Window → Plan (Unit {0})
 scroll_within d s direction None = Done tt
 scroll_within d s direction (Some window) =
     window_plan d d.page window direction (lines_of window s.lines) s.fill
 
+-- 06 and 07: the window that a call names goes up or down on the active page
 unfoldable pub scroll_plan : BiosData → Scroll → Direction → Plan (Unit {0})
 scroll_plan d s direction =
     scroll_within d s direction (window_among (d.last_row + 1) d.columns s)

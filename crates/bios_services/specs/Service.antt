@@ -1,4 +1,4 @@
--- A service whole: its cycles, the registers that it answers, and the BIOS data afterwards.
+-- A whole service: its cycles, the registers that it answers, and the BIOS data afterwards.
 -- From the IBM PS/2 and PC BIOS Interface Technical Reference, "Interrupt 10H - Video".
 use Rattle.std.specs.Prelude.{ℕ, ◌≡◌, ◌+◌, ◌*◌, ◌==◌, ◌&&◌, nat_lt, if◌then◌else◌, Bool, false}
 use Rattle.std.specs.Prelude.{Option, Some, None, List, length, Result, Ok, Err}
@@ -33,7 +33,7 @@ use Rattle.bios_services.specs.declared.call.Service.TheVariants.{WriteString, R
 use Rattle.bios_services.specs.Plan.{Plan, Done, ◌>>=◌, ◌>>◌, run}
 use Rattle.bios_modes.specs.Kinds.{is_text}
 use Rattle.bios_services.specs.ModeSet.{mode_set_plan}
-use Rattle.bios_services.specs.Cursor.{place_of, cursor_cell, move_cursor_plan, cursor_type_plan}
+use Rattle.bios_services.specs.Cursor.{position_of, cursor_cell, move_cursor_plan, cursor_type_plan}
 use Rattle.bios_services.specs.Cursor.{page_plan}
 use Rattle.bios_services.specs.Cells.{cell_address, read_cell_plan}
 use Rattle.bios_services.specs.Drawing.{cell_band, cell_row}
@@ -55,7 +55,8 @@ use Rattle.bios_services.specs.Refusals.{on_page_named, refusal_in_mode, unknown
 abbrev pub Outcome : Type 0
 Outcome = Regs × BiosData
 
--- text has character and attribute at the cursor, as bytes of AX; dots have a character, in AL
+-- 08: the cell at the cursor of a page is read; in text the character goes to AL and the attribute
+-- to AH, in graphics the character goes to AL
 unfoldable pub read_cell_service : FontSet → ℕ → BiosData → Regs → Plan Regs
 read_cell_service fonts page d r =
     let q = cursor_cell d page in
@@ -66,37 +67,37 @@ read_cell_service fonts page d r =
       character ← read_character_plan (cell_band d page q) (cell_row d q) fonts
       Done (record r { ax = with_low r.ax character }))
 
--- the colour of a dot, in AL
+-- 0D: the colour of a pixel is read into AL
 unfoldable pub read_pixel_service : ℕ → ℕ → ℕ → BiosData → Regs → Plan Regs
 read_pixel_service page x y d r = do
   colour ← read_pixel_plan d page x y
   Done (record r { ax = with_low r.ax colour })
 
--- the cursor's type in CX, and its place on a page in DX
+-- 03: the cursor's type goes to CX, and its position on a page to DX
 abbrev pub read_cursor_of : BiosData → ℕ → Regs → Regs
-read_cursor_of d page r = record r { cx = d.cursor_type; dx = place_of d page }
+read_cursor_of d page r = record r { cx = d.cursor_type; dx = position_of d page }
 
--- the mode and the columns as low and high byte of AX, and the active page as high byte of BX
+-- 0F: the mode goes to AL, the number of columns to AH, and the active page to BH
 abbrev pub read_mode_of : BiosData → Regs → Regs
 read_mode_of d r = record r { ax = d.mode + 256 * d.columns; bx = low r.bx + 256 * d.page }
 
--- whether the mode is monochrome, and the memory of the adapter, as high and low byte of BX; its
--- switches in CX
+-- 12: BH is 1 if the mode is monochrome and else 0, BL is 3 for 256 KiB of memory, and CX contains
+-- the adapter's switches
 abbrev pub read_adapter_of : BiosData → Regs → Regs
 read_adapter_of d r = record r {
   bx = (if is_monochrome_mode d.mode then 0x0103 else 0x0003);
   cx = 0x0009;
 }
 
--- the function is there, and the display is a VGA's in colour
+-- 1A: AL says that the function is there, and BL that the display is a VGA with a colour monitor
 abbrev pub read_display_of : Regs → Regs
 read_display_of r = record r { ax = 0x1A1A; bx = 0x0008 }
 
--- what a service on some page answers, and does, that is not refused
+-- what a service that is not refused does and answers
 unfoldable pub plan_of : Service → FontSet → BiosData → Regs → List ℕ → Plan Outcome
 plan_of (SetCursorType cursor_type) fonts d r block = cursor_type_plan d cursor_type
     >>= λ after. Done (r, after)
-plan_of (SetCursor page place) fonts d r block = move_cursor_plan d page place
+plan_of (SetCursor page position) fonts d r block = move_cursor_plan d page position
     >>= λ after. Done (r, after)
 plan_of (ReadCursor page) fonts d r block = Done (read_cursor_of d page r, d)
 plan_of (SelectPage page) fonts d r block = page_plan d page >>= λ after. Done (r, after)
@@ -123,25 +124,26 @@ plan_of ReadDisplay fonts d r block = Done (read_display_of r, d)
 abbrev pub Answered : Type 0
 Answered = Result Reply Refusal × BiosData
 
--- a refused call has no cycle, and leaves the BIOS data
+-- a refused call has no cycle and leaves the BIOS data
 abbrev pub refuse : Refusal → BiosData → Plan Answered
 refuse why d = Done (Err why, d)
 
--- registers, with a table or alone
+-- an answer of registers and a table
 abbrev pub answer_with : Table → Regs → BiosData → Answered
 answer_with table r d = (Ok (record { regs = r; table = table }), d)
 
+-- an answer of registers alone
 abbrev pub answer_of : Regs → BiosData → Answered
 answer_of r d = answer_with Empty r d
 
--- setting a mode, where there is one of this number
+-- 00: a mode is set, if there is a row of its number
 unfoldable pub set_mode_plan : Option ModeRow → ℕ → Bool → FontSet → BiosData → Regs → Plan Answered
 set_mode_plan None mode keeps fonts d r = refuse BadMode d
 set_mode_plan (Some row) mode keeps fonts d r = do
   mode_set_plan row keeps fonts
   Done (answer_of r (data_of_mode mode row))
 
--- a service in a mode, or why it is refused
+-- a service is refused for a reason, or else done
 unfoldable pub unless : Option Refusal → Service → FontSet → BiosData → Regs → List ℕ →
     Plan Answered
 unless (Some why) service fonts d r block = refuse why d
@@ -149,25 +151,25 @@ unless None service fonts d r block = do
   outcome ← plan_of service fonts d r block
   Done (answer_of outcome.0 outcome.1)
 
--- a service that needs a mode, on the page that it means
+-- a service that needs a mode, with the page that its number means
 unfoldable pub in_mode_plan : Service → FontSet → BiosData → Regs → List ℕ → Plan Answered
 in_mode_plan service fonts d r block = if d.mode == 0 then refuse NoMode d
     else (let there = on_page_named d service in
     unless (refusal_in_mode there d (length block)) there fonts d r block)
 
--- a table in a mode, or why it is refused
+-- a table is refused for a reason, or else answered
 unfoldable pub table_unless : Option Refusal → TableService → BiosData → Regs → Plan Answered
 table_unless (Some why) service d r = refuse why d
 table_unless None service d r = do
   table ← table_plan service d.crtc_address
   Done (answer_with table r d)
 
--- a table, which needs a mode
+-- a subfunction that answers a table, which needs a mode
 unfoldable pub table_in_mode_plan : TableService → BiosData → Regs → Plan Answered
 table_in_mode_plan service d r = if d.mode == 0 then refuse NoMode d
     else table_unless (table_refusal service) service d r
 
--- glyphs in a mode of text, where there is a row of their height
+-- glyphs are loaded, if the mode has a row of their height
 unfoldable pub load_at : Option ModeRow → GlyphLoad → FontSet → BiosData → Regs → List ℕ →
     Plan Answered
 load_at None load fonts d r block = refuse BadHeight d
@@ -175,18 +177,18 @@ load_at (Some row) load fonts d r block = do
   load_plan fonts load block row
   Done (answer_of r (data_of_mode d.mode row))
 
--- or why they are refused
+-- glyphs are refused for a reason, or else loaded
 unfoldable pub load_unless : Option Refusal → GlyphLoad → FontSet → BiosData → Regs → List ℕ →
     Plan Answered
 load_unless (Some why) load fonts d r block = refuse why d
 load_unless None load fonts d r block = load_at (row_at d.mode load.height) load fonts d r block
 
--- glyphs, which need a mode
+-- 11: a load of glyphs, which needs a mode
 unfoldable pub load_in_mode_plan : GlyphLoad → FontSet → BiosData → Regs → List ℕ → Plan Answered
 load_in_mode_plan load fonts d r block = if d.mode == 0 then refuse NoMode d
     else load_unless (load_refusal load d.mode (length block)) load fonts d r block
 
--- what a call asks for
+-- the plan of a call; one that asks for no service is refused
 abbrev pub call_plan : Option Call → FontSet → BiosData → Regs → List ℕ → Plan Answered
 call_plan None fonts d r block = refuse (unknown_refusal d) d
 call_plan (Some (SetMode mode keeps)) fonts d r block =
@@ -195,26 +197,25 @@ call_plan (Some (ReadTable service)) fonts d r block = table_in_mode_plan servic
 call_plan (Some (LoadGlyphs load)) fonts d r block = load_in_mode_plan load fonts d r block
 call_plan (Some (InMode service)) fonts d r block = in_mode_plan service fonts d r block
 
--- the service that the registers ask for; one that takes no block does not look at it
+-- the plan of the call that the registers ask for
 abbrev pub service : FontSet → BiosData → Regs → List ℕ → Plan Answered
 service fonts d r block = call_plan (call_of r) fonts d r block
 
--- whether a call takes memory, which it does before its first cycle: one for a table that takes
--- some, in any mode
+-- whether a call allocates memory, before its first cycle: a call for a table that does, if a mode
+-- is set
 abbrev pub takes_memory : Option Call → BiosData → Bool
 takes_memory (Some (ReadTable service)) d = nat_lt 0 d.mode && table_takes_memory service
 takes_memory _ d = false
 
--- What a call answers and leaves that asks for this plan, where the bus was s and is t, and the
--- BIOS data were d and are `after`:
--- what the plan does; or there was no memory, and nothing has changed.
+-- what a call with this plan may answer and leave, from bus s and BIOS data d to bus t and data
+-- `after`: what the plan does; or memory was refused, and nothing has changed
 abbrev pub MayAnswer : {S : Type 0} → Meaning S → Plan Answered → S → BiosData →
     Result Reply ServiceError → S → BiosData → Type 0
 MayAnswer m plan s d (Ok reply) t after = (t, (Ok reply, after)) ≡ run m plan s
 MayAnswer m plan s d (Err (Refused why)) t after = (t, (Err why, after)) ≡ run m plan s
 MayAnswer m plan s d (Err OutOfMemory) t after = (t ≡ s) × (after ≡ d)
 
--- on this bus a service that is refused leaves bus and BIOS data
+-- on this bus a refused call leaves the bus and the BIOS data
 abbrev pub RefusedDoNothing : {S : Type 0} → Meaning S → Type 0
 RefusedDoNothing {S} m = (fonts : FontSet) (d : BiosData) (r : Regs) (block : List ℕ) (s : S)
     (e : Refusal)

@@ -12,29 +12,31 @@ use Rattle.bios_services.specs.Registers.{high, low}
 use Rattle.bios_services.specs.Cursor.{move_cursor_plan}
 use Rattle.bios_services.specs.Teletype.{type_plan}
 
--- the string that the registers name: AL 02 and 03 have an attribute behind each character, AL 01
--- and 03 move the cursor
+-- the string that the registers name: with AL 02 and 03 an attribute follows each character, and
+-- AL 01 and 03 move the cursor
 abbrev pub string_of : Regs → StringCall
 string_of r = record {
   page = high r.bx;
-  place = r.dx;
+  position = r.dx;
   colour = low r.bx;
   count = r.cx;
   has_attributes = nat_le 2 (low r.ax);
   moves_cursor = low r.ax % 2 == 1;
 }
 
--- how many bytes of the block a character takes, and all of them
+-- how many bytes of the block belong to a character
 abbrev pub stride : StringCall → ℕ
 stride s = if s.has_attributes then 2 else 1
 
+-- how many bytes the block of a string has
 abbrev pub string_len : StringCall → ℕ
 string_len s = stride s * s.count
 
--- character i of the block, and the colour that it is typed in
+-- character i of the block
 abbrev pub character_at : StringCall → List ℕ → ℕ → ℕ
 character_at s block i = slice_index block (stride s * i)
 
+-- the colour in which character i of the block is typed
 abbrev pub colouring_at : StringCall → List ℕ → ℕ → Colouring
 colouring_at s block i = record {
   colour = (if s.has_attributes then slice_index block (2 * i + 1)
@@ -42,14 +44,14 @@ colouring_at s block i = record {
   is_attribute = true;
 }
 
--- the characters are typed one after another; the answer is the place behind the last
+-- the characters are typed one after another; the answer is the position after the last one
 unfoldable pub type_string_plan : FontSet → BiosData → StringCall → List ℕ → Plan ℕ
 type_string_plan fonts d s block =
-    fold (λ i place. type_plan fonts d s.page place (character_at s block i)
-    (colouring_at s block i)) s.count 0 s.place
+    fold (λ i position. type_plan fonts d s.page position (character_at s block i)
+    (colouring_at s block i)) s.count 0 s.position
 
--- a string is typed, and the cursor moved behind it where that is asked
+-- 13: a string is typed, and if AL asks for it, the cursor moves to the position after it
 unfoldable pub string_plan : FontSet → BiosData → StringCall → List ℕ → Plan BiosData
 string_plan fonts d s block = do
-  place ← type_string_plan fonts d s block
-  if s.moves_cursor then move_cursor_plan d s.page place else Done d
+  position ← type_string_plan fonts d s block
+  if s.moves_cursor then move_cursor_plan d s.page position else Done d

@@ -14,12 +14,12 @@ use Rattle.bios_services.specs.Palette.{register_plan}
 use Rattle.bios_services.specs.Colours.{has_entries, no_entries}
 use Rattle.bios_services.specs.VideoRegisters.{dac_read_index, dac_data}
 
--- why a subfunction is refused that answers a table
+-- why a subfunction that answers a table is refused
 abbrev pub table_refusal : TableService → Option Refusal
 table_refusal ReadPalette = None
 table_refusal (ReadEntries first count) = no_entries first count
 
--- whether it takes memory: entries of the DAC do that are not refused, where there are some
+-- whether a subfunction allocates memory: 17 does if it is not refused and there is an entry
 abbrev pub table_takes_memory : TableService → Bool
 table_takes_memory ReadPalette = false
 table_takes_memory (ReadEntries first count) = has_entries first count && nat_lt 0 count
@@ -29,25 +29,28 @@ table_takes_memory (ReadEntries first count) = has_entries first count && nat_lt
 abbrev pub palette_register : ℕ → ℕ
 palette_register i = if i == 16 then 0x11 else i
 
--- 09: the palette registers and the overscan colour, 17 bytes
+-- the palette registers and the overscan colour, 17 bytes, are read; the attribute controller
+-- expects an index
 unfoldable pub registers_plan : ℕ → Plan (List ℕ)
 registers_plan port = gather (λ i. register_plan port (palette_register i)) 17 0
 
+-- 09: the palette registers and the overscan colour are read
 unfoldable pub read_palette_plan : ℕ → Plan (List ℕ)
 read_palette_plan port = do
   expect_index port
   registers_plan port
 
--- 17: red, green and blue of count entries from one on
+-- n bytes are read from the DAC's data
 unfoldable pub read_components_plan : ℕ → Plan (List ℕ)
 read_components_plan n = gather (λ i. inp dac_data) n 0
 
+-- 17: red, green and blue of count entries are read, from entry `first` on
 unfoldable pub read_entries_plan : ℕ → ℕ → Plan (List ℕ)
 read_entries_plan first count = do
   out dac_read_index first
   read_components_plan (3 * count)
 
--- what a subfunction does and answers that is not refused; the CRT controller's index is at this
+-- what a subfunction that is not refused does and answers; the CRT controller's index is at this
 -- port
 unfoldable pub table_plan : TableService → ℕ → Plan Table
 table_plan ReadPalette port = read_palette_plan port >>= λ values. Done (Palette values)

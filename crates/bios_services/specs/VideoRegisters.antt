@@ -1,13 +1,14 @@
--- The adapter's registers that services write by name, and what they write there.
+-- The ports and registers that services use by name, and the values that they write there.
 -- From the IBM PS/2 Hardware Interface Technical Reference, Video Subsystems, "Sequencer
 -- Registers", "Graphics Controller Registers", "CRT Controller Registers" and "Attribute Controller
 -- Registers".
 use Rattle.std.specs.Prelude.{ℕ}
 
--- the attribute controller's port of indexes and of writes, and that of reads
+-- the attribute controller's port for indexes and for writes
 abbrev pub attribute_port : ℕ
 attribute_port = 0x3C0
 
+-- the attribute controller's port for reads
 abbrev pub attribute_data : ℕ
 attribute_data = 0x3C1
 
@@ -15,58 +16,67 @@ attribute_data = 0x3C1
 abbrev pub miscellaneous_output : ℕ
 miscellaneous_output = 0x3C2
 
--- the ports of the sequencer's index and of the graphics controller's; data are at the next
+-- the port of the sequencer's index; its data are at the next port
 abbrev pub sequencer_port : ℕ
 sequencer_port = 0x3C4
 
+-- the port of the graphics controller's index; its data are at the next port
 abbrev pub graphics_port : ℕ
 graphics_port = 0x3CE
 
--- the DAC's ports: its mask, the index of reads, the index of writes, and the data
+-- the port of the DAC's mask
 abbrev pub dac_mask : ℕ
 dac_mask = 0x3C6
 
+-- the port of the DAC's index for reads
 abbrev pub dac_read_index : ℕ
 dac_read_index = 0x3C7
 
+-- the port of the DAC's index for writes
 abbrev pub dac_write_index : ℕ
 dac_write_index = 0x3C8
 
+-- the port of the DAC's data
 abbrev pub dac_data : ℕ
 dac_data = 0x3C9
 
--- the sequencer's register of the planes that are written: all four, those of text, or that of
--- glyphs
+-- the sequencer's register that selects the planes to be written
 abbrev pub map_mask : ℕ
 map_mask = 0x02
 
+-- map mask: all four planes
 abbrev pub all_planes : ℕ
 all_planes = 0x0F
 
+-- map mask: planes 0 and 1, with the characters and attributes of text
 abbrev pub text_planes : ℕ
 text_planes = 0x03
 
+-- map mask: plane 2, with the glyphs of text
 abbrev pub glyph_plane : ℕ
 glyph_plane = 0x04
 
--- the sequencer's register of how addresses reach planes: all alike, or even ones and odd ones
--- apart
+-- the sequencer's register that says which planes an address reaches
 abbrev pub memory_mode : ℕ
 memory_mode = 0x04
 
+-- memory mode: each address reaches all planes
 abbrev pub all_addresses : ℕ
 all_addresses = 0x06
 
+-- memory mode: even addresses reach planes 0 and 2, odd ones planes 1 and 3
 abbrev pub odd_and_even_addresses : ℕ
 odd_and_even_addresses = 0x02
 
--- the graphics controller's register of the function that combines what is written with the latches
+-- the graphics controller's register of the function that combines written data with the latches
 abbrev pub data_rotate : ℕ
 data_rotate = 0x03
 
+-- data rotate: data replace what was there
 abbrev pub replace : ℕ
 replace = 0x00
 
+-- data rotate: data are combined with the latches by XOR
 abbrev pub xor : ℕ
 xor = 0x18
 
@@ -74,70 +84,75 @@ xor = 0x18
 abbrev pub read_map_select : ℕ
 read_map_select = 0x04
 
--- the graphics controller's register of write and read modes
+-- the graphics controller's register of the write mode and the read mode
 abbrev pub graphics_mode : ℕ
 graphics_mode = 0x05
 
--- write mode 0 and read mode 0, with which all is plain; and the same where even and odd addresses
--- go apart
-abbrev pub plain_access : ℕ
-plain_access = 0x00
+-- graphics mode: write mode 0 and read mode 0, with which bytes go to planes and come from one
+abbrev pub byte_access : ℕ
+byte_access = 0x00
 
+-- graphics mode: the same, but even and odd addresses are read from different planes
 abbrev pub odd_and_even_access : ℕ
 odd_and_even_access = 0x10
 
--- write mode 1: the latches are copied
+-- graphics mode: write mode 1, which copies the latches
 abbrev pub copy_latches : ℕ
 copy_latches = 0x01
 
--- write mode 2: each plane gets its bit of a colour
+-- graphics mode: write mode 2, which gives each plane its bit of a colour
 abbrev pub write_colour : ℕ
 write_colour = 0x02
 
--- read mode 1: planes are compared with a colour
+-- graphics mode: read mode 1, which compares planes with a colour
 abbrev pub compare_colours : ℕ
 compare_colours = 0x08
 
--- the graphics controller's register of the memory's window, and the one of 64 KiB at A0000 with
--- planes apart
+-- the graphics controller's register that selects the memory's window
 abbrev pub miscellaneous : ℕ
 miscellaneous = 0x06
 
+-- miscellaneous: 64 KiB at A0000, where each address is an offset in a plane
 abbrev pub window_at_a0000 : ℕ
 window_at_a0000 = 0x04
 
--- the graphics controller's register of the bits that are written
+-- the graphics controller's register that selects the bits to be written
 abbrev pub bit_mask : ℕ
 bit_mask = 0x08
 
+-- bit mask: all eight bits
 abbrev pub all_bits : ℕ
 all_bits = 0xFF
 
--- the CRT controller's registers of the height of characters, the cursor's first and last scan
--- line, the start address and the cursor's address, each a high byte and then a low one, the
--- vertical retrace's end, whose bit 7 protects others, the end of the display, and the scan line of
--- underlines
+-- the CRT controller's register of the height of characters
 abbrev pub maximum_scan_line : ℕ
 maximum_scan_line = 0x09
 
+-- the CRT controller's register of the cursor's first scan line
 abbrev pub cursor_start : ℕ
 cursor_start = 0x0A
 
+-- the CRT controller's register of the cursor's last scan line
 abbrev pub cursor_end : ℕ
 cursor_end = 0x0B
 
+-- the CRT controller's register of the start address's high byte; the low byte's is the next
 abbrev pub start_address_high : ℕ
 start_address_high = 0x0C
 
+-- the CRT controller's register of the cursor address's high byte; the low byte's is the next
 abbrev pub cursor_address_high : ℕ
 cursor_address_high = 0x0E
 
+-- the CRT controller's register of the vertical retrace's end; its bit 7 protects registers 0 to 7
 abbrev pub vertical_retrace_end : ℕ
 vertical_retrace_end = 0x11
 
+-- the CRT controller's register of the last line of the display
 abbrev pub vertical_display_end : ℕ
 vertical_display_end = 0x12
 
+-- the CRT controller's register of the scan line of underlines
 abbrev pub underline_location : ℕ
 underline_location = 0x14
 
@@ -145,15 +160,14 @@ underline_location = 0x14
 abbrev pub overscan : ℕ
 overscan = 0x11
 
--- the attribute controller's palette address source, which is put beside an index: the palette is
--- shown
+-- the bit beside an index of the attribute controller with which the palette is shown
 abbrev pub palette_shown : ℕ
 palette_shown = 0x20
 
--- the attribute controller's mode control register, and all bits of it but the one that makes
--- attributes blink
+-- the attribute controller's mode control register
 abbrev pub mode_control : ℕ
 mode_control = 0x10
 
+-- mode control: every bit except bit 3, which makes attributes blink
 abbrev pub not_blinking : ℕ
 not_blinking = 0xF7

@@ -1,4 +1,4 @@
-//! Some columns of a page, as bytes of its lines.
+//! Neighbouring columns of a page, as bytes of its lines.
 ghost use Rattle.std.specs.Prelude.{◌≡◌, ◌<◌, ◌≤◌, ◌+◌, ◌-◌, ◌*◌, ◌^◌};
 ghost use Rattle.bios_services.specs.Plan.{run};
 ghost use Rattle.bios_services.specs.Bounds.{IsSet, pages_of, reached_cells, reached_rows};
@@ -15,28 +15,30 @@ use crate::direction::Direction;
 use crate::filling::Filling;
 use crate::kind::{Kind, by_kind, column_bytes, kind_of, row_lines};
 use crate::shift::Shift;
-use crate::video_registers::{ALL_BITS, ALL_PLANES, COPY_LATCHES, GRAPHICS_MODE, MAP_MASK, PLAIN};
+use crate::video_registers::{
+    ALL_BITS, ALL_PLANES, BYTE_ACCESS, COPY_LATCHES, GRAPHICS_MODE, MAP_MASK,
+};
 use bios_modes::Bda;
 use vga_card::Bus;
 
-/// Some columns of a page, as bytes of its lines.
+/// Neighbouring columns of a page, as bytes of its lines.
 #[derive(Clone, Copy)]
 pub struct Band {
     /// How the mode uses the memory.
     pub kind: Kind,
     /// The address of the page.
     pub start: u32,
-    /// How many bytes a line of the page has.
+    /// How many bytes lie between the beginnings of two lines of the page.
     pub pitch: u32,
     /// How many lines a row of characters has.
     pub lines: u32,
     /// The first byte of the band in a line.
     pub left: u32,
-    /// How many bytes the band has in a line.
+    /// How many bytes of a line the band has.
     pub width: u32,
 }
 
-/// Sets the graphics controller's read and write mode, in 16 colours alone.
+/// Sets the graphics controller's read and write mode, in 16 colours only.
 pub(crate) fn set_access<B: Bus>(bus: &mut B, kind: Kind, mode: u8)
     ensures { bus.new ≡ (run B.meaning (access_plan kind mode) bus.old).0 }
 {
@@ -44,7 +46,7 @@ pub(crate) fn set_access<B: Bus>(bus: &mut B, kind: Kind, mode: u8)
 }
 
 impl Band {
-    /// Some columns of a page, from one on.
+    /// `width` columns of a page, from column `left` on.
     pub(crate) fn of_page(bda: &Bda, page: u8, left: u32, width: u32) -> Band
         requires data { IsSet bda.now }
         requires page { page < pages_of bda.now }
@@ -64,7 +66,7 @@ impl Band {
         }
     }
 
-    /// The address of a byte of a line of a row of characters.
+    /// The address of a byte, by row of characters, line of that row and byte of that line.
     pub(crate) fn address(self, row: u32, line: u32, byte: u32) -> u32
         requires band { IsBand self }
         requires row { row < reached_cells }
@@ -103,8 +105,8 @@ impl Band {
         }
     }
 
-    /// Copies to some rows from `top` on what stands n rows below, the highest first; or copies
-    /// them to n rows below, the lowest first.
+    /// Makes `count` rows from `top` on copies of the rows n below them, the highest row first; or
+    /// copies them n rows down, the lowest row first.
     #[tactic(auto, using(crate::proofs::PlanRuns::run_bind), unfolding(crate::specs::Bands::move_rows))]
     fn move_rows<B: Bus>(self, bus: &mut B, shift: Shift, top: u32, count: u32)
         requires band { IsBand self }
@@ -150,7 +152,7 @@ impl Band {
         }
     }
 
-    /// Fills some rows from `top` on.
+    /// Fills `count` rows from `top` on.
     #[tactic(auto, using(crate::proofs::PlanRuns::run_bind), unfolding(crate::specs::Bands::fill_rows))]
     fn fill_rows<B: Bus>(self, bus: &mut B, filling: Filling, top: u32, count: u32)
         requires band { IsBand self }
@@ -162,7 +164,7 @@ impl Band {
         }
     }
 
-    /// Fills some rows from `top` on with an attribute or a colour.
+    /// Makes `count` rows from `top` on blank in an attribute, or pixels of a colour.
     #[tactic(auto, using(crate::proofs::PlanRuns::run_bind), unfolding(crate::specs::Bands::fill_plan))]
     fn fill<B: Bus>(self, bus: &mut B, colour: u8, top: u32, count: u32)
         requires band { IsBand self }
@@ -173,17 +175,17 @@ impl Band {
             self.kind,
             Text => self.fill_rows(bus, Filling::blank(colour), top, count),
             Planar => {
-                self.fill_rows(bus, Filling::plain(0x00), top, count);
+                self.fill_rows(bus, Filling::uniform(0x00), top, count);
                 sequencer(bus, MAP_MASK, colour % 16);
-                self.fill_rows(bus, Filling::plain(ALL_BITS), top, count);
+                self.fill_rows(bus, Filling::uniform(ALL_BITS), top, count);
                 sequencer(bus, MAP_MASK, ALL_PLANES);
             },
-            Packed => self.fill_rows(bus, Filling::plain(colour), top, count),
+            Packed => self.fill_rows(bus, Filling::uniform(colour), top, count),
         )
     }
 
-    /// Shifts rows: as many of them are filled then, the last ones under those that went up, the
-    /// first ones above those that went down.
+    /// Moves rows up or down, and fills the rows that they leave: the last ones after a move up,
+    /// the first ones after a move down.
     #[tactic(auto, using(crate::proofs::PlanRuns::run_bind), unfolding(crate::specs::Bands::scroll_rows))]
     pub(crate) fn scroll_rows<B: Bus>(self, bus: &mut B, shift: Shift, top: u32, height: u32)
         requires band { IsBand self }
@@ -195,7 +197,7 @@ impl Band {
         let stay = height - shift.rows;
         set_access(bus, self.kind, COPY_LATCHES);
         self.move_rows(bus, shift, top, stay);
-        set_access(bus, self.kind, PLAIN);
+        set_access(bus, self.kind, BYTE_ACCESS);
         let first_new = shift.direction.new_row(top, stay);
         self.fill(bus, shift.colour, first_new, shift.rows);
     }

@@ -15,8 +15,7 @@ use crate::tables::TableService;
 /// What a call asks for.
 #[derive(Clone, Copy)]
 pub enum Call {
-    /// 00: sets a mode, and keeps the memory where bit 7 of AL is 1. It needs no mode to be set
-    /// before.
+    /// 00: sets a mode, and keeps the memory if bit 7 of AL is 1. It needs no mode before.
     SetMode { mode: u8, keeps: bool },
     /// 10 with AL = 09 or 17: answers a table.
     ReadTable(TableService),
@@ -33,12 +32,12 @@ pub enum Service {
     SetCursorType {
         cursor_type: u16,
     },
-    /// 02: sets the cursor's place on a page.
+    /// 02: sets the cursor's position on a page.
     SetCursor {
         page: u8,
-        place: u16,
+        position: u16,
     },
-    /// 03: answers the cursor's place on a page, and its type.
+    /// 03: answers the cursor's position on a page, and its type.
     ReadCursor {
         page: u8,
     },
@@ -58,17 +57,17 @@ pub enum Service {
     ReadCell {
         page: u8,
     },
-    /// 09 and 0A: writes a character to some cells from the cursor on; in text 09 writes the
+    /// 09 and 0A: writes a character to a run of cells from the cursor on; in text 09 writes the
     /// attribute too.
     WriteCells(CellRun),
-    /// 0C: writes a dot.
+    /// 0C: writes a pixel.
     WritePixel {
         page: u8,
         x: u16,
         y: u16,
         colour: u8,
     },
-    /// 0D: answers the colour of a dot.
+    /// 0D: answers a pixel.
     ReadPixel {
         page: u8,
         x: u16,
@@ -79,19 +78,19 @@ pub enum Service {
         character: u8,
         colour: u8,
     },
-    /// 0F: answers mode, columns and active page.
+    /// 0F: answers the mode, its number of columns and the active page.
     ReadMode,
     /// 10: palette, overscan colour, blinking, DAC.
     Colours(ColourService),
-    /// 12 with BL = 10: answers what adapter there is.
+    /// 12 with BL = 10: answers which adapter there is.
     ReadAdapter,
     /// 13 with AL = 00 to 03: types a string.
     WriteString(StringCall),
-    /// 1A with AL = 00: answers what display there is.
+    /// 1A with AL = 00: answers which display there is.
     ReadDisplay,
 }
 
-/// The window that functions 06 and 07 name.
+/// The scroll that functions 06 and 07 ask for.
 fn scroll_of(regs: Regs) -> Scroll
     ensures { result ≡ scroll_of_regs regs }
 {
@@ -137,13 +136,13 @@ fn colour_call_of(regs: Regs) -> Option<Call>
     Some(Call::InMode(Service::Colours(service)))
 }
 
-/// Which service that needs a mode the registers ask for, if there is one.
+/// The service of a function other than 00, 10 and 11, if there is one.
 fn service_of(regs: Regs) -> Option<Service>
     ensures { result ≡ service_of_regs regs }
 {
     let al = low(regs.ax);
     let page = high(regs.bx);
-    let place = regs.dx;
+    let position = regs.dx;
     let x = regs.cx;
     let y = regs.dx;
     let scroll = scroll_of(regs);
@@ -151,7 +150,7 @@ fn service_of(regs: Regs) -> Option<Service>
         0x01 => Some(Service::SetCursorType {
             cursor_type: regs.cx,
         }),
-        0x02 => Some(Service::SetCursor { page, place }),
+        0x02 => Some(Service::SetCursor { page, position }),
         0x03 => Some(Service::ReadCursor { page }),
         0x05 => Some(Service::SelectPage { page: al }),
         0x06 => Some(Service::ScrollUp { scroll }),
@@ -178,7 +177,7 @@ fn service_of(regs: Regs) -> Option<Service>
     }
 }
 
-/// What the registers ask for, if there is such a service.
+/// What the registers ask for, if that is a call.
 pub(crate) fn decode(regs: Regs) -> Option<Call>
     ensures { result ≡ call_of regs }
 {

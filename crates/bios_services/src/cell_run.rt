@@ -1,4 +1,4 @@
-//! Functions 09 and 0A: writing a character to some cells.
+//! Functions 09 and 0A: writing a character to a run of cells.
 ghost use Rattle.std.specs.Prelude.{◌≡◌, ◌<◌, ◌≤◌, ◌+◌};
 ghost use Rattle.bios_services.specs.Plan.{run};
 ghost use Rattle.bios_services.specs.Bounds.{IsSet, pages_of, reached_cells};
@@ -14,7 +14,7 @@ use crate::regs::{Regs, high, low};
 use bios_modes::{Bda, Fonts};
 use vga_card::Bus;
 
-/// Some cells that get one character, from the cursor of a page on.
+/// A run of cells that get one character, from the cursor of a page on.
 #[derive(Clone, Copy)]
 pub struct CellRun {
     pub page: u8,
@@ -24,7 +24,7 @@ pub struct CellRun {
 }
 
 impl CellRun {
-    /// The cells that the registers name, which in text take an attribute or keep their own.
+    /// The run that the registers name. In text, its cells get the attribute or keep their own.
     pub(crate) fn of(regs: Regs, is_attribute: bool) -> CellRun
         ensures { result ≡ cell_run_of regs is_attribute }
     {
@@ -39,7 +39,7 @@ impl CellRun {
         }
     }
 
-    /// Writes the character to as many cells of a page, from one on.
+    /// Writes the character to the run's number of cells of a page, from cell `first` on.
     #[tactic(auto, using(crate::proofs::PlanRuns::run_bind), unfolding(crate::specs::Drawing::characters_plan))]
     fn write_from<B: Bus>(self, bus: &mut B, page: &Page<'_>, first: u32)
         requires page { IsPage page.now }
@@ -52,7 +52,7 @@ impl CellRun {
         }
     }
 
-    /// Writes the character to the cells.
+    /// Writes the character to the cells of the run.
     pub(crate) fn write<B: Bus>(self, bus: &mut B, fonts: &Fonts, bda: &Bda)
         requires data { IsSet bda.now }
         requires page { self.page < pages_of bda.now }

@@ -1,4 +1,4 @@
-//! Cells of characters, and how text is read and written.
+//! Cells of characters: where they lie in memory, and how text is read and written.
 ghost use Rattle.std.specs.Prelude.{◌≡◌, ◌<◌, ◌≤◌, ◌+◌, ◌*◌, ◌^◌};
 ghost use Rattle.bios_services.specs.Plan.{run};
 ghost use Rattle.bios_services.specs.Bounds.{IsSet, pages_of, reached_cells};
@@ -12,10 +12,10 @@ use crate::cycles::{get, put};
 use bios_modes::{Bda, mode_row};
 use vga_card::Bus;
 
-/// Where the pages of graphics modes begin, and glyphs stand.
+/// Where the pages of graphics modes begin, and where glyphs are loaded.
 pub(crate) const GRAPHICS_BASE: u32 = 0xA0000;
 
-/// Where the pages of a mode begin, by its row.
+/// The address where the pages of a mode begin.
 #[tactic(auto, using(crate::proofs::BoundLemmas::base_small))]
 fn page_base(mode: u8) -> u32
     ensures value { result ≡ page_base_of mode }
@@ -27,7 +27,7 @@ fn page_base(mode: u8) -> u32
     }
 }
 
-/// Where a page begins.
+/// The address where a page begins.
 pub(crate) fn page_address(bda: &Bda, page: u8) -> u32
     requires data { IsSet bda.now }
     requires page { page < pages_of bda.now }
@@ -56,7 +56,7 @@ pub(crate) fn cells(bda: &Bda) -> u32
     bda.columns() as u32 * (bda.last_row() as u32 + 1)
 }
 
-/// Reads the character of a cell as the low byte of a word, its attribute as the high one.
+/// Reads a cell: the character is the low byte of the answer, the attribute its high byte.
 #[tactic(auto, using(crate::proofs::PlanRuns::run_bind), unfolding(crate::specs::Cells::read_cell_plan))]
 pub(crate) fn read_cell<B: Bus>(bus: &mut B, address: u32) -> u16
     requires { address < 2 ^ 30 }
@@ -67,7 +67,7 @@ pub(crate) fn read_cell<B: Bus>(bus: &mut B, address: u32) -> u16
     character as u16 + 256 * colour as u16
 }
 
-/// Writes a colour as the cell's attribute, where it is to be that.
+/// Writes a cell's attribute, if the colour is one.
 fn write_attribute<B: Bus>(bus: &mut B, address: u32, colouring: Colouring)
     ensures { bus.new ≡ (run B.meaning (attribute_plan address colouring) bus.old).0 }
 {
@@ -76,7 +76,7 @@ fn write_attribute<B: Bus>(bus: &mut B, address: u32, colouring: Colouring)
     }
 }
 
-/// Writes a character to a cell of text, and its attribute where it gets one.
+/// Writes a character to a cell of text, and its attribute if it gets one.
 #[tactic(auto, using(crate::proofs::PlanRuns::run_bind), unfolding(crate::specs::Cells::write_cell_plan))]
 pub(crate) fn write_cell<B: Bus>(bus: &mut B, address: u32, character: u8, colouring: Colouring)
     requires { address < 2 ^ 30 }

@@ -1,4 +1,4 @@
-//! The character that stands at a cell of dots.
+//! Reading the character of a cell of pixels.
 ghost use Rattle.std.specs.Prelude.{◌≡◌, ◌<◌, ◌+◌, ◌^◌, length};
 ghost use Rattle.bios_services.specs.Bounds.{reached_cells};
 ghost use Rattle.bios_services.specs.Plan.{run};
@@ -12,17 +12,17 @@ use crate::cycles::get;
 use crate::dot_cell::DotCell;
 use crate::glyphs::first_character;
 use crate::kind::{Kind, by_kind};
-use crate::video_registers::{COMPARE_COLOURS, PLAIN};
+use crate::video_registers::{BYTE_ACCESS, COMPARE_COLOURS};
 use bios_modes::Fonts;
 use vga_card::Bus;
 
-/// The most lines that a character has.
+/// The largest number of lines of a character.
 const MOST_LINES: usize = 16;
 
 /// How many characters there are.
 const CHARACTERS: u16 = 256;
 
-/// Reads a dot of 256 colours, and shifts it into a line from the right, as 1 where it is not 0.
+/// Reads a pixel of 256 colours, and shifts a bit into a line from the right: 0 for 0, else 1.
 #[tactic(auto, using(crate::proofs::PlanRuns::run_bind), unfolding(crate::specs::CharacterReading::shift_dot))]
 fn shift_dot<B: Bus>(bus: &mut B, address: u32, line: u8) -> u8
     ensures { (bus.new, result) ≡ run B.meaning (shift_dot_plan address line) bus.old }
@@ -31,7 +31,7 @@ fn shift_dot<B: Bus>(bus: &mut B, address: u32, line: u8) -> u8
     ((2 * line as u16 + dot) % 256) as u8
 }
 
-/// Reads the line of eight dots at an address of 256 colours: a bit for each that is not 0.
+/// Reads the line of eight pixels at an address of 256 colours: a bit is 1 if its pixel is not 0.
 #[tactic(auto, using(crate::proofs::PlanRuns::run_bind), unfolding(crate::specs::CharacterReading::packed_line))]
 fn packed_line<B: Bus>(bus: &mut B, address: u32) -> u8
     requires { address < 2 ^ 31 }
@@ -44,7 +44,7 @@ fn packed_line<B: Bus>(bus: &mut B, address: u32) -> u8
     line
 }
 
-/// Reads which dots of a line of a cell are not 0.
+/// Reads which pixels of a line of a cell are not 0.
 #[tactic(auto, using(crate::proofs::PlanRuns::run_bind), unfolding(crate::specs::CharacterReading::line_plan))]
 fn read_line<B: Bus>(bus: &mut B, kind: Kind, address: u32) -> u8
     requires { address < 2 ^ 31 }
@@ -58,7 +58,7 @@ fn read_line<B: Bus>(bus: &mut B, kind: Kind, address: u32) -> u8
     )
 }
 
-/// Reads the lines of a cell.
+/// Reads the lines of a cell from the top.
 #[tactic(auto, using(crate::proofs::PlanRuns::run_bind), unfolding(crate::specs::CharacterReading::lines_plan))]
 fn read_lines<B: Bus>(bus: &mut B, cell: DotCell, lines: &mut [u8])
     requires band { IsBand cell.band }
@@ -72,7 +72,7 @@ fn read_lines<B: Bus>(bus: &mut B, cell: DotCell, lines: &mut [u8])
     }
 }
 
-/// Reads the character whose glyph the dots of a cell are, and 0 where there is none.
+/// Reads a cell, and answers the first character whose glyph has its dots, or 0.
 #[tactic(auto, using(crate::proofs::PlanRuns::run_bind), unfolding(crate::specs::CharacterReading::read_character_plan))]
 pub(crate) fn read_character<B: Bus>(bus: &mut B, cell: DotCell, fonts: &Fonts) -> u8
     requires band { IsBand cell.band }
@@ -84,6 +84,6 @@ pub(crate) fn read_character<B: Bus>(bus: &mut B, cell: DotCell, fonts: &Fonts) 
     let lines = &mut room[..cell.band.lines as usize];
     set_access(bus, cell.band.kind, COMPARE_COLOURS);
     read_lines(bus, cell, lines);
-    set_access(bus, cell.band.kind, PLAIN);
+    set_access(bus, cell.band.kind, BYTE_ACCESS);
     first_character(fonts, cell.band.lines, lines, CHARACTERS)
 }

@@ -1,23 +1,24 @@
-//! Function 10, by its subfunction.
+//! Function 10, by its subfunctions.
 ghost use Rattle.std.specs.Prelude.{◌≡◌, ◌<◌, None, length};
 ghost use Rattle.bios_services.specs.Bounds.{ports_end};
 ghost use Rattle.bios_services.specs.Plan.{run};
 ghost use Rattle.bios_services.specs.Reasons.{reason_of};
 ghost use Rattle.bios_services.specs.Colours.{no_register as no_register_of};
 ghost use Rattle.bios_services.specs.Colours.{no_entry as no_entry_of, no_entries as no_entries_of};
-ghost use Rattle.bios_services.specs.Colours.{colour_refusal as colour_refusal_of, read_entry_plan};
+ghost use Rattle.bios_services.specs.Colours.{colour_block, colour_reason as colour_reason_of};
+ghost use Rattle.bios_services.specs.Colours.{colour_refusal, read_entry_plan};
 ghost use Rattle.bios_services.specs.Colours.{read_register_in_bh, read_mask_in_bl, colours_plan};
 
 use crate::cycles::{inp, out};
 use crate::dac::{set_entries, set_entry};
 use crate::palette::{read_register, set_blinking, set_palette, set_register};
-use crate::reasons::{refuse_unless, wrong_block};
+use crate::reasons::refuse_unless;
 use crate::regs::{Regs, with_high, with_low};
 use crate::video_registers::{DAC_DATA, DAC_MASK, DAC_READ_INDEX, OVERSCAN};
 use vga_bits::Refusal;
 use vga_card::Bus;
 
-/// What function 10 does and answers in registers.
+/// A subfunction of function 10 that answers registers alone.
 #[derive(Clone, Copy)]
 pub enum ColourService {
     /// 00: sets a palette register.
@@ -31,7 +32,7 @@ pub enum ColourService {
     },
     /// 02: sets the palette registers and the overscan colour.
     SetPalette,
-    /// 03: makes bit 7 of attributes blink, or bright.
+    /// 03: makes bit 7 of an attribute mean blinking, or a bright background.
     SetBlinking {
         blinking: u8,
     },
@@ -48,7 +49,7 @@ pub enum ColourService {
         green: u8,
         blue: u8,
     },
-    /// 12: sets some entries of the DAC.
+    /// 12: sets entries of the DAC.
     SetEntries {
         first: u16,
         count: u16,
@@ -65,21 +66,21 @@ pub enum ColourService {
     ReadMask,
 }
 
-/// Refuses what is no palette register.
+/// Refuses a number that is none of the palette registers.
 fn no_register(register: u8) -> Result<(), Refusal>
     ensures { reason_of result ≡ no_register_of register }
 {
     refuse_unless(register < 0x10, Refusal::BadRegister)
 }
 
-/// Refuses what is no entry of the DAC.
+/// Refuses a number that is none of the DAC's entries.
 fn no_entry(entry: u16) -> Result<(), Refusal>
     ensures { reason_of result ≡ no_entry_of entry }
 {
     refuse_unless(entry < 0x100, Refusal::BadRegister)
 }
 
-/// Refuses entries of which the DAC has not so many from one on.
+/// Refuses entries that the DAC does not have: the first one, or any of `count` from it on.
 pub(crate) fn no_entries(first: u16, count: u16) -> Result<(), Refusal>
     ensures { reason_of result ≡ no_entries_of first count }
 {
@@ -89,34 +90,43 @@ pub(crate) fn no_entries(first: u16, count: u16) -> Result<(), Refusal>
     )
 }
 
-/// Refuses a subfunction, with a block of this length, for the first reason that there is.
-#[tactic(auto, unfolding(crate::specs::Colours::colour_refusal))]
-pub(crate) fn colour_refusal(service: ColourService, len: usize) -> Result<(), Refusal>
-    ensures { reason_of result ≡ colour_refusal_of service len }
+impl ColourService {
+    /// How many bytes the block of a subfunction has, if it reads one.
+    pub(crate) fn block(self) -> Option<usize>
+        ensures { result ≡ colour_block self }
+    {
+        match self {
+            ColourService::SetPalette => Some(17),
+            ColourService::SetEntries { count, .. } => Some(3 * count as usize),
+            _ => None,
+        }
+    }
+}
+
+/// Refuses a subfunction, whatever its block, if there is a reason.
+pub(crate) fn colour_reason(service: ColourService) -> Result<(), Refusal>
+    ensures { reason_of result ≡ colour_reason_of service }
 {
     match service {
         ColourService::SetRegister { register, .. } | ColourService::ReadRegister { register } => {
             no_register(register)
         }
-        ColourService::SetPalette => wrong_block(17, len),
         ColourService::SetBlinking { blinking } => {
             refuse_unless(blinking <= 1, Refusal::BadRegister)
         }
         ColourService::SetEntry { entry, .. } | ColourService::ReadEntry { entry } => {
             no_entry(entry)
         }
-        ColourService::SetEntries { first, count } => {
-            no_entries(first, count)?;
-            wrong_block(3 * count as usize, len)
-        }
+        ColourService::SetEntries { first, count } => no_entries(first, count),
         ColourService::SetOverscan { .. }
+        | ColourService::SetPalette
         | ColourService::ReadOverscan
         | ColourService::SetMask { .. }
         | ColourService::ReadMask => Ok(()),
     }
 }
 
-/// 15: answers red, green and blue of an entry of the DAC.
+/// 15: reads an entry of the DAC, red into DH, green into CH and blue into CL.
 #[tactic(auto, using(crate::proofs::PlanRuns::run_bind), unfolding(crate::specs::Colours::read_entry_plan))]
 fn read_entry<B: Bus>(bus: &mut B, entry: u8, regs: &mut Regs)
     ensures { (bus.new, regs.new) ≡ run B.meaning (read_entry_plan entry regs.old) bus.old }
@@ -129,7 +139,7 @@ fn read_entry<B: Bus>(bus: &mut B, entry: u8, regs: &mut Regs)
     regs.dx = with_high(regs.dx, red);
 }
 
-/// 07 and 08: answers a register of the attribute controller.
+/// 07 and 08: reads a register of the attribute controller into BH.
 #[tactic(auto, using(crate::proofs::PlanRuns::run_bind), unfolding(crate::specs::Colours::read_register_in_bh))]
 fn answer_register<B: Bus>(bus: &mut B, port: u16, register: u8, regs: &mut Regs)
     requires port { port < ports_end }
@@ -141,7 +151,7 @@ fn answer_register<B: Bus>(bus: &mut B, port: u16, register: u8, regs: &mut Regs
     regs.bx = with_high(regs.bx, value);
 }
 
-/// 19: answers the DAC's mask.
+/// 19: reads the DAC's mask into BL.
 #[tactic(auto, using(crate::proofs::PlanRuns::run_bind), unfolding(crate::specs::Colours::read_mask_in_bl))]
 fn answer_mask<B: Bus>(bus: &mut B, regs: &mut Regs)
     ensures { (bus.new, regs.new) ≡ run B.meaning (read_mask_in_bl regs.old) bus.old }
@@ -150,8 +160,8 @@ fn answer_mask<B: Bus>(bus: &mut B, regs: &mut Regs)
     regs.bx = with_low(regs.bx, mask);
 }
 
-/// Does what a subfunction does that is not refused.
-#[tactic(auto, using(crate::proofs::PlanRuns::run_bind), unfolding(crate::specs::Colours::colours_plan, crate::specs::Colours::colour_refusal))]
+/// Does a subfunction that is not refused.
+#[tactic(auto, using(crate::proofs::PlanRuns::run_bind), unfolding(crate::specs::Colours::colours_plan))]
 pub(crate) fn perform_colours<B: Bus>(
     bus: &mut B,
     port: u16,
@@ -160,7 +170,7 @@ pub(crate) fn perform_colours<B: Bus>(
     block: &[u8],
 )
     requires port { port < ports_end }
-    requires allowed { colour_refusal_of service (length block.now) ≡ None }
+    requires allowed { colour_refusal service (length block.now) ≡ None }
     ensures { (bus.new, regs.new) ≡ run B.meaning (colours_plan service port regs.old block.now)
         bus.old }
 {

@@ -13,13 +13,13 @@ use crate::video_registers::{CURSOR_ADDRESS, CURSOR_END, CURSOR_START, START_ADD
 use bios_modes::{Bda, is_text};
 use vga_card::Bus;
 
-/// The number of the cell at a place, counted along the rows.
-pub(crate) fn cell_number(bda: &Bda, place: u16) -> u32
+/// The number of the cell at a position, counted along the rows of its page.
+pub(crate) fn cell_number(bda: &Bda, position: u16) -> u32
     requires { IsSet bda.now }
-    ensures value { result ≡ cell_number_of bda.now place }
+    ensures value { result ≡ cell_number_of bda.now position }
     ensures small { result ≤ furthest_cell }
 {
-    bda.columns() as u32 * (place / 256) as u32 + (place % 256) as u32
+    bda.columns() as u32 * (position / 256) as u32 + (position % 256) as u32
 }
 
 /// The number of the cell at the cursor of a page.
@@ -32,7 +32,7 @@ pub(crate) fn cursor_cell(bda: &Bda, page: u8) -> u32
     cell_number(bda, bda.cursor_place(page as usize))
 }
 
-/// Writes a word to two registers of the CRT controller, the high byte to the first.
+/// Writes a word to two registers of the CRT controller, the high byte to register i.
 #[tactic(auto, using(crate::proofs::PlanRuns::run_bind), unfolding(crate::specs::Cursor::word_plan))]
 pub(crate) fn write_word<B: Bus>(bus: &mut B, port: u16, i: u8, n: u16)
     requires port { port < ports_end }
@@ -43,7 +43,7 @@ pub(crate) fn write_word<B: Bus>(bus: &mut B, port: u16, i: u8, n: u16)
     indexed(bus, port, i + 1, (n % 256) as u8);
 }
 
-/// Which cell of the memory the cursor of a page of text stands on.
+/// The number of the cell under the cursor of a page of text, as the CRT controller counts cells.
 fn cursor_address(bda: &Bda, page: u8) -> u16
     requires data { IsSet bda.now }
     requires page { page < 8 }
@@ -54,7 +54,7 @@ fn cursor_address(bda: &Bda, page: u8) -> u16
     (start + cell_number(bda, bda.cursor_place(page as usize))) as u16
 }
 
-/// Shows the cursor of a page where it stands, in text on the active page.
+/// Gives the CRT controller the cursor of a page, if that is the active page of a text mode.
 #[tactic(auto, using(crate::proofs::PlanRuns::run_bind), unfolding(crate::specs::Cursor::cursor_plan))]
 pub(crate) fn show_cursor<B: Bus>(bus: &mut B, bda: &Bda, page: u8)
     requires data { IsSet bda.now }
@@ -71,16 +71,16 @@ pub(crate) fn show_cursor<B: Bus>(bus: &mut B, bda: &Bda, page: u8)
     }
 }
 
-/// Moves the cursor of a page to a place, and shows it there.
+/// Moves the cursor of a page, and shows it there if that is the active page of a text mode.
 #[tactic(auto, using(crate::proofs::PlanRuns::run_bind), unfolding(crate::specs::Cursor::move_cursor_plan))]
-pub(crate) fn move_cursor<B: Bus>(bus: &mut B, bda: &mut Bda, page: u8, place: u16)
+pub(crate) fn move_cursor<B: Bus>(bus: &mut B, bda: &mut Bda, page: u8, position: u16)
     requires data { IsSet bda.old }
     requires page { page < pages_of bda.old }
-    ensures answer { (bus.new, bda.new) ≡ run B.meaning (move_cursor_plan bda.old page place)
+    ensures answer { (bus.new, bda.new) ≡ run B.meaning (move_cursor_plan bda.old page position)
         bus.old }
     ensures stays { StaysInMode bda.old bda.new }
 {
-    bda.set_cursor_place(page as usize, place);
+    bda.set_cursor_place(page as usize, position);
     show_cursor(bus, bda, page);
 }
 

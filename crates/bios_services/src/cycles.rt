@@ -51,7 +51,7 @@ pub(crate) fn get<B: Bus>(bus: &mut B, address: u32) -> u8
     }
 }
 
-/// Writes two bytes in turn to n addresses from the first on.
+/// Writes two bytes by turns to n addresses, from address `first` on.
 #[tactic(auto, using(crate::proofs::PlanRuns::puts_run))]
 pub(crate) fn put_in_turn<B: Bus>(bus: &mut B, first: u32, n: u32, even: u8, odd: u8)
     requires { first + n < 2 ^ 32 }
@@ -61,7 +61,7 @@ pub(crate) fn put_in_turn<B: Bus>(bus: &mut B, first: u32, n: u32, even: u8, odd
     bus.put_in_turn(first, n, even, odd);
 }
 
-/// Reads n bytes from some addresses, and writes each to another.
+/// Copies n bytes to other addresses, one after another.
 #[tactic(auto, using(crate::proofs::PlanRuns::moves_run))]
 pub(crate) fn move_bytes<B: Bus>(bus: &mut B, from: u32, to: u32, n: u32)
     requires from { from + n < 2 ^ 32 }
@@ -72,7 +72,7 @@ pub(crate) fn move_bytes<B: Bus>(bus: &mut B, from: u32, to: u32, n: u32)
     bus.move_bytes(from, to, n);
 }
 
-/// Writes register i behind an index port, whose data port is the next.
+/// Writes register i of an index port; the data port is the next one.
 pub(crate) fn indexed<B: Bus>(bus: &mut B, port: u16, i: u8, value: u8)
     requires { port < ports_end }
     ensures { bus.new ≡ (run B.meaning (indexed_plan port i value) bus.old).0 }
@@ -95,7 +95,7 @@ pub(crate) fn graphics<B: Bus>(bus: &mut B, i: u8, value: u8)
     indexed(bus, GRAPHICS, i, value);
 }
 
-/// Writes a register of the attribute controller, where its next write is an index.
+/// Writes a register of the attribute controller, which expects an index.
 pub(crate) fn attribute<B: Bus>(bus: &mut B, i: u8, value: u8)
     ensures { bus.new ≡ (run B.meaning (attribute_plan i value) bus.old).0 }
 {
@@ -103,7 +103,7 @@ pub(crate) fn attribute<B: Bus>(bus: &mut B, i: u8, value: u8)
     out(bus, ATTRIBUTE, value);
 }
 
-/// Writes registers 0, 1, .. behind an index port.
+/// Writes registers 0, 1, .. of an index port.
 #[tactic(auto, using(crate::proofs::PlanRuns::run_bind), unfolding(crate::specs::Cycles::group))]
 pub(crate) fn group<B: Bus>(bus: &mut B, port: u16, values: &[u8])
     requires port { port < ports_end }
@@ -115,7 +115,7 @@ pub(crate) fn group<B: Bus>(bus: &mut B, port: u16, values: &[u8])
     }
 }
 
-/// Writes registers 0, 1, .. of the attribute controller.
+/// Writes registers 0, 1, .. of the attribute controller, which expects an index.
 #[tactic(auto, using(crate::proofs::PlanRuns::run_bind), unfolding(crate::specs::Cycles::attribute_group))]
 pub(crate) fn attribute_group<B: Bus>(bus: &mut B, values: &[u8])
     requires { length values.now ≤ 32 }
@@ -126,7 +126,7 @@ pub(crate) fn attribute_group<B: Bus>(bus: &mut B, values: &[u8])
     }
 }
 
-/// Makes the next write to the attribute controller an index, by a read of input status 1.
+/// Reads input status 1, so that the attribute controller expects an index.
 pub(crate) fn expect_index<B: Bus>(bus: &mut B, crtc_address: u16)
     requires { crtc_address < ports_end }
     ensures { bus.new ≡ (run B.meaning (expect_index_plan crtc_address) bus.old).0 }

@@ -18,7 +18,7 @@ pub(crate) fn set_entry<B: Bus>(bus: &mut B, entry: u8, red: u8, green: u8, blue
     out(bus, DAC_DATA, blue);
 }
 
-/// Writes bytes to the DAC's data.
+/// Writes the bytes of a block to the DAC's data, one after another.
 #[tactic(auto, using(crate::proofs::PlanRuns::run_bind), unfolding(crate::specs::Dac::components_plan))]
 fn write_components<B: Bus>(bus: &mut B, block: &[u8])
     ensures { bus.new ≡ (run B.meaning (components_plan block.now) bus.old).0 }
@@ -28,7 +28,7 @@ fn write_components<B: Bus>(bus: &mut B, block: &[u8])
     }
 }
 
-/// 12: writes red, green and blue of each entry from one on.
+/// 12: writes red, green and blue of the entries from `first` on.
 #[tactic(auto, using(crate::proofs::PlanRuns::run_bind), unfolding(crate::specs::Dac::set_entries_plan))]
 pub(crate) fn set_entries<B: Bus>(bus: &mut B, first: u8, block: &[u8])
     ensures { bus.new ≡ (run B.meaning (set_entries_plan first block.now) bus.old).0 }

@@ -1,9 +1,9 @@
-//! Which way rows of characters go.
+//! The direction in which rows of characters move.
 ghost use Rattle.std.specs.Prelude.{◌≡◌, ◌≤◌, ◌+◌};
 ghost use Rattle.bios_services.specs.Bounds.{reached_rows};
 ghost use Rattle.bios_services.specs.Bands.{new_row as new_row_of};
 
-/// Which way rows go.
+/// The direction in which rows of characters move.
 #[derive(Clone, Copy)]
 pub enum Direction {
     Up,
@@ -11,7 +11,7 @@ pub enum Direction {
 }
 
 impl Direction {
-    /// The first of the rows that are new once some from `top` on have moved.
+    /// The first of the rows that are to be filled after `count` rows have moved.
     pub(crate) fn new_row(self, top: u32, count: u32) -> u32
         requires { top + count ≤ reached_rows }
         ensures value { result ≡ new_row_of self top count }

@@ -1,4 +1,4 @@
-//! A cell of a page of dots.
+//! A cell of a page of pixels.
 ghost use Rattle.std.specs.Prelude.{◌≡◌, ◌<◌, ◌≤◌, ◌*◌, ◌^◌};
 ghost use Rattle.bios_services.specs.Bounds.{IsSet, pages_of, reached_cells};
 ghost use Rattle.bios_services.specs.Bands.{IsBand, address_in};
@@ -7,12 +7,12 @@ ghost use Rattle.bios_services.specs.Drawing.{cell_band, cell_row};
 use crate::band::Band;
 use bios_modes::Bda;
 
-/// A cell of a page of dots.
+/// A cell of a page of pixels.
 #[derive(Clone, Copy)]
 pub struct DotCell {
     /// Its column, as a band of the page.
     pub band: Band,
-    /// The row of characters that it stands in.
+    /// The row of characters in which it lies.
     pub row: u32,
 }
 

@@ -1,11 +1,11 @@
-//! Characters at cells of a page in any mode.
+//! Drawing characters in cells of a page, in any mode.
 ghost use Rattle.std.specs.Prelude.{◌≡◌, ◌<◌, ◌≤◌};
 ghost use Rattle.bios_services.specs.Plan.{run};
 ghost use Rattle.bios_services.specs.Bounds.{reached_cells};
 ghost use Rattle.bios_services.specs.Bands.{IsBand};
 ghost use Rattle.bios_services.specs.Drawing.{put_glyph as put_glyph_plan};
 ghost use Rattle.bios_services.specs.Drawing.{put_over as put_over_plan};
-ghost use Rattle.bios_services.specs.Drawing.{put_glyph_over as put_glyph_over_plan, plain_plan};
+ghost use Rattle.bios_services.specs.Drawing.{put_glyph_over as put_glyph_over_plan, opaque_plan};
 ghost use Rattle.bios_services.specs.Drawing.{xor_plan, planar_plan, dot_of};
 ghost use Rattle.bios_services.specs.Drawing.{put_dots as put_dots_plan, packed_plan};
 ghost use Rattle.bios_services.specs.Drawing.{character_plan};
@@ -24,7 +24,7 @@ use bios_modes::Fonts;
 use vga_bits::is_set;
 use vga_card::Bus;
 
-/// Writes a glyph to a cell of planes, line by line.
+/// Writes a glyph to a cell in 16 colours, line by line.
 #[tactic(auto, using(crate::proofs::PlanRuns::run_bind), unfolding(crate::specs::Drawing::put_glyph))]
 fn put_glyph<B: Bus>(bus: &mut B, cell: DotCell, fonts: &Fonts, character: u8)
     requires band { IsBand cell.band }
@@ -38,7 +38,7 @@ fn put_glyph<B: Bus>(bus: &mut B, cell: DotCell, fonts: &Fonts, character: u8)
     }
 }
 
-/// Reads a byte, so that the latches hold it, and writes dots over it.
+/// Reads a byte into the latches, and writes dots over it.
 fn put_over<B: Bus>(bus: &mut B, address: u32, dots: u8)
     ensures { bus.new ≡ (run B.meaning (put_over_plan address dots) bus.old).0 }
 {
@@ -46,7 +46,7 @@ fn put_over<B: Bus>(bus: &mut B, address: u32, dots: u8)
     put(bus, address, dots);
 }
 
-/// Writes a glyph to a cell of planes, each line after it was read.
+/// Writes a glyph to a cell in 16 colours, each line over what was read there.
 #[tactic(auto, using(crate::proofs::PlanRuns::run_bind), unfolding(crate::specs::Drawing::put_glyph_over))]
 fn put_glyph_over<B: Bus>(bus: &mut B, cell: DotCell, fonts: &Fonts, character: u8)
     requires band { IsBand cell.band }
@@ -60,15 +60,15 @@ fn put_glyph_over<B: Bus>(bus: &mut B, cell: DotCell, fonts: &Fonts, character: 
     }
 }
 
-/// Draws a character in 16 colours.
-#[tactic(auto, using(crate::proofs::PlanRuns::run_bind), unfolding(crate::specs::Drawing::plain_plan))]
-fn draw_plain<B: Bus>(bus: &mut B, cell: DotCell, fonts: &Fonts, character: u8, colour: u8)
+/// Draws a character in 16 colours over pixels 0.
+#[tactic(auto, using(crate::proofs::PlanRuns::run_bind), unfolding(crate::specs::Drawing::opaque_plan))]
+fn draw_opaque<B: Bus>(bus: &mut B, cell: DotCell, fonts: &Fonts, character: u8, colour: u8)
     requires band { IsBand cell.band }
     requires row { cell.row < reached_cells }
-    ensures { bus.new ≡ (run B.meaning (plain_plan cell.band cell.row fonts.now character colour)
+    ensures { bus.new ≡ (run B.meaning (opaque_plan cell.band cell.row fonts.now character colour)
         bus.old).0 }
 {
-    cell.band.fill_row(bus, Filling::plain(0x00), cell.row);
+    cell.band.fill_row(bus, Filling::uniform(0x00), cell.row);
     sequencer(bus, MAP_MASK, colour % 16);
     put_glyph(bus, cell, fonts, character);
     sequencer(bus, MAP_MASK, ALL_PLANES);
@@ -89,7 +89,7 @@ fn draw_by_xor<B: Bus>(bus: &mut B, cell: DotCell, fonts: &Fonts, character: u8,
     graphics(bus, DATA_ROTATE, REPLACE);
 }
 
-/// Draws a character in 16 colours, where bit 7 of the colour asks for XOR.
+/// Draws a character in 16 colours, by XOR if bit 7 of the colour is 1.
 #[tactic(auto, unfolding(crate::specs::Drawing::planar_plan))]
 fn draw_planar<B: Bus>(bus: &mut B, cell: DotCell, fonts: &Fonts, character: u8, colour: u8)
     requires band { IsBand cell.band }
@@ -100,7 +100,7 @@ fn draw_planar<B: Bus>(bus: &mut B, cell: DotCell, fonts: &Fonts, character: u8,
     if is_set(colour, 7) {
         draw_by_xor(bus, cell, fonts, character, colour);
     } else {
-        draw_plain(bus, cell, fonts, character, colour);
+        draw_opaque(bus, cell, fonts, character, colour);
     }
 }
 
@@ -140,7 +140,7 @@ fn draw_packed<B: Bus>(bus: &mut B, cell: DotCell, fonts: &Fonts, character: u8,
     }
 }
 
-/// Writes a character to cell q of a page.
+/// Writes a character to cell q of a page, in any mode.
 #[tactic(auto, unfolding(crate::specs::Drawing::character_by))]
 pub(crate) fn write_character<B: Bus>(
     bus: &mut B,

@@ -1,8 +1,8 @@
 //! The bytes that rows are filled with.
 ghost use Rattle.std.specs.Prelude.{◌≡◌};
-ghost use Rattle.bios_services.specs.Bands.{blank as blank_of, plain as plain_of};
+ghost use Rattle.bios_services.specs.Bands.{blank as blank_of, uniform as uniform_of};
 
-/// Two bytes in turn.
+/// Two bytes by turns.
 #[derive(Clone, Copy)]
 pub struct Filling {
     /// The first byte of a line, the third, and so on.
@@ -11,11 +11,11 @@ pub struct Filling {
     pub odd: u8,
 }
 
-/// What a blank cell of text has as its character.
+/// The character of a blank cell of text.
 const BLANK: u8 = 0x20;
 
 impl Filling {
-    /// Blank cells of an attribute.
+    /// Blank cells in an attribute.
     pub(crate) fn blank(attribute: u8) -> Filling
         ensures { result ≡ blank_of attribute }
     {
@@ -26,8 +26,8 @@ impl Filling {
     }
 
     /// One byte everywhere.
-    pub(crate) fn plain(byte: u8) -> Filling
-        ensures { result ≡ plain_of byte }
+    pub(crate) fn uniform(byte: u8) -> Filling
+        ensures { result ≡ uniform_of byte }
     {
         Filling {
             even: byte,

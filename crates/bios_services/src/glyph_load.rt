@@ -1,30 +1,31 @@
-//! Function 11: loading glyphs of text, with which the height of characters changes.
+//! Function 11: loading glyphs of text, which also sets the height of characters.
 ghost use Rattle.std.specs.Prelude.{◌≡◌, ◌<◌, ◌≤◌, ◌+◌, length};
 ghost use Rattle.bios_modes.specs.Fonts.{glyph_row};
 ghost use Rattle.bios_services.specs.Bounds.{ports_end};
 ghost use Rattle.bios_services.specs.Plan.{run};
 ghost use Rattle.bios_services.specs.ModeSet.{font_plan, glyph_plan, glyphs_plan};
 ghost use Rattle.bios_services.specs.Reasons.{reason_of};
-ghost use Rattle.bios_services.specs.GlyphLoads.{AreThere, whole_font, glyph_load_of, glyphs_len};
-ghost use Rattle.bios_services.specs.GlyphLoads.{load_refusal, loaded_line, load_plan};
+ghost use Rattle.bios_services.specs.GlyphLoads.{AreThere, whole_font, glyph_load_of};
+ghost use Rattle.bios_services.specs.GlyphLoads.{glyphs_block, load_reason, load_refusal};
+ghost use Rattle.bios_services.specs.GlyphLoads.{loaded_line, load_plan};
 
 use crate::cells::GRAPHICS_BASE;
 use crate::cursor::write_word;
 use crate::cycles::{graphics, indexed, put, sequencer};
 use crate::glyphs::glyph_line;
-use crate::reasons::{refuse_unless, wrong_block};
+use crate::reasons::{or_wrong_block, refuse_unless};
 use crate::regs::{Regs, high, low};
 use crate::video_registers::{
-    ALL_ADDRESSES, CURSOR_ADDRESS, CURSOR_START, GLYPH_PLANE, GRAPHICS_MODE, MAP_MASK,
-    MAXIMUM_SCAN_LINE, MEMORY_MODE, MISCELLANEOUS, ODD_AND_EVEN_ADDRESSES, PLAIN,
-    PLAIN_ODD_AND_EVEN, START_ADDRESS, TEXT_PLANES, UNDERLINE_LOCATION, VERTICAL_DISPLAY_END,
+    ALL_ADDRESSES, BYTE_ACCESS, BYTE_ACCESS_ODD_AND_EVEN, CURSOR_ADDRESS, CURSOR_START,
+    GLYPH_PLANE, GRAPHICS_MODE, MAP_MASK, MAXIMUM_SCAN_LINE, MEMORY_MODE, MISCELLANEOUS,
+    ODD_AND_EVEN_ADDRESSES, START_ADDRESS, TEXT_PLANES, UNDERLINE_LOCATION, VERTICAL_DISPLAY_END,
     WINDOW_AT_A0000,
 };
 use bios_modes::{Fonts, ModeRow, is_text};
 use vga_bits::Refusal;
 use vga_card::Bus;
 
-/// Glyphs that are to be loaded, and the height of characters that comes with them.
+/// Which glyphs a call loads, and the height of characters that it sets.
 #[derive(Clone, Copy)]
 pub struct GlyphLoad {
     /// How many scan lines a character has.
@@ -33,7 +34,7 @@ pub struct GlyphLoad {
     pub first: u16,
     /// How many characters.
     pub count: u16,
-    /// Whether the glyphs are those of the block, and not of a font.
+    /// Whether the glyphs come from the block. Else they come from a font.
     pub is_block: bool,
 }
 
@@ -50,7 +51,7 @@ impl GlyphLoad {
         }
     }
 
-    /// The glyphs that a call loads, if it does.
+    /// The load that a call asks for, if it does.
     pub(crate) fn of(regs: Regs) -> Option<GlyphLoad>
         ensures { result ≡ glyph_load_of regs }
     {
@@ -71,25 +72,31 @@ impl GlyphLoad {
         }
     }
 
-    /// How many bytes the glyphs of a block have.
-    pub(crate) fn block_len(self) -> usize
-        ensures { result ≡ glyphs_len self }
+    /// How many bytes the block of a load has, if it reads one.
+    pub(crate) fn block(self) -> Option<usize>
+        ensures { result ≡ glyphs_block self }
     {
-        self.height as usize * self.count as usize
+        if self.is_block {
+            Some(self.height as usize * self.count as usize)
+        } else {
+            None
+        }
     }
 
-    /// Refuses the glyphs in a mode, with a block of this length, for the first reason that there
-    /// is.
-    pub(crate) fn refusal(self, mode: u8, len: usize) -> Result<(), Refusal>
-        ensures { reason_of result ≡ load_refusal self mode len }
+    /// Refuses the glyphs in a mode, whatever their block, for the first of the reasons.
+    fn reason(self, mode: u8) -> Result<(), Refusal>
+        ensures { reason_of result ≡ load_reason self mode }
     {
         refuse_unless(is_text(mode), Refusal::WrongKind)?;
         let end = self.first as u32 + self.count as u32;
-        refuse_unless(end <= 256, Refusal::CountPast)?;
-        if self.is_block {
-            wrong_block(self.block_len(), len)?;
-        }
-        Ok(())
+        refuse_unless(end <= 256, Refusal::CountPast)
+    }
+
+    /// Refuses the glyphs in a mode, with a block of this length, for the first of the reasons.
+    pub(crate) fn refusal(self, mode: u8, len: usize) -> Result<(), Refusal>
+        ensures { reason_of result ≡ load_refusal self mode len }
+    {
+        or_wrong_block(self.reason(mode), self.block(), len)
     }
 
     /// Scan line r of character c.
@@ -136,8 +143,8 @@ impl GlyphLoad {
         }
     }
 
-    /// Writes the glyphs to plane 2, and reaches planes 0 and 1 again, in the window of this value
-    /// of graphics register 6.
+    /// Writes the glyphs to plane 2, which is alone at A0000 meanwhile. Then text is there again,
+    /// in the window that this value of graphics register 6 selects.
     #[tactic(auto, using(crate::proofs::PlanRuns::run_bind), unfolding(crate::specs::ModeSet::font_plan))]
     fn write_font<B: Bus>(self, bus: &mut B, fonts: &Fonts, block: &[u8], window: u8)
         requires { AreThere self (length block.now) }
@@ -146,16 +153,16 @@ impl GlyphLoad {
     {
         sequencer(bus, MAP_MASK, GLYPH_PLANE);
         sequencer(bus, MEMORY_MODE, ALL_ADDRESSES);
-        graphics(bus, GRAPHICS_MODE, PLAIN);
+        graphics(bus, GRAPHICS_MODE, BYTE_ACCESS);
         graphics(bus, MISCELLANEOUS, WINDOW_AT_A0000);
         self.write_glyphs(bus, fonts, block);
         sequencer(bus, MAP_MASK, TEXT_PLANES);
         sequencer(bus, MEMORY_MODE, ODD_AND_EVEN_ADDRESSES);
-        graphics(bus, GRAPHICS_MODE, PLAIN_ODD_AND_EVEN);
+        graphics(bus, GRAPHICS_MODE, BYTE_ACCESS_ODD_AND_EVEN);
         graphics(bus, MISCELLANEOUS, window);
     }
 
-    /// Writes the font of 16 scan lines, as a mode set does.
+    /// Writes the font of 16 scan lines, for a mode set.
     pub(crate) fn write_font_of_16<B: Bus>(bus: &mut B, fonts: &Fonts, window: u8)
         ensures { bus.new ≡ (run B.meaning (font_plan (glyph_row 16 fonts.now.f16) 16 256 0 window)
             bus.old).0 }
@@ -163,7 +170,8 @@ impl GlyphLoad {
         GlyphLoad::whole_font(16).write_font(bus, fonts, &[], window);
     }
 
-    /// Writes the glyphs, and gives the CRT controller the values of the row of their height.
+    /// Writes the glyphs, gives the CRT controller the values of the row of their height, and shows
+    /// page 0 with the cursor in its upper left corner.
     #[tactic(auto, using(crate::proofs::PlanRuns::run_bind), unfolding(crate::specs::GlyphLoads::load_plan))]
     pub(crate) fn write<B: Bus>(self, bus: &mut B, fonts: &Fonts, block: &[u8], row: &ModeRow)
         requires there { AreThere self (length block.now) }

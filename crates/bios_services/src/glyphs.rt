@@ -6,7 +6,7 @@ ghost use Rattle.bios_services.specs.Glyphs.{first_character as first_character_
 
 use bios_modes::Fonts;
 
-/// Line r of a character in the font of this height: a dot for each bit, bit 7 the leftmost.
+/// Line r of a character in the font of this height; bit 7 is the leftmost dot.
 pub(crate) fn glyph_line(fonts: &Fonts, height: u32, character: u8, r: u32) -> u8
     requires height { height ≤ 16 }
     requires line { r < height }
@@ -19,7 +19,7 @@ pub(crate) fn glyph_line(fonts: &Fonts, height: u32, character: u8, r: u32) -> u
     }
 }
 
-/// Whether a character's glyph is these lines, as many as the font's height.
+/// Whether a character's glyph has these lines.
 #[tactic(auto, unfolding(crate::specs::Glyphs::has_lines))]
 fn has_lines(fonts: &Fonts, height: u32, lines: &[u8], character: u8) -> bool
     requires height { height ≤ 16 }
@@ -35,7 +35,7 @@ fn has_lines(fonts: &Fonts, height: u32, lines: &[u8], character: u8) -> bool
     true
 }
 
-/// The first of n characters whose glyph is these lines, and 0 where there is none.
+/// The first of n characters whose glyph has these lines, else 0.
 #[tactic(auto, unfolding(crate::specs::Glyphs::first_character))]
 pub(crate) fn first_character(fonts: &Fonts, height: u32, lines: &[u8], n: u16) -> u8
     requires height { height ≤ 16 }

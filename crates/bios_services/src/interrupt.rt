@@ -1,4 +1,4 @@
-//! Interrupt 10: which service is asked for, whether it is refused, and what it does.
+//! Interrupt 10: which service a call asks for, whether it is refused, and what it does.
 ghost use Rattle.std.specs.Prelude.{◌≡◌, ◌≢◌, ◌<◌, true, None, Some, Ok, Err, length};
 ghost use Rattle.bios_modes.specs.Valid.{IsValid};
 ghost use Rattle.bios_services.specs.Plan.{run};
@@ -37,7 +37,7 @@ use std::alloc::Global;
 use vga_bits::Refusal;
 use vga_card::Bus;
 
-/// Answers the cursor's type and its place on a page.
+/// Answers the cursor's type and its position on a page.
 fn read_cursor(bda: &Bda, page: u8, regs: &mut Regs)
     requires { page < 8 }
     ensures { regs.new ≡ read_cursor_of bda.now page regs.old }
@@ -46,7 +46,7 @@ fn read_cursor(bda: &Bda, page: u8, regs: &mut Regs)
     regs.dx = bda.cursor_place(page as usize);
 }
 
-/// Answers the character of the cell at the cursor of a page, and in text its attribute.
+/// Answers the character at the cursor of a page, and in text its attribute.
 #[tactic(auto, using(crate::proofs::PlanRuns::run_bind), unfolding(crate::specs::Service::read_cell_service))]
 fn read_cursor_cell<B: Bus>(bus: &mut B, fonts: &Fonts, bda: &Bda, page: u8, regs: &mut Regs)
     requires data { IsSet bda.now }
@@ -63,7 +63,7 @@ fn read_cursor_cell<B: Bus>(bus: &mut B, fonts: &Fonts, bda: &Bda, page: u8, reg
     regs.ax = with_low(regs.ax, character);
 }
 
-/// Answers the colour of a dot.
+/// Answers the colour of a pixel.
 #[tactic(auto, using(crate::proofs::PlanRuns::run_bind), unfolding(crate::specs::Service::read_pixel_service))]
 fn read_pixel_colour<B: Bus>(bus: &mut B, bda: &Bda, pixel: Pixel, regs: &mut Regs)
     requires data { IsSet bda.now }
@@ -75,7 +75,7 @@ fn read_pixel_colour<B: Bus>(bus: &mut B, bda: &Bda, pixel: Pixel, regs: &mut Re
     regs.ax = with_low(regs.ax, colour);
 }
 
-/// Answers the mode, the columns and the active page.
+/// Answers the mode, its number of columns and the active page.
 fn read_mode(bda: &Bda, regs: &mut Regs)
     requires { IsSet bda.now }
     ensures { regs.new ≡ read_mode_of bda.now regs.old }
@@ -84,7 +84,7 @@ fn read_mode(bda: &Bda, regs: &mut Regs)
     regs.bx = regs.bx % 256 + 256 * bda.page() as u16;
 }
 
-/// Answers what adapter there is.
+/// Answers which adapter there is.
 fn read_adapter(bda: &Bda, regs: &mut Regs)
     ensures { regs.new ≡ read_adapter_of bda.now regs.old }
 {
@@ -96,7 +96,7 @@ fn read_adapter(bda: &Bda, regs: &mut Regs)
     regs.cx = 0x0009;
 }
 
-/// Answers what display there is.
+/// Answers which display there is.
 fn read_display(regs: &mut Regs)
     ensures { regs.new ≡ read_display_of regs.old }
 {
@@ -104,7 +104,7 @@ fn read_display(regs: &mut Regs)
     regs.bx = 0x0008;
 }
 
-/// Does what a service does that is not refused on its page.
+/// Does a service that is not refused.
 #[tactic(auto, using(crate::proofs::PlanRuns::run_bind), unfolding(crate::specs::Service::plan_of, crate::specs::Refusals::refusal_in_mode))]
 fn perform<B: Bus>(
     bus: &mut B,
@@ -122,7 +122,7 @@ fn perform<B: Bus>(
 {
     match service {
         Service::SetCursorType { cursor_type } => set_cursor_type(bus, bda, cursor_type),
-        Service::SetCursor { page, place } => move_cursor(bus, bda, page, place),
+        Service::SetCursor { page, position } => move_cursor(bus, bda, page, position),
         Service::ReadCursor { page } => read_cursor(bda, page, regs),
         Service::SelectPage { page } => show_page(bus, bda, page),
         Service::ScrollUp { scroll } => scroll.apply(bus, bda, Direction::Up),
@@ -146,7 +146,7 @@ fn perform<B: Bus>(
     }
 }
 
-/// Does what a service does that is not refused, over valid data of a mode, which are valid again.
+/// Does a service that is not refused, over valid data of a mode, and leaves them valid.
 #[tactic(auto, using(crate::proofs::BoundLemmas::set_of_valid, crate::proofs::BoundLemmas::stays_valid))]
 fn perform_allowed<B: Bus>(
     bus: &mut B,
@@ -168,7 +168,7 @@ fn perform_allowed<B: Bus>(
     answer
 }
 
-/// The answer of registers alone.
+/// An answer of registers alone.
 fn answer_of(regs: Regs) -> Result<Reply, Refusal>
     ensures { result ≡ Ok (record { regs = regs; table = Empty }) }
 {
@@ -178,7 +178,7 @@ fn answer_of(regs: Regs) -> Result<Reply, Refusal>
     })
 }
 
-/// Sets a mode, where there is one of this number.
+/// Sets a mode, if there is one of this number.
 #[tactic(auto, using(crate::proofs::PlanRuns::run_bind, crate::proofs::BoundLemmas::begins_valid), unfolding(crate::specs::Service::set_mode_plan))]
 fn set_mode<B: Bus>(
     bus: &mut B,
@@ -201,7 +201,7 @@ fn set_mode<B: Bus>(
     answer_of(regs)
 }
 
-/// Loads glyphs that are not refused but for their height, where there is a row of that.
+/// Loads glyphs, if the mode has a row of their height; no other reason refuses them.
 #[tactic(auto, using(crate::proofs::PlanRuns::run_bind, crate::proofs::BoundLemmas::begins_valid_at, crate::proofs::BoundLemmas::there_of, crate::proofs::BoundLemmas::port_small), unfolding(crate::specs::Service::load_at))]
 fn load_allowed<B: Bus>(
     bus: &mut B,
@@ -301,16 +301,16 @@ fn table_in_mode<B: Bus>(
 
 /// Does the service that the registers ask for, as cycles over a bus.
 ///
-/// Registers that a service does not answer stay as they are handed in. A service is refused by
-/// name, and then has no cycle and leaves the BIOS data: `NoMode` before a mode is set,
-/// `BadFunction`, `BadMode`, `WrongKind`, `BadPage`, `Outside`, `CountPast`, `BadRegister`,
-/// `BadBlock` or `BadHeight`; of several the first is answered. Within a service a cycle that the
-/// bus refuses does nothing, or gives FF (hexadecimal). The BIOS data must be valid, and are so
-/// afterwards.
+/// Registers that a service does not answer keep the caller's values. A refused service has no
+/// cycle and leaves the BIOS data. The reasons are `NoMode` before a mode is set, `BadFunction`,
+/// `BadMode`, `WrongKind`, `BadPage`, `Outside`, `CountPast`, `BadRegister`, `BadBlock` and
+/// `BadHeight`; if there are several, the first is answered. Within a service, a write that the bus
+/// refuses does nothing, and a read gives FF (hexadecimal). The BIOS data must be valid, and stay
+/// valid.
 ///
-/// Function 10 with AL = 17 alone, which answers CX entries of the DAC as a table, takes memory,
-/// before its first cycle; where CX is 0 it takes none. Where memory is refused, the answer is
-/// `OutOfMemory`, and nothing has changed.
+/// Only function 10 with AL = 17, which answers CX entries of the DAC as a table, allocates memory:
+/// before its first cycle, and if CX is not 0. If memory is refused, the answer is `OutOfMemory`,
+/// and nothing has changed.
 pub fn int10<B: Bus>(
     alloc: Global,
     bus: &mut B,
@@ -320,11 +320,11 @@ pub fn int10<B: Bus>(
     block: &[u8],
 ) -> Result<Reply, ServiceError>
     requires { IsValid bda.old }
-    // The cycles of the service in order, its answer, and the BIOS data afterwards; or no memory,
-    // and nothing.
+    // The cycles of the service in order, its answer, and the BIOS data afterwards; or memory was
+    // refused, and nothing has changed.
     ensures answer { MayAnswer B.meaning (service fonts.now bda.old regs block.now) bus.old bda.old
         result bus.new bda.new }
-    // Some entries of the DAC as a table alone take memory.
+    // Only a table of entries of the DAC allocates memory.
     ensures memory { result ≡ Err OutOfMemory → takes_memory (call_of regs) bda.old ≡ true }
     ensures valid { IsValid bda.new }
 {

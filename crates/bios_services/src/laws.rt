@@ -1,4 +1,4 @@
-//! Laws of the services, each of which is a contract, and nothing that runs.
+//! Laws of the services. Each is a contract of a function that does nothing.
 ghost use Rattle.std.specs.Prelude.{◌≡◌, ◌<◌, ℕ, List};
 ghost use Rattle.vga_card.specs.Bounds.{IsCard};
 ghost use Rattle.vga_card.specs.Bus.{card_meaning};
@@ -19,15 +19,15 @@ pub fn refused_services_do_nothing<B: Bus>()
     ensures { RefusedDoNothing B.meaning }
 {}
 
-/// A call is never refused for a block of as many bytes as it reads; and each that reads some is
-/// refused where its block has another length.
+/// No call is refused for a block of exactly the length that it reads; and a call that reads some
+/// bytes is refused with a block of any other length.
 pub fn blocks_fit<B: Bus>()
     ensures fit { BlocksFit B.meaning }
     ensures others { OthersAreRefused B.meaning }
 {}
 
-/// BIOS data are valid, with words as places of the cursor, at power-on and after every call; and
-/// each part of the adapter holds what it can after one.
+/// BIOS data are valid, and their cursor positions words, at power-on and after every call; and
+/// every call keeps the bounds of the adapter's parts.
 pub fn calls_keep_bounds()
     ensures first { AreData power_on_data }
     ensures card { (fonts : FontSet) (d : BiosData) (r : Regs) (block : List ℕ) (c : CardState) →
@@ -36,14 +36,14 @@ pub fn calls_keep_bounds()
         r.dx < 65536 → AreData d → AreData (run card_meaning (service fonts d r block) c).1.1 }
 {}
 
-/// No call draws a dot or takes one away: what is drawn of a frame stays.
+/// No call draws or removes a dot: what is drawn of a frame stays.
 pub fn calls_draw_nothing()
     ensures { (fonts : FontSet) (d : BiosData) (r : Regs) (block : List ℕ) (c : CardState) →
         (run card_meaning (service fonts d r block) c).0.drawn ≡ c.drawn }
 {}
 
-/// No call tells an adapter that was saved and restored from the one that it was: it answers the
-/// same, and leaves the same but for what is not saved.
+/// No call distinguishes an adapter that was saved and restored from the original: it answers the
+/// same, and leaves the same except for what is not saved.
 pub fn calls_cannot_tell()
     ensures { (fonts : FontSet) (d : BiosData) (r : Regs) (block : List ℕ) (c : CardState) →
         run card_meaning (service fonts d r block) (with_fresh_canvas c)

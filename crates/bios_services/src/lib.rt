@@ -2,7 +2,7 @@
 #![tactic(auto)]
 
 mod band;
-mod block;
+mod block_span;
 mod call;
 mod cell_run;
 mod cells;
@@ -36,7 +36,7 @@ mod tables;
 mod teletype;
 mod video_registers;
 
-pub use block::Block;
+pub use block_span::BlockSpan;
 pub use interrupt::int10;
 pub use regs::Regs;
 pub use reply::{Reply, ServiceError, Table};

@@ -18,9 +18,10 @@ use crate::video_registers::{
 use bios_modes::{Fonts, Kind, ModeRow, Palette};
 use vga_card::Bus;
 
-/// How many bytes a text mode clears, and a graphics mode.
+/// How many bytes of memory a text mode clears.
 const TEXT_LEN: u32 = 0x8000;
 
+/// How many bytes of memory a graphics mode clears.
 const GRAPHICS_LEN: u32 = 0x10000;
 
 /// Writes all registers.
@@ -63,9 +64,10 @@ fn write_palette<B: Bus>(bus: &mut B, palette: Palette, n: u16)
     }
 }
 
-/// The two bytes of a blank cell: a blank, and its attribute.
+/// The character of a blank cell.
 const BLANK: u8 = 0x20;
 
+/// The attribute of a blank cell.
 const ATTRIBUTE_OF_BLANK: u8 = 0x07;
 
 /// Writes n bytes of blank cells from an address on.
@@ -86,7 +88,7 @@ fn clear<B: Bus>(bus: &mut B, n: u32)
     put_in_turn(bus, GRAPHICS_BASE, n, 0, 0);
 }
 
-/// Writes what a text mode has besides registers and palette.
+/// Writes what a text mode needs besides registers and palette: the font, and blank cells.
 #[tactic(auto, using(crate::proofs::PlanRuns::run_bind), unfolding(crate::specs::ModeSet::text_plan))]
 fn write_text<B: Bus>(bus: &mut B, row: &ModeRow, keeps: bool, fonts: &Fonts)
     requires { row.now.base < 2 ^ 20 }
@@ -98,7 +100,7 @@ fn write_text<B: Bus>(bus: &mut B, row: &ModeRow, keeps: bool, fonts: &Fonts)
     }
 }
 
-/// Writes what a mode has besides registers and palette.
+/// Writes what a mode needs besides registers and palette.
 #[tactic(auto, using(crate::proofs::PlanRuns::run_bind), unfolding(crate::specs::ModeSet::memory_plan))]
 fn write_memory<B: Bus>(bus: &mut B, row: &ModeRow, keeps: bool, fonts: &Fonts)
     requires { row.now.base < 2 ^ 20 }

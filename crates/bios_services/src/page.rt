@@ -5,7 +5,7 @@ ghost use Rattle.bios_services.specs.Page.{page_of};
 use bios_modes::{Bda, Fonts};
 use std::marker::Model;
 
-/// A page of a mode, with the fonts that its characters have.
+/// A page of a mode, with the fonts of its characters.
 ///
 /// Contracts see one record: the fonts, the BIOS data and the page's number.
 #[derive(Drop)]
@@ -28,7 +28,7 @@ impl<'a> Model for Page<'a> {
 }
 
 impl<'a> Page<'a> {
-    /// The page with this number of the mode that the BIOS data tell.
+    /// The page of this number, in the mode of the BIOS data.
     pub(crate) fn new(fonts: &'a Fonts, bda: &'a Bda, number: u8) -> Page<'a>
         ensures { result ≡ page_of fonts.now bda.now number }
     {

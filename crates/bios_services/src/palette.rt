@@ -25,7 +25,7 @@ pub(crate) fn set_register<B: Bus>(bus: &mut B, port: u16, i: u8, value: u8)
     show_palette(bus, port);
 }
 
-/// 02: writes the palette registers and the overscan colour, of 17 bytes.
+/// 02: writes the palette registers and the overscan colour from a block of 17 bytes.
 #[tactic(auto, using(crate::proofs::PlanRuns::run_bind), unfolding(crate::specs::Palette::set_palette_plan))]
 pub(crate) fn set_palette<B: Bus>(bus: &mut B, port: u16, block: &[u8])
     requires port { port < ports_end }
@@ -39,7 +39,7 @@ pub(crate) fn set_palette<B: Bus>(bus: &mut B, port: u16, block: &[u8])
     show_palette(bus, port);
 }
 
-/// 03: makes bit 7 of attributes blink, or bright.
+/// 03: makes bit 7 of an attribute mean blinking, or a bright background.
 #[tactic(auto, using(crate::proofs::PlanRuns::run_bind), unfolding(crate::specs::Palette::set_blinking_plan))]
 pub(crate) fn set_blinking<B: Bus>(bus: &mut B, port: u16, blinking: u8)
     requires port { port < ports_end }
@@ -53,7 +53,7 @@ pub(crate) fn set_blinking<B: Bus>(bus: &mut B, port: u16, blinking: u8)
     show_palette(bus, port);
 }
 
-/// Reads a register of the attribute controller, where its next write is an index.
+/// Reads a register of the attribute controller, which expects an index before and afterwards.
 #[tactic(auto, using(crate::proofs::PlanRuns::run_bind), unfolding(crate::specs::Palette::register_plan))]
 pub(crate) fn register<B: Bus>(bus: &mut B, port: u16, i: u8) -> u8
     requires port { port < ports_end }
@@ -66,7 +66,7 @@ pub(crate) fn register<B: Bus>(bus: &mut B, port: u16, i: u8) -> u8
     value
 }
 
-/// 07 and 08: reads a register of the attribute controller.
+/// 07 and 08: reads a register of the attribute controller, whatever that expects.
 #[tactic(auto, using(crate::proofs::PlanRuns::run_bind), unfolding(crate::specs::Palette::read_register_plan))]
 pub(crate) fn read_register<B: Bus>(bus: &mut B, port: u16, i: u8) -> u8
     requires port { port < ports_end }

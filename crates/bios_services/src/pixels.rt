@@ -1,4 +1,4 @@
-//! Functions 0C and 0D: writing and reading one dot.
+//! Functions 0C and 0D: writing and reading a pixel.
 ghost use Rattle.std.specs.Prelude.{◌≡◌, ◌<◌, ◌≤◌, ◌+◌, ◌-◌, ◌*◌, ◌%◌};
 ghost use Rattle.std.specs.Int.{bit_at};
 ghost use Rattle.bios_modes.specs.Kinds.{is_packed as is_packed_mode};
@@ -14,14 +14,14 @@ ghost use Rattle.bios_services.specs.Pixels.{read_pixel_plan};
 use crate::cells::page_address;
 use crate::cycles::{get, graphics, put};
 use crate::video_registers::{
-    ALL_BITS, BIT_MASK, DATA_ROTATE, GRAPHICS_MODE, PLAIN, READ_MAP_SELECT, REPLACE, WRITE_COLOUR,
-    XOR,
+    ALL_BITS, BIT_MASK, BYTE_ACCESS, DATA_ROTATE, GRAPHICS_MODE, READ_MAP_SELECT, REPLACE,
+    WRITE_COLOUR, XOR,
 };
 use bios_modes::{Bda, is_packed};
 use vga_bits::is_set;
 use vga_card::Bus;
 
-/// A dot of a page of graphics.
+/// A pixel of a page of graphics.
 #[derive(Clone, Copy)]
 pub(crate) struct Pixel {
     pub page: u8,
@@ -31,21 +31,21 @@ pub(crate) struct Pixel {
     pub y: u16,
 }
 
-/// How many dots a graphics mode has across.
+/// How many pixels a graphics mode has across.
 pub(crate) fn dots_across(bda: &Bda) -> u32
     ensures { result ≡ dots_across_of bda.now }
 {
     8 * bda.columns() as u32
 }
 
-/// How many dots a graphics mode has down.
+/// How many pixels a graphics mode has down.
 pub(crate) fn dots_down(bda: &Bda) -> u32
     ensures { result ≡ dots_down_of bda.now }
 {
     bda.height() as u32 * (bda.last_row() as u32 + 1)
 }
 
-/// The address of a dot, where it is known whether the mode has a byte for each.
+/// The address of a pixel; `packed` says whether the mode has a byte for each.
 fn pixel_address(bda: &Bda, packed: bool, pixel: Pixel) -> u32
     requires packed { packed ≡ is_packed_mode bda.now.mode }
     requires data { IsSet bda.now }
@@ -61,7 +61,7 @@ fn pixel_address(bda: &Bda, packed: bool, pixel: Pixel) -> u32
     }
 }
 
-/// Sets the function of planes, where bit 7 of a colour asks for XOR.
+/// Sets the function that combines data with the latches, if bit 7 of a colour asks for XOR.
 fn set_function<B: Bus>(bus: &mut B, colour: u8, function: u8)
     ensures { bus.new ≡ (run B.meaning (function_plan colour function) bus.old).0 }
 {
@@ -70,7 +70,7 @@ fn set_function<B: Bus>(bus: &mut B, colour: u8, function: u8)
     }
 }
 
-/// Writes a dot in 16 colours.
+/// Writes a pixel in 16 colours.
 #[tactic(auto, using(crate::proofs::PlanRuns::run_bind), unfolding(crate::specs::Pixels::write_dot_plan))]
 fn write_dot<B: Bus>(bus: &mut B, address: u32, x: u16, colour: u8)
     ensures { bus.new ≡ (run B.meaning (write_dot_plan address x colour) bus.old).0 }
@@ -80,12 +80,12 @@ fn write_dot<B: Bus>(bus: &mut B, address: u32, x: u16, colour: u8)
     get(bus, address);
     graphics(bus, GRAPHICS_MODE, WRITE_COLOUR);
     put(bus, address, colour);
-    graphics(bus, GRAPHICS_MODE, PLAIN);
+    graphics(bus, GRAPHICS_MODE, BYTE_ACCESS);
     set_function(bus, colour, REPLACE);
     graphics(bus, BIT_MASK, ALL_BITS);
 }
 
-/// 0C: writes a dot.
+/// 0C: writes a pixel.
 #[tactic(auto, unfolding(crate::specs::Pixels::write_pixel_plan))]
 pub(crate) fn write_pixel<B: Bus>(bus: &mut B, bda: &Bda, pixel: Pixel, colour: u8)
     requires data { IsSet bda.now }
@@ -120,21 +120,21 @@ fn bit(byte: u8, i: u32) -> u8
     (byte >> i) & 1
 }
 
-/// Reads a dot in 16 colours.
+/// Reads a pixel in 16 colours.
 #[tactic(auto, using(crate::proofs::PlanRuns::run_bind), unfolding(crate::specs::Pixels::read_dot_plan))]
 fn read_dot<B: Bus>(bus: &mut B, address: u32, x: u16) -> u8
     ensures { (bus.new, result) ≡ run B.meaning (read_dot_plan address x) bus.old }
 {
-    let place = 7 - x as u32 % 8;
-    let b0 = bit(plane_byte(bus, 0, address), place);
-    let b1 = bit(plane_byte(bus, 1, address), place);
-    let b2 = bit(plane_byte(bus, 2, address), place);
-    let b3 = bit(plane_byte(bus, 3, address), place);
+    let i = 7 - x as u32 % 8;
+    let b0 = bit(plane_byte(bus, 0, address), i);
+    let b1 = bit(plane_byte(bus, 1, address), i);
+    let b2 = bit(plane_byte(bus, 2, address), i);
+    let b3 = bit(plane_byte(bus, 3, address), i);
     graphics(bus, READ_MAP_SELECT, 0);
     b0 + 2 * b1 + 4 * b2 + 8 * b3
 }
 
-/// 0D: reads the colour of a dot.
+/// 0D: reads a pixel.
 #[tactic(auto, unfolding(crate::specs::Pixels::read_pixel_plan))]
 pub(crate) fn read_pixel<B: Bus>(bus: &mut B, bda: &Bda, pixel: Pixel) -> u8
     requires data { IsSet bda.now }

@@ -6,7 +6,7 @@ ghost use Rattle.bios_services.specs.Reasons.{outside_cells as outside_cells_of}
 ghost use Rattle.bios_services.specs.Reasons.{outside_page as outside_page_of};
 ghost use Rattle.bios_services.specs.Reasons.{outside_pixels as outside_pixels_of};
 ghost use Rattle.bios_services.specs.Reasons.{past_cells as past_cells_of};
-ghost use Rattle.bios_services.specs.Reasons.{wrong_block as wrong_block_of};
+ghost use Rattle.bios_services.specs.Reasons.{or_wrong_block as or_wrong_block_of};
 
 use bios_modes::is_text;
 use vga_bits::Refusal;
@@ -25,38 +25,38 @@ pub(crate) fn no_pixels(mode: u8) -> Result<(), Refusal>
     refuse_unless(!is_text(mode), Refusal::WrongKind)
 }
 
-/// Refuses a page where there are not so many.
+/// Refuses a page that the mode does not have.
 pub(crate) fn no_page(pages: u8, page: u8) -> Result<(), Refusal>
     ensures { reason_of result ≡ no_page_of pages page }
 {
     refuse_unless(page < pages, Refusal::BadPage)
 }
 
-/// Refuses a cell that is none of a page.
+/// Refuses a cell that the page does not have.
 pub(crate) fn outside_cells(cells: u32, first: u32) -> Result<(), Refusal>
     ensures { reason_of result ≡ outside_cells_of cells first }
 {
     refuse_unless(first < cells, Refusal::Outside)
 }
 
-/// Refuses a place of which the page has no such row or column.
-pub(crate) fn outside_page(rows: u16, columns: u16, place: u16) -> Result<(), Refusal>
-    ensures { reason_of result ≡ outside_page_of rows columns place }
+/// Refuses a position at which the page has no cell.
+pub(crate) fn outside_page(rows: u16, columns: u16, position: u16) -> Result<(), Refusal>
+    ensures { reason_of result ≡ outside_page_of rows columns position }
 {
     refuse_unless(
-        place / 256 < rows && place % 256 < columns,
+        position / 256 < rows && position % 256 < columns,
         Refusal::Outside,
     )
 }
 
-/// Refuses a pixel that is none of a page.
+/// Refuses a pixel that the page does not have.
 pub(crate) fn outside_pixels(width: u32, height: u32, x: u16, y: u16) -> Result<(), Refusal>
     ensures { reason_of result ≡ outside_pixels_of width height x y }
 {
     refuse_unless((x as u32) < width && (y as u32) < height, Refusal::Outside)
 }
 
-/// Refuses cells that go past the page's last.
+/// Refuses cells that go past the end of the page.
 pub(crate) fn past_cells(cells: u32, first: u32, count: u16) -> Result<(), Refusal>
     ensures { reason_of result ≡ past_cells_of cells first count }
 {
@@ -66,9 +66,18 @@ pub(crate) fn past_cells(cells: u32, first: u32, count: u16) -> Result<(), Refus
     )
 }
 
-/// Refuses a block that has not as many bytes as are taken.
-pub(crate) fn wrong_block(size: usize, len: usize) -> Result<(), Refusal>
-    ensures { reason_of result ≡ wrong_block_of size len }
+/// Refuses for another reason, if there is one, or else a block of another length than is read. A
+/// call that reads no block may be given one of any length.
+pub(crate) fn or_wrong_block(
+    other: Result<(), Refusal>,
+    size: Option<usize>,
+    len: usize,
+) -> Result<(), Refusal>
+    ensures { reason_of result ≡ or_wrong_block_of (reason_of other) size len }
 {
-    refuse_unless(len == size, Refusal::BadBlock)
+    other?;
+    match size {
+        Some(size) => refuse_unless(len == size, Refusal::BadBlock),
+        None => Ok(()),
+    }
 }

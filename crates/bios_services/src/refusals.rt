@@ -3,23 +3,24 @@ ghost use Rattle.std.specs.Prelude.{◌≡◌};
 ghost use Rattle.bios_services.specs.Bounds.{IsSet, pages_of};
 ghost use Rattle.bios_services.specs.Reasons.{reason_of};
 ghost use Rattle.bios_services.specs.Refusals.{page_named as page_named_of};
+ghost use Rattle.bios_services.specs.Refusals.{reason_in_mode as reason_in_mode_of};
 ghost use Rattle.bios_services.specs.Refusals.{refusal_in_mode as refusal_in_mode_of};
 ghost use Rattle.bios_services.specs.Refusals.{unknown_refusal as unknown_refusal_of};
 
 use crate::call::Service;
 use crate::cell_run::CellRun;
 use crate::cells::cells;
-use crate::colours::colour_refusal;
+use crate::colours::colour_reason;
 use crate::cursor::cursor_cell;
 use crate::pixels::{dots_across, dots_down};
 use crate::reasons::{
-    no_page, no_pixels, outside_cells, outside_page, outside_pixels, past_cells, wrong_block,
+    no_page, no_pixels, or_wrong_block, outside_cells, outside_page, outside_pixels, past_cells,
 };
 use crate::strings::StringCall;
 use bios_modes::{Bda, row_at};
 use vga_bits::Refusal;
 
-/// How many pages the mode has, in text with characters of their height.
+/// How many pages the mode has, in text at the height of its characters.
 fn pages(bda: &Bda) -> u8
     ensures { result ≡ pages_of bda.now }
 {
@@ -29,7 +30,7 @@ fn pages(bda: &Bda) -> u8
     }
 }
 
-/// The page that a call names; where a mode has one page, that is meant.
+/// The page that a number means: in a mode of one page, any number means page 0.
 fn page_named(bda: &Bda, page: u8) -> u8
     ensures { result ≡ page_named_of bda.now page }
 {
@@ -37,16 +38,28 @@ fn page_named(bda: &Bda, page: u8) -> u8
 }
 
 impl Service {
+    ghost use Rattle.bios_services.specs.Refusals.{service_block};
     ghost use Rattle.bios_services.specs.Refusals.{on_page_named as on_page_named_of};
 
-    /// The service on the page that it means.
+    /// How many bytes the block of a service has, if it reads one.
+    pub(crate) fn block(self) -> Option<usize>
+        ensures { result ≡ service_block self }
+    {
+        match self {
+            Service::Colours(colours) => colours.block(),
+            Service::WriteString(string) => Some(string.block_len()),
+            _ => None,
+        }
+    }
+
+    /// The service with the page that its number means.
     pub(crate) fn on_page_named(self, bda: &Bda) -> Service
         ensures { result ≡ on_page_named_of bda.now self }
     {
         match self {
-            Service::SetCursor { page, place } => {
+            Service::SetCursor { page, position } => {
                 let page = page_named(bda, page);
-                Service::SetCursor { page, place }
+                Service::SetCursor { page, position }
             }
             Service::ReadCursor { page } => Service::ReadCursor {
                 page: page_named(bda, page),
@@ -75,11 +88,10 @@ impl Service {
     }
 }
 
-/// Refuses a service in a mode, with a block of this length, for the first reason that there is.
-#[tactic(auto, unfolding(crate::specs::Refusals::refusal_in_mode))]
-pub(crate) fn refusal_in_mode(service: Service, bda: &Bda, len: usize) -> Result<(), Refusal>
+/// Refuses a service in a mode, whatever its block, for the first of its reasons.
+fn reason_in_mode(service: Service, bda: &Bda) -> Result<(), Refusal>
     requires { IsSet bda.now }
-    ensures { reason_of result ≡ refusal_in_mode_of service bda.now len }
+    ensures { reason_of result ≡ reason_in_mode_of service bda.now }
 {
     let rows = bda.last_row() as u16 + 1;
     match service {
@@ -105,10 +117,9 @@ pub(crate) fn refusal_in_mode(service: Service, bda: &Bda, len: usize) -> Result
         }
         Service::WriteString(string) => {
             no_page(pages(bda), string.page)?;
-            outside_page(rows, bda.columns(), string.place)?;
-            wrong_block(string.block_len(), len)
+            outside_page(rows, bda.columns(), string.position)
         }
-        Service::Colours(service) => colour_refusal(service, len),
+        Service::Colours(service) => colour_reason(service),
         Service::SetCursorType { .. }
         | Service::ScrollUp { .. }
         | Service::ScrollDown { .. }
@@ -118,7 +129,16 @@ pub(crate) fn refusal_in_mode(service: Service, bda: &Bda, len: usize) -> Result
     }
 }
 
-/// Why a call is refused that asks for no service.
+/// Refuses a service in a mode, with a block of this length, for the first of its reasons.
+#[tactic(auto, unfolding(crate::specs::Refusals::refusal_in_mode))]
+pub(crate) fn refusal_in_mode(service: Service, bda: &Bda, len: usize) -> Result<(), Refusal>
+    requires { IsSet bda.now }
+    ensures { reason_of result ≡ refusal_in_mode_of service bda.now len }
+{
+    or_wrong_block(reason_in_mode(service, bda), service.block(), len)
+}
+
+/// Why a call that asks for no service is refused.
 pub(crate) fn unknown_refusal(bda: &Bda) -> Refusal
     ensures { result ≡ unknown_refusal_of bda.now }
 {

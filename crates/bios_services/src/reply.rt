@@ -8,11 +8,11 @@ use vga_bits::{Bytes, Refusal};
 /// A table that a service answers in the caller's memory.
 #[derive(Drop)]
 pub enum Table {
-    /// None.
+    /// No table.
     Empty,
     /// The 16 palette registers, and the overscan colour.
     Palette([u8; 17]),
-    /// Red, green and blue of some entries of the DAC.
+    /// Red, green and blue of entries of the DAC.
     Dac(Bytes),
 }
 
@@ -36,7 +36,7 @@ pub struct Reply {
     pub table: Table,
 }
 
-/// Why a service answers nothing.
+/// Why a service gives no reply.
 #[derive(Clone, Copy, PartialEq, Eq, Debug)]
 pub enum ServiceError {
     /// It is refused.

@@ -12,8 +12,8 @@ use crate::shift::Shift;
 use bios_modes::Bda;
 use vga_card::Bus;
 
-/// A scroll that is asked for: by how many rows, with which attribute or colour for new rows, and
-/// the window's corners.
+/// What a call asks to scroll: by how many rows, the attribute or colour of new rows, and the
+/// corners of the window.
 #[derive(Clone, Copy)]
 pub struct Scroll {
     pub lines: u8,
@@ -24,7 +24,7 @@ pub struct Scroll {
     pub right: u8,
 }
 
-/// Some rows and columns of characters of a page.
+/// Neighbouring rows and columns of a page.
 #[derive(Clone, Copy)]
 pub struct Window {
     pub top: u32,
@@ -48,7 +48,7 @@ impl Window {
         }
     }
 
-    /// By how many rows the window goes if it is asked for so many.
+    /// By how many rows the window goes if a call asks for this number.
     fn lines(self, asked: u8) -> u32
         ensures value { result ≡ lines_of self asked }
         ensures few { result ≤ self.height }
@@ -61,7 +61,7 @@ impl Window {
         }
     }
 
-    /// Scrolls the window of a page.
+    /// Scrolls the window on a page.
     pub(crate) fn scroll<B: Bus>(self, bus: &mut B, bda: &Bda, page: u8, shift: Shift)
         requires data { IsSet bda.now }
         requires page { page < pages_of bda.now }
@@ -76,7 +76,7 @@ impl Window {
 }
 
 impl Scroll {
-    /// The rows and columns of the window that are on the page, none where it has no cell there.
+    /// The part of the window that lies on the page, if it has a cell there.
     fn window(self, bda: &Bda) -> Option<Window>
         requires { IsSet bda.now }
         ensures value { result ≡ window_among (bda.now.last_row + 1) bda.now.columns self }

@@ -2,11 +2,11 @@
 
 use crate::direction::Direction;
 
-/// How rows go: which way, by how many, and with what those are filled that are new.
+/// How rows move: in which direction, by how many rows, and what fills the rows that they leave.
 #[derive(Clone, Copy)]
 pub struct Shift {
     pub direction: Direction,
     pub rows: u32,
-    /// The attribute in text, else the colour.
+    /// The attribute in text, the colour in graphics.
     pub colour: u8,
 }

@@ -15,18 +15,18 @@ use crate::teletype::type_character;
 use bios_modes::{Bda, Fonts};
 use vga_card::Bus;
 
-/// A string that is asked for.
+/// The string that a call types.
 #[derive(Clone, Copy)]
 pub struct StringCall {
     pub page: u8,
-    /// Where the first character goes, row high and column low.
-    pub place: u16,
-    /// The colour of all characters, where they have none of their own.
+    /// The position of the first character: the row is the high byte, the column the low one.
+    pub position: u16,
+    /// The attribute or colour of all characters, if they have none of their own.
     pub colour: u8,
     pub count: u16,
-    /// Whether each character has its attribute behind it.
+    /// Whether an attribute or colour follows each character.
     pub has_attributes: bool,
-    /// Whether the cursor goes behind the string.
+    /// Whether the cursor moves to the position after the string.
     pub moves_cursor: bool,
 }
 
@@ -38,7 +38,7 @@ impl StringCall {
         let al = low(regs.ax);
         StringCall {
             page: high(regs.bx),
-            place: regs.dx,
+            position: regs.dx,
             colour: low(regs.bx),
             count: regs.cx,
             has_attributes: al >= 2,
@@ -87,40 +87,40 @@ impl StringCall {
         }
     }
 
-    /// Types the characters, and answers the place behind them.
+    /// Types the characters, and answers the position after them.
     #[tactic(auto, using(crate::proofs::PlanRuns::run_bind), unfolding(crate::specs::Strings::type_string_plan))]
     fn type_all<B: Bus>(self, bus: &mut B, fonts: &Fonts, bda: &Bda, block: &[u8]) -> u16
         requires data { IsSet bda.now }
         requires page { self.page < pages_of bda.now }
-        requires row { row_of self.place ≤ bda.now.last_row }
+        requires row { row_of self.position ≤ bda.now.last_row }
         requires whole { length block.now ≡ string_len self }
         ensures { (bus.new, result) ≡ run B.meaning
             (type_string_plan fonts.now bda.now self block.now) bus.old }
     {
         let page = Page::new(fonts, bda, self.page);
-        let mut place = self.place;
+        let mut position = self.position;
         for i in 0..self.count {
             let character = self.character(block, i);
             let colouring = self.colouring(block, i);
-            place = type_character(bus, &page, place, character, colouring);
+            position = type_character(bus, &page, position, character, colouring);
         }
-        place
+        position
     }
 
-    /// Types the string, and moves the cursor behind it where that is asked.
+    /// 13: types the string, and moves the cursor to the position after it if AL asks for that.
     #[tactic(auto, using(crate::proofs::PlanRuns::run_bind), unfolding(crate::specs::Strings::string_plan))]
     pub(crate) fn write<B: Bus>(self, bus: &mut B, fonts: &Fonts, bda: &mut Bda, block: &[u8])
         requires data { IsSet bda.old }
         requires page { self.page < pages_of bda.old }
-        requires row { row_of self.place ≤ bda.old.last_row }
+        requires row { row_of self.position ≤ bda.old.last_row }
         requires whole { length block.now ≡ string_len self }
         ensures answer { (bus.new, bda.new) ≡ run B.meaning
             (string_plan fonts.now bda.old self block.now) bus.old }
         ensures stays { StaysInMode bda.old bda.new }
     {
-        let place = self.type_all(bus, fonts, bda, block);
+        let position = self.type_all(bus, fonts, bda, block);
         if self.moves_cursor {
-            move_cursor(bus, bda, self.page, place);
+            move_cursor(bus, bda, self.page, position);
         }
     }
 }

@@ -18,7 +18,7 @@ use std::alloc::{AllocError, Global};
 use vga_bits::{Bytes, Refusal};
 use vga_card::Bus;
 
-/// How many bytes the palette registers and the overscan colour have.
+/// How many bytes the table of palette registers and overscan colour has.
 const PALETTE_BYTES: usize = 17;
 
 /// What function 10 answers as a table.
@@ -26,11 +26,11 @@ const PALETTE_BYTES: usize = 17;
 pub enum TableService {
     /// 09: answers the palette registers and the overscan colour.
     ReadPalette,
-    /// 17: answers some entries of the DAC.
+    /// 17: answers entries of the DAC.
     ReadEntries { first: u16, count: u16 },
 }
 
-/// Refuses a subfunction that answers a table, where there is a reason.
+/// Refuses a subfunction that answers a table, if there is a reason.
 pub(crate) fn table_refusal(service: TableService) -> Result<(), Refusal>
     ensures { reason_of result ≡ table_refusal_of service }
 {
@@ -49,8 +49,7 @@ fn palette_register(i: usize) -> u8
     if i == 16 { OVERSCAN } else { i as u8 }
 }
 
-/// Reads the palette registers and the overscan colour, where the attribute controller's next write
-/// is an index.
+/// Reads the palette registers and the overscan colour; the attribute controller expects an index.
 #[tactic(auto, using(crate::proofs::PlanRuns::run_bind), unfolding(crate::specs::Tables::registers_plan))]
 fn read_registers<B: Bus>(bus: &mut B, port: u16, values: &mut [u8])
     requires port { port < ports_end }
@@ -86,8 +85,8 @@ fn read_components<B: Bus>(bus: &mut B, values: &mut Bytes)
     }
 }
 
-/// 17: reads red, green and blue of some entries from one on. The memory for them is taken before
-/// the first cycle; none is for no entries.
+/// 17: reads red, green and blue of `count` entries from entry `first` on. It allocates memory for
+/// them before the first cycle, and none for no entries.
 #[tactic(auto, using(crate::proofs::PlanRuns::run_bind), unfolding(crate::specs::Tables::read_entries_plan, vga_bits::specs::Bytes::zeros))]
 fn read_entries<B: Bus>(
     alloc: Global,
@@ -107,8 +106,7 @@ fn read_entries<B: Bus>(
     Ok(values)
 }
 
-/// Does what a subfunction does that is not refused. Memory is taken for some entries of the DAC
-/// alone.
+/// Does a subfunction that is not refused. Only 17 allocates memory, if there is an entry to read.
 #[tactic(auto, using(crate::proofs::PlanRuns::run_bind), unfolding(crate::specs::Tables::table_plan))]
 pub(crate) fn read_table<B: Bus>(
     alloc: Global,

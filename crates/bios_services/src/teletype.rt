@@ -1,8 +1,8 @@
-//! Writing characters one after another, with the cursor going on.
+//! Typing characters one after another, while the cursor advances.
 ghost use Rattle.std.specs.Prelude.{◌≡◌, ◌<◌, ◌≤◌, ◌+◌, ◌*◌};
 ghost use Rattle.bios_services.specs.Plan.{run};
 ghost use Rattle.bios_services.specs.Bounds.{IsSet, StaysInMode, pages_of};
-ghost use Rattle.bios_services.specs.Cursor.{row_of, place_of};
+ghost use Rattle.bios_services.specs.Cursor.{row_of, position_of};
 ghost use Rattle.bios_services.specs.Page.{IsPage};
 ghost use Rattle.bios_services.specs.Teletype.{line_feed_fill as line_feed_fill_plan};
 ghost use Rattle.bios_services.specs.Teletype.{line_feed_plan, cursor_advance_plan};
@@ -20,100 +20,111 @@ use crate::shift::Shift;
 use bios_modes::{Bda, Fonts, is_text};
 use vga_card::Bus;
 
-/// The control characters.
+/// The control character that does nothing.
 const BELL: u8 = 0x07;
 
+/// The control character that goes one column back.
 const BACKSPACE: u8 = 0x08;
 
+/// The control character that goes one row down.
 const LINE_FEED: u8 = 0x0A;
 
+/// The control character that goes to the first column.
 const CARRIAGE_RETURN: u8 = 0x0D;
 
-/// What a new row is filled with: an attribute in text, and colour 0 in graphics.
+/// The value that a new row is filled with: an attribute in text, and colour 0 in graphics.
 #[tactic(auto, using(crate::proofs::PlanRuns::run_bind), unfolding(crate::specs::Teletype::line_feed_fill))]
-fn line_feed_fill<B: Bus>(bus: &mut B, bda: &Bda, page: u8, place: u16) -> u8
+fn line_feed_fill<B: Bus>(bus: &mut B, bda: &Bda, page: u8, position: u16) -> u8
     requires data { IsSet bda.now }
     requires page { page < pages_of bda.now }
-    ensures { (bus.new, result) ≡ run B.meaning (line_feed_fill_plan bda.now page place) bus.old }
+    ensures { (bus.new, result) ≡ run B.meaning (line_feed_fill_plan bda.now page position)
+        bus.old }
 {
     if !is_text(bda.mode()) {
         return 0;
     }
-    let cell = bda.columns() as u32 * bda.last_row() as u32 + (place % 256) as u32;
+    let cell = bda.columns() as u32 * bda.last_row() as u32 + (position % 256) as u32;
     get(bus, cell_address(bda, page, cell) + 1)
 }
 
-/// The place below one; on the last row the place itself, with the page a row up.
+/// The position one row below. On the last row it stays, and the page goes up by a row.
 #[tactic(auto, using(crate::proofs::PlanRuns::run_bind), unfolding(crate::specs::Teletype::line_feed_plan))]
-fn line_feed<B: Bus>(bus: &mut B, bda: &Bda, page: u8, place: u16) -> u16
+fn line_feed<B: Bus>(bus: &mut B, bda: &Bda, page: u8, position: u16) -> u16
     requires data { IsSet bda.now }
     requires page { page < pages_of bda.now }
-    requires row { row_of place ≤ bda.now.last_row }
-    ensures place { (bus.new, result) ≡ run B.meaning (line_feed_plan bda.now page place) bus.old }
+    requires row { row_of position ≤ bda.now.last_row }
+    ensures position { (bus.new, result) ≡ run B.meaning (line_feed_plan bda.now page position)
+        bus.old }
     ensures row { row_of result ≤ bda.now.last_row }
 {
-    if place / 256 < bda.last_row() as u16 {
-        return place + 256;
+    if position / 256 < bda.last_row() as u16 {
+        return position + 256;
     }
     let shift = Shift {
         direction: Direction::Up,
         rows: 1,
-        colour: line_feed_fill(bus, bda, page, place),
+        colour: line_feed_fill(bus, bda, page, position),
     };
     Window::whole_page(bda).scroll(bus, bda, page, shift);
-    place
+    position
 }
 
-/// The place behind one.
+/// The position after one: the next column, or the first column of the row below.
 #[tactic(auto, using(crate::proofs::PlanRuns::run_bind), unfolding(crate::specs::Teletype::cursor_advance_plan))]
-fn cursor_advance<B: Bus>(bus: &mut B, bda: &Bda, page: u8, place: u16) -> u16
+fn cursor_advance<B: Bus>(bus: &mut B, bda: &Bda, page: u8, position: u16) -> u16
     requires data { IsSet bda.now }
     requires page { page < pages_of bda.now }
-    requires row { row_of place ≤ bda.now.last_row }
-    ensures place { (bus.new, result) ≡ run B.meaning (cursor_advance_plan bda.now page place)
+    requires row { row_of position ≤ bda.now.last_row }
+    ensures position { (bus.new, result) ≡ run B.meaning (cursor_advance_plan bda.now page position)
         bus.old }
     ensures row { row_of result ≤ bda.now.last_row }
 {
-    if place % 256 + 1 < bda.columns() {
-        return place + 1;
+    if position % 256 + 1 < bda.columns() {
+        return position + 1;
     }
-    let below = line_feed(bus, bda, page, place);
+    let below = line_feed(bus, bda, page, position);
     below / 256 * 256
 }
 
-/// Types a character at a place, and answers the place afterwards.
+/// Types a character at a position, and answers the position afterwards.
 #[tactic(auto, using(crate::proofs::PlanRuns::run_bind), unfolding(crate::specs::Teletype::type_plan, crate::specs::Teletype::show_plan))]
 pub(crate) fn type_character<B: Bus>(
     bus: &mut B,
     page: &Page<'_>,
-    place: u16,
+    position: u16,
     character: u8,
     colouring: Colouring,
 ) -> u16
     requires page { IsPage page.now }
-    requires row { row_of place ≤ page.now.bda.last_row }
-    ensures place { (bus.new, result) ≡ run B.meaning (type_plan page.now.fonts page.now.bda
-        page.now.number place character colouring) bus.old }
+    requires row { row_of position ≤ page.now.bda.last_row }
+    ensures position { (bus.new, result) ≡ run B.meaning (type_plan page.now.fonts page.now.bda
+        page.now.number position character colouring) bus.old }
     ensures row { row_of result ≤ page.now.bda.last_row }
 {
     match character {
-        BELL => place,
-        BACKSPACE => { if place % 256 == 0 { place } else { place - 1 } }
-        LINE_FEED => line_feed(bus, page.bda(), page.number(), place),
-        CARRIAGE_RETURN => place / 256 * 256,
+        BELL => position,
+        BACKSPACE => {
+            if position % 256 == 0 {
+                position
+            } else {
+                position - 1
+            }
+        }
+        LINE_FEED => line_feed(bus, page.bda(), page.number(), position),
+        CARRIAGE_RETURN => position / 256 * 256,
         _ => {
-            let q = cell_number(page.bda(), place);
+            let q = cell_number(page.bda(), position);
             write_character(bus, page, q, character, colouring);
-            cursor_advance(bus, page.bda(), page.number(), place)
+            cursor_advance(bus, page.bda(), page.number(), position)
         }
     }
 }
 
-/// Types a character at the cursor of the active page, which then stands behind it.
+/// 0E: types a character at the cursor of the active page, and moves the cursor.
 #[tactic(auto, using(crate::proofs::PlanRuns::run_bind), unfolding(crate::specs::Teletype::teletype_plan))]
 pub(crate) fn teletype<B: Bus>(bus: &mut B, fonts: &Fonts, bda: &mut Bda, character: u8, colour: u8)
     requires data { IsSet bda.old }
-    requires row { row_of (place_of bda.old bda.old.page) ≤ bda.old.last_row }
+    requires row { row_of (position_of bda.old bda.old.page) ≤ bda.old.last_row }
     ensures answer { (bus.new, bda.new) ≡ run B.meaning
         (teletype_plan fonts.now bda.old character colour) bus.old }
     ensures stays { StaysInMode bda.old bda.new }
@@ -122,12 +133,12 @@ pub(crate) fn teletype<B: Bus>(bus: &mut B, fonts: &Fonts, bda: &mut Bda, charac
         return;
     }
     let page = bda.page();
-    let place = bda.cursor_place(page as usize);
+    let position = bda.cursor_place(page as usize);
     let colouring = Colouring {
         colour,
         is_attribute: false,
     };
     let written = Page::new(fonts, bda, page);
-    let behind = type_character(bus, &written, place, character, colouring);
-    move_cursor(bus, bda, page, behind);
+    let after = type_character(bus, &written, position, character, colouring);
+    move_cursor(bus, bda, page, after);
 }

@@ -11,7 +11,7 @@ use Rattle.clap.specs.Words.{Text}
 use Rattle.clap.proofs.WalkLemmas.{both}
 use Rattle.vga.specs.Arguments.{begins_with_hyphen, count_of, is_bad_count, is_count}
 
--- digits alone, as a test
+-- only digits, as a test
 digits_from : (word : Text) → list_all (λ d. nat_lt (digit_value d) 10) word ≡ true → AllDigits 10 word
 digits_from [] e = tt
 digits_from (d ∷ rest) e = let parts = both _ _ e in (ltb-true _ _ parts.0, digits_from rest parts.1)

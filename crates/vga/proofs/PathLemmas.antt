@@ -274,7 +274,7 @@ count_passes of_text path fonts count plain =
 abbrev IsSound : Request → Text → Type 0
 IsSound request count = HasPlainPaths request × IfSome (until_in request) (λ n. count_of count ≡ Some n)
 
--- the words behind the command
+-- the words after the command
 abbrev words_after : Request → Text → List Text
 words_after (asm text script) count = text ∷ script ∷ []
 words_after (dis script) count = script ∷ []
@@ -384,7 +384,7 @@ asked_by prints rows = dis_asked rows
 asked_by runs rows = run_asked rows
 asked_by goes rows = go_asked rows
 
--- the matches, and how they judge the number of steps, are those of the command on the words behind it
+-- the matches, and how they judge the number of steps, are those of the command on the words after it
 abbrev rows_behind : Request → Text → List Row
 rows_behind request count = finished (rules (command_for request)) (walk (rules (command_for request)) [] nothing_held (words_after request count)).held
 

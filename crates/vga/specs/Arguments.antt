@@ -17,12 +17,12 @@ use Rattle.vga.specs.declared.failure.Failure.{Failure}
 use Rattle.vga.specs.declared.failure.Failure.TheVariants.{Words, Fault}
 use Rattle.vga.specs.declared.words_error.WordsError.TheVariants.{Refused, Missing}
 
--- a request for one path, where it is there
+-- a request with one path, if there is one
 abbrev pub of_one : (Text → Request) → Option Text → Option Request
 of_one request (Some path) = Some (request path)
 of_one request None = None
 
--- a request for two paths, where both are there
+-- a request with two paths, if there are two
 abbrev pub of_two : (Text → Text → Request) → Option Text → Option Text → Option Request
 of_two request (Some first) (Some second) = Some (request first second)
 of_two request _ _ = None
@@ -35,7 +35,7 @@ asm_asked rows = of_two asm (first_of (codes "TEXT") rows) (first_of (codes "BIN
 abbrev pub dis_asked : List Row → Option Request
 dis_asked rows = of_one dis (first_of (codes "BIN") rows)
 
--- a word is decimal digits alone, and 32 bits hold their number
+-- a word of decimal digits only, whose number fits into 32 bits
 abbrev pub is_count : Text → Bool
 is_count word = is_numeral word && nat_lt (digits_value 10 word) (2 ^ 32)
 
@@ -43,7 +43,7 @@ is_count word = is_numeral word && nat_lt (digits_value 10 word) (2 ^ 32)
 abbrev pub count_of : Text → Option ℕ
 count_of word = if is_count word then Some (digits_value 10 word) else None
 
--- after how many steps matches ask to stop
+-- the limit on steps in the matches
 abbrev pub until_asked : List Row → Option ℕ
 until_asked rows = option_and_then count_of (first_of (codes "until") rows)
 
@@ -57,7 +57,7 @@ abbrev pub go_asked : List Row → Option Request
 go_asked rows = of_two (λ text fonts. go text fonts (until_asked rows))
     (first_of (codes "TEXT") rows) (first_of (codes "fonts") rows)
 
--- what a command and its matches ask for, if no path is lacking
+-- what a command and its matches ask for, if no path is missing
 abbrev pub asked_of : Option (Text × List Row) → Option Request
 asked_of None = None
 asked_of (Some command) =
@@ -67,11 +67,11 @@ asked_of (Some command) =
     else if bytes_eq command.0 (codes "go") then go_asked command.1
     else None
 
--- what words ask for on the program's command line
+-- what words on the program's command line ask for
 abbrev pub asked : List Text → Option Request
 asked words = asked_of (subcommand_of command_line words)
 
--- there is a word for the number of steps, and it names none
+-- there is a word for the limit, and it is not a number of steps
 abbrev pub is_bad_count : Option Text → Bool
 is_bad_count None = false
 is_bad_count (Some word) = not (is_count word)
@@ -85,26 +85,26 @@ has_bad_count (Some command) = is_bad_count (first_of (codes "until") command.1)
 abbrev pub bad_count : List Text → Bool
 bad_count words = has_bad_count (subcommand_of command_line words)
 
--- the refusal of a word for the number of steps, or that memory ran out
+-- the refusal of a word for the limit; or an allocation failed
 abbrev pub RefusesCount : Failure → Type 0
 RefusesCount (Words (Refused error)) = kind_of error ≡ kind.ValueValidation
 RefusesCount (Words Missing) = ⊥
 RefusesCount (Fault fault) = fault ≡ OutOfMemory
 
 -- Words are refused with an error of this kind: the command line finds this fault in them; or it
--- finds none, and their word for the number of steps names none.
+-- finds none, and their word for the limit is not a number of steps.
 abbrev pub Refuses : List Text → ErrorKind → Type 0
 Refuses words found = IsAmong found (fault_of command_line words)
     ⊎ ((fault_of command_line words ≡ []) × (bad_count words ≡ true)
     × (found ≡ kind.ValueValidation))
 
--- the job that is asked for, or that none is
+-- the job that is asked for, or that a command or a path is missing
 abbrev pub Finds : Option Request → Result Job Failure → Type 0
 Finds request (Ok job) = request ≡ Some (request_of job)
 Finds request (Err failure) = (request ≡ None) × (failure ≡ Words Missing)
 
 -- What `job` answers for words: the job that they ask for; or that they are refused; or that they
--- are not, and lack a command or a path; or that memory ran out.
+-- are accepted but lack a command or a path; or that an allocation failed.
 abbrev pub JobAnswers : List Text → Result Job Failure → Type 0
 JobAnswers words (Ok job) = (fault_of command_line words ≡ []) × (bad_count words ≡ false)
     × (asked words ≡ Some (request_of job))
@@ -119,12 +119,12 @@ abbrev pub begins_with_hyphen : Text → Bool
 begins_with_hyphen [] = false
 begins_with_hyphen (byte ∷ rest) = byte == 45
 
--- the words of a number of steps, where there is one: `--until`, and this word
+-- the words of a limit, if there is one: `--until`, and this word
 abbrev pub until_words : Option ℕ → Text → List Text
 until_words None count = []
 until_words (Some n) count = codes "--until" ∷ count ∷ []
 
--- the words of a request, behind the program's name, where this word is its number of steps
+-- the words of a request, after the program's name, with this word for its limit
 abbrev pub words_of : Request → Text → List Text
 words_of (asm text script) count = codes "asm" ∷ text ∷ script ∷ []
 words_of (dis script) count = codes "dis" ∷ script ∷ []
@@ -133,7 +133,7 @@ words_of (run script fonts until) count = codes "run" ∷ script ∷ codes "--fo
 words_of (go text fonts until) count = codes "go" ∷ text ∷ codes "--fonts" ∷ fonts
     ∷ until_words until count
 
--- after how many steps a request asks to stop
+-- the limit of a request
 abbrev pub until_in : Request → Option ℕ
 until_in (asm text script) = None
 until_in (dis script) = None
@@ -150,8 +150,8 @@ HasPlainPaths (run script fonts until) = (begins_with_hyphen script ≡ false)
 HasPlainPaths (go text fonts until) = (begins_with_hyphen text ≡ false)
     × (begins_with_hyphen fonts ≡ false)
 
--- The words of a request, behind the program's name, are answered by a job of this very command,
--- these very paths and this very number of steps, unless memory runs out.
+-- The words of a request, after the program's name, give the job with the same command, paths and
+-- limit, unless an allocation fails.
 abbrev pub NamesPaths : List Text → Result Job Failure → Type 0
 NamesPaths words result =
     (program : Text) (request : Request) (count : Text) → words ≡ program ∷ words_of request count →

@@ -3,7 +3,7 @@ use Rattle.std.specs.Prelude.{◌∷◌, [], Some, true, false, codes}
 use Rattle.clap.specs.Words.{App, Rule, Shape, Text, new_rule}
 use Rattle.clap.specs.Simple.{new_shape}
 
--- a file that is named by its place among the words
+-- a file that is named by its position among the words
 abbrev pub path_argument : Text → Rule
 path_argument id = record (new_rule id) { required = true }
 
@@ -44,11 +44,11 @@ go_command = record (new_shape (codes "go")) {
       path_argument (codes "TEXT") ∷ fonts_argument ∷ until_argument ∷ [];
 }
 
--- `vga` itself, behind which a command has to stand
+-- `vga` itself, which needs a command after it
 abbrev pub program : Shape
 program = record (new_shape (codes "vga")) { is_leaf = false; subcommand_required = true }
 
--- `vga` and a command that turns one form of a script into the other
+-- `vga` and a command that converts a script from one form to the other
 abbrev pub converting_line : App
 converting_line = record { top = program; subs = asm_command ∷ dis_command ∷ [] }
 

@@ -1,4 +1,4 @@
--- The lines that the program itself writes on standard error.
+-- The lines that the program itself writes to standard error.
 use Rattle.std.specs.Prelude.{List, ℕ, ◌++◌, ◌∷◌, [], codes}
 
 -- `vga: `, a text and a newline

@@ -1,5 +1,5 @@
--- What the commands make of a script, or of a text that spells one, by what the reader holds, where
--- it tells.
+-- What the commands make of a script, or of a text, by what its reader contains, if the reader's
+-- contract says so.
 use Rattle.std.specs.Prelude.{ℕ, ⊤, ◌≡◌, ◌≢◌, ◌⊎◌, List, length, Option, Result, Ok, Err, Vec}
 use Rattle.std.specs.declared.alloc.Global.{Global}
 use Rattle.std.specs.Io.KnownBytes.{Appends}
@@ -17,8 +17,8 @@ use Rattle.vga_run.specs.Report.{report_of, steps_until}
 use Rattle.vga_run.specs.Run.{StopsSteps}
 use Rattle.bios_modes.specs.Fonts.{FontSet, file_len, fonts_of}
 
--- Why a text is not assembled: it or its script has too many bytes, or this is its first bad line;
--- or the reader failed, or memory ran out.
+-- Why a text is not assembled: it or its script has too many bytes; or this is its first bad line;
+-- or the reader or an allocation failed.
 abbrev pub IsAssemblingFault : Option (List ℕ) → Fault → Type 0
 IsAssemblingFault input TooLong = IsTooLong input ⊎ ((text : List ℕ) × IsInput input text
     × SpellsTooLong text)
@@ -27,20 +27,20 @@ IsAssemblingFault input ReadFault = ⊤
 IsAssemblingFault input OutOfMemory = ⊤
 IsAssemblingFault input _ = ⊥
 
--- What reading a text answers: the script that it spells, or why there are none.
+-- What reading a text answers: the script that it spells, or why there is none.
 abbrev pub FindsScript : Option (List ℕ) → Result (Listing) Fault → Type 0
 FindsScript input (Ok script) = InputSpellsText input script
 FindsScript input (Err fault) = IsAssemblingFault input fault
 
--- What assembling answers: the bytes of the script that the text spells, or why there are none.
+-- What assembling answers: the bytes of the script that the text spells, or why there is none.
 abbrev pub Assembles : Option (List ℕ) → Result (Vec ℕ Global) Fault → Type 0
 Assembles input (Ok bytes) = (script : Listing) × InputSpellsText input script
     × (bytes.items ≡ encoding script)
 Assembles input (Err fault) = IsAssemblingFault input fault
 
--- What printing a script as text answers, over a writer that holds what is before and after: it has
--- written the printed text of the script, or a prefix of it where the writer fails; or the first
--- fault of the bytes.
+-- What disassembling answers, over a writer whose contents are `before` and `after`: it has written
+-- the printed text of the script, or a prefix of it if the writer failed; or the first fault of the
+-- bytes.
 abbrev pub Prints : Option (List ℕ) → Option (List ℕ) → Option (List ℕ) → Result Unit Fault → Type 0
 Prints input before after (Ok done) = (script : Listing) × InputSpells input script
     × Appends before after (printed script)
@@ -51,10 +51,10 @@ Prints input before after (Err ReadFault) = ⊤
 Prints input before after (Err OutOfMemory) = ⊤
 Prints input before after (Err fault) = InputHasFault input fault
 
--- What running a text answers that is stopped after so many steps, or not, over a font file, and a
--- writer that holds what is before and after: it has written the report of the script that the text
--- spells, or a prefix of it where the writer fails; or why the text is not assembled; or the fault
--- of the fonts, which is judged after the text.
+-- What running a text answers, with a limit or without, with a font file and over a writer whose
+-- contents are `before` and `after`. It has written the report of the script that the text spells,
+-- or a prefix of it if the writer failed; or it says why the text is not assembled; or that the
+-- font file has the wrong size, which is checked after the text.
 abbrev pub RunsText : Option ℕ → List ℕ → Option (List ℕ) → Option (List ℕ) → Option (List ℕ) →
     Result Unit Fault → Type 0
 RunsText until file input before after (Ok done) = (length file ≡ file_len)
@@ -68,7 +68,7 @@ RunsText until file input before after (Err FontSize) = (length file ≢ file_le
     × ((script : Listing) × InputSpellsText input script)
 RunsText until file input before after (Err fault) = IsAssemblingFault input fault
 
--- where memory runs out in the run of the script that a text spells
+-- an allocation failed in the run of the script that a text spells
 abbrev pub StopsText : Option ℕ → FontSet → Option (List ℕ) → Option (List ℕ) → Option (List ℕ) →
     Type 0
 StopsText until fonts input before after = (script : Listing) × InputSpellsText input script

@@ -7,12 +7,12 @@ use Rattle.vga.specs.declared.failure.Failure.{Failure}
 use Rattle.vga.specs.declared.failure.Failure.TheVariants.{Words, Fault}
 use Rattle.vga.specs.declared.words_error.WordsError.TheVariants.{Refused, Missing}
 
--- showing help is what was asked for, and any other refusal is a mistake in the words
+-- help was asked for, which is no error; any other refusal is a usage error
 abbrev pub refusal_status : ErrorKind → ℕ
 refusal_status kind.DisplayHelp = 0
 refusal_status _ = 2
 
--- 0 is success, 1 a fault, and 2 a mistake in the words
+-- 0 is success, 1 a fault, and 2 a usage error
 abbrev pub status_of : Result Unit Failure → ℕ
 status_of (Ok done) = 0
 status_of (Err (Fault fault)) = 1

@@ -1,4 +1,4 @@
-//! The job that the words of the command line name.
+//! Reading the job that the words of the command line name.
 ghost use Rattle.std.specs.Prelude.{◌≡◌, ◌==◌, codes, map, slice_index, string_bytes};
 ghost use Rattle.std.specs.IoError.{error_kind};
 ghost use Rattle.clap.specs.Words.{first_of, found_of, rows_of, subcommand_rows_of};
@@ -19,8 +19,8 @@ use std::io;
 use std::io::ErrorKind;
 use vga_bits::Fault;
 
-/// What is said of a word for the number of steps that names none.
-const BAD_COUNT: &str = "the number behind '--until' is decimal digits alone, 0 to 4294967295";
+/// The message for a word after `--until` that is not a number of steps.
+const BAD_COUNT: &str = "the number after '--until' must be decimal digits, 0 to 4294967295";
 
 /// Whether a word begins with a plus.
 fn has_plus(word: &str) -> bool
@@ -29,8 +29,8 @@ fn has_plus(word: &str) -> bool
     matches!(word.as_bytes().first(), Some(b'+'))
 }
 
-/// The number of steps that a word names, which is digits alone. A plus is none, though numbers may
-/// have one.
+/// The number of steps that a word names, in decimal digits only. The parser of numbers would take
+/// a plus sign too.
 fn count_of(word: &str) -> Option<u32>
     ensures { result ≡ count_of word.now }
 {
@@ -41,7 +41,7 @@ fn count_of(word: &str) -> Option<u32>
     }
 }
 
-/// After how many steps the matches of `run` or `go` stop.
+/// The limit on steps in the matches of `run` or `go`.
 #[tactic(auto, using(crate::proofs::WordsLemmas::first_value_rows))]
 fn until_of(matches: &ArgMatches) -> Option<u32>
     ensures { result ≡ until_asked (rows_of (found_of matches.now)) }
@@ -49,7 +49,7 @@ fn until_of(matches: &ArgMatches) -> Option<u32>
     count_of(matches.get_str("until")?)
 }
 
-/// Whether a command's matches have a word for the number of steps that names none.
+/// Whether a command's matches have a word after `--until` that is not a number of steps.
 #[tactic(auto, using(crate::proofs::WordsLemmas::first_value_rows, crate::proofs::CountLemmas::bad_count_is_none))]
 fn is_bad_count(command: &ArgMatches) -> bool
     ensures { result ≡ is_bad_count (first_of (codes "until") (rows_of (found_of command.now))) }
@@ -60,7 +60,7 @@ fn is_bad_count(command: &ArgMatches) -> bool
     }
 }
 
-/// Whether the command that matches name has such a word.
+/// The same of the command that the matches name.
 #[tactic(auto, using(crate::proofs::WordsLemmas::rows_are_judged))]
 fn has_bad_count(matches: &ArgMatches) -> bool
     ensures { result ≡ has_bad_count (subcommand_rows_of matches.now) }
@@ -71,7 +71,7 @@ fn has_bad_count(matches: &ArgMatches) -> bool
     }
 }
 
-/// Refuses a word for the number of steps.
+/// The refusal of a word after `--until`.
 fn refuse_count(line: &mut Command) -> Failure
     ensures { RefusesCount result }
 {
@@ -146,8 +146,8 @@ fn matched_job<'a>(matches: &ArgMatches<'a>) -> Result<Job<'a>, Failure>
     }
 }
 
-/// Why the words themselves could not be had: memory ran out, or one of them is no text, which no
-/// path can be.
+/// Why the words could not be read: an allocation failed, or one of them is not text, so it can be
+/// no path.
 pub fn unread(error: &io::Error) -> Failure
     ensures { result ≡ unread_failure (error_kind error.now) }
 {
@@ -157,7 +157,7 @@ pub fn unread(error: &io::Error) -> Failure
     }
 }
 
-/// What `job` does.
+/// Parses the words, and reads the job.
 fn parsed_job<'a>(alloc: Global, words: &'a [String]) -> Result<Job<'a>, Failure>
     ensures { JobAnswers (map string_bytes words.now) result }
 {
@@ -169,18 +169,19 @@ fn parsed_job<'a>(alloc: Global, words: &'a [String]) -> Result<Job<'a>, Failure
     matched_job(&matches)
 }
 
-/// The job that the words of a command line name, of which the first is the program's own name.
+/// The job that the words of a command line name. The first word is the program's own name.
 ///
 /// # Errors
 ///
-/// `Failure::Words` where the command line refuses the words, asks for help to be shown, or lacks a
-/// command or a path, and where the word behind `--until` is not digits alone or is above
-/// 4,294,967,295.
-/// `Failure::Fault` where memory runs out, and for no other fault.
+/// `Failure::Words` if the command line refuses the words, if they ask for help, if a command or a
+/// path is missing, and if the word after `--until` is not only digits or is above 4,294,967,295.
+///
+/// `Failure::Fault` if an allocation fails, and for no other fault.
 pub fn job<'a>(alloc: Global, words: &'a [String]) -> Result<Job<'a>, Failure>
     // The job that the words ask for, or why there is none.
     ensures answer { JobAnswers (map string_bytes words.now) result }
-    // A command, its paths and its number of steps, in the order of its usage, are a job of these.
+    // A command with its paths and its limit, in the order of its usage, gives the job with the
+    // same.
     ensures paths { NamesPaths (map string_bytes words.now) result }
 {
     parsed_job(alloc, words)

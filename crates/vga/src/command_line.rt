@@ -85,7 +85,7 @@ docs/REPORT.md explains each answer and each fault.
 
 vga 1.6";
 
-/// An argument that names a file, and cannot be left out.
+/// A required argument that names a file.
 fn path_argument<'a>(alloc: Global, id: &'a str, help: &'a str) -> Arg<'a>
     ensures rule { rule_of result ≡ path_argument id.now }
     ensures local { result.global ≡ false }
@@ -93,7 +93,7 @@ fn path_argument<'a>(alloc: Global, id: &'a str, help: &'a str) -> Arg<'a>
     Arg::new(alloc, id).required(true).help(help)
 }
 
-/// The argument that names the font file, behind `--fonts`.
+/// The option `--fonts`, which names the font file.
 fn fonts_argument<'a>(alloc: Global) -> Arg<'a>
     ensures rule { rule_of result ≡ fonts_argument }
     ensures local { result.global ≡ false }
@@ -105,7 +105,7 @@ fn fonts_argument<'a>(alloc: Global) -> Arg<'a>
         .help("The font file, of 9,728 bytes")
 }
 
-/// The argument that says after how many steps a run stops, behind `--until`.
+/// The option `--until`, which limits the number of steps.
 fn until_argument<'a>(alloc: Global) -> Arg<'a>
     ensures rule { rule_of result ≡ until_argument }
     ensures local { result.global ≡ false }
@@ -113,10 +113,10 @@ fn until_argument<'a>(alloc: Global) -> Arg<'a>
     Arg::new(alloc, "until")
         .long("until")
         .value_name("N")
-        .help("Stops after so many steps, and shows the card")
+        .help("Stops after N steps, and shows the card")
 }
 
-/// A command with no arguments yet: its name, what it is about, its usage, and what its help ends
+/// A command without arguments: its name, a description, its usage, and the text that its help ends
 /// with.
 fn described<'a>(
     alloc: Global,
@@ -195,7 +195,7 @@ fn go_command<'a>(alloc: Global) -> Result<Command<'a>, AllocError>
     .arg(until_argument(alloc))
 }
 
-/// The program's command line, but for the commands that run a script.
+/// The program's command line without the commands that run a script.
 fn converting_line<'a>(alloc: Global) -> Result<Command<'a>, AllocError>
     ensures line { IfOk result (λ c. app_of c ≡ converting_line) }
     ensures local { IfOk result (λ c. (fields_of c).has_globals ≡ false) }

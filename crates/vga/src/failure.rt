@@ -1,4 +1,4 @@
-//! Why the program does not do its job to the end.
+//! Why the program did not do its job.
 ghost use Rattle.std.specs.Prelude.{◌≡◌};
 
 use super::words_error::WordsError;
@@ -6,12 +6,12 @@ use clap::error::ErrorKind;
 use std::alloc::AllocError;
 use vga_bits::Fault;
 
-/// Why the program does not do its job to the end.
+/// Why the program did not do its job.
 #[derive(Debug, Drop)]
 pub enum Failure {
-    /// The words of the command line name no job.
+    /// A usage error: the words of the command line name no job.
     Words(WordsError),
-    /// A fault ended the job, or memory ran out while the words were read.
+    /// A fault ended the job, or an allocation failed while the words were read.
     Fault(Fault),
 }
 
@@ -20,7 +20,7 @@ impl From<clap::Error> for Failure {
 
     ghost from_gives = { λ error failure. failure ≡ failure_of error };
 
-    /// Want of memory is a fault, and any other error is one of the words.
+    /// A failed allocation is a fault. Any other error of the parser is a usage error.
     fn from(error: clap::Error) -> Failure {
         match error.kind() {
             ErrorKind::OutOfMemory => Failure::Fault(Fault::OutOfMemory),

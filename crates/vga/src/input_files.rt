@@ -1,4 +1,4 @@
-//! Files that are read.
+//! Opening and reading files.
 ghost use Rattle.std.specs.Prelude.{◌≡◌, ◌≤◌, ◌+◌, false, IfOk, IsOkUnless};
 ghost use Rattle.vga_bits.specs.Tracked.{inner_of, has_failed, read_count_of};
 ghost use Rattle.vga_bits.specs.LimitedReading.{ReadsPrefix};
@@ -9,14 +9,14 @@ use std::io::Read;
 use std::rt::Files;
 use vga_bits::{Fault, Tracked, read_prefix};
 
-/// One byte more than a font file has, so that one that is too long is told from a whole one.
+/// One byte more than a font file has, to tell a longer file from a font file.
 const FONTS_ROOM: usize = 9_729;
 
-/// The file at a path, opened for reading. None of its calls has failed.
+/// Opens the file at a path for reading. None of its calls has failed so far.
 ///
 /// # Errors
 ///
-/// `ReadFault` where it cannot be opened.
+/// `ReadFault` if it cannot be opened.
 pub fn open<F: Files>(files: &F, path: &str) -> Result<Tracked<F::File>, Fault>
     ensures sound { IfOk result (λ file. has_failed file ≡ false) }
     ensures fault { IsOkUnless result Fault.ReadFault }
@@ -27,11 +27,11 @@ pub fn open<F: Files>(files: &F, path: &str) -> Result<Tracked<F::File>, Fault>
     }
 }
 
-/// The bytes of a font file: at most 9,729, which is one more than a font file has.
+/// Reads a font file: at most 9,729 bytes, which is one more than a font file has.
 ///
 /// # Errors
 ///
-/// `ReadFault` where the file fails in this call, and `OutOfMemory`.
+/// `ReadFault` if the file fails in this call, and `OutOfMemory`.
 pub fn read_fonts<R: Read>(alloc: Global, file: &mut Tracked<R>) -> Result<Vec<u8>, Fault>
     requires { has_failed file.old ≡ false }
     ensures prefix { ReadsPrefix 9729 (R.remaining (inner_of file.old))

@@ -1,4 +1,4 @@
-//! The lines that the program itself writes on standard error.
+//! The lines that the program itself writes to standard error.
 ghost use Rattle.std.specs.Prelude.{◌≡◌, ◌≤◌, length, codes};
 ghost use Rattle.vga_bits.specs.Fault.{fault_name};
 ghost use Rattle.vga.specs.Lines.{line_of};
@@ -9,7 +9,7 @@ use vga_bits::Fault;
 /// Room for `vga: `, the longest name of a fault, which has 34 bytes, and a newline.
 const LINE_LEN: usize = 40;
 
-/// A line that the program writes of itself, with its newline.
+/// A line that the program itself writes, with its newline.
 pub type Line = ArrayString<LINE_LEN>;
 
 /// The line with this text, of at most 34 bytes.
@@ -31,7 +31,7 @@ pub fn fault_line(fault: &Fault) -> Line
     line(fault.name().as_str())
 }
 
-/// The line of words that lack a command or a path.
+/// The line for words without a command or a path.
 pub fn missing_line() -> Line
     ensures { result.bytes ≡ line_of (codes "Missing") }
 {

@@ -1,6 +1,5 @@
-//! Scripts for a VGA adapter: `vga asm TEXT BIN` assembles one from its text, `vga dis BIN` prints
-//! one as text, and `vga run BIN --fonts FILE` and `vga go TEXT --fonts FILE` run one, or so many
-//! of its first steps, and write the report on standard output.
+//! The program `vga`: `asm` assembles a script from its text, `dis` disassembles one, and `run` and
+//! `go` run one, or its first steps, and write the report to standard output.
 #![tactic(auto)]
 
 mod arguments;
@@ -22,13 +21,13 @@ use std::{env, io};
 use vga_bits::Fault;
 use words_error::WordsError;
 
-/// Assembles the text at one path, and writes its binary form at another.
+/// Assembles the text at one path, and writes its script at another.
 fn assemble_file<R: Files + AllocGlobal>(rt: &R, text: &str, script: &str) -> Result<(), Fault> {
     let bytes = scripts::assembled(rt.alloc(), &mut input_files::open(rt, text)?)?;
     output_files::write_all(&mut output_files::create(rt, script)?, bytes.as_slice())
 }
 
-/// Prints the script at a path.
+/// Disassembles the script at a path.
 fn print_file<R: Files + Print + AllocGlobal>(rt: &R, script: &str) -> Result<(), Fault> {
     let alloc = rt.alloc();
     let mut script = input_files::open(rt, script)?;
@@ -41,7 +40,7 @@ fn fonts_at<R: Files + AllocGlobal>(rt: &R, path: &str) -> Result<Vec<u8>, Fault
     input_files::read_fonts(rt.alloc(), &mut input_files::open(rt, path)?)
 }
 
-/// Runs the script at one path over the font file at another.
+/// Runs the script at one path with the font file at another.
 fn run_file<R: Files + Print + AllocGlobal>(
     rt: &R,
     script: &str,
@@ -55,7 +54,7 @@ fn run_file<R: Files + Print + AllocGlobal>(
     vga_run::run(alloc, &mut script, fonts.as_slice(), &mut report, until)
 }
 
-/// Runs the script that the text at one path spells over the font file at another.
+/// Assembles the text at one path, and runs its script with the font file at another.
 fn run_text_file<R: Files + Print + AllocGlobal>(
     rt: &R,
     text: &str,
@@ -95,8 +94,8 @@ fn explain<R: Print + Eprint>(rt: &R, failure: &Failure) -> io::Result<()> {
     }
 }
 
-/// Does the job that the words of the command line name, or writes why it was not done; and its
-/// status.
+/// Does the job that the words of the command line name, or writes why it was not done. Returns the
+/// exit status.
 fn status_of_job<R: Env + Files + Print + Eprint + AllocGlobal>(rt: &R) -> u8 {
     let outcome = do_job(rt);
     if let Err(failure) = &outcome {

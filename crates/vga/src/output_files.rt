@@ -9,15 +9,15 @@ use std::io::{BufWriter, Write};
 use std::rt::Files;
 use vga_bits::{Fault, Tracked, flush, write_whole};
 
-/// How many bytes are kept back before they are written, 256 KiB.
+/// The length of the buffer before a writer, 256 KiB.
 const BUFFER_LEN: usize = 262_144;
 
-/// The file at a path, created for writing, or emptied where it is there. None of its calls has
-/// failed.
+/// Creates the file at a path for writing, or empties it if it exists. None of its calls has failed
+/// so far.
 ///
 /// # Errors
 ///
-/// `WriteFault` where it cannot be created.
+/// `WriteFault` if it cannot be created.
 pub fn create<F: Files>(files: &F, path: &str) -> Result<Tracked<F::File>, Fault>
     ensures sound { IfOk result (λ file. has_failed file ≡ false) }
     ensures fault { IsOkUnless result Fault.WriteFault }
@@ -28,12 +28,12 @@ pub fn create<F: Files>(files: &F, path: &str) -> Result<Tracked<F::File>, Fault
     }
 }
 
-/// A writer behind a buffer of 262,144 bytes, so that a long report takes few calls of the system.
-/// Nothing is written yet. Its last bytes are written when it is flushed or dropped.
+/// Puts a buffer of 262,144 bytes before a writer, so that a long report takes few system calls.
+/// Nothing is written yet. The last bytes are written when the writer is flushed or dropped.
 ///
 /// # Errors
 ///
-/// `OutOfMemory`, and then the writer is dropped.
+/// `OutOfMemory` if an allocation fails. The writer is then dropped.
 pub fn buffered<W: Write + Drop>(alloc: Global, writer: W) -> Result<Tracked<BufWriter<W>>, Fault>
     ensures inner { IfOk result (λ out. writer_inner (inner_of out) ≡ writer) }
     ensures empty { IfOk result (λ out. writer_buffer (inner_of out) ≡ []) }
@@ -47,8 +47,8 @@ pub fn buffered<W: Write + Drop>(alloc: Global, writer: W) -> Result<Tracked<Buf
     }
 }
 
-/// Writes all the bytes, and flushes the writer. It fails with `WriteFault` alone, where the writer
-/// does, which then has a prefix of the bytes.
+/// Writes all the bytes, and flushes the writer. The only error is `WriteFault`: the writer failed,
+/// and has a prefix of the bytes.
 #[tactic(auto, using(vga_bits::proofs::WritingLemmas::writes_more))]
 pub fn write_all<W: Write>(out: &mut Tracked<W>, bytes: &[u8]) -> Result<(), Fault>
     requires { has_failed out.old ≡ false }

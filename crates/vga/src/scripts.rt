@@ -12,12 +12,11 @@ use std::io::{Read, Write};
 use vga_bits::{Fault, Tracked};
 use vga_script::{Script, assemble, decode, encode, print, read_script};
 
-/// The script that a text spells. At most 16,777,217 bytes of the text are read.
+/// Assembles a text into a script. At most 16,777,217 bytes of the text are read.
 ///
 /// # Errors
 ///
-/// `ReadFault` where the reader fails, `TooLong` and `BadLine` as `assemble` says, and
-/// `OutOfMemory`.
+/// `ReadFault` if the reader fails, `TooLong` and `BadLine` as for `assemble`, and `OutOfMemory`.
 #[tactic(auto, using(crate::proofs::ScriptsLemmas::unread_text, crate::proofs::ScriptsLemmas::bad_text, crate::proofs::ScriptsLemmas::good_text))]
 fn script_of_text<R: Read>(alloc: Global, text: &mut Tracked<R>) -> Result<Script, Fault>
     requires { has_failed text.old ≡ false }
@@ -28,12 +27,11 @@ fn script_of_text<R: Read>(alloc: Global, text: &mut Tracked<R>) -> Result<Scrip
     assemble(alloc, text.as_slice())
 }
 
-/// The bytes of the script that a text spells. At most 16,777,217 bytes of the text are read.
+/// Assembles a text into the bytes of a script. At most 16,777,217 bytes of the text are read.
 ///
 /// # Errors
 ///
-/// `ReadFault` where the reader fails, `TooLong` and `BadLine` as `assemble` says, and
-/// `OutOfMemory`.
+/// `ReadFault` if the reader fails, `TooLong` and `BadLine` as for `assemble`, and `OutOfMemory`.
 #[tactic(auto, using(crate::proofs::ScriptsLemmas::assembled))]
 pub fn assembled<R: Read>(alloc: Global, text: &mut Tracked<R>) -> Result<Vec<u8>, Fault>
     requires { has_failed text.old ≡ false }
@@ -44,14 +42,13 @@ pub fn assembled<R: Read>(alloc: Global, text: &mut Tracked<R>) -> Result<Vec<u8
     encode(alloc, &script)
 }
 
-/// Writes the printed text of a script, and flushes the writer. At most 16,777,217 bytes of the
-/// script are read.
+/// Disassembles a script: writes its printed text, and flushes the writer. At most 16,777,217 bytes
+/// of the script are read.
 ///
 /// # Errors
 ///
-/// `ReadFault` where the reader fails, the faults of the bytes as `decode` says, `WriteFault` where
-/// the writer fails, and `OutOfMemory`. Each but `WriteFault` comes before the first byte is
-/// written.
+/// `ReadFault` if the reader fails, the faults of `decode`, `WriteFault` if the writer fails, and
+/// `OutOfMemory`. Each except `WriteFault` comes before the first byte is written.
 #[tactic(auto, using(crate::proofs::ScriptsLemmas::unread_script, crate::proofs::ScriptsLemmas::bad_script, crate::proofs::ScriptsLemmas::unprinted_script, crate::proofs::ScriptsLemmas::good_script))]
 pub fn print_script<R: Read, W: Write>(
     alloc: Global,
@@ -72,13 +69,13 @@ pub fn print_script<R: Read, W: Write>(
     write_all(out, text.as_slice())
 }
 
-/// Runs the script that a text spells, writes its report, and flushes the writer. At most
-/// 16,777,217 bytes of the text are read. `until` is that of `vga_run::run_script`.
+/// Assembles a text, runs its script, writes the report, and flushes the writer. At most 16,777,217
+/// bytes of the text are read. `until` is that of `vga_run::run_script`.
 ///
 /// # Errors
 ///
-/// `ReadFault` where the reader fails, `TooLong` and `BadLine` as `assemble` says, and
-/// `OutOfMemory`; then the faults of `vga_run::run_script`.
+/// `ReadFault` if the reader fails, `TooLong` and `BadLine` as for `assemble`, and `OutOfMemory`;
+/// then the faults of `vga_run::run_script`.
 #[tactic(auto, using(crate::proofs::ScriptsLemmas::not_run, crate::proofs::ScriptsLemmas::no_write_fault, crate::proofs::ScriptsLemmas::script_is_run, crate::proofs::ScriptsLemmas::script_stops))]
 pub fn run_text<R: Read, W: Write>(
     alloc: Global,

@@ -6,8 +6,8 @@ use super::failure::Failure;
 use super::words_error::WordsError;
 use clap::error::ErrorKind;
 
-/// The exit status: 0 where the job is done or help was asked for, 1 for a fault, and 2 for words
-/// that name no job.
+/// The exit status: 0 if the job is done or help was asked for, 1 for a fault, and 2 for a usage
+/// error.
 pub fn status(outcome: &Result<(), Failure>) -> u8
     ensures { result ≡ status_of outcome.now }
 {

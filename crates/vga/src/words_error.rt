@@ -1,10 +1,10 @@
-//! Why words are no job.
+//! Usage errors.
 
 /// Why the words of a command line name no job.
 #[derive(Debug, Drop)]
 pub enum WordsError {
-    /// The parser of command lines refuses them, or was asked for help.
+    /// The command-line parser refuses the words, or was asked for help.
     Refused(clap::Error),
-    /// The parser takes them, and its matches lack a command or a path.
+    /// The command-line parser accepts the words, but its matches lack a command or a path.
     Missing,
 }

@@ -8,7 +8,7 @@ use Rattle.std_heap.specs.contracts.GlobalAllocator.TheImpl.{ghosts, dict}
 use Rattle.std_heap.proofs.Global.TheLaws as heap
 use Rattle.vga_run.specs.contracts.machine.Machine as Machine
 use Rattle.vga_run.proofs.machine.Machine.TheLaws as machine
-use Rattle.vga_c.specs.contracts.parts.Parts as Parts
+use Rattle.vga_c.specs.contracts.box_parts.BoxParts as Parts
 use Rattle.vga_c.specs.contracts.sealed.Sealed as Sealed
 
 abbrev pub E : Bx

@@ -5,7 +5,7 @@ use Rattle.std.proofs.lemmas.Nat.{and_block, and_mask}
 low_half : (n : ℕ) → bit_and n 15 ≡ n % 16
 low_half n = and_mask n 4
 
--- of a byte above half a byte, and of what stands behind it
+-- of a byte above half a byte, and of what stands after it
 two_halves : (a n b : ℕ) → a < 16 → n < 16 → b < 16
     → bit_and (a * 2 ^ 8 + (16 * n + b)) (15 * 2 ^ 8 + 15) ≡ 256 * a + b
 two_halves a n b a_fits n_fits b_fits =

@@ -1,4 +1,4 @@
--- The checksum of bytes, one after the other, and bytes that are all 0.
+-- The checksum of bytes, one after another, and bytes that are all 0.
 use Rattle.std.proofs.Common.{◌≡◌, ◌∙◌, ◌+◌, ◌*◌, ◌%◌, ◌<◌, ◌≤◌, ℕ, List, length, drop, replicate, ap, sym, subst}
 use Rattle.std.proofs.lemmas.List.{drop_all, drop_more, ext_get_or, get_or-replicate, length-replicate}
 use Rattle.std.specs.Prelude.{slice_index}

@@ -1,4 +1,4 @@
--- What was told of a frame is the picture of its dots.
+-- The output of a frame is the picture of its dots.
 use Rattle.std.proofs.Common.{ℕ, List, sym, subst, Option}
 use Rattle.vga_card.specs.Picture.{Dot, IsPictureOf, bytes_of}
 use Rattle.vga_card.specs.declared.drawn.Drawn.{Drawn}

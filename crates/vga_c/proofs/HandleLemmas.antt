@@ -7,12 +7,12 @@ use Rattle.vga_card.specs.Cycles.{Written}
 use Rattle.vga_card.specs.Dots.{dots, most_dots}
 use Rattle.vga_script.specs.declared.step.Step.TheVariants.{Advance}
 use Rattle.vga_run.specs.declared.machine.Machine.{Machine}
-use Rattle.vga_run.specs.Answer.{of_write, Plain}
+use Rattle.vga_run.specs.Answer.{of_write, Short}
 use Rattle.vga_run.specs.Step.{advance_cycle, after_step, answer_to}
 use Rattle.vga_c.specs.Handle.{HandleState, machine_of}
 use Rattle.vga_c.specs.Status.{status_of}
 
--- so many dots are few enough
+-- this many dots are few enough
 few_are : (n : ℕ) → n ≤ most_dots → nat_le n most_dots ≡ true
 few_are n few = grind (arith, nat_tests)
 
@@ -45,7 +45,7 @@ owed_both split m a b few =
 -- few enough dots are not refused
 pub advance_is_done : (m : Machine) (n : ℕ) → n ≤ most_dots → 0 ≡ status_of (answer_to m (Advance n))
 unfolding answer_to
-advance_is_done m n few = sym (ap (λ (r : Written). status_of (Plain (of_write r.1))) (cycle_is m.card n few))
+advance_is_done m n few = sym (ap (λ (r : Written). status_of (Short (of_write r.1))) (cycle_is m.card n few))
 
 -- a card that owes no dots has the machine that it keeps
 pub nothing_owed : ((c : CardState) → dots 0 c ≡ c) → (h : HandleState) → h.owed ≡ 0 → h.kept.machine ≡ machine_of h

@@ -1,4 +1,4 @@
--- The rows of a picture, each written behind the one before, in any form.
+-- The rows of a picture, each written after the one before, in any form.
 use Rattle.std.proofs.Common.{◌≡◌, ◌+◌, ◌-◌, ◌*◌, ◌<◌, ◌≤◌, ◌⊎◌, inl, inr, ◌∙◌, ℕ, List, length, sym, ap, subst, arith, eq-or-lt_of_le}
 use Rattle.std.proofs.Math.Nat.{mul-div-le}
 use Rattle.std.proofs.lemmas.Nat.{mul-add-lt}
@@ -40,7 +40,7 @@ module _ (w y p : ℕ) (word : ℕ → ℕ → ℕ) (old mid new : List ℕ) (fi
     size = size ∙ so_far.size;
   }
 
--- ---- every so many dots of every so many lines
+-- ---- every n-th dot of every m-th line
 
 -- the dot that is taken is one of those that there are
 pub every_below : (m n i : ℕ) → 0 < m → i < div_ceil n m → m * i < n
@@ -62,23 +62,23 @@ dot_within width height form is x y a b =
 every_one : (n : ℕ) → div_ceil n 1 ≡ n
 every_one n = omega arith
 
-abbrev plain : Form
-plain = record { across = 1; down = 1; above = 0 }
+abbrev every_dot : Form
+every_dot = record { across = 1; down = 1; above = 0 }
 
-plain_word : (w : ℕ) (bytes : List ℕ) (x y : ℕ) → form_word plain w bytes x y ≡ dot_word bytes (w * y + x)
-plain_word w bytes x y = or_zero_l (dot_word bytes (w * (1 * y) + 1 * x)) ∙ ap (dot_word bytes) (ap (λ z. w * z + 1 * x) one ∙ omega arith)
+every_dot_word : (w : ℕ) (bytes : List ℕ) (x y : ℕ) → form_word every_dot w bytes x y ≡ dot_word bytes (w * y + x)
+every_dot_word w bytes x y = or_zero_l (dot_word bytes (w * (1 * y) + 1 * x)) ∙ ap (dot_word bytes) (ap (λ z. w * z + 1 * x) one ∙ omega arith)
   where
     one : 1 * y ≡ y
     one = omega arith
 
-pub plain_rows : (w h p : ℕ) (bytes old new : List ℕ) → AreRows (div_ceil w 1) (div_ceil h 1) p (form_word plain w bytes) old new →
+pub every_dot_rows : (w h p : ℕ) (bytes old new : List ℕ) → AreRows (div_ceil w 1) (div_ceil h 1) p (form_word every_dot w bytes) old new →
     AreRows w h p (λ x y. dot_word bytes (w * y + x)) old new
-plain_rows w h p bytes old new rows =
-    let sized : AreRows w h p (form_word plain w bytes) old new =
-    subst (λ n. AreRows n h p (form_word plain w bytes) old new) (every_one w)
-    (subst (λ n. AreRows (div_ceil w 1) n p (form_word plain w bytes) old new) (every_one h) rows) in
+every_dot_rows w h p bytes old new rows =
+    let sized : AreRows w h p (form_word every_dot w bytes) old new =
+    subst (λ n. AreRows n h p (form_word every_dot w bytes) old new) (every_one w)
+    (subst (λ n. AreRows (div_ceil w 1) n p (form_word every_dot w bytes) old new) (every_one h) rows) in
     record {
-      words = λ x y a b. sized.words x y a b ∙ plain_word w bytes x y;
+      words = λ x y a b. sized.words x y a b ∙ every_dot_word w bytes x y;
       beside = sized.beside;
       behind = sized.behind;
       size = sized.size;

@@ -1,4 +1,4 @@
--- What the caller is told of bytes that are restored.
+-- The status of bytes that are restored.
 use Rattle.std.proofs.Common.{◌≡◌, inl, inr, ℕ, List}
 use Rattle.vga_bits.specs.declared.state_fault.StateFault.{StateFault}
 use Rattle.vga_run.specs.declared.machine.Machine.{Machine}

@@ -1,4 +1,4 @@
--- What was told of an outcome is the answer of the step that calls the service.
+-- The output of a call is the answer of the step that calls the service.
 use Rattle.std.proofs.Common.{◌≡◌, ◌∙◌, true, inl, inr, ℕ, List, refl, sym, subst, Result, Ok, Err}
 use Rattle.vga_card.specs.Card.{CardState}
 use Rattle.vga_card.specs.Bus.{card_meaning}
@@ -11,7 +11,7 @@ use Rattle.bios_services.specs.declared.reply.ServiceError.{ServiceError}
 use Rattle.bios_services.specs.declared.reply.ServiceError.TheVariants.{Refused, OutOfMemory}
 use Rattle.vga_run.specs.declared.machine.Machine.{Machine}
 use Rattle.vga_run.specs.declared.answer.Answer.TheVariants as answer
-use Rattle.vga_run.specs.Answer.{Plain, of_service}
+use Rattle.vga_run.specs.Answer.{Short, of_service}
 use Rattle.vga_run.specs.Step.{after_step, answer_to, called}
 use Rattle.vga_c.specs.Blocks.{IsEnough, regs_of as named_regs}
 use Rattle.vga_c.specs.Services.{HasAnswer, HasOutcome, IsCalled, Told, call_step}
@@ -47,6 +47,6 @@ unfolding called answer_to
 enough fits m r len is block same refused =
     fits m.fonts m.bda (named_regs r) block m.card (same ∙ is) (of_refused (run card_meaning (service m.fonts m.bda (named_regs r) block) m.card).1.0 refused)
   where
-    of_refused : (x : Result Reply Refusal) → of_service x ≡ Plain (answer.Refused BadBlock) → x ≡ Err BadBlock
+    of_refused : (x : Result Reply Refusal) → of_service x ≡ Short (answer.Refused BadBlock) → x ≡ Err BadBlock
     of_refused (Ok reply) e = absurd (cc)
     of_refused (Err why) e = cc

@@ -1,4 +1,4 @@
--- What a call of interrupt 10 (hexadecimal) reads of the caller's memory, as the caller is told.
+-- What a call of interrupt 10 (hexadecimal) reads from the caller's memory.
 use Rattle.std.specs.Prelude.{◌≡◌, ℕ, List, length, true}
 use Rattle.vga_bits.specs.declared.refusal.Refusal.TheVariants.{BadBlock}
 use Rattle.bios_services.specs.declared.regs.Regs.{Regs}
@@ -6,14 +6,14 @@ use Rattle.bios_services.specs.Blocks.{block_len, is_at_dx}
 use Rattle.bios_services.specs.Calls.{call_of}
 use Rattle.vga_run.specs.declared.machine.Machine.{Machine}
 use Rattle.vga_run.specs.declared.answer.Answer.TheVariants.{Refused}
-use Rattle.vga_run.specs.Answer.{Plain}
+use Rattle.vga_run.specs.Answer.{Short}
 use Rattle.vga_run.specs.Step.{answer_to}
 use Rattle.vga_c.specs.declared.blocks.BlockPlace.{BlockPlace}
 use Rattle.vga_c.specs.declared.services.CallRegisters.{CallRegisters}
 use Rattle.vga_c.specs.Handle.{HandleState, machine_of}
 use Rattle.vga_c.specs.Services.{call_step}
 
--- the registers of a call, as the services have them
+-- the registers of a call, as the services see them
 abbrev pub regs_of : CallRegisters → Regs
 regs_of r = record { ax = r.ax; bx = r.bx; cx = r.cx; dx = r.dx }
 
@@ -21,12 +21,12 @@ regs_of r = record { ax = r.ax; bx = r.bx; cx = r.cx; dx = r.dx }
 abbrev pub IsBlock : CallRegisters → BlockPlace → Type 0
 IsBlock r told = (told.len ≡ block_len (call_of (regs_of r))) × (told.is_at_dx ≡ is_at_dx (regs_of r))
 
--- with just so many bytes the call is not refused for its block
+-- with a block of this length the call is not refused for its block
 abbrev pub IsEnough : Machine → CallRegisters → ℕ → Type 0
 IsEnough m r len = (block : List ℕ) → length block ≡ len →
-    ¬ (answer_to m (call_step r block) ≡ Plain (Refused BadBlock))
+    ¬ (answer_to m (call_step r block) ≡ Short (Refused BadBlock))
 
--- that is told of an open card
+-- an open card answers that
 abbrev pub TellsBlock : HandleState → CallRegisters → BlockPlace → ℕ → Type 0
 TellsBlock old r told status = old.is_open ≡ true →
     IsBlock r told × (IsEnough (machine_of old) r told.len × (status ≡ 0))

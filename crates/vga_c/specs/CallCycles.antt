@@ -14,38 +14,39 @@ use Rattle.vga_c.specs.Buffers.{IsCopied}
 use Rattle.vga_c.specs.Handle.{HandleState, machine_of}
 use Rattle.vga_c.specs.Status.{out_of_memory, refusal_status, too_long}
 
--- the registers of a call, as a service has them
+-- the registers of a call, as the services see them
 abbrev pub regs_of : CallRegisters → Regs
 regs_of r = record { ax = r.ax; bx = r.bx; cx = r.cx; dx = r.dx }
 
--- what the caller has: a buffer for bytes, and how many they are
+-- The caller's output: a buffer for bytes, and how many there are.
 pub record Given : Type 0 where
   pub bytes : List ℕ
   pub len : ℕ
 
+-- an output with these contents
 abbrev pub given : List ℕ → ℕ → Given
 given bytes len = record { bytes = bytes; len = len }
 
--- the number of why there is no list
+-- the status that says why there is no list
 abbrev pub unlisted_status : Unlisted → ℕ
 unlisted_status (Refused why) = refusal_status why
 unlisted_status TooLong = too_long
 unlisted_status OutOfMemory = out_of_memory
 
--- the bytes that list the cycles of a call which is not refused: they spell the script of these; or
--- why there are none
+-- the bytes that list the cycles of a call that is not refused: they spell the script of the
+-- cycles; or why there are none
 abbrev pub IsOutcomeOfList : Machine → Regs → List ℕ → Result (List ℕ) Unlisted → Type 0
 IsOutcomeOfList m regs block (Ok bytes) = (bytes ≡ listed_bytes m regs block)
     × Spells bytes (script_of_steps (cycles_of_call m regs block))
     × IsOk (called m regs.ax regs.bx regs.cx regs.dx block).1.0
 IsOutcomeOfList m regs block (Err why) = IsUnlisted m regs block why
 
--- the caller has the bytes, or the number of why there are none
+-- the output has the bytes; or the status says why there are none
 abbrev pub HasCycles : Result (List ℕ) Unlisted → Given → Given → ℕ → Type 0
 HasCycles (Ok bytes) before after status = IsCopied bytes before.bytes after.bytes after.len status
 HasCycles (Err why) before after status = (status ≡ unlisted_status why) × (after ≡ before)
 
--- that is so of the list of a call's cycles on a machine
+-- that holds for the cycles of a call on a machine
 abbrev pub AreListed : Machine → CallRegisters → List ℕ → Given → Given → ℕ → Type 0
 AreListed m registers block before after status = (outcome : Result (List ℕ) Unlisted)
     × IsOutcomeOfList m (regs_of registers) block outcome × HasCycles outcome before after status

@@ -10,21 +10,21 @@ use Rattle.vga_c.specs.Status.{no_card, status_of, value_of}
 abbrev pub Holds : HandleState → Machine → Type 0
 Holds card machine = (card.is_open ≡ true) × (machine_of card ≡ machine)
 
--- a card that is not open stays as it is, and the call says so
+-- a card that is not open stays as it is, and the status says so
 abbrev pub LeavesClosed : HandleState → HandleState → ℕ → Type 0
 LeavesClosed old new status = old.is_open ≡ false → (new ≡ old) × (status ≡ no_card)
 
--- and what is the caller's stays as it is
+-- the outputs stay as they are if the card is not open
 abbrev pub Spares : {A : Type 0} → HandleState → A → A → Type 0
 Spares old before after = old.is_open ≡ false → after ≡ before
 
--- an open card does a step of a script, and the call answers its number
+-- an open card does a step of a script, and the status is that of the step
 abbrev pub Takes : Step → HandleState → HandleState → ℕ → Type 0
 Takes step old new status = old.is_open ≡ true →
     Holds new (after_step (machine_of old) step)
     × (status ≡ status_of (answer_to (machine_of old) step))
 
--- and the caller's variable has what the step reads
+-- and the caller's output has what the step reads
 abbrev pub Reads : Step → HandleState → ℕ → ℕ → Type 0
 Reads step old before after = old.is_open ≡ true →
     after ≡ value_of (answer_to (machine_of old) step) before
@@ -33,7 +33,7 @@ Reads step old before after = old.is_open ≡ true →
 abbrev pub Keeps : HandleState → HandleState → Type 0
 Keeps old new = old.is_open ≡ true → Holds new (machine_of old)
 
--- and the caller's variable has what the machine has
+-- and the caller's output has this value of the machine
 abbrev pub Tells : {A : Type 0} → (Machine → A) → HandleState → A → ℕ → Type 0
 Tells value old after status = old.is_open ≡ true →
     (after ≡ value (machine_of old)) × (status ≡ 0)

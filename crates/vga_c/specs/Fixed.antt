@@ -1,4 +1,4 @@
--- States of a fixed length: the state, zeros, and a checksum of all of these.
+-- States of a fixed length: the state, zeros, and a checksum of both.
 use Rattle.std.specs.Prelude.{◌≡◌, ◌+◌, ◌-◌, ◌*◌, ◌%◌, ◌<◌, ◌≤◌, ◌++◌, ℕ, true, List, [], ◌∷◌, length}
 use Rattle.std.specs.Prelude.{take, min, nat_lt, if◌then◌else◌}
 use Rattle.vga_bits.specs.Bytes.{zeros}
@@ -8,58 +8,61 @@ use Rattle.vga_c.specs.Handle.{HandleState, machine_of}
 use Rattle.vga_c.specs.Saved.{IsRestored}
 use Rattle.vga_c.specs.Status.{no_room}
 
--- Adler-32, the checksum of zlib (RFC 1950): one more than the sum of the bytes, and the sum of
--- these sums, each modulo the largest prime below 65,536
+-- Adler-32, the checksum of zlib (RFC 1950), from these two sums on: the sum of the bytes, plus 1,
+-- and the sum of those sums, each modulo the largest prime below 65,536
 unfoldable pub adler_from : ℕ → ℕ → List ℕ → ℕ
 adler_from sum sums [] = 65536 * sums + sum
 adler_from sum sums (b ∷ bytes) =
     adler_from ((sum + b) % 65521) ((sums + (sum + b) % 65521) % 65521) bytes
 
+-- the Adler-32 checksum of some bytes
 abbrev pub adler_32 : List ℕ → ℕ
 adler_32 bytes = adler_from 1 0 bytes
 
--- a state in so many bytes, the last four of which are the checksum of those before
+-- a state and zeros, which with the checksum make `len` bytes
 abbrev pub body_of : List ℕ → ℕ → List ℕ
 body_of state len = state ++ zeros (len - (4 + length state))
 
+-- those bytes, and their checksum
 abbrev pub fixed_bytes : List ℕ → ℕ → List ℕ
 fixed_bytes state len = body_of state len ++ long_bytes (adler_32 (body_of state len))
 
--- all of the caller's bytes are such a state; or they are too few, and stay
+-- the caller's whole buffer has such a state; or it is too short, and stays as it is
 abbrev pub IsSavedFixed : List ℕ → List ℕ → List ℕ → ℕ → Type 0
 IsSavedFixed state old new status =
     (4 + length state ≤ length old → (new ≡ fixed_bytes state (length old)) × (status ≡ 0))
     × (length old < 4 + length state → (new ≡ old) × (status ≡ no_room))
 
--- that is so of the state of an open card
+-- that holds for the state of an open card
 abbrev pub SavesFixed : HandleState → List ℕ → List ℕ → ℕ → Type 0
 SavesFixed card old new status = card.is_open ≡ true →
     IsSavedFixed (saved_machine (machine_of card)) old new status
 
--- the checksum is wrong
+-- the status for a wrong checksum
 abbrev pub state_checksum : ℕ
 state_checksum = 34
 
--- the bytes before the checksum, and those of them that the state says it has
+-- the bytes before the checksum
 abbrev pub summed : List ℕ → List ℕ
 summed bytes = take (length bytes - 4) bytes
 
+-- the state at the beginning of those bytes, as long as it says
 abbrev pub state_in : List ℕ → List ℕ
 state_in body = if nat_lt (length body) 9 then body else take (min (long_at body 5) (length body))
     body
 
--- bytes end with the checksum of those before
+-- bytes end with the checksum of the bytes before
 abbrev pub IsSummed : List ℕ → Type 0
 IsSummed bytes = (4 ≤ length bytes) × (long_at bytes (length bytes - 4) ≡ adler_32 (summed bytes))
 
--- where the checksum is right, the machine is restored from the state, or that is refused; else it
--- stays
+-- if the checksum is right, the machine is restored from the state, or the state is refused;
+-- otherwise the machine stays as it is
 abbrev pub IsRestoredFixed : Machine → Machine → List ℕ → ℕ → Type 0
 IsRestoredFixed old new bytes status =
     (IsSummed bytes → IsRestored old new (state_in (summed bytes)) status)
     × (¬ IsSummed bytes → (new ≡ old) × (status ≡ state_checksum))
 
--- that is so of an open card
+-- that holds for an open card
 abbrev pub RestoresFixed : HandleState → HandleState → List ℕ → ℕ → Type 0
 RestoresFixed old new bytes status = old.is_open ≡ true → (new.is_open ≡ true)
     × IsRestoredFixed (machine_of old) (machine_of new) bytes status

@@ -1,4 +1,4 @@
--- A picture as words in rows, in the form that the caller asks for.
+-- Pictures as rows of words, in the form that the caller asks for.
 use Rattle.std.specs.Prelude.{◌≡◌, ◌+◌, ◌-◌, ◌*◌, ◌/◌, ◌%◌, ◌==◌, ◌<◌, ◌≤◌, ◌&&◌, ℕ, true, false}
 use Rattle.std.specs.Prelude.{nat_le, Bool, if◌then◌else◌, List, length, slice_index, bit_or}
 use Rattle.vga_card.specs.Card.{CardState}
@@ -12,7 +12,7 @@ use Rattle.vga_c.specs.declared.forms.WordPicture.{WordPicture}
 use Rattle.vga_c.specs.Handle.{HandleState, machine_of}
 use Rattle.vga_c.specs.Status.{bad_argument, no_room, ragged}
 
--- eight bits of a component of six: its two highest bits stand again below it
+-- a component of six bits widened to eight: its two highest bits follow it
 abbrev pub eight_bits : ℕ → ℕ
 eight_bits six = 4 * six + six / 16
 
@@ -22,8 +22,8 @@ dot_word bytes i = 0x1_0000 * eight_bits (slice_index bytes (3 * i))
     + (0x100 * eight_bits (slice_index bytes (3 * i + 1))
     + eight_bits (slice_index bytes (3 * i + 2)))
 
--- Words in rows, of which row y begins at pitch * y: word x of row y is `word x y`; what stands
--- beside the rows and behind them stays.
+-- Rows of words: row y begins at pitch * y, and its word x is `word x y`. What lies between and
+-- after the rows stays as it was.
 pub record AreRows (width height pitch : ℕ) (word : ℕ → ℕ → ℕ) (old new : List ℕ) : Type 0 where
   pub words : (x y : ℕ) → x < width → y < height → slice_index new (pitch * y + x) ≡ word x y
   pub beside : (x y : ℕ) → width ≤ x → x < pitch → y < height →
@@ -31,11 +31,11 @@ pub record AreRows (width height pitch : ℕ) (word : ℕ → ℕ → ℕ) (old 
   pub behind : (i : ℕ) → pitch * height ≤ i → slice_index new i ≡ slice_index old i
   pub size : length new ≡ length old
 
--- whether a buffer of so many words has room for the rows at their pitch
+-- whether a buffer of `len` words has room for the rows at this pitch
 abbrev pub has_room : ℕ → ℕ → ℕ → ℕ → Bool
 has_room width height pitch len = nat_le width pitch && nat_le (pitch * height) len
 
--- the words are there, where they have room
+-- the words are in the buffer, if it has room for them
 abbrev pub AreInRows : ℕ → ℕ → ℕ → (ℕ → ℕ → ℕ) → List ℕ → List ℕ → ℕ → Type 0
 AreInRows width height pitch word old new status =
     (has_room width height pitch (length old) ≡ true →
@@ -44,14 +44,15 @@ AreInRows width height pitch word old new status =
 
 -- ---- forms
 
--- how many of n there are where every m-th is taken, from the first on
+-- how many of n there are if every m-th is taken, from the first on
 abbrev pub div_ceil : ℕ → ℕ → ℕ
 div_ceil n m = (n + (m - 1)) / m
 
--- whether flags ask for words without a transparent byte, and for dots and lines once
+-- whether flags ask for opaque words, whose top byte is FF
 abbrev pub is_opaque : ℕ → Bool
 is_opaque flags = flags % 2 == 1
 
+-- whether flags ask for each pixel once, even if the screen shows it several times
 abbrev pub is_once : ℕ → Bool
 is_once flags = flags / 2 % 2 == 1
 
@@ -72,12 +73,12 @@ pub record IsForm (form : Form) : Type 0 where
 
 -- ---- the words of a picture
 
--- word x of row y of a picture of so many dots a line
+-- word x of row y of a picture with lines of `width` dots
 abbrev pub form_word : Form → ℕ → List ℕ → ℕ → ℕ → ℕ
 form_word form width bytes x y =
     bit_or form.above (dot_word bytes (width * (form.down * y) + form.across * x))
 
--- what the caller is told of a picture in a form: words in a row, rows, and what each stands for
+-- the description of a picture in a form: words in a row, rows, and what each word stands for
 abbrev pub picture_of : Form → ℕ → ℕ → WordPicture
 picture_of form width height = record {
   width = div_ceil width form.across;
@@ -86,8 +87,8 @@ picture_of form width height = record {
   down = form.down;
 }
 
--- the caller has a picture in this form, or only what is told of it where there was no room; or it
--- is told that rows differ in width, and has what it had
+-- The output has a picture in this form, or only its description if there was no room. If rows
+-- differ in width, the status says so, and the output is unchanged.
 abbrev pub HasForm : Form → StepAnswer → ℕ → WordPicture → WordPicture → List ℕ → List ℕ → ℕ →
     Type 0
 HasForm form (Picture width height bytes) pitch told_old told old new status =
@@ -97,8 +98,8 @@ HasForm form Ragged pitch told_old told old new status =
     (told ≡ told_old) × ((new ≡ old) × (status ≡ ragged))
 HasForm form reply pitch told_old told old new status = ⊥
 
--- flags that there are: an open card comes to the end of the frame under way, whose picture the
--- caller has in their form; with others it has what it had, and the card stays
+-- Known flags: the machine comes to the end of the frame under way, and the output has its picture
+-- in that form. With other flags, machine and output are unchanged.
 abbrev pub DrawsForm : ℕ → Machine → Machine → ℕ → WordPicture → WordPicture → List ℕ → List ℕ →
     ℕ → Type 0
 DrawsForm flags old_machine new_machine pitch told_old told old new status =
@@ -107,7 +108,7 @@ DrawsForm flags old_machine new_machine pitch told_old told old new status =
     × (4 ≤ flags → (new_machine ≡ old_machine) × ((told ≡ told_old) × ((new ≡ old)
     × (status ≡ bad_argument))))
 
--- that is so of an open card
+-- that holds for an open card
 abbrev pub DrawsFormOf : ℕ → HandleState → HandleState → ℕ → WordPicture → WordPicture → List ℕ →
     List ℕ → ℕ → Type 0
 DrawsFormOf flags card_old card pitch told_old told old new status = card_old.is_open ≡ true →

@@ -1,4 +1,4 @@
--- A frame's picture, as the caller has it.
+-- A frame's picture, as the caller gets it.
 use Rattle.std.specs.Prelude.{◌≡◌, ◌+◌, ◌*◌, ℕ, true}
 use Rattle.std.specs.Prelude.{List, length}
 use Rattle.vga_card.specs.Frames.{frame}
@@ -25,8 +25,8 @@ size_of width height = record { width = width; height = height }
 
 -- ---- three bytes a dot
 
--- the caller has size and bytes of a picture, or only its size where there was no room; or it is
--- told that rows differ in width, and has what it had
+-- The output has size and bytes of a picture, or only its size if there was no room. If rows differ
+-- in width, the status says so, and the output is unchanged.
 abbrev pub HasBytes : StepAnswer → Size → Size → List ℕ → List ℕ → ℕ → Type 0
 HasBytes (Picture width height bytes) size_old size old new status =
     (size ≡ size_of width height) × ((new ≡ with_prefix bytes old)
@@ -35,15 +35,15 @@ HasBytes Ragged size_old size old new status =
     (size ≡ size_old) × ((new ≡ old) × (status ≡ ragged))
 HasBytes reply size_old size old new status = ⊥
 
--- that is so of the frame of an open card
+-- that holds for the frame of an open card
 abbrev pub DrawsBytes : HandleState → Size → Size → List ℕ → List ℕ → ℕ → Type 0
 DrawsBytes card size_old size old new status = card.is_open ≡ true →
     HasBytes (answer_to (machine_of card) Frame) size_old size old new status
 
 -- ---- a word a dot
 
--- the caller has size and words of a picture, or only its size where there was no room; or it is
--- told that rows differ in width, and has what it had
+-- The output has size and words of a picture, or only its size if there was no room. If rows differ
+-- in width, the status says so, and the output is unchanged.
 abbrev pub HasWords : StepAnswer → ℕ → Size → Size → List ℕ → List ℕ → ℕ → Type 0
 HasWords (Picture width height bytes) pitch size_old size old new status =
     (size ≡ size_of width height) × AreInRows width height pitch
@@ -52,23 +52,24 @@ HasWords Ragged pitch size_old size old new status =
     (size ≡ size_old) × ((new ≡ old) × (status ≡ ragged))
 HasWords reply pitch size_old size old new status = ⊥
 
--- that is so of the frame of an open card
+-- that holds for the frame of an open card
 abbrev pub DrawsWords : HandleState → ℕ → Size → Size → List ℕ → List ℕ → ℕ → Type 0
 DrawsWords card pitch size_old size old new status = card.is_open ≡ true →
     HasWords (answer_to (machine_of card) Frame) pitch size_old size old new status
 
 -- ---- line by line
 
--- the dots of the frame that a machine has under way, drawn to its end
+-- the dots of a machine's frame under way, drawn to its end
 abbrev pub frame_dots : Machine → List Dot
 frame_dots m = (frame m.card).drawn
 
--- the caller has how many of the frame of an open card each line has
+-- the output has the number of dots of each line of an open card's frame
 abbrev pub CountsLines : HandleState → List ℕ → Type 0
 CountsLines card widths = card.is_open ≡ true →
     widths ≡ line_widths (frame_dots (machine_of card))
 
--- and their colours, of which it is told how many bytes they are; or there was no room for them
+-- the output has the colours of the dots, and how many bytes they are; or there was no room for
+-- them
 abbrev pub CopiesDots : HandleState → List ℕ → List ℕ → ℕ → ℕ → Type 0
 CopiesDots card old new len status = card.is_open ≡ true →
     IsCopied (bytes_of (frame_dots (machine_of card))) old new len status

@@ -5,12 +5,12 @@ use Rattle.vga_run.specs.declared.machine.Machine.{Machine}
 use Rattle.vga_run.specs.Step.{after_step}
 use Rattle.vga_c.specs.declared.sealed.Sealed.{Sealed}
 
--- whether the card is open, how many dots of the clock it owes, and what it keeps
+-- Whether the card is open, how many dots of the clock it owes, and the machine that it keeps.
 pub record HandleState : Type 0 where
   pub is_open : Bool
   pub owed : ℕ
   pub kept : Sealed
 
--- the machine of an open card: the one that it keeps, after the dots that it owes
+-- the machine of an open card: the one it keeps, after the dots that it owes
 unfoldable pub machine_of : HandleState → Machine
 machine_of card = after_step card.kept.machine (Advance card.owed)

@@ -20,5 +20,5 @@ pub mod Runs
 pub mod Texts
 pub mod Steps
 pub mod Version
-pub mod Clock
+pub mod Timing
 pub mod Transfers

@@ -6,21 +6,21 @@ use Rattle.vga_c.specs.Handle.{HandleState}
 use Rattle.vga_c.specs.Cards.{Holds}
 use Rattle.vga_c.specs.Status.{open_already, font_size, out_of_memory}
 
--- the card stays as it is, and the call says why
+-- the card stays as it is, and the status says why
 abbrev pub IsLeft : ℕ → HandleState → HandleState → ℕ → Type 0
 IsLeft why old new status = (new ≡ old) × (status ≡ why)
 
--- the card has a machine at power-on with the fonts of a font file; or there was no memory for it
+-- the card has a machine at power-on with the fonts of a font file; or an allocation failed
 abbrev pub IsOpened : List ℕ → HandleState → HandleState → ℕ → Type 0
 IsOpened file old new status = (Holds new (power_on_machine (fonts_of file)) × (status ≡ 0))
     ⊎ IsLeft out_of_memory old new status
 
--- a card that is not open is opened, if the font file has its size
+-- a card that is not open is opened, if the font file has the right size
 abbrev pub Opens : List ℕ → HandleState → HandleState → ℕ → Type 0
 Opens file old new status = old.is_open ≡ false → length file ≡ file_len →
     IsOpened file old new status
 
--- and left otherwise
+-- otherwise it stays as it is
 abbrev pub RefusesFile : List ℕ → HandleState → HandleState → ℕ → Type 0
 RefusesFile file old new status = old.is_open ≡ false → length file ≢ file_len →
     IsLeft font_size old new status

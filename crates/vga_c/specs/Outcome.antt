@@ -1,11 +1,11 @@
--- What a call over a script gives the caller: bytes, or the number of a fault and its place.
+-- What a call over a script gives the caller: bytes, or the status of a fault and its place.
 use Rattle.std.specs.Prelude.{◌≡◌, ℕ, List, Result, Ok, Err}
 use Rattle.vga_bits.specs.declared.fault.Fault.{Fault}
 use Rattle.vga_bits.specs.declared.fault.Fault.TheVariants as fault
 use Rattle.vga_c.specs.Buffers.{IsCopied}
 use Rattle.vga_c.specs.Status.{font_size, out_of_memory, too_long}
 
--- the number of a fault: what other calls answer for the same, or 100 more than the fault's own
+-- the status of a fault: that of the same reason in other calls, or 100 plus the fault's number
 abbrev pub fault_status : Fault → ℕ
 fault_status fault.FontSize = font_size
 fault_status fault.BadMagic = 102
@@ -19,7 +19,7 @@ fault_status fault.WriteFault = out_of_memory
 fault_status fault.OutOfMemory = out_of_memory
 fault_status (fault.TooMany place) = 111
 
--- what a fault leaves in the caller's variable: its place in the bytes, its line in the text, or
+-- what a fault leaves in the caller's variable: its offset in the bytes, its line in the text, or
 -- what was there
 abbrev pub fault_place : Fault → ℕ → ℕ
 fault_place (fault.BadStep place) before = place
@@ -28,23 +28,24 @@ fault_place (fault.TooMany place) before = place
 fault_place (fault.BadLine line) before = line
 fault_place other before = before
 
--- what the caller has: a buffer for bytes, how many they are, and the place of a fault
+-- The caller's output: a buffer for bytes, how many there are, and the place of a fault.
 pub record Told : Type 0 where
   pub bytes : List ℕ
   pub len : ℕ
   pub place : ℕ
 
+-- an output with these contents
 abbrev pub told : List ℕ → ℕ → ℕ → Told
 told bytes len place = record { bytes = bytes; len = len; place = place }
 
--- the caller has the bytes, or the number of a fault and its place
+-- the output has the bytes; or the status is that of a fault, and the output has its place
 abbrev pub HasOutcome : Result (List ℕ) Fault → Told → Told → ℕ → Type 0
 HasOutcome (Ok bytes) before after status = (after.place ≡ before.place)
     × IsCopied bytes before.bytes after.bytes after.len status
 HasOutcome (Err why) before after status = (status ≡ fault_status why)
     × (after ≡ told before.bytes before.len (fault_place why before.place))
 
--- that is so of an outcome which is this
+-- that holds for an outcome with this property
 abbrev pub Gives : (Result (List ℕ) Fault → Type 0) → Told → Told → ℕ → Type 0
 Gives IsThis before after status = (outcome : Result (List ℕ) Fault)
     × IsThis outcome × HasOutcome outcome before after status

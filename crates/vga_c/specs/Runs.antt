@@ -8,8 +8,8 @@ use Rattle.vga_script.specs.Input.{InputHasFault, InputMeans, IsTooLong}
 use Rattle.vga_run.specs.Report.{report_of}
 use Rattle.vga_c.specs.Outcome.{Told, Gives}
 
--- the first fault of a font file and the bytes of a script; or the font file has its size, and
--- there was no memory, for the report or else
+-- the first fault of a font file and the bytes of a script; or an allocation failed, with a font
+-- file of the right size
 abbrev pub IsFirstFault : List ℕ → List ℕ → Fault → Type 0
 IsFirstFault file script fault.FontSize = length file ≢ file_len
 IsFirstFault file script fault.WriteFault = length file ≡ file_len
@@ -28,6 +28,6 @@ abbrev pub IsOutcome : List ℕ → List ℕ → Result (List ℕ) Fault → Typ
 IsOutcome file script (Ok report) = IsReport file script report
 IsOutcome file script (Err why) = IsFirstFault file script why
 
--- the caller has that
+-- the output has that
 abbrev pub Runs : List ℕ → List ℕ → Told → Told → ℕ → Type 0
 Runs file script = Gives (IsOutcome file script)

@@ -1,4 +1,4 @@
--- The state of a card as bytes, from which a card goes on later.
+-- The state of a card as bytes, from which a card can go on later.
 use Rattle.std.specs.Prelude.{◌≡◌, ◌⊎◌, ℕ, true, List, length}
 use Rattle.vga_bits.specs.declared.state_fault.StateFault.{StateFault}
 use Rattle.vga_bits.specs.declared.state_fault.StateFault.TheVariants.{BadMagic, BadVersion}
@@ -17,20 +17,21 @@ abbrev pub Saves : HandleState → List ℕ → List ℕ → ℕ → ℕ → Typ
 Saves card old new len status = card.is_open ≡ true →
     IsCopied (saved_machine (machine_of card)) old new len status
 
--- the number of why bytes are no state
+-- the status that says why bytes are not a saved state
 abbrev pub state_status : StateFault → ℕ
 state_status BadMagic = 30
 state_status BadVersion = 31
 state_status BadLength = 32
 state_status BadPart = 33
 
--- a machine has the state of some bytes, and the fonts that it had; or they are none, and it stays
+-- a machine has the state of some bytes, and its own fonts; or the bytes are no state, and it stays
+-- as it is
 abbrev pub IsRestored : Machine → Machine → List ℕ → ℕ → Type 0
 IsRestored old new bytes status =
     (IsSavedMachine bytes × (new ≡ machine_from old.fonts bytes) × (status ≡ 0))
     ⊎ ((why : StateFault) × IsStateFault why bytes × (new ≡ old) × (status ≡ state_status why))
 
--- that is so of the machine of an open card, which stays open
+-- that holds for the machine of an open card, which stays open
 abbrev pub Restores : HandleState → HandleState → List ℕ → ℕ → Type 0
 Restores old new bytes status = old.is_open ≡ true → (new.is_open ≡ true)
     × IsRestored (machine_of old) (machine_of new) bytes status

@@ -1,4 +1,4 @@
--- A scan line of the frame under way, as the caller has it at the line's end.
+-- A scan line of the frame under way, as the caller gets it at the line's end.
 use Rattle.std.specs.Prelude.{◌≡◌, ◌+◌, ◌-◌, ◌<◌, ◌≤◌, ℕ, true, List, length, slice_index, bit_or}
 use Rattle.std.specs.Prelude.{if◌then◌else◌}
 use Rattle.vga_card.specs.Card.{CardState}
@@ -23,13 +23,13 @@ scan_line_of c = record {
   ends_frame = is_at_frame_start (line c);
 }
 
--- the word of dot x of the line, whose dots are the last that are drawn at its end
+-- the word of dot x of a line, whose dots are the last ones drawn at its end
 abbrev pub line_word : ℕ → CardState → ℕ → ℕ → ℕ
 line_word flags c x y = bit_or (if is_opaque flags then 0xFF00_0000 else 0)
     (dot_word (bytes_of (line c).drawn) (length (line c).drawn - width_of c + x))
 
--- Flags that there are: a machine comes to the end of the line under way, of which the caller is
--- told, and has its words, where they have room. With other flags nothing changes.
+-- Known flags: a machine comes to the end of the line under way, the output describes that line,
+-- and has its words if there is room. With other flags nothing changes.
 abbrev pub DrawsLine : ℕ → Machine → Machine → ScanLine → ScanLine → List ℕ → List ℕ → ℕ → Type 0
 DrawsLine flags old_machine new_machine told_old told old new status =
     (flags < 2 → (new_machine ≡ record old_machine { card = line old_machine.card })
@@ -38,7 +38,7 @@ DrawsLine flags old_machine new_machine told_old told old new status =
     × (2 ≤ flags → (new_machine ≡ old_machine) × ((told ≡ told_old) × ((new ≡ old)
     × (status ≡ bad_argument))))
 
--- that is so of an open card
+-- that holds for an open card
 abbrev pub DrawsLineOf : ℕ → HandleState → HandleState → ScanLine → ScanLine → List ℕ → List ℕ →
     ℕ → Type 0
 DrawsLineOf flags card_old card told_old told old new status = card_old.is_open ≡ true →

@@ -1,4 +1,4 @@
--- The plain screen that a machine shows, as the caller has it.
+-- The plain screen that a machine shows, as the caller gets it.
 use Rattle.std.specs.Prelude.{◌≡◌, ◌⊎◌, ◌+◌, ◌*◌, ℕ, true, if◌then◌else◌, Option, None, Some}
 use Rattle.bios_modes.specs.declared.modes.ModeRow.{ModeRow}
 use Rattle.bios_modes.specs.Bda.{BiosData}
@@ -14,7 +14,7 @@ use Rattle.vga_c.specs.declared.screens.Place.{Place}
 use Rattle.vga_c.specs.State.{flag}
 use Rattle.vga_c.specs.Status.{bad_argument, no_screen, out_of_memory}
 
--- a number of pixels: none in text
+-- a number of pixels, or 0 in text
 abbrev pub pixels_of : ℕ → ℕ → ℕ
 pixels_of mode count = if is_text mode then 0 else count
 
@@ -31,7 +31,7 @@ layout_in s = record {
   pages = s.layout.pages;
 }
 
--- the same of the BIOS data, where the mode has this row
+-- the same by the BIOS data, if the mode has this row
 abbrev pub layout_by : Option ModeRow → BiosData → Option ScreenLayout
 layout_by None d = None
 layout_by (Some row) d = Some (record {
@@ -45,45 +45,48 @@ layout_by (Some row) d = Some (record {
   pages = row.pages;
 })
 
--- a cell, as the caller has it
+-- a cell, as the caller gets it
 abbrev pub cell_of : Option (ℕ × ℕ) → Option Cell
 cell_of None = None
 cell_of (Some cell) = Some (record { character = cell.0; attribute = cell.1 })
 
--- a place of the cursor, as the caller has it
+-- a cursor position, as the caller gets it
 abbrev pub place_of : Option (ℕ × ℕ) → Option Place
 place_of None = None
 place_of (Some place) = Some (record { row = place.0; column = place.1 })
 
--- the caller has what was asked for, if there is such
+-- the output has what was asked for, if that exists
 abbrev pub IsAnswered : {A : Type 0} → Option A → A → A → ℕ → Type 0
 IsAnswered None before after status = (after ≡ before) × (status ≡ bad_argument)
 IsAnswered (Some value) before after status = (after ≡ value) × (status ≡ 0)
 
--- that is so of the screen that is shown, if there is one
+-- that holds for the screen that is shown, if there is one
 abbrev pub IsAsked : {A : Type 0} → Option Screen → (Screen → Option A) → A → A → ℕ → Type 0
 IsAsked None ask before after status = (after ≡ before) × (status ≡ no_screen)
 IsAsked (Some screen) ask before after status = IsAnswered (ask screen) before after status
 
--- and of the one that a machine shows; or there was no memory to read it
+-- and for the one that a machine shows; or an allocation failed
 abbrev pub HasOfScreen : {A : Type 0} → Machine → (Screen → Option A) → A → A → ℕ → Type 0
 HasOfScreen m ask before after status = ((after ≡ before) × (status ≡ out_of_memory))
     ⊎ IsAsked (shown m.card m.bda) ask before after status
 
--- that is so of an open card
+-- that holds for an open card
 abbrev pub Asks : {A : Type 0} → (Screen → Option A) → HandleState → A → A → ℕ → Type 0
 Asks ask card before after status = card.is_open ≡ true →
     HasOfScreen (machine_of card) ask before after status
 
--- what is asked of a screen: its layout, a cell, a pixel, the cursor's place on a page
+-- asks a screen for its layout
 abbrev pub ask_layout : Screen → Option ScreenLayout
 ask_layout s = Some (layout_in s)
 
+-- asks a screen for a cell
 abbrev pub ask_cell : ℕ → ℕ → ℕ → Screen → Option Cell
 ask_cell page row column s = cell_of (cell_at s page row column)
 
+-- asks a screen for a pixel
 abbrev pub ask_pixel : ℕ → ℕ → ℕ → Screen → Option ℕ
 ask_pixel page x y s = pixel_at s page x y
 
+-- asks a screen for the cursor position on a page
 abbrev pub ask_cursor : ℕ → Screen → Option Place
 ask_cursor page s = place_of (cursor_at s page)

@@ -12,10 +12,11 @@ use Rattle.vga_run.specs.contracts.machine.Machine.{the_row}
 abbrev pub sealed_owns : Global → Ptr → the_row.Denot → Fml
 sealed_owns alloc = box_owns (ghosts.dealloc_token alloc) the_row
 
--- nothing, where there is no machine
+-- a machine if there is one, and otherwise nothing
 unfoldable pub owns_if : Bool → Global → Ptr → the_row.Denot → Fml
 owns_if true alloc p m = sealed_owns alloc p m
 owns_if false alloc p m = ftrue
 
+-- machines as values of a ghost field
 abbrev pub machine_coded : Coded the_row.Denot
 machine_coded = the_row.coded

@@ -1,4 +1,4 @@
--- The state of a machine, as the caller has it.
+-- The state of a machine, as the caller gets it.
 use Rattle.std.specs.Prelude.{◌≡◌, ◌+◌, ◌<◌, ◌&&◌, ℕ, true, false, nat_lt, nat_le, Bool}
 use Rattle.std.specs.Prelude.{if◌then◌else◌, List, [], ◌∷◌, length, slice_index}
 use Rattle.vga_bits.specs.Four.{Four}
@@ -16,17 +16,17 @@ use Rattle.vga_c.specs.declared.state.Latches.{Latches}
 use Rattle.vga_c.specs.declared.state.BiosDataArea.{BiosDataArea}
 use Rattle.vga_c.specs.Status.{bad_argument}
 
--- a flag as a number: 1 where it is set, else 0
+-- a flag as a number: 1 if it is set, otherwise 0
 abbrev pub flag : Bool → ℕ
 flag is_set = if is_set then 1 else 0
 
--- the number of the component that is next
+-- the number of the component that comes next
 abbrev pub component_number : Component → ℕ
 component_number Red = 0
 component_number Green = 1
 component_number Blue = 2
 
--- all registers, and the indexes, the flip-flop and what waits in the DAC beside them
+-- all registers, with the indexes, the flip-flop, and the state of the DAC's sequences
 abbrev pub registers_in : Machine → Registers
 registers_in m = record {
   misc = m.card.misc;
@@ -90,23 +90,23 @@ bda_in m = record {
   last_row = m.bda.last_row;
 }
 
--- the bytes of a plane from an offset on, as many as the caller's
+-- The output has bytes of a plane, from an offset on, as many as it has room for.
 pub record IsPlanePart (memory : Four (List ℕ)) (plane offset : ℕ) (old new : List ℕ) : Type 0 where
   pub bytes : (i : ℕ) → i < length old → slice_index new i ≡ byte_at memory plane (offset + i)
   pub size : length new ≡ length old
 
--- whether a plane has so many bytes from an offset on
+-- whether `count` bytes from an offset on lie within a plane
 abbrev pub is_in_plane : ℕ → ℕ → ℕ → Bool
 is_in_plane plane offset count = nat_lt plane 4 && nat_le (offset + count) 0x1_0000
 
--- the caller's bytes are those of a plane, where it has so many
+-- the output has bytes of a plane, if they lie within it
 abbrev pub IsPlaneRead : Four (List ℕ) → ℕ → ℕ → List ℕ → List ℕ → ℕ → Type 0
 IsPlaneRead memory plane offset old new status =
     (is_in_plane plane offset (length old) ≡ true →
     IsPlanePart memory plane offset old new × (status ≡ 0))
     × (is_in_plane plane offset (length old) ≡ false → (new ≡ old) × (status ≡ bad_argument))
 
--- that is so of an open card's memory
+-- that holds for an open card's memory
 abbrev pub TellsPlane : ℕ → ℕ → HandleState → List ℕ → List ℕ → ℕ → Type 0
 TellsPlane plane offset card old new status = card.is_open ≡ true →
     IsPlaneRead (machine_of card).card.host.memory plane offset old new status

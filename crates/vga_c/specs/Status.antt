@@ -1,5 +1,5 @@
--- The number that a call answers: 0 where it is done, that of the refusal, or that of what the call
--- itself lacks.
+-- The status that a call returns: 0 if it is done, the number of the refusal, or the number of what
+-- the call itself misses.
 use Rattle.std.specs.Prelude.{ℕ}
 use Rattle.vga_bits.specs.declared.refusal.Refusal.{Refusal}
 use Rattle.vga_bits.specs.declared.refusal.Refusal.TheVariants.{NotDecoded, NotInProfile, NoMode}
@@ -8,9 +8,9 @@ use Rattle.vga_bits.specs.declared.refusal.Refusal.TheVariants.{BadPage, Outside
 use Rattle.vga_bits.specs.declared.refusal.Refusal.TheVariants.{BadRegister, BadBlock, TooFar}
 use Rattle.vga_bits.specs.declared.refusal.Refusal.TheVariants.{BadHeight}
 use Rattle.vga_run.specs.declared.answer.Answer.TheVariants.{Byte, Word, Refused}
-use Rattle.vga_run.specs.Answer.{StepAnswer, Plain}
+use Rattle.vga_run.specs.Answer.{StepAnswer, Short}
 
--- the number of a refusal is its own
+-- the status of a refusal is its number
 abbrev pub refusal_status : Refusal → ℕ
 refusal_status NotDecoded = 1
 refusal_status NotInProfile = 2
@@ -26,15 +26,15 @@ refusal_status BadBlock = 11
 refusal_status TooFar = 12
 refusal_status BadHeight = 13
 
--- the number of a step's answer: 0, or that of the refusal
+-- the status of a step's answer: 0, or that of the refusal
 abbrev pub status_of : StepAnswer → ℕ
-status_of (Plain (Refused why)) = refusal_status why
+status_of (Short (Refused why)) = refusal_status why
 status_of reply = 0
 
 -- what a step leaves in the caller's variable: what it read, or what was there
 abbrev pub value_of : StepAnswer → ℕ → ℕ
-value_of (Plain (Byte value)) before = value
-value_of (Plain (Word value)) before = value
+value_of (Short (Byte value)) before = value
+value_of (Short (Word value)) before = value
 value_of reply before = before
 
 -- the card is not open
@@ -45,11 +45,11 @@ no_card = 20
 abbrev pub open_already : ℕ
 open_already = 21
 
--- the font file has not 9,728 bytes
+-- the font file does not have 9,728 bytes
 abbrev pub font_size : ℕ
 font_size = 22
 
--- a request for memory was refused
+-- an allocation failed
 abbrev pub out_of_memory : ℕ
 out_of_memory = 23
 
@@ -73,6 +73,6 @@ bad_card = 27
 abbrev pub no_screen : ℕ
 no_screen = 28
 
--- a script would have more bytes than one may have
+-- a script would have more bytes than a script may have
 abbrev pub too_long : ℕ
 too_long = 106

@@ -1,4 +1,4 @@
--- What taking steps of a script does to an open card, and what the caller has of it.
+-- What taking steps of a script does to an open card, and what the caller gets.
 use Rattle.std.specs.Prelude.{◌≡◌, ◌⊎◌, ◌+◌, ◌≤◌, ℕ, true, List, length, take, drop}
 use Rattle.vga_bits.specs.declared.fault.Fault.{Fault}
 use Rattle.bios_modes.specs.Valid.{IsValid}
@@ -15,33 +15,34 @@ use Rattle.vga_c.specs.Buffers.{IsCopied}
 use Rattle.vga_c.specs.Outcome.{fault_status, fault_place}
 use Rattle.vga_c.specs.Status.{out_of_memory}
 
--- what the caller has: a buffer for the report, how long that is, how many steps were taken, and
--- the place of a fault
+-- The caller's output: a buffer for the report, its length, how many steps were taken, and the
+-- place of a fault.
 pub record Told : Type 0 where
   pub report : List ℕ
   pub len : ℕ
   pub taken : ℕ
   pub place : ℕ
 
+-- an output with these contents
 abbrev pub told : List ℕ → ℕ → ℕ → ℕ → Told
 told report len taken place = record { report = report; len = len; taken = taken; place = place }
 
--- the steps that are taken: so many, or all that there are, behind those that are passed over
+-- the steps that are taken: the first ones are skipped, and then at most `most` are taken
 abbrev pub asked_steps : ℕ → ℕ → List Step → List Step
 asked_steps first most steps = take most (drop first steps)
 
--- the steps are taken, of which the first has this number, and the caller has their report
+-- the steps are taken, the first with this number, and the output has their report
 abbrev pub AreTaken : List Step → ℕ → Machine → Machine → Told → Told → ℕ → Type 0
 AreTaken steps number old new before after status = (new ≡ after_steps old steps)
     × (after.taken ≡ length steps) × (after.place ≡ before.place)
     × IsCopied (report_from old number steps) before.report after.report after.len status
 
--- there was no memory: some of the first of the steps are taken, and the caller has what it had
+-- an allocation failed: some of the first steps are taken, and the output is unchanged
 abbrev pub AreCutOff : List Step → Machine → Machine → Told → Told → ℕ → Type 0
 AreCutOff steps old new before after status = IsOnTheWay old steps new × (after ≡ before)
     × (status ≡ out_of_memory)
 
--- either is so
+-- either holds
 abbrev pub AreTakenOrCutOff : List Step → ℕ → Machine → Machine → Told → Told → ℕ → Type 0
 AreTakenOrCutOff steps number old new before after status =
     AreTaken steps number old new before after status
@@ -53,18 +54,19 @@ TakesSteps script first most old new before after status = (length script ≤ sc
     × ((steps : List Step) × SpellsExpanded script steps
     × AreTakenOrCutOff (asked_steps first most steps) (first + 1) old new before after status)
 
--- or they spell none, the machine stays as it is, and the caller is told the first fault
+-- the bytes spell no script, the machine stays as it is, and the caller learns the first fault
 abbrev pub IsRefused : List ℕ → Machine → Machine → Told → Told → ℕ → Type 0
 IsRefused script old new before after status = (why : Fault) × IsFault script why × (new ≡ old)
     × (status ≡ fault_status why)
     × (after ≡ told before.report before.len before.taken (fault_place why before.place))
 
+-- one of the two holds
 abbrev pub IsRunOn : List ℕ → ℕ → ℕ → Machine → Machine → Told → Told → ℕ → Type 0
 IsRunOn script first most old new before after status =
     TakesSteps script first most old new before after status
     ⊎ IsRefused script old new before after status
 
--- that is so of an open card with valid BIOS data, which stay valid
+-- that holds for an open card with valid BIOS data, which stay valid
 abbrev pub RunsOn : List ℕ → ℕ → ℕ → HandleState → HandleState → Told → Told → ℕ → Type 0
 RunsOn script first most old new before after status = old.is_open ≡ true →
     IsValid (machine_of old).bda → (new.is_open ≡ true) × (IsValid (machine_of new).bda

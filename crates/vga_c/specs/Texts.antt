@@ -1,4 +1,4 @@
--- The text of a script as bytes, and its bytes as text.
+-- Assembling and printing a script.
 use Rattle.std.specs.Prelude.{◌≡◌, ◌⊎◌, ◌≤◌, ℕ, List, Result, Ok, Err, length}
 use Rattle.vga_bits.specs.declared.fault.Fault.{Fault}
 use Rattle.vga_bits.specs.declared.fault.Fault.TheVariants.{OutOfMemory}
@@ -15,7 +15,7 @@ abbrev pub IsAssembled : List ℕ → List ℕ → Type 0
 IsAssembled text bytes = (length text ≤ script_limit)
     × ((script : Listing) × SpellsText text script × (bytes ≡ encoding script))
 
--- the first fault of a text; or there was no memory
+-- the first fault of a text; or an allocation failed
 abbrev pub IsFaultOfText : List ℕ → Fault → Type 0
 IsFaultOfText text why = (why ≡ OutOfMemory) ⊎ IsTextFault text why
 
@@ -24,7 +24,7 @@ abbrev pub IsOutcomeOfText : List ℕ → Result (List ℕ) Fault → Type 0
 IsOutcomeOfText text (Ok bytes) = IsAssembled text bytes
 IsOutcomeOfText text (Err why) = IsFaultOfText text why
 
--- the caller has that
+-- the output has that
 abbrev pub Assembles : List ℕ → Told → Told → ℕ → Type 0
 Assembles text = Gives (IsOutcomeOfText text)
 
@@ -33,7 +33,7 @@ abbrev pub IsPrinted : List ℕ → List ℕ → Type 0
 IsPrinted bytes text = (length bytes ≤ script_limit)
     × ((script : Listing) × Spells bytes script × (text ≡ printed script))
 
--- the first fault of some bytes; or there was no memory
+-- the first fault of some bytes; or an allocation failed
 abbrev pub IsFaultOfBytes : List ℕ → Fault → Type 0
 IsFaultOfBytes bytes why = (why ≡ OutOfMemory) ⊎ IsFault bytes why
 
@@ -42,6 +42,6 @@ abbrev pub IsOutcomeOfBytes : List ℕ → Result (List ℕ) Fault → Type 0
 IsOutcomeOfBytes bytes (Ok text) = IsPrinted bytes text
 IsOutcomeOfBytes bytes (Err why) = IsFaultOfBytes bytes why
 
--- the caller has that
+-- the output has that
 abbrev pub Prints : List ℕ → Told → Told → ℕ → Type 0
 Prints bytes = Gives (IsOutcomeOfBytes bytes)

@@ -1,10 +1,10 @@
--- The interface of the library.
+-- The version of the library's interface.
 use Rattle.std.specs.Prelude.{ℕ}
 
--- it changes where a call, a struct or a status is no longer what it was
+-- grows when a call, a struct or a status changes
 abbrev pub api_major : ℕ
 api_major = 1
 
--- it grows where some are added
+-- grows when calls, structs or statuses are added
 abbrev pub api_minor : ℕ
 api_minor = 6

@@ -1,4 +1,4 @@
-//! What a call of interrupt 10 reads of the caller's memory.
+//! What a call of interrupt 10 reads from the caller's memory.
 ghost use Rattle.std.specs.Prelude.{◌≡◌};
 ghost use Rattle.vga_c.specs.Blocks.{IsBlock, IsEnough, TellsBlock};
 ghost use Rattle.vga_c.specs.Cards.{Keeps, LeavesClosed, Spares};
@@ -7,13 +7,13 @@ use crate::handle::{Handle, on_open_card};
 use crate::services::CallRegisters;
 use crate::status::DONE;
 use bios_services::laws::blocks_fit;
-use bios_services::{Block, Regs};
+use bios_services::{BlockSpan, Regs};
 use std::alloc::Global;
 use vga_card::Card;
 use vga_run::machine::Machine;
 
-/// The bytes that a call of interrupt 10 reads of the caller's memory: how many, and whether they
-/// lie at ES:DX. Else they lie at ES:BP.
+/// The bytes that a call of interrupt 10 reads from the caller's memory: how many, and whether they
+/// lie at ES:DX. Otherwise they lie at ES:BP.
 #[repr(C)]
 #[derive(Clone, Copy)]
 pub struct BlockPlace {
@@ -21,13 +21,14 @@ pub struct BlockPlace {
     pub is_at_dx: bool,
 }
 
-/// What a call with these registers reads, which is never refused for a block of so many bytes.
+/// What a call with these registers reads. With a block of that length it is never refused for its
+/// block.
 fn block_of(machine: &Machine, registers: &CallRegisters) -> BlockPlace
     ensures block { IsBlock registers.now result }
     ensures enough { IsEnough machine.now registers.now result.len }
 {
     blocks_fit::<Card>();
-    let Block { len, is_at_dx } = Block::of(Regs {
+    let BlockSpan { len, is_at_dx } = BlockSpan::of(Regs {
         ax: registers.ax,
         bx: registers.bx,
         cx: registers.cx,
@@ -36,8 +37,8 @@ fn block_of(machine: &Machine, registers: &CallRegisters) -> BlockPlace
     BlockPlace { len, is_at_dx }
 }
 
-/// Tells how many bytes a call of interrupt 10 with these registers reads of the caller's memory,
-/// and where.
+/// Answers how many bytes a call of interrupt 10 with these registers reads from the caller's
+/// memory, and where.
 #[unsafe(no_mangle)]
 pub extern "C" fn zak_block(
     alloc: Global,

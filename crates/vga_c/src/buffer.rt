@@ -1,10 +1,10 @@
-//! The caller's buffers.
+//! Writing to the caller's buffers.
 ghost use Rattle.std.specs.Prelude.{◌≡◌, length};
 ghost use Rattle.vga_c.specs.Buffers.{IsCopied, room_status, with_prefix};
 
 use crate::status::{DONE, NO_ROOM};
 
-/// Writes bytes to the beginning of the caller's, if there is room.
+/// Writes bytes to the beginning of the caller's buffer, if there is room.
 pub(crate) fn write_prefix(to: &mut [u8], bytes: &[u8]) -> u32
     ensures after { to.new ≡ with_prefix bytes.now to.old }
     ensures status { result ≡ room_status (length bytes.now) (length to.old) }
@@ -17,7 +17,7 @@ pub(crate) fn write_prefix(to: &mut [u8], bytes: &[u8]) -> u32
     DONE
 }
 
-/// The same, and tells how many bytes they are.
+/// The same, and answers how many bytes they are.
 pub(crate) fn copy_prefix(to: &mut [u8], len: &mut usize, bytes: &[u8]) -> u32
     ensures { IsCopied bytes.now to.old to.new len.new result }
 {

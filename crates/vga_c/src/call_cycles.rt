@@ -18,7 +18,7 @@ use vga_run::machine::Machine;
 use vga_run::{Unlisted, list_cycles};
 use vga_script::ScriptBytes;
 
-/// The number of why there is no list.
+/// The status that says why there is no list.
 fn unlisted_status(why: Unlisted) -> u32
     ensures { result ≡ unlisted_status_of why }
 {
@@ -29,7 +29,8 @@ fn unlisted_status(why: Unlisted) -> u32
     }
 }
 
-/// Gives the caller the bytes of a script, for which there was as much room as the caller's.
+/// Copies the bytes of a script to the caller. The script was listed with as much room as the
+/// caller's buffer has.
 fn copy_script(script: &ScriptBytes, out: &mut [u8], len: &mut usize) -> u32
     ensures { (bytes : List ℕ) → script.now.len ≡ length bytes →
         (script.now.len ≤ length out.old → script.now.bytes ≡ bytes) →
@@ -42,7 +43,7 @@ fn copy_script(script: &ScriptBytes, out: &mut [u8], len: &mut usize) -> u32
     write_prefix(out, script.as_slice())
 }
 
-/// Lists the cycles of a call on a machine, whose BIOS data are valid.
+/// Lists the cycles of a call on a machine with valid BIOS data.
 fn list_valid(
     alloc: Global,
     machine: &Machine,
@@ -87,8 +88,8 @@ fn list(
     list_valid(alloc, machine, registers, block, out, len)
 }
 
-/// Lists the cycles that a call of `zak_int10` with these registers would make on the card as it
-/// is, as the bytes of a script. The card stays as it is.
+/// Lists the cycles that `zak_int10` with these registers would make on the card as it is, as the
+/// bytes of a script. The card stays as it is.
 #[unsafe(no_mangle)]
 pub extern "C" fn zak_cycles(
     alloc: Global,

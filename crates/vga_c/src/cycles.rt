@@ -1,12 +1,13 @@
 //! Cycles of an open card, and dots of its clock.
-ghost use Rattle.std.specs.Prelude.{◌≡◌};
+ghost use Rattle.std.specs.Prelude.{◌≡◌, ◌≤◌};
+ghost use Rattle.vga_card.specs.Dots.{most_dots};
 ghost use Rattle.vga_script.specs.declared.step.Step.TheVariants.{Out, OutWord, In, InWord, Put};
 ghost use Rattle.vga_script.specs.declared.step.Step.TheVariants.{PutWord, Get, GetWord, Advance};
 ghost use Rattle.vga_run.specs.Step.{after_step, answer_to};
 ghost use Rattle.vga_c.specs.Status.{status_of, value_of};
 ghost use Rattle.vga_c.specs.Cards.{LeavesClosed, Reads, Spares, Takes};
 
-use crate::handle::{Handle, on_open_card};
+use crate::handle::{Handle, on_open_card, on_owing_card};
 use crate::status::{DONE, byte_status, word_status, write_status};
 use std::alloc::Global;
 use vga_run::machine::Machine;
@@ -29,7 +30,7 @@ pub extern "C" fn zak_out(alloc: Global, card: &mut Handle, port: u16, value: u8
     on_open_card!(alloc, card, machine => out(machine, port, value))
 }
 
-/// Writes a word to a port and the next.
+/// Writes a word to a port and the next port.
 #[tactic(auto, unfolding(vga_run::specs::Step::after_step, vga_run::specs::Step::answer_to))]
 fn out_word(machine: &mut Machine, port: u16, value: u16) -> u32
     ensures after { machine.new ≡ after_step machine.old (OutWord port value) }
@@ -38,7 +39,7 @@ fn out_word(machine: &mut Machine, port: u16, value: u16) -> u32
     write_status(machine.card.out_word(port, value))
 }
 
-/// Writes a word to a port and the next.
+/// Writes a word to a port and the next port.
 #[unsafe(no_mangle)]
 pub extern "C" fn zak_out_word(alloc: Global, card: &mut Handle, port: u16, value: u16) -> u32
     ensures step { Takes (OutWord port value) card.old card.new result }
@@ -47,14 +48,19 @@ pub extern "C" fn zak_out_word(alloc: Global, card: &mut Handle, port: u16, valu
     on_open_card!(alloc, card, machine => out_word(machine, port, value))
 }
 
-/// Reads a byte from a port.
+/// Reads a byte from a port after the dots that are owed. It gives how many are owed from then on.
 #[tactic(auto, unfolding(vga_run::specs::Step::after_step, vga_run::specs::Step::answer_to))]
-fn inp(machine: &mut Machine, port: u16, value: &mut u8) -> u32
-    ensures after { machine.new ≡ after_step machine.old (In port) }
-    ensures status { result ≡ status_of (answer_to machine.old (In port)) }
-    ensures value { value.new ≡ value_of (answer_to machine.old (In port)) value.old }
+fn inp(machine: &mut Machine, owed: u32, port: u16, value: &mut u8) -> (u32, u32)
+    requires { owed ≤ most_dots }
+    ensures after { after_step machine.new (Advance result.0)
+        ≡ after_step (after_step machine.old (Advance owed)) (In port) }
+    ensures status { result.1
+        ≡ status_of (answer_to (after_step machine.old (Advance owed)) (In port)) }
+    ensures value { value.new
+        ≡ value_of (answer_to (after_step machine.old (Advance owed)) (In port)) value.old }
 {
-    byte_status(machine.card.inp(port), value)
+    let (left, answer) = machine.card.inp_after(owed, port);
+    (left, byte_status(answer, value))
 }
 
 /// Reads a byte from a port.
@@ -65,10 +71,10 @@ pub extern "C" fn zak_in(alloc: Global, card: &mut Handle, port: u16, value: &mu
     ensures closed { LeavesClosed card.old card.new result }
     ensures spared { Spares card.old value.old value.new }
 {
-    on_open_card!(alloc, card, machine => inp(machine, port, value))
+    on_owing_card!(alloc, card, machine, owed => inp(machine, owed, port, value))
 }
 
-/// Reads a word from a port and the next.
+/// Reads a word from a port and the next port.
 #[tactic(auto, unfolding(vga_run::specs::Step::after_step, vga_run::specs::Step::answer_to))]
 fn inp_word(machine: &mut Machine, port: u16, value: &mut u16) -> u32
     ensures after { machine.new ≡ after_step machine.old (InWord port) }
@@ -78,7 +84,7 @@ fn inp_word(machine: &mut Machine, port: u16, value: &mut u16) -> u32
     word_status(machine.card.inp_word(port), value)
 }
 
-/// Reads a word from a port and the next.
+/// Reads a word from a port and the next port.
 #[unsafe(no_mangle)]
 pub extern "C" fn zak_in_word(alloc: Global, card: &mut Handle, port: u16, value: &mut u16) -> u32
     ensures step { Takes (InWord port) card.old card.new result }
@@ -89,13 +95,17 @@ pub extern "C" fn zak_in_word(alloc: Global, card: &mut Handle, port: u16, value
     on_open_card!(alloc, card, machine => inp_word(machine, port, value))
 }
 
-/// Writes a byte to an address.
+/// Writes a byte to an address after the dots that are owed. It gives how many are owed from then on.
 #[tactic(auto, unfolding(vga_run::specs::Step::after_step, vga_run::specs::Step::answer_to))]
-fn put(machine: &mut Machine, address: u32, value: u8) -> u32
-    ensures after { machine.new ≡ after_step machine.old (Put address value) }
-    ensures status { result ≡ status_of (answer_to machine.old (Put address value)) }
+fn put(machine: &mut Machine, owed: u32, address: u32, value: u8) -> (u32, u32)
+    requires { owed ≤ most_dots }
+    ensures after { after_step machine.new (Advance result.0)
+        ≡ after_step (after_step machine.old (Advance owed)) (Put address value) }
+    ensures status { result.1
+        ≡ status_of (answer_to (after_step machine.old (Advance owed)) (Put address value)) }
 {
-    write_status(machine.card.put(address, value))
+    let (left, answer) = machine.card.put_after(owed, address, value);
+    (left, write_status(answer))
 }
 
 /// Writes a byte to an address.
@@ -104,10 +114,10 @@ pub extern "C" fn zak_put(alloc: Global, card: &mut Handle, address: u32, value:
     ensures step { Takes (Put address value) card.old card.new result }
     ensures closed { LeavesClosed card.old card.new result }
 {
-    on_open_card!(alloc, card, machine => put(machine, address, value))
+    on_owing_card!(alloc, card, machine, owed => put(machine, owed, address, value))
 }
 
-/// Writes a word to an address and the next.
+/// Writes a word to an address and the next address.
 #[tactic(auto, unfolding(vga_run::specs::Step::after_step, vga_run::specs::Step::answer_to))]
 fn put_word(machine: &mut Machine, address: u32, value: u16) -> u32
     ensures after { machine.new ≡ after_step machine.old (PutWord address value) }
@@ -116,7 +126,7 @@ fn put_word(machine: &mut Machine, address: u32, value: u16) -> u32
     write_status(machine.card.put_word(address, value))
 }
 
-/// Writes a word to an address and the next.
+/// Writes a word to an address and the next address.
 #[unsafe(no_mangle)]
 pub extern "C" fn zak_put_word(alloc: Global, card: &mut Handle, address: u32, value: u16) -> u32
     ensures step { Takes (PutWord address value) card.old card.new result }
@@ -125,14 +135,20 @@ pub extern "C" fn zak_put_word(alloc: Global, card: &mut Handle, address: u32, v
     on_open_card!(alloc, card, machine => put_word(machine, address, value))
 }
 
-/// Reads a byte from an address.
+/// Reads a byte from an address after the dots that are owed. It gives how many are owed from then
+/// on.
 #[tactic(auto, unfolding(vga_run::specs::Step::after_step, vga_run::specs::Step::answer_to))]
-fn get(machine: &mut Machine, address: u32, value: &mut u8) -> u32
-    ensures after { machine.new ≡ after_step machine.old (Get address) }
-    ensures status { result ≡ status_of (answer_to machine.old (Get address)) }
-    ensures value { value.new ≡ value_of (answer_to machine.old (Get address)) value.old }
+fn get(machine: &mut Machine, owed: u32, address: u32, value: &mut u8) -> (u32, u32)
+    requires { owed ≤ most_dots }
+    ensures after { after_step machine.new (Advance result.0)
+        ≡ after_step (after_step machine.old (Advance owed)) (Get address) }
+    ensures status { result.1
+        ≡ status_of (answer_to (after_step machine.old (Advance owed)) (Get address)) }
+    ensures value { value.new
+        ≡ value_of (answer_to (after_step machine.old (Advance owed)) (Get address)) value.old }
 {
-    byte_status(machine.card.get(address), value)
+    let answer = machine.card.get_after(owed, address);
+    (owed, byte_status(answer, value))
 }
 
 /// Reads a byte from an address.
@@ -143,10 +159,10 @@ pub extern "C" fn zak_get(alloc: Global, card: &mut Handle, address: u32, value:
     ensures closed { LeavesClosed card.old card.new result }
     ensures spared { Spares card.old value.old value.new }
 {
-    on_open_card!(alloc, card, machine => get(machine, address, value))
+    on_owing_card!(alloc, card, machine, owed => get(machine, owed, address, value))
 }
 
-/// Reads a word from an address and the next.
+/// Reads a word from an address and the next address.
 #[tactic(auto, unfolding(vga_run::specs::Step::after_step, vga_run::specs::Step::answer_to))]
 fn get_word(machine: &mut Machine, address: u32, value: &mut u16) -> u32
     ensures after { machine.new ≡ after_step machine.old (GetWord address) }
@@ -156,7 +172,7 @@ fn get_word(machine: &mut Machine, address: u32, value: &mut u16) -> u32
     word_status(machine.card.get_word(address), value)
 }
 
-/// Reads a word from an address and the next.
+/// Reads a word from an address and the next address.
 #[unsafe(no_mangle)]
 pub extern "C" fn zak_get_word(
     alloc: Global,
@@ -172,7 +188,7 @@ pub extern "C" fn zak_get_word(
     on_open_card!(alloc, card, machine => get_word(machine, address, value))
 }
 
-/// Lets the clock run for so many dots.
+/// Lets the clock run for `dots` dots.
 #[tactic(auto, unfolding(vga_run::specs::Step::after_step, vga_run::specs::Step::answer_to))]
 pub(crate) fn advance(machine: &mut Machine, dots: u32) -> u32
     ensures after { machine.new ≡ after_step machine.old (Advance dots) }
@@ -181,7 +197,7 @@ pub(crate) fn advance(machine: &mut Machine, dots: u32) -> u32
     write_status(machine.card.advance(dots))
 }
 
-/// Lets the clock run for so many dots. They are drawn before the next call that is no advance.
+/// Lets the clock run for `dots` dots. They are drawn before the next call that is not an advance.
 #[unsafe(no_mangle)]
 pub extern "C" fn zak_advance(alloc: Global, card: &mut Handle, dots: u32) -> u32
     ensures step { Takes (Advance dots) card.old card.new result }

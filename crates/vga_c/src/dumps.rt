@@ -1,4 +1,4 @@
-//! The state of an open card as text.
+//! Dumping the state of an open card as text.
 ghost use Rattle.std.specs.Prelude.{◌≡◌};
 ghost use Rattle.bios_modes.specs.Valid.{IsValid};
 ghost use Rattle.vga_script.specs.DumpRange.{IsShownInRange};
@@ -15,7 +15,7 @@ use vga_run::machine::Machine;
 use vga_run::write_dump;
 use vga_script::Shown;
 
-/// Gives the caller the text of a dump, or the number of its refusal.
+/// Writes the text of a dump to the caller, or answers the status of its refusal.
 fn dump(alloc: Global, machine: &Machine, shown: Shown, text: &mut [u8], len: &mut usize) -> u32
     requires { IsShownInRange shown }
     ensures { Dumps machine.now shown (told text.old len.old) (told text.new len.new) result }
@@ -31,7 +31,7 @@ fn dump(alloc: Global, machine: &Machine, shown: Shown, text: &mut [u8], len: &m
     }
 }
 
-/// Shows a part of the state of a card.
+/// Dumps a part of the state of a card.
 fn show(alloc: Global, card: &mut Handle, shown: Shown, text: &mut [u8], len: &mut usize) -> u32
     requires { IsShownInRange shown }
     ensures { Shows shown card.old card.new (told text.old len.old) (told text.new len.new) result }
@@ -124,14 +124,14 @@ pub extern "C" fn zak_show_dac(
     show(alloc, card, Shown::Dac { index }, text, len)
 }
 
-/// Whether these are some bytes of a plane, 1 to 256, none past its end.
+/// Whether these are bytes of a plane: 1 to 256, none past its end.
 fn is_plane_part(plane: u8, offset: u16, count: u16) -> bool
     ensures { result ≡ is_plane_part_of plane offset count }
 {
     plane < 4 && 0 < count && count <= 256 && offset as u32 + count as u32 <= 0x1_0000
 }
 
-/// Writes bytes of a plane as text: 1 to 256, from an offset on, to the end of the plane at most.
+/// Writes bytes of a plane as text, from an offset on: 1 to 256, none past the plane's end.
 #[unsafe(no_mangle)]
 pub extern "C" fn zak_show_plane(
     alloc: Global,

@@ -1,4 +1,4 @@
-//! States of a fixed length, with a checksum.
+//! States of a fixed length with a checksum.
 ghost use Rattle.std.specs.Prelude.{◌≡◌, ◌+◌, ◌≤◌, length};
 ghost use Rattle.vga_bits.specs.Bytes.{zeros};
 ghost use Rattle.vga_run.specs.Saved.{long_at as long_of, long_bytes, saved_machine};
@@ -20,7 +20,7 @@ const PRIME: u32 = 65_521;
 /// How many bytes the checksum has.
 const SUM_LEN: usize = 4;
 
-/// Adler-32 of some bytes.
+/// The Adler-32 checksum of some bytes.
 fn checksum(bytes: &[u8]) -> u32
     ensures { result ≡ adler_32 bytes.now }
 {
@@ -33,7 +33,7 @@ fn checksum(bytes: &[u8]) -> u32
     65_536 * sums + sum
 }
 
-/// The number in four bytes from a place on, the lowest first.
+/// The number of four bytes at `at`, low byte first.
 fn long_at(bytes: &[u8], at: usize) -> u32
     requires { at + 4 ≤ length bytes.now }
     ensures { result ≡ long_of bytes.now at }
@@ -51,7 +51,7 @@ fn write_sum(body: &[u8], tail: &mut [u8])
     put_word(tail, 2, (sum / 65_536) as u16);
 }
 
-/// Makes all bytes 0.
+/// Fills bytes with 0.
 fn clear(bytes: &mut [u8])
     ensures { bytes.new ≡ zeros (length bytes.old) }
 {
@@ -60,7 +60,7 @@ fn clear(bytes: &mut [u8])
     }
 }
 
-/// Saves a machine to all of the caller's bytes, if they are enough.
+/// Saves a machine to the caller's whole buffer, if it is long enough.
 fn save_fixed(machine: &Machine, bytes: &mut [u8]) -> u32
     ensures { IsSavedFixed (saved_machine machine.now) bytes.old bytes.new result }
 {
@@ -76,7 +76,7 @@ fn save_fixed(machine: &Machine, bytes: &mut [u8]) -> u32
     DONE
 }
 
-/// The state among the bytes before the checksum.
+/// The state at the beginning of the bytes before the checksum.
 fn state_in(body: &[u8]) -> &[u8]
     ensures { result.now ≡ state_of body.now }
 {
@@ -102,7 +102,7 @@ fn restore_fixed(machine: &mut Machine, bytes: &[u8]) -> u32
     restore(machine, state_in(body))
 }
 
-/// Writes the state to all of the caller's bytes, with zeros after it and a checksum at the end.
+/// Writes the state to the caller's whole buffer: the state, zeros, and a checksum at the end.
 #[unsafe(no_mangle)]
 pub extern "C" fn zak_save_fixed(alloc: Global, card: &mut Handle, bytes: &mut [u8]) -> u32
     ensures card { Keeps card.old card.new }
@@ -113,7 +113,7 @@ pub extern "C" fn zak_save_fixed(alloc: Global, card: &mut Handle, bytes: &mut [
     on_open_card!(alloc, card, machine => save_fixed(machine, bytes))
 }
 
-/// Goes on from a state of a fixed length. The fonts stay.
+/// Restores a state of a fixed length. The fonts stay.
 #[unsafe(no_mangle)]
 pub extern "C" fn zak_restore_fixed(alloc: Global, card: &mut Handle, bytes: &[u8]) -> u32
     ensures card { RestoresFixed card.old card.new bytes.now result }

@@ -1,4 +1,4 @@
-//! Pictures as words in rows, in the form that the caller asks for.
+//! Pictures as rows of words, in the form that the caller asks for.
 ghost use Rattle.std.specs.Prelude.{◌≡◌, ◌+◌, ◌*◌, ◌<◌, ◌≤◌, ℕ, length, slice_index, bit_or};
 ghost use Rattle.vga_card.specs.Frames.{IsSmall};
 ghost use Rattle.vga_card.specs.Picture.{widest, highest};
@@ -17,8 +17,8 @@ use std::alloc::Global;
 use vga_card::{Card, Drawn, PixelSize};
 use vga_run::machine::Machine;
 
-/// A picture as it is given: so many words in a row, and rows; and how many dots and scan lines of
-/// the screen each word stands for.
+/// The size of a picture of words, width and height, and how many dots and scan lines of the screen
+/// one word stands for.
 #[repr(C)]
 #[derive(Clone, Copy)]
 pub struct WordPicture {
@@ -28,8 +28,8 @@ pub struct WordPicture {
     pub down: u32,
 }
 
-/// How a picture is given: every so many dots of every so many lines, and what each word has above
-/// its colour.
+/// The form of a picture of words: every `across`-th dot of every `down`-th line has a word, and
+/// each word has the bits of `above` above its colour.
 #[derive(Clone, Copy)]
 pub struct Form {
     pub across: u32,
@@ -37,7 +37,7 @@ pub struct Form {
     pub above: u32,
 }
 
-/// Eight bits of each of three components of six, all at once: red, green and blue from above.
+/// Widens three components from six bits to eight, all at once: red is highest, blue lowest.
 #[tactic(auto, using(crate::proofs::ColourLemmas::high_halves))]
 fn eight_bits_each(red: u8, green: u8, blue: u8) -> u32
     ensures { result ≡ 0x1_0000 * eight_bits_of red + (0x100 * eight_bits_of green + eight_bits_of blue) }
@@ -54,8 +54,8 @@ fn dot_word(bytes: &[u8], i: usize) -> u32
     eight_bits_each(bytes[3 * i], bytes[3 * i + 1], bytes[3 * i + 2])
 }
 
-/// Writes a word of every so many dots of a picture, from dot `first` on, to the caller's, from
-/// `at` on.
+/// Writes a row of words to the caller's, from `at` on: the words of `count` dots, every
+/// `across`-th from dot `first` on.
 #[inline(always)]
 pub(crate) fn write_row(
     bytes: &[u8],
@@ -79,7 +79,7 @@ pub(crate) fn write_row(
     }
 }
 
-/// How many of n there are where every m-th is taken, from the first on.
+/// How many of n there are if every m-th is taken, from the first on.
 fn div_ceil(n: u32, m: u32) -> u32
     requires some { 0 < m }
     requires few { n + m ≤ 0x1_0000_0000 }
@@ -88,7 +88,7 @@ fn div_ceil(n: u32, m: u32) -> u32
     (n + (m - 1)) / m
 }
 
-/// Whether so many words have room for rows at their pitch.
+/// Whether `len` words have room for rows at this pitch.
 pub(crate) fn has_room(width: usize, height: usize, pitch: usize, len: usize) -> bool
     ensures { result ≡ has_room_of width height pitch len }
 {
@@ -98,8 +98,8 @@ pub(crate) fn has_room(width: usize, height: usize, pitch: usize, len: usize) ->
     }
 }
 
-/// Writes the words of a picture in a form to the caller's, of which each row begins so many behind
-/// the one before.
+/// Writes the words of a picture in a form to the caller's. A row begins `pitch` words after the
+/// row before.
 #[inline(always)]
 pub(crate) fn write_rows(
     bytes: &[u8],
@@ -139,7 +139,7 @@ fn form_of(flags: u32, card: &Card) -> Form
     }
 }
 
-/// Gives the caller a picture as words in a form.
+/// Writes a picture to the caller's words, in a form.
 fn write_form(
     drawn: Drawn<'_>,
     form: Form,
@@ -171,7 +171,8 @@ fn write_form(
     }
 }
 
-/// Lets the clock of a machine run to the end of the frame under way.
+/// Lets the clock of a machine run to the end of the frame under way, and writes its picture in a
+/// form.
 #[tactic(auto, using(crate::proofs::FrameLemmas::form_of_frame), unfolding(vga_run::specs::Step::after_step, vga_run::specs::Step::answer_to))]
 fn frame_form(
     machine: &mut Machine,
@@ -188,7 +189,7 @@ fn frame_form(
     write_form(machine.card.frame(), form, picture, pixels, pitch)
 }
 
-/// Lets the clock of a machine run to the end of the frame under way, if the flags are some.
+/// The same, unless an unknown flag is set: then nothing changes.
 fn frame_words(
     machine: &mut Machine,
     flags: u32,
@@ -206,8 +207,8 @@ fn frame_words(
     frame_form(machine, form, picture, pixels, pitch)
 }
 
-/// Lets the clock run to the end of the frame under way, and writes its picture as words, of which
-/// each row begins so many behind the one before, in the form that the flags ask for.
+/// Lets the clock run to the end of the frame under way, and writes its picture as words, in the
+/// form that the flags ask for. A row begins `pitch` words after the row before.
 #[unsafe(no_mangle)]
 pub extern "C" fn zak_frame_words(
     alloc: Global,

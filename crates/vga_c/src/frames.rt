@@ -19,8 +19,8 @@ use std::alloc::Global;
 use vga_card::Drawn;
 use vga_run::machine::Machine;
 
-/// Each dot of each line, and nothing above its colour.
-const PLAIN: Form = Form {
+/// Every dot of every line, with nothing above its colour.
+const EVERY_DOT: Form = Form {
     across: 1,
     down: 1,
     above: 0,
@@ -34,7 +34,7 @@ pub struct Size {
     pub height: u32,
 }
 
-/// Gives the caller a picture as red, green and blue of each dot.
+/// Writes a picture to the caller: red, green and blue of each dot.
 fn write_bytes(drawn: Drawn<'_>, size: &mut Size, rgb: &mut [u8]) -> u32
     ensures { HasBytes (of_drawn drawn.entry) size.old size.new rgb.old rgb.new result }
 {
@@ -47,7 +47,7 @@ fn write_bytes(drawn: Drawn<'_>, size: &mut Size, rgb: &mut [u8]) -> u32
     }
 }
 
-/// Lets the clock of a machine run to the end of the frame under way.
+/// Lets the clock of a machine run to the end of the frame under way, and writes its picture.
 #[tactic(auto, using(crate::proofs::FrameLemmas::bytes_of_frame), unfolding(vga_run::specs::Step::after_step, vga_run::specs::Step::answer_to))]
 fn frame(machine: &mut Machine, size: &mut Size, rgb: &mut [u8]) -> u32
     ensures after { machine.new ≡ after_step machine.old Frame }
@@ -57,7 +57,7 @@ fn frame(machine: &mut Machine, size: &mut Size, rgb: &mut [u8]) -> u32
     write_bytes(machine.card.frame(), size, rgb)
 }
 
-/// Lets the clock run to the end of the frame under way, and copies its picture: red, green and
+/// Lets the clock run to the end of the frame under way, and writes its picture: red, green and
 /// blue of each dot, 0 to 63 each.
 #[unsafe(no_mangle)]
 pub extern "C" fn zak_frame(
@@ -75,8 +75,8 @@ pub extern "C" fn zak_frame(
     on_open_card!(alloc, card, machine => frame(machine, size, rgb))
 }
 
-/// Gives the caller a picture as a word of each dot.
-#[tactic(auto, using(crate::proofs::RowLemmas::plain_rows))]
+/// Writes a picture to the caller: a word for each dot.
+#[tactic(auto, using(crate::proofs::RowLemmas::every_dot_rows))]
 fn write_words(drawn: Drawn<'_>, size: &mut Size, pixels: &mut [u32], pitch: usize) -> u32
     requires { IsSmall drawn }
     ensures { HasWords (of_drawn drawn.entry) pitch size.old size.new pixels.old pixels.new result }
@@ -87,14 +87,15 @@ fn write_words(drawn: Drawn<'_>, size: &mut Size, pixels: &mut [u32], pitch: usi
             if !has_room(width as usize, height as usize, pitch, pixels.len()) {
                 return NO_ROOM;
             }
-            write_rows(bytes, width, height, PLAIN, pixels, pitch);
+            write_rows(bytes, width, height, EVERY_DOT, pixels, pitch);
             DONE
         }
         Drawn::Ragged => RAGGED,
     }
 }
 
-/// Lets the clock of a machine run to the end of the frame under way.
+/// Lets the clock of a machine run to the end of the frame under way, and writes its picture as
+/// words.
 #[tactic(auto, using(crate::proofs::FrameLemmas::words_of_frame), unfolding(vga_run::specs::Step::after_step, vga_run::specs::Step::answer_to))]
 fn frame_words(machine: &mut Machine, size: &mut Size, pixels: &mut [u32], pitch: usize) -> u32
     ensures after { machine.new ≡ after_step machine.old Frame }
@@ -104,8 +105,8 @@ fn frame_words(machine: &mut Machine, size: &mut Size, pixels: &mut [u32], pitch
     write_words(machine.card.frame(), size, pixels, pitch)
 }
 
-/// Lets the clock run to the end of the frame under way, and writes its picture as words 00RRGGBB,
-/// of which each row begins so many behind the one before.
+/// Lets the clock run to the end of the frame under way, and writes its picture as words 00RRGGBB.
+/// A row begins `pitch` words after the row before.
 #[unsafe(no_mangle)]
 pub extern "C" fn zak_frame_xrgb(
     alloc: Global,
@@ -123,7 +124,7 @@ pub extern "C" fn zak_frame_xrgb(
     on_open_card!(alloc, card, machine => frame_words(machine, size, pixels, pitch))
 }
 
-/// Lets the clock of a machine run to the end of the frame under way.
+/// Lets the clock of a machine run to the end of the frame under way, and writes its lines.
 #[tactic(auto, unfolding(vga_run::specs::Step::after_step))]
 fn frame_lines(
     machine: &mut Machine,
@@ -140,8 +141,8 @@ fn frame_lines(
     copy_prefix(rgb, len, lines.bytes)
 }
 
-/// Lets the clock run to the end of the frame under way, and tells how many dots each of its lines
-/// has, and red, green and blue of each, 0 to 63 each, also where lines differ in width.
+/// Lets the clock run to the end of the frame under way. Writes how many dots each line has, and
+/// red, green and blue of each dot, 0 to 63 each. The lines may differ in width.
 #[unsafe(no_mangle)]
 pub extern "C" fn zak_frame_lines(
     alloc: Global,

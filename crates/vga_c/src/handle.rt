@@ -5,8 +5,8 @@ ghost use Rattle.vga_run.specs.Step.{after_step};
 ghost use Rattle.vga_script.specs.declared.step.Step.TheVariants.{Advance};
 ghost use Rattle.vga_c.specs.Handle.{machine_of};
 
+use crate::box_parts::BoxParts;
 use crate::cycles::advance;
-use crate::parts::Parts;
 use crate::sealed::Sealed;
 use std::alloc::Global;
 use std::marker::Model;
@@ -16,11 +16,11 @@ use vga_run::machine::Machine;
 /// The most dots of one advance.
 const MOST_DOTS: u32 = 16_777_216;
 
-/// A card, open or not. All bytes 0 are one that is not open.
+/// A card, open or closed. A zero-filled card is closed.
 ///
-/// Dots of the clock that follow one another are added up, and drawn together before the next call
-/// that is no advance. Contracts see whether the card is open, and the machine that it then has,
-/// these dots later.
+/// Consecutive advances are added up: the card owes their dots, which are drawn together before the
+/// next call that is not an advance. Contracts see whether the card is open, and its machine after
+/// the dots that it owes.
 #[repr(C)]
 #[derive(Drop)]
 pub struct Handle {
@@ -50,8 +50,8 @@ impl Handle {
         self.is_open
     }
 
-    /// Adds dots to those that are owed, unless they are too many together, and answers whether it
-    /// did.
+    /// Adds dots to those that the card owes, unless the sum is more than one advance may take.
+    /// Returns whether it did.
     pub(crate) fn owe(&mut self, dots: u32) -> bool
         ensures owed { result ≡ true → self.new.is_open ≡ self.old.is_open }
         ensures machine { result ≡ true → machine_of self.new
@@ -70,11 +70,11 @@ impl Handle {
     }
 }
 
-// A card may move to another thread, which then calls it alone.
+// A card may move to another thread, and only that thread then calls it.
 unsafe impl Send for Handle {}
 
-/// What a call does on the machine of a card, and the number that it answers; `NO_CARD`, if the
-/// card is not open. While the call runs the handle is empty.
+/// Runs a call on the machine of a card, and returns its status, or `NO_CARD` if the card is not
+/// open. While the call runs, the handle is empty.
 macro_rules! on_open_card {
     ($alloc:ident, $card:ident, $machine:ident => $call:expr) => {{
         if !$card.is_open() {
@@ -88,9 +88,25 @@ macro_rules! on_open_card {
     }};
 }
 
-pub(crate) use on_open_card;
+/// The same, for a call that need not wait for all the dots that are owed. Where it begins, this many
+/// are owed; it gives how many of them are left, and its number.
+macro_rules! on_owing_card {
+    ($alloc:ident, $card:ident, $machine:ident, $owed:ident => $call:expr) => {{
+        if !$card.is_open() {
+            return crate::status::NO_CARD;
+        }
+        let (mut held, $owed) = crate::handle::take_owing($alloc, $card);
+        let $machine = held.as_mut();
+        let (left, status) = $call;
+        crate::handle::give_owing($card, held, left);
+        status
+    }};
+}
 
-/// The machine that an open card keeps, whose handle is empty from then on.
+pub(crate) use {on_open_card, on_owing_card};
+
+/// Takes the machine out of an open card, without the dots that the card owes. The handle is empty
+/// afterwards.
 fn unseal(alloc: Global, card: &mut Handle) -> Box<Machine>
     requires { card.old.is_open ≡ true }
     ensures machine { result.value ≡ card.old.kept.machine }
@@ -105,9 +121,9 @@ fn unseal(alloc: Global, card: &mut Handle) -> Box<Machine>
     sealed.into_parts().into_box()
 }
 
-/// Lets the clock of an open card run for the dots that it owes.
+/// Draws the dots that an open card owes.
 #[inline(never)]
-fn settle(alloc: Global, card: &mut Handle)
+fn draw_owed(alloc: Global, card: &mut Handle)
     requires { card.old.is_open ≡ true }
     ensures open { card.new.is_open ≡ true }
     ensures machine { machine_of card.new ≡ machine_of card.old }
@@ -119,7 +135,8 @@ fn settle(alloc: Global, card: &mut Handle)
     give(card, held);
 }
 
-/// The machine of an open card, whose handle is empty from then on.
+/// Takes the machine out of an open card, after the dots that the card owes. The handle is empty
+/// afterwards.
 pub(crate) fn take(alloc: Global, card: &mut Handle) -> Box<Machine>
     requires { card.old.is_open ≡ true }
     ensures machine { result.value ≡ machine_of card.old }
@@ -127,12 +144,12 @@ pub(crate) fn take(alloc: Global, card: &mut Handle) -> Box<Machine>
 {
     dots_split();
     if card.owed > 0 {
-        settle(alloc, card);
+        draw_owed(alloc, card);
     }
     unseal(alloc, card)
 }
 
-/// Gives a machine to a handle, which is open from then on.
+/// Puts a machine into a handle, which is open afterwards.
 pub(crate) fn give(card: &mut Handle, machine: Box<Machine>)
     ensures open { card.new.is_open ≡ true }
     ensures machine { machine_of card.new ≡ machine.value }
@@ -142,6 +159,34 @@ pub(crate) fn give(card: &mut Handle, machine: Box<Machine>)
     *card = Handle {
         is_open: true,
         owed: 0,
+        sealed: Sealed::of_parts(BoxParts::of(machine)),
+    };
+}
+
+/// The machine that an open card keeps, whose handle is empty from then on, and the dots that it
+/// owes.
+pub(crate) fn take_owing(alloc: Global, card: &mut Handle) -> (Box<Machine>, u32)
+    requires { card.old.is_open ≡ true }
+    ensures machine { after_step result.0.value (Advance result.1) ≡ machine_of card.old }
+    ensures few { result.1 ≤ most_dots }
+    ensures closed { card.new.is_open ≡ false }
+{
+    if card.owed > MOST_DOTS {
+        dots_split();
+        return (take(alloc, card), 0);
+    }
+    let owed = card.owed;
+    (unseal(alloc, card), owed)
+}
+
+/// Gives a machine to a handle, which is open from then on and owes some dots.
+pub(crate) fn give_owing(card: &mut Handle, machine: Box<Machine>, owed: u32)
+    ensures open { card.new.is_open ≡ true }
+    ensures machine { machine_of card.new ≡ after_step machine.value (Advance owed) }
+{
+    *card = Handle {
+        is_open: true,
+        owed,
         sealed: Sealed::of_parts(Parts::of(machine)),
     };
 }

@@ -1,16 +1,16 @@
-//! The adapter and its video BIOS as a library that C programs link.
+//! The adapter and its video BIOS as a library for C programs.
 //!
-//! A card lives in a struct of the caller's from `zak_open` to `zak_close`. Cycles, dots, frames
-//! and interrupt 10 are steps of a script: the card is afterwards what it is after that step, and
-//! the call answers a number, 0 or that of the refusal. `zak_run_on` takes any steps of a script.
-//! Other calls read the state and leave it, or save and restore it. A call on a card that is not
-//! open changes nothing, and says so.
+//! A card lives in the caller's struct, from `zak_open` to `zak_close`. Cycles, advances, frames
+//! and interrupt 10 are steps of a script: the call does to the card what the step does, and
+//! returns 0 or the number of the refusal. `zak_run_on` takes any steps of a script. Other calls
+//! read the state and leave it as it is, or save and restore it. A call on a card that is not open
+//! changes nothing and returns a status that says so.
 #![tactic(auto)]
 
 mod blocks;
+mod box_parts;
 mod buffer;
 mod call_cycles;
-mod clock;
 mod cycles;
 mod dumps;
 mod fixed;
@@ -19,7 +19,6 @@ mod frames;
 mod handle;
 mod opening;
 mod outcome;
-mod parts;
 mod runs;
 mod saved;
 mod scan_lines;
@@ -30,5 +29,6 @@ mod state;
 mod status;
 mod steps;
 mod texts;
+mod timing;
 mod transfers;
 mod version;

@@ -22,7 +22,7 @@ fn power_on(alloc: Global, file: &[u8]) -> Result<Machine, Fault>
     Machine::power_on(alloc, fonts)
 }
 
-/// Opens a card, with a machine at power-on that has the fonts of a font file.
+/// Opens a card: its machine is at power-on, and has the fonts of a font file.
 #[unsafe(no_mangle)]
 pub extern "C" fn zak_open(alloc: Global, card: &mut Handle, fonts: &[u8]) -> u32
     ensures opened { Opens fonts.now card.old card.new result }

@@ -1,11 +1,11 @@
-//! What a call over a script gives the caller.
+//! What a call that decodes or assembles a script writes to the caller.
 ghost use Rattle.std.specs.Prelude.{◌≡◌};
 ghost use Rattle.vga_c.specs.Outcome.{fault_place, fault_status as fault_status_of};
 
 use crate::status::{FONT_SIZE, OUT_OF_MEMORY, TOO_LONG};
 use vga_bits::Fault;
 
-/// The number of a fault. What is written is memory: a writer fails where there is none.
+/// The status of a fault. The output is memory, so its writer fails only if an allocation fails.
 pub(crate) fn fault_status(fault: Fault) -> u32
     ensures { result ≡ fault_status_of fault }
 {
@@ -23,7 +23,7 @@ pub(crate) fn fault_status(fault: Fault) -> u32
     }
 }
 
-/// Gives the caller the place of a fault that has one: an offset in bytes, or a line of a text.
+/// Writes the place of a fault that has one: an offset in bytes, or a line of a text.
 pub(crate) fn write_place(fault: Fault, place: &mut usize)
     ensures { place.new ≡ fault_place fault place.old }
 {
@@ -34,7 +34,7 @@ pub(crate) fn write_place(fault: Fault, place: &mut usize)
     }
 }
 
-/// Gives the caller the number and the place of a fault.
+/// Returns the status of a fault, and writes its place.
 pub(crate) fn write_fault(fault: Fault, place: &mut usize) -> u32
     ensures status { result ≡ fault_status_of fault }
     ensures place { place.new ≡ fault_place fault place.old }

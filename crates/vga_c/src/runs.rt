@@ -1,4 +1,4 @@
-//! A whole run: the bytes of a script in, its report out.
+//! A whole run: a script in, its report out.
 ghost use Rattle.std.specs.Prelude.{◌≡◌, IfErr, IfOk};
 ghost use Rattle.vga_c.specs.Outcome.{told};
 ghost use Rattle.vga_c.specs.Runs.{IsFirstFault, IsReport, Runs};
@@ -19,7 +19,8 @@ fn report(alloc: Global, script: &[u8], fonts: &[u8]) -> Result<Vec<u8>, Fault>
     Ok(out.into_inner())
 }
 
-/// Runs a script from power-on, and writes its report. With no room, `len` tells how much it takes.
+/// Runs a script from power-on, and writes its report. If the buffer is too short, `len` says how
+/// many bytes the report has.
 #[unsafe(no_mangle)]
 pub extern "C" fn zak_run(
     alloc: Global,

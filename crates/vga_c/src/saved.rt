@@ -1,4 +1,4 @@
-//! The state of an open card as bytes.
+//! Saving the state of an open card as bytes, and restoring it.
 ghost use Rattle.std.specs.Prelude.{◌≡◌};
 ghost use Rattle.vga_run.specs.Saved.{saved_machine};
 ghost use Rattle.vga_c.specs.Buffers.{IsCopied};
@@ -12,7 +12,7 @@ use std::alloc::Global;
 use vga_bits::StateFault;
 use vga_run::machine::Machine;
 
-/// Tells how many bytes the state has now.
+/// Answers how many bytes the state has now.
 #[unsafe(no_mangle)]
 pub extern "C" fn zak_save_size(alloc: Global, card: &mut Handle, len: &mut usize) -> u32
     ensures card { Keeps card.old card.new }
@@ -26,7 +26,7 @@ pub extern "C" fn zak_save_size(alloc: Global, card: &mut Handle, len: &mut usiz
     })
 }
 
-/// Saves a machine to the beginning of the caller's bytes, if there is room.
+/// Saves a machine to the beginning of the caller's buffer, if there is room.
 fn save(machine: &Machine, bytes: &mut [u8], len: &mut usize) -> u32
     ensures { IsCopied (saved_machine machine.now) bytes.old bytes.new len.new result }
 {
@@ -57,7 +57,7 @@ pub extern "C" fn zak_save(
     on_open_card!(alloc, card, machine => save(machine, bytes, len))
 }
 
-/// The number of why bytes are no state.
+/// The status that says why bytes are not a saved state.
 fn state_status(why: StateFault) -> u32
     ensures { result ≡ state_status_of why }
 {
@@ -80,7 +80,7 @@ pub(crate) fn restore(machine: &mut Machine, bytes: &[u8]) -> u32
     }
 }
 
-/// Goes on from a state that was saved. The fonts stay.
+/// Restores a saved state. The fonts stay.
 #[unsafe(no_mangle)]
 pub extern "C" fn zak_restore(alloc: Global, card: &mut Handle, bytes: &[u8]) -> u32
     ensures card { Restores card.old card.new bytes.now result }

@@ -1,4 +1,4 @@
-//! Scan lines of the frame under way, as they end.
+//! Scan lines of the frame under way, drawn to their ends.
 ghost use Rattle.std.specs.Prelude.{◌≡◌, ◌+◌, ◌*◌, ◌≤◌, ◌<◌, ℕ, length, slice_index, bit_or};
 ghost use Rattle.vga_c.specs.Cards.{LeavesClosed, Spares};
 ghost use Rattle.vga_c.specs.Forms.{AreInRows, dot_word as dot_word_of};
@@ -20,8 +20,8 @@ pub struct ScanLine {
     pub ends_frame: bool,
 }
 
-/// Writes words of so many dots, from dot `first` on, to the beginning of the caller's, if there is
-/// room.
+/// Writes the words of `count` dots, from dot `first` on, to the beginning of the caller's words,
+/// if there is room.
 fn write_words(bytes: &[u8], first: usize, count: usize, above: u32, pixels: &mut [u32]) -> u32
     requires { 3 * (first + count) ≤ length bytes.now }
     ensures { AreInRows count 1 count
@@ -39,8 +39,8 @@ fn write_words(bytes: &[u8], first: usize, count: usize, above: u32, pixels: &mu
     DONE
 }
 
-/// Lets the clock of a machine run to the end of the line under way, if the flags are some, and
-/// writes the words of its dots.
+/// Lets the clock of a machine run to the end of the line under way, and writes the words of its
+/// dots. If an unknown flag is set, nothing changes.
 fn draw_line(machine: &mut Machine, flags: u32, scan_line: &mut ScanLine, pixels: &mut [u32]) -> u32
     ensures { DrawsLine flags machine.old machine.new scan_line.old scan_line.new pixels.old
         pixels.new result }
@@ -65,7 +65,7 @@ fn draw_line(machine: &mut Machine, flags: u32, scan_line: &mut ScanLine, pixels
     write_words(bytes, bytes.len() / 3 - count, count, above, pixels)
 }
 
-/// Lets the clock run to the end of the line under way, and writes a word of each of its dots.
+/// Lets the clock run to the end of the line under way, and writes a word for each of its dots.
 #[unsafe(no_mangle)]
 pub extern "C" fn zak_line(
     alloc: Global,

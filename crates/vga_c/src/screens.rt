@@ -36,7 +36,7 @@ pub struct Cell {
     pub attribute: u8,
 }
 
-/// A place of the cursor.
+/// A position of the cursor.
 #[repr(C)]
 #[derive(Clone, Copy)]
 pub struct Place {
@@ -44,7 +44,8 @@ pub struct Place {
     pub column: u8,
 }
 
-/// What a call answers that asks for a part of the screen that a machine shows, if it shows one.
+/// Runs a query on the plain screen that a machine shows, and returns its status, or `NO_SCREEN` if
+/// there is none.
 macro_rules! on_screen {
     ($alloc:ident, $machine:ident, $screen:ident => $found:expr, $to:ident) => {
         match Screen::read($alloc, &$machine.card, &$machine.bda) {
@@ -55,7 +56,7 @@ macro_rules! on_screen {
     };
 }
 
-/// Gives the caller what was found.
+/// Writes what was found to the caller, and returns the status.
 fn answer<T: Copy>(found: Option<T>, to: &mut T) -> u32
     ensures { IsAnswered found to.old to.new result }
 {
@@ -68,14 +69,14 @@ fn answer<T: Copy>(found: Option<T>, to: &mut T) -> u32
     }
 }
 
-/// A number of pixels: none in text.
+/// A number of pixels, or 0 in text.
 fn pixels_of(mode: u8, count: u32) -> u32
     ensures { result ≡ pixels_in mode count }
 {
     if is_text(mode) { 0 } else { count }
 }
 
-/// The layout of the screen that is shown with these data.
+/// The layout of the screen that a card with these BIOS data shows.
 fn layout_of(bda: &Bda) -> Option<ScreenLayout>
     ensures { result ≡ layout_by (row_at_of bda.now.mode bda.now.height) bda.now }
 {
@@ -93,7 +94,7 @@ fn layout_of(bda: &Bda) -> Option<ScreenLayout>
     })
 }
 
-/// Asks for the layout of a machine's screen.
+/// Reads the layout of a machine's screen.
 #[tactic(auto, using(crate::proofs::ScreenLemmas::layout_shown))]
 fn read_layout(alloc: Global, machine: &Machine, layout: &mut ScreenLayout) -> u32
     ensures { HasOfScreen machine.now ask_layout layout.old layout.new result }
@@ -101,7 +102,7 @@ fn read_layout(alloc: Global, machine: &Machine, layout: &mut ScreenLayout) -> u
     on_screen!(alloc, machine, _screen => layout_of(&machine.bda), layout)
 }
 
-/// Reads mode, page and sizes of the screen that is shown.
+/// Reads mode, page and sizes of the screen that the card shows.
 #[unsafe(no_mangle)]
 pub extern "C" fn zak_screen_read(
     alloc: Global,
@@ -116,7 +117,7 @@ pub extern "C" fn zak_screen_read(
     on_open_card!(alloc, card, machine => read_layout(alloc, machine, layout))
 }
 
-/// The cell of a page at a row and a column.
+/// The cell at a row and a column of a page.
 fn cell_in(screen: &Screen, page: u8, row: u8, column: u8) -> Option<Cell>
     ensures { result ≡ cell_of (cell_at screen.now page row column) }
 {
@@ -127,7 +128,7 @@ fn cell_in(screen: &Screen, page: u8, row: u8, column: u8) -> Option<Cell>
     })
 }
 
-/// Asks for a cell of a machine's screen.
+/// Reads a cell of a machine's screen.
 fn read_cell(
     alloc: Global,
     machine: &Machine,
@@ -141,7 +142,7 @@ fn read_cell(
     on_screen!(alloc, machine, screen => cell_in(&screen, page, row, column), cell)
 }
 
-/// Reads a cell of the screen that is shown.
+/// Reads a cell of the screen that the card shows.
 #[unsafe(no_mangle)]
 pub extern "C" fn zak_screen_cell(
     alloc: Global,
@@ -159,14 +160,14 @@ pub extern "C" fn zak_screen_cell(
     on_open_card!(alloc, card, machine => read_cell(alloc, machine, page, row, column, cell))
 }
 
-/// Asks for a pixel of a machine's screen.
+/// Reads a pixel of a machine's screen.
 fn read_pixel(alloc: Global, machine: &Machine, page: u8, x: u16, y: u16, pixel: &mut u8) -> u32
     ensures { HasOfScreen machine.now (ask_pixel page x y) pixel.old pixel.new result }
 {
     on_screen!(alloc, machine, screen => screen.pixel(page, x, y), pixel)
 }
 
-/// Reads a pixel of the screen that is shown.
+/// Reads a pixel of the screen that the card shows.
 #[unsafe(no_mangle)]
 pub extern "C" fn zak_screen_pixel(
     alloc: Global,
@@ -184,7 +185,7 @@ pub extern "C" fn zak_screen_pixel(
     on_open_card!(alloc, card, machine => read_pixel(alloc, machine, page, x, y, pixel))
 }
 
-/// The place of the cursor on a page.
+/// The cursor position on a page.
 fn cursor_in(screen: &Screen, page: u8) -> Option<Place>
     ensures { result ≡ place_of (cursor_at screen.now page) }
 {
@@ -192,14 +193,14 @@ fn cursor_in(screen: &Screen, page: u8) -> Option<Place>
     Some(Place { row, column })
 }
 
-/// Asks for the cursor's place on a machine's screen.
+/// Reads the cursor position on a page of a machine's screen.
 fn read_cursor(alloc: Global, machine: &Machine, page: u8, place: &mut Place) -> u32
     ensures { HasOfScreen machine.now (ask_cursor page) place.old place.new result }
 {
     on_screen!(alloc, machine, screen => cursor_in(&screen, page), place)
 }
 
-/// Reads the cursor's place on a page of the screen that is shown.
+/// Reads the cursor position on a page of the screen that the card shows.
 #[unsafe(no_mangle)]
 pub extern "C" fn zak_screen_cursor(
     alloc: Global,

@@ -1,14 +1,14 @@
-//! A machine that lies in the memory of a C program.
+//! A machine in the memory of a C program.
 ghost use Rattle.std.specs.Prelude.{◌≡◌, true, false, Bool};
 ghost use Rattle.vga_run.specs.declared.machine.Machine.{Machine};
 ghost use Rattle.vga_c.specs.Sealed.{owns_if, machine_coded};
 
-use crate::parts::Parts;
+use crate::box_parts::BoxParts;
 use std::alloc::Global;
 use std::marker::Model;
 use vga_run::machine::Machine;
 
-/// A machine on the heap by its pointer, or nothing. C sees the pointer alone.
+/// A pointer to a machine on the heap, or nothing. C sees only the pointer.
 #[repr(C)]
 #[derive(Drop)]
 pub struct Sealed {
@@ -34,10 +34,10 @@ impl Sealed {
     }
 
     /// The machine of these parts.
-    pub(crate) fn of_parts(parts: Parts<Machine, Global>) -> Sealed
+    pub(crate) fn of_parts(parts: BoxParts<Machine, Global>) -> Sealed
         ensures { (result.full ≡ true) × (result.machine ≡ parts.value) }
     {
-        let Parts { ptr, alloc } = parts;
+        let BoxParts { ptr, alloc } = parts;
         Sealed {
             ptr: ptr as *mut u8,
             alloc,
@@ -45,17 +45,17 @@ impl Sealed {
     }
 
     /// The parts of the machine.
-    pub(crate) fn into_parts(self) -> Parts<Machine, Global>
+    pub(crate) fn into_parts(self) -> BoxParts<Machine, Global>
         requires { self.full ≡ true }
         ensures { result.value ≡ self.machine }
     {
         let Sealed { ptr, alloc } = self;
-        Parts {
+        BoxParts {
             ptr: ptr as *mut Machine,
             alloc,
         }
     }
 }
 
-// All of a machine is its own: it may go on in another thread.
+// A machine shares nothing, so it may move to another thread.
 unsafe impl Send for Sealed {}

@@ -22,8 +22,8 @@ pub struct CallRegisters {
     pub dx: u16,
 }
 
-/// Gives the caller what a service answers.
-fn tell(
+/// Writes what a BIOS call answers, and returns the status.
+fn write_answer(
     outcome: Result<Reply, ServiceError>,
     registers: &mut CallRegisters,
     table: &mut [u8],
@@ -43,7 +43,7 @@ fn tell(
     }
 }
 
-/// Calls the video BIOS of a machine, whose data are valid.
+/// Calls the video BIOS of a machine with valid BIOS data.
 #[tactic(auto, using(crate::proofs::ServiceLemmas::told_service))]
 fn call_valid(
     alloc: Global,
@@ -72,10 +72,10 @@ fn call_valid(
         regs,
         block,
     );
-    tell(outcome, registers, table, len)
+    write_answer(outcome, registers, table, len)
 }
 
-/// Calls the video BIOS of a machine, if its data are valid.
+/// Calls the video BIOS of a machine, if its BIOS data are valid.
 fn call(
     alloc: Global,
     machine: &mut Machine,

@@ -1,4 +1,4 @@
-//! The state of an open card as it is.
+//! Reading the state of an open card.
 ghost use Rattle.std.specs.Prelude.{◌≡◌, ◌+◌, ◌<◌, ◌≤◌, length};
 ghost use Rattle.vga_c.specs.Cards.{Keeps, LeavesClosed, Spares, Tells};
 ghost use Rattle.vga_c.specs.State.{bda_in, beam_in, colour_in, component_number as number_of};
@@ -13,7 +13,7 @@ use vga_dac::Component;
 use vga_planes::Planes;
 use vga_run::machine::Machine;
 
-/// All registers, with the indexes, the flip-flop and what waits in the DAC.
+/// All registers, with the indexes, the flip-flop, and the state of the DAC's sequences.
 #[repr(C)]
 #[derive(Clone, Copy)]
 pub struct Registers {
@@ -34,7 +34,7 @@ pub struct Registers {
     pub dac_waiting_green: u8,
 }
 
-/// An entry of the DAC, 0 to 63 each.
+/// An entry of the DAC: red, green and blue, 0 to 63 each.
 #[repr(C)]
 #[derive(Clone, Copy)]
 pub struct Colour {
@@ -43,7 +43,7 @@ pub struct Colour {
     pub blue: u8,
 }
 
-/// Where the beam is and what it counts, and how many rows are drawn of the frame under way.
+/// The position of the beam, its counters, and how many rows are drawn of the frame under way.
 #[repr(C)]
 #[derive(Clone, Copy)]
 pub struct Beam {
@@ -81,7 +81,7 @@ pub struct BiosDataArea {
     pub last_row: u8,
 }
 
-/// The number of the component that is next.
+/// The number of the component that comes next.
 fn component_number(component: Component) -> u8
     ensures { result ≡ number_of component }
 {
@@ -180,7 +180,7 @@ fn beam_of(machine: &Machine) -> Beam
     }
 }
 
-/// Reads where the beam is.
+/// Reads the beam.
 #[unsafe(no_mangle)]
 pub extern "C" fn zak_read_beam(alloc: Global, card: &mut Handle, beam: &mut Beam) -> u32
     ensures card { Keeps card.old card.new }
@@ -223,7 +223,7 @@ pub extern "C" fn zak_read_latches(alloc: Global, card: &mut Handle, latches: &m
     })
 }
 
-/// The places of the cursor on the eight pages.
+/// The cursor positions on the eight pages.
 fn places_of(bda: &Bda) -> [u16; 8]
     ensures { result ≡ bda.now.cursor_places }
 {
@@ -279,7 +279,7 @@ fn copy_plane(planes: &Planes, plane: usize, offset: usize, bytes: &mut [u8])
     }
 }
 
-/// Copies bytes of a plane, from an offset on, where it has so many.
+/// Copies bytes of a plane, from an offset on, unless they go past its end.
 fn read_plane(planes: &Planes, plane: u8, offset: u16, bytes: &mut [u8]) -> u32
     ensures { IsPlaneRead planes.now plane offset bytes.old bytes.new result }
 {

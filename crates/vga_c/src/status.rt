@@ -1,6 +1,6 @@
-//! The number that a call answers.
+//! The status that a call returns.
 ghost use Rattle.std.specs.Prelude.{◌≡◌};
-ghost use Rattle.vga_run.specs.Answer.{of_write, of_byte, of_word, Plain};
+ghost use Rattle.vga_run.specs.Answer.{of_write, of_byte, of_word, Short};
 ghost use Rattle.vga_c.specs.Status.{refusal_status as refusal_status_of, status_of, value_of};
 
 use vga_bits::Refusal;
@@ -14,10 +14,10 @@ pub(crate) const NO_CARD: u32 = 20;
 /// The card is open already.
 pub(crate) const OPEN_ALREADY: u32 = 21;
 
-/// The font file has not 9,728 bytes.
+/// The font file does not have 9,728 bytes.
 pub(crate) const FONT_SIZE: u32 = 22;
 
-/// A request for memory was refused.
+/// An allocation failed.
 pub(crate) const OUT_OF_MEMORY: u32 = 23;
 
 /// Two rows of the picture differ in width.
@@ -38,10 +38,10 @@ pub(crate) const NO_SCREEN: u32 = 28;
 /// The checksum of a state of a fixed length is wrong.
 pub(crate) const STATE_CHECKSUM: u32 = 34;
 
-/// A script would have more bytes than one may have.
+/// A script would have more bytes than a script may have.
 pub(crate) const TOO_LONG: u32 = 106;
 
-/// The number of a refusal.
+/// The status of a refusal.
 pub(crate) fn refusal_status(refusal: Refusal) -> u32
     ensures { result ≡ refusal_status_of refusal }
 {
@@ -62,9 +62,9 @@ pub(crate) fn refusal_status(refusal: Refusal) -> u32
     }
 }
 
-/// The number of a step that reads nothing.
+/// The status of a step that reads nothing.
 pub(crate) fn write_status(outcome: Result<(), Refusal>) -> u32
-    ensures { result ≡ status_of (Plain (of_write outcome)) }
+    ensures { result ≡ status_of (Short (of_write outcome)) }
 {
     match outcome {
         Ok(()) => DONE,
@@ -72,10 +72,10 @@ pub(crate) fn write_status(outcome: Result<(), Refusal>) -> u32
     }
 }
 
-/// The number of a step that reads a byte, which goes to the caller's variable.
+/// The status of a step that reads a byte. The byte goes to the caller.
 pub(crate) fn byte_status(outcome: Result<u8, Refusal>, value: &mut u8) -> u32
-    ensures status { result ≡ status_of (Plain (of_byte outcome)) }
-    ensures value { value.new ≡ value_of (Plain (of_byte outcome)) value.old }
+    ensures status { result ≡ status_of (Short (of_byte outcome)) }
+    ensures value { value.new ≡ value_of (Short (of_byte outcome)) value.old }
 {
     match outcome {
         Ok(byte) => {
@@ -86,10 +86,10 @@ pub(crate) fn byte_status(outcome: Result<u8, Refusal>, value: &mut u8) -> u32
     }
 }
 
-/// The number of a step that reads a word, which goes to the caller's variable.
+/// The status of a step that reads a word. The word goes to the caller.
 pub(crate) fn word_status(outcome: Result<u16, Refusal>, value: &mut u16) -> u32
-    ensures status { result ≡ status_of (Plain (of_word outcome)) }
-    ensures value { value.new ≡ value_of (Plain (of_word outcome)) value.old }
+    ensures status { result ≡ status_of (Short (of_word outcome)) }
+    ensures value { value.new ≡ value_of (Short (of_word outcome)) value.old }
 {
     match outcome {
         Ok(word) => {

@@ -14,8 +14,8 @@ use vga_bits::Tracked;
 use vga_run::machine::Machine;
 use vga_script::Steps;
 
-/// Takes so many steps on a machine, of which the first has this number, and gives the caller their
-/// report.
+/// Takes the first `most` steps on a machine, or all if there are fewer, and writes their report to
+/// the caller. The first has the number `number`.
 fn take_steps(
     alloc: Global,
     machine: &mut Machine,
@@ -44,7 +44,7 @@ fn take_steps(
     }
 }
 
-/// Takes steps of a script on a machine whose data are valid.
+/// Takes steps of a script on a machine with valid BIOS data.
 fn run_valid(
     alloc: Global,
     machine: &mut Machine,
@@ -82,7 +82,7 @@ fn run_valid(
     }
 }
 
-/// Takes steps of a script on a machine, if its data are valid.
+/// Takes steps of a script on a machine, if its BIOS data are valid.
 fn run(
     alloc: Global,
     machine: &mut Machine,
@@ -107,8 +107,8 @@ fn run(
     run_valid(alloc, machine, script, first, most, out, len, taken, place)
 }
 
-/// Takes so many steps of a script, or all that there are, behind the first ones, which are passed
-/// over, and writes their report. The report's numbers go on from those passed over.
+/// Skips the first `first` steps of a script, takes the next `most`, or all if there are fewer, and
+/// writes their report. The numbers in the report count the skipped steps.
 #[unsafe(no_mangle)]
 pub extern "C" fn zak_run_on(
     alloc: Global,

@@ -1,4 +1,4 @@
-//! The text of a script as bytes, and its bytes as text.
+//! Assembling and printing a script.
 ghost use Rattle.std.specs.Prelude.{◌≡◌, IfErr, IfOk};
 ghost use Rattle.vga_c.specs.Outcome.{told};
 ghost use Rattle.vga_c.specs.Texts.{Assembles, IsAssembled, IsFaultOfBytes, IsFaultOfText};
@@ -10,7 +10,7 @@ use std::alloc::Global;
 use vga_bits::Fault;
 use vga_script::{assemble, decode, encode, print};
 
-/// The bytes of the script that a text spells, or its first fault.
+/// Assembles a text, or finds its first fault.
 fn bytes_of_text(alloc: Global, text: &[u8]) -> Result<Vec<u8>, Fault>
     ensures ok { IfOk result (λ bytes. IsAssembled text.now bytes.items) }
     ensures err { IfErr result (IsFaultOfText text.now) }
@@ -19,8 +19,8 @@ fn bytes_of_text(alloc: Global, text: &[u8]) -> Result<Vec<u8>, Fault>
     encode(alloc, &script)
 }
 
-/// Writes the bytes of the script that a text spells. With no room, `len` tells how many they are;
-/// at a bad line, `line` tells which.
+/// Assembles a text, and writes the bytes of its script. If the buffer is too short, `len` says how
+/// many bytes they are; at a bad line, `line` says which.
 #[unsafe(no_mangle)]
 pub extern "C" fn zak_assemble(
     alloc: Global,
@@ -38,7 +38,7 @@ pub extern "C" fn zak_assemble(
     }
 }
 
-/// The printed text of the script that some bytes spell, or their first fault.
+/// Prints the script that some bytes spell, or finds their first fault.
 fn text_of_bytes(alloc: Global, bytes: &[u8]) -> Result<Vec<u8>, Fault>
     ensures ok { IfOk result (λ text. IsPrinted bytes.now text.items) }
     ensures err { IfErr result (IsFaultOfBytes bytes.now) }
@@ -47,8 +47,8 @@ fn text_of_bytes(alloc: Global, bytes: &[u8]) -> Result<Vec<u8>, Fault>
     print(alloc, &script)
 }
 
-/// Writes the printed text of the script that some bytes spell. With no room, `len` tells how many
-/// bytes it has; at a bad step, `place` tells where.
+/// Prints the script that some bytes spell, and writes the text. If the buffer is too short, `len`
+/// says how many bytes it has; at a bad step, `place` says where.
 #[unsafe(no_mangle)]
 pub extern "C" fn zak_print(
     alloc: Global,

@@ -1,4 +1,4 @@
-//! Bytes of the caller's that are written to addresses which follow one another, or read from them.
+//! Runs of cycles over consecutive addresses, from or to the caller's bytes.
 ghost use Rattle.std.specs.Prelude.{◌≡◌, ◌+◌, ◌&&◌, length, slice_index};
 ghost use Rattle.vga_card.specs.Transfers.{decoded_by, AreRead};
 ghost use Rattle.vga_c.specs.Cards.{LeavesClosed, Spares};
@@ -11,14 +11,14 @@ use crate::status::{BAD_ARGUMENT, DONE};
 use std::alloc::Global;
 use vga_run::machine::Machine;
 
-/// Whether so many addresses from the first on have 32 bits each, and the one past them too.
+/// Whether n addresses from `first` on, and the next one too, have 32 bits.
 fn are_addresses(first: u32, n: usize) -> bool
     ensures { result ≡ are_addresses_of first n }
 {
     n < 0x1_0000_0000 - first as usize
 }
 
-/// Writes bytes to the addresses from the first on, and tells how many were decoded.
+/// Writes bytes to consecutive addresses, and answers how many were decoded.
 fn put_bytes(
     machine: &mut Machine,
     address: u32,
@@ -44,7 +44,7 @@ fn put_bytes(
     DONE
 }
 
-/// Writes bytes to the addresses from the first on, in ascending order or the last first.
+/// Writes bytes to consecutive addresses, from the first up or from the last down.
 #[unsafe(no_mangle)]
 pub extern "C" fn zak_put_bytes(
     alloc: Global,
@@ -65,7 +65,7 @@ pub extern "C" fn zak_put_bytes(
     on_open_card!(alloc, card, machine => put_bytes(machine, address, bytes, down, decoded))
 }
 
-/// Writes a byte to so many addresses from the first on, and tells how many were decoded.
+/// Writes one byte to n consecutive addresses, and answers how many were decoded.
 fn fill_bytes(
     machine: &mut Machine,
     address: u32,
@@ -91,7 +91,7 @@ fn fill_bytes(
     DONE
 }
 
-/// Writes a byte to so many addresses from the first on, in ascending order or the last first.
+/// Writes one byte to n consecutive addresses, from the first up or from the last down.
 #[unsafe(no_mangle)]
 pub extern "C" fn zak_fill_bytes(
     alloc: Global,
@@ -114,8 +114,7 @@ pub extern "C" fn zak_fill_bytes(
     })
 }
 
-/// Reads the addresses from the first on into bytes of the caller's, and tells how many were
-/// decoded.
+/// Reads consecutive addresses into the caller's bytes, and answers how many were decoded.
 fn get_bytes(
     machine: &mut Machine,
     address: u32,
@@ -143,8 +142,8 @@ fn get_bytes(
     DONE
 }
 
-/// Reads the addresses from the first on, in ascending order or the last first; a read that is not
-/// decoded gives FF.
+/// Reads consecutive addresses, from the first up or from the last down. A read that is not decoded
+/// gives FF.
 #[unsafe(no_mangle)]
 pub extern "C" fn zak_get_bytes(
     alloc: Global,
@@ -168,7 +167,7 @@ pub extern "C" fn zak_get_bytes(
     on_open_card!(alloc, card, machine => get_bytes(machine, address, bytes, down, decoded))
 }
 
-/// Moves so many bytes from addresses to others, and tells how many reads and writes were decoded.
+/// Moves n bytes from addresses to others, and answers how many reads and writes were decoded.
 fn move_bytes(
     machine: &mut Machine,
     from: u32,
@@ -197,8 +196,8 @@ fn move_bytes(
     DONE
 }
 
-/// Moves so many bytes from addresses to others, each by a read and a write, in ascending order or
-/// the last first; a read that is not decoded gives FF.
+/// Moves n bytes from addresses to others, each by a read and a write, from the first up or from
+/// the last down. A read that is not decoded gives FF.
 #[unsafe(no_mangle)]
 pub extern "C" fn zak_move_bytes(
     alloc: Global,

@@ -17,10 +17,10 @@ use Rattle.vga_bits.proofs.FourLemmas.{by_plane}
 use Rattle.vga_bits.proofs.RegisterLemmas.{kept_zeros, kept_set, kept_below}
 use Rattle.vga_planes.specs.Planes.{byte_at, bytes_at, zero_planes, IsMemory}
 use Rattle.vga_host.specs.Host.{HostState, power_on_host}
-use Rattle.vga_host.specs.Fields.{write_mode, is_set_reset_enabled, function_select}
-use Rattle.vga_host.specs.Address.{is_decoded, window_offset, plane_offset, is_reached}
-use Rattle.vga_host.specs.MemoryWrite.{combined_by, data_bit, mask_bit, written_bit, combined_bit, written_byte, memory_after_put, after_put}
-use Rattle.vga_host.specs.MemoryRead.{after_get, read_byte}
+use Rattle.vga_host.specs.Graphics.{write_mode, is_set_reset_enabled, function_select}
+use Rattle.vga_host.specs.Memory.Address.{is_decoded, window_offset, plane_offset, is_reached}
+use Rattle.vga_host.specs.Memory.Write.{combined_by, data_bit, mask_bit, written_bit, combined_bit, written_byte, memory_after_put, after_put}
+use Rattle.vga_host.specs.Memory.Read.{after_get, read_byte}
 use Rattle.vga_host.specs.Ports.{seq_masks, gfx_masks}
 use Rattle.vga_host.specs.Bounds.{IsHost}
 use Rattle.vga_crtc.specs.declared.beam.Beam.{Beam}

@@ -16,3 +16,4 @@ pub mod FreshCanvasLemmas
 pub mod RepeatLemmas
 pub mod ClockLemmas
 pub mod TransferLemmas
+pub mod OwedLemmas

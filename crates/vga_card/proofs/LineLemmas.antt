@@ -1,7 +1,7 @@
 -- The adapter after a whole line.
 use Rattle.std.proofs.Common.{◌≡◌, ℕ, ◌+◌, ◌-◌, ◌*◌, ◌/◌, ◌%◌, ◌<◌, ◌≤◌, ◌⊎◌, ⊎_elim, sym, ap, subst, ◌∙◌, arith, List, ◌++◌}
 use Rattle.vga_host.specs.Host.{HostState}
-use Rattle.vga_host.specs.Fields.{character_width as host_width}
+use Rattle.vga_host.specs.Sequencer.{character_width as host_width}
 use Rattle.vga_crtc.specs.declared.beam.Beam.{Beam}
 use Rattle.vga_crtc.specs.Crtc.{CrtcState}
 use Rattle.vga_crtc.specs.Beam.{is_first_dot, characters, started, next_line, after_start, after_dots, dots as beam_dots}

@@ -8,7 +8,8 @@ use Rattle.std.proofs.lemmas.Bool.Decides.{nat_tests}
 use Rattle.std.proofs.lemmas.Nat.{div_below}
 use Rattle.std.proofs.lemmas.List.{map-append, drop-drop}
 use Rattle.vga_host.specs.Host.{HostState}
-use Rattle.vga_host.specs.Fields.{character_width as host_width, is_graphics}
+use Rattle.vga_host.specs.Sequencer.{character_width as host_width}
+use Rattle.vga_host.specs.Graphics.{is_graphics}
 use Rattle.vga_crtc.specs.declared.beam.Beam.{Beam}
 use Rattle.vga_crtc.specs.Crtc.{CrtcState}
 use Rattle.vga_crtc.specs.Beam.{characters, is_first_dot, after_start, after_dots}

@@ -8,7 +8,7 @@ use Rattle.std.proofs.lemmas.Nat.{div-add-mod', div_below, mod_below, mul-le}
 use Rattle.std.proofs.lemmas.List.{append-nil, replicate-append-replicate, length-replicate, length-take, get_or-take, drop-drop}
 use Rattle.std.proofs.Math.Nat.{le_refl}
 use Rattle.vga_host.specs.Host.{HostState}
-use Rattle.vga_host.specs.Fields.{character_width as host_width, is_screen_off}
+use Rattle.vga_host.specs.Sequencer.{character_width as host_width, is_screen_off}
 use Rattle.vga_crtc.specs.Crtc.{CrtcState}
 use Rattle.vga_crtc.specs.Status.{is_display}
 use Rattle.vga_crtc.specs.Fields.{horizontal_display_end, vertical_display_end}

@@ -5,9 +5,9 @@ use Rattle.std.proofs.lemmas.Bool.{cases_order}
 use Rattle.std.proofs.lemmas.List.{get_or-set_other, get_or-set_same}
 use Rattle.vga_bits.specs.Four.{Four}
 use Rattle.vga_host.specs.Host.{HostState}
-use Rattle.vga_host.specs.Address.{is_decoded}
-use Rattle.vga_host.specs.MemoryRead.{read_bit, read_byte, after_get}
-use Rattle.vga_host.specs.Runs.{byte_where, after_gets as host_gets}
+use Rattle.vga_host.specs.Memory.Address.{is_decoded}
+use Rattle.vga_host.specs.Memory.Read.{read_bit, read_byte, after_get}
+use Rattle.vga_host.specs.Memory.Runs.{byte_where, after_gets as host_gets}
 use Rattle.vga_card.specs.Card.{CardState}
 use Rattle.vga_card.specs.Adapter.{AdapterState, adapter_of}
 use Rattle.vga_card.specs.Cycles.{answered, where_decoded, get_cycle}

@@ -1,7 +1,7 @@
 -- A bus: what cycles of a byte do to its state. The adapter is one.
 use Rattle.std.specs.Prelude.{ℕ, zero, suc, ◌+◌, Result, Ok, Err}
 use Rattle.vga_bits.specs.declared.refusal.Refusal.{Refusal}
-pub use Rattle.vga_host.specs.Runs.{in_turn}
+pub use Rattle.vga_host.specs.Memory.Runs.{in_turn}
 use Rattle.vga_card.specs.Card.{CardState}
 use Rattle.vga_card.specs.Cycles.{Written, Answered, out_cycle, inp_cycle, put_cycle, get_cycle}
 

@@ -5,7 +5,7 @@
 -- adapter has not counts as the first is this adapter's choice.
 use Rattle.std.specs.Prelude.{◌≡◌, ℕ, ◌*◌, ◌<◌, ◌==◌, Bool, not, if◌then◌else◌, MatchOption}
 use Rattle.vga_bits.specs.Bits.{is_set, field}
-use Rattle.vga_host.specs.Fields.{is_clock_halved}
+use Rattle.vga_host.specs.Sequencer.{is_clock_halved}
 use Rattle.vga_crtc.specs.Beam.{characters, lines}
 use Rattle.vga_crtc.specs.Status.{status}
 use Rattle.vga_card.specs.declared.clock.Clock.{Clock}

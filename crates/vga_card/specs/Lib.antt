@@ -18,3 +18,4 @@ pub mod FreshCanvas
 pub mod Transfers
 pub mod Valid
 pub mod WordCycles
+pub mod Owed

@@ -2,7 +2,8 @@
 -- From the IBM PS/2 Hardware Interface Technical Reference, Video Subsystems, "Graphics Mode
 -- Register" (256 colour mode) and "Maximum Scan Line Register".
 use Rattle.std.specs.Prelude.{ℕ, ◌+◌, ◌*◌, ◌&&◌, if◌then◌else◌}
-use Rattle.vga_host.specs.Fields.{is_256_colours, is_eight_dots, is_graphics}
+use Rattle.vga_host.specs.Graphics.{is_256_colours, is_graphics}
+use Rattle.vga_host.specs.Sequencer.{is_eight_dots}
 use Rattle.vga_crtc.specs.Fields.{is_double_scan, maximum_scan_line}
 use Rattle.vga_card.specs.Card.{CardState}
 

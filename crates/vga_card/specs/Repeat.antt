@@ -1,6 +1,6 @@
 -- Rows that are copied: what a line shows that has the memory of the line before it.
 use Rattle.std.specs.Prelude.{◌≡◌, ◌<◌, ℕ, ◌-◌, true, List, ◌++◌, length, drop, map}
-use Rattle.vga_host.specs.Fields.{is_graphics}
+use Rattle.vga_host.specs.Graphics.{is_graphics}
 use Rattle.vga_crtc.specs.declared.beam.Beam.{Beam}
 use Rattle.vga_dots.specs.Display.{DisplayState}
 use Rattle.vga_dots.specs.Repeat.{IsSameFetch}

@@ -3,7 +3,7 @@
 -- From the IBM PS/2 Hardware Interface Technical Reference, Video Subsystems: no cycle of memory
 -- changes a register.
 use Rattle.std.specs.Prelude.{◌≡◌, ℕ, zero, suc, ◌+◌, ◌<◌, List, length, slice_index}
-use Rattle.vga_host.specs.Address.{decoded_among}
+use Rattle.vga_host.specs.Memory.Address.{decoded_among}
 use Rattle.vga_card.specs.Card.{CardState}
 use Rattle.vga_card.specs.Bus.{Meaning, AtAddress, byte_of, after_move, card_meaning}
 

@@ -2,7 +2,7 @@
 ghost use Rattle.std.specs.Prelude.{◌≡◌, ◌<◌, ◌+◌, ◌^◌, length, slice_index};
 ghost use Rattle.vga_card.specs.Bus.{Meaning, AtPort, AtAddress, card_meaning, after_puts};
 ghost use Rattle.vga_card.specs.Bus.{after_moves};
-ghost use Rattle.vga_host.specs.Runs.{in_turn};
+ghost use Rattle.vga_host.specs.Memory.Runs.{in_turn};
 
 use crate::card::Card;
 use vga_bits::Refusal;

@@ -3,7 +3,7 @@ ghost use Rattle.std.specs.Prelude.{◌≡◌, ℕ, ◌+◌, ◌*◌, ◌<◌, �
 ghost use Rattle.std.specs.Prelude.{slice_index, take, drop, replicate, vec_len, vec_capacity};
 ghost use Rattle.std.specs.Prelude.{IfOk, IfSome, IsOkUnless};
 ghost use Rattle.vga_bits.specs.Bytes.{zeros};
-ghost use Rattle.vga_host.specs.Fields.{character_width};
+ghost use Rattle.vga_host.specs.Sequencer.{character_width};
 ghost use Rattle.vga_crtc.specs.Fields.{vertical_display_end};
 ghost use Rattle.vga_crtc.specs.Raster.{dot_number};
 ghost use Rattle.vga_dots.specs.Line.{shown_characters, IsLineDrawn, IsPartDrawn};

@@ -1,7 +1,17 @@
 -- An address by multiplying and adding a bit is the fetch address.
-use Rattle.std.proofs.Common.{◌≡◌, ℕ, ◌+◌, ◌*◌, ◌/◌, ◌%◌, ◌<◌, arith, Bool, true, false, List}
+use Rattle.std.proofs.Common.{◌≡◌, ℕ, ◌+◌, ◌-◌, ◌*◌, ◌/◌, ◌%◌, ◌<◌, ◌≤◌, arith, Bool, true, false, List}
 use Rattle.std.specs.Prelude.{◌^◌, if◌then◌else◌}
+use Rattle.std.specs.Prelude.{nat_lt, nat_le}
 use Rattle.std.specs.Int.{bit_at}
+use Rattle.std.proofs.lemmas.Bool.Decides.{nat_tests}
+use Rattle.vga_host.specs.Host.{HostState}
+use Rattle.vga_host.specs.Sequencer.{character_width}
+use Rattle.vga_crtc.specs.Crtc.{CrtcState}
+use Rattle.vga_attr.specs.Attr.{AttrState}
+use Rattle.vga_dots.specs.declared.source_dot.SourceDot.{SourceDot}
+use Rattle.vga_dots.specs.SourceDot.{source_dot, panning_shift}
+use Rattle.vga_dots.specs.Fetch.{fetched_at}
+use Rattle.vga_dots.specs.Line.{placed}
 use Rattle.vga_crtc.specs.Fields.{is_double_word, is_byte_mode, is_address_wrap}
 use Rattle.vga_dots.specs.declared.addressing.Addressing.{Addressing}
 use Rattle.vga_dots.specs.SourceDot.{fetch_address}
@@ -39,3 +49,47 @@ module _ (r : List ℕ) where
   pub reached_is : (n : ℕ) → n < 65536 → reached (addressing_of r) n ≡ fetch_address r n
   unfolding addressing_of fetch_address
   reached_is n l = same (is_double_word r) (is_byte_mode r) (is_address_wrap r) n l
+
+-- ---- places apart from those that a line fetches
+
+-- the address by the three bits
+abbrev fetched_by : Bool → Bool → Bool → ℕ → ℕ
+fetched_by double byte wrap n = if double then 4 * n % 65536 else if byte then n else 2 * n % 65536 + bit_at n (if wrap then 15 else 13)
+
+-- a character of the line is fetched less than its number of steps behind the first
+near : (double byte wrap : Bool) (base j last place : ℕ) → last < 256 → j ≤ last + 1 →
+    fetched_by double byte wrap ((base + j) % 65536) ≡ place
+    → (last + 2) * (looked_up double byte wrap).step ≤ (place + (65536 - base * (looked_up double byte wrap).step % 65536)) % 65536 → ⊥
+near true byte wrap base j last place l k e far = omega (arith, l, k, e, far)
+near false true wrap base j last place l k e far = omega (arith, l, k, e, far)
+near false false true base j last place l k e far = omega (arith, l, k, e, far)
+near false false false base j last place l k e far = omega (arith, l, k, e, far)
+
+near_line : (r : List ℕ) (base j last place : ℕ) → last < 256 → j ≤ last + 1 →
+    (last + 2) * (addressing_of r).step ≤ (place + (65536 - base * (addressing_of r).step % 65536)) % 65536 → fetch_address r ((base + j) % 65536) ≡ place → ⊥
+unfolding addressing_of fetch_address
+near_line r base j last place l k far e = near (is_double_word r) (is_byte_mode r) (is_address_wrap r) base j last place l k e far
+
+chosen : (v : Bool) (s t : SourceDot) (r : List ℕ) (place : ℕ) → (fetch_address r s.counter ≡ place → ⊥) → (fetch_address r t.counter ≡ place → ⊥) →
+    fetch_address r (if v then s else t).counter ≡ place → ⊥
+chosen true s t r place f g = f
+chosen false s t r place f g = g
+
+apart : (h : HostState) (c : CrtcState) (a : AttrState) (x k last place : ℕ) → last < 256 → x ≤ last →
+    (last + 2) * (addressing_of c.registers).step ≤ (place + (65536 - c.beam.base * (addressing_of c.registers).step % 65536)) % 65536
+    → fetched_at h (placed c x k) a ≡ place → ⊥
+unfolding source_dot
+apart h c a x k last place small l far =
+    let dot = k + panning_shift h (placed c x k) a in
+    chosen (nat_lt dot (character_width h)) (record { counter = (c.beam.base + x) % 65536; dot = dot })
+    (record { counter = (c.beam.base + (x + 1)) % 65536; dot = dot - character_width h }) c.registers place
+    (near_line c.registers c.beam.base x last place small (omega (arith, l)) far)
+    (near_line c.registers c.beam.base (x + 1) last place small (omega (arith, l)) far)
+
+far_of : (x y : ℕ) → nat_le x y ≡ true → x ≤ y
+far_of x y h = grind (arith, nat_tests)
+
+pub tested_apart : (h : HostState) (c : CrtcState) (a : AttrState) (x k last place : ℕ) → last < 256 → x ≤ last →
+    nat_le ((last + 2) * (addressing_of c.registers).step) ((place + (65536 - c.beam.base * (addressing_of c.registers).step % 65536)) % 65536) ≡ true
+    → fetched_at h (placed c x k) a ≡ place → ⊥
+tested_apart h c a x k last place small l test = apart h c a x k last place small l (far_of _ _ test)

@@ -10,7 +10,8 @@ use Rattle.vga_bits.specs.Words.{bytes_of, word_bit}
 use Rattle.vga_bits.proofs.WordLemmas.{word_bit_plane}
 use Rattle.vga_planes.specs.Planes.{byte_at, bytes_at}
 use Rattle.vga_host.specs.Host.{HostState}
-use Rattle.vga_host.specs.Fields.{is_screen_off, is_graphics, is_256_colours}
+use Rattle.vga_host.specs.Sequencer.{is_screen_off}
+use Rattle.vga_host.specs.Graphics.{is_graphics, is_256_colours}
 use Rattle.vga_crtc.specs.Crtc.{CrtcState}
 use Rattle.vga_attr.specs.Attr.{AttrState}
 use Rattle.vga_attr.specs.Fields.{is_palette_shown, overscan, is_line_graphics}

@@ -4,7 +4,8 @@ use Rattle.std.specs.Prelude.{nat_lt, not, if◌then◌else◌}
 use Rattle.std.proofs.lemmas.Bool.{cases_lt, lt-ltb, le-ltb}
 use Rattle.std.proofs.lemmas.Nat.{row_fits, div-add-mod', div_below, mod_below, div-mul-add, mod-mul-add}
 use Rattle.vga_host.specs.Host.{HostState}
-use Rattle.vga_host.specs.Fields.{character_width, is_eight_dots, is_screen_off, is_graphics, is_256_colours}
+use Rattle.vga_host.specs.Sequencer.{character_width, is_eight_dots, is_screen_off}
+use Rattle.vga_host.specs.Graphics.{is_graphics, is_256_colours}
 use Rattle.vga_crtc.specs.Raster.{dot_number}
 use Rattle.vga_attr.specs.Attr.{AttrState}
 use Rattle.vga_attr.specs.Fields.{is_palette_shown, overscan}

@@ -2,7 +2,8 @@
 use Rattle.std.proofs.Common.{◌≡◌, ℕ, sym, ap, ◌∙◌, Bool, true, [], ◌∷◌}
 use Rattle.std.specs.Prelude.{not, if◌then◌else◌, bit_and}
 use Rattle.vga_host.specs.Host.{HostState}
-use Rattle.vga_host.specs.Fields.{is_screen_off, is_graphics, is_256_colours}
+use Rattle.vga_host.specs.Sequencer.{is_screen_off}
+use Rattle.vga_host.specs.Graphics.{is_graphics, is_256_colours}
 use Rattle.vga_crtc.specs.declared.beam.Beam.{Beam}
 use Rattle.vga_crtc.specs.Crtc.{CrtcState}
 use Rattle.vga_attr.specs.Attr.{AttrState}

@@ -9,7 +9,7 @@ use Rattle.std.proofs.lemmas.Nat.Bits.{and_high_mask}
 use Rattle.vga_bits.specs.Bits.{is_set, field}
 use Rattle.vga_planes.specs.Planes.{byte_at}
 use Rattle.vga_host.specs.Host.{HostState}
-use Rattle.vga_host.specs.Fields.{character_map_a, character_map_b}
+use Rattle.vga_host.specs.Sequencer.{character_map_a, character_map_b}
 use Rattle.vga_crtc.specs.Crtc.{CrtcState}
 use Rattle.vga_crtc.specs.Fields.{cursor_start, is_cursor_off, cursor_end, cursor_location, underline_location}
 use Rattle.vga_attr.specs.Attr.{AttrState}

@@ -1,7 +1,8 @@
 -- The four parts of the adapter that decide what is shown.
 use Rattle.std.specs.Prelude.{◌≡◌, true, false}
 use Rattle.vga_host.specs.Host.{HostState}
-use Rattle.vga_host.specs.Fields.{is_screen_off, is_graphics, is_256_colours}
+use Rattle.vga_host.specs.Sequencer.{is_screen_off}
+use Rattle.vga_host.specs.Graphics.{is_graphics, is_256_colours}
 use Rattle.vga_crtc.specs.Crtc.{CrtcState}
 use Rattle.vga_attr.specs.Attr.{AttrState}
 use Rattle.vga_attr.specs.Fields.{is_palette_shown}

@@ -5,7 +5,7 @@
 use Rattle.std.specs.Prelude.{◌≤◌, ◌+◌, ◌%◌, ◌==◌, ◌&&◌, not, nat_lt, nat_le}
 use Rattle.std.specs.Prelude.{if◌then◌else◌}
 use Rattle.vga_host.specs.Host.{HostState}
-use Rattle.vga_host.specs.Fields.{character_map_a, character_map_b}
+use Rattle.vga_host.specs.Sequencer.{character_map_a, character_map_b}
 use Rattle.vga_crtc.specs.Crtc.{CrtcState}
 use Rattle.vga_crtc.specs.Fields.{cursor_start, is_cursor_off, cursor_end, cursor_location}
 use Rattle.vga_crtc.specs.Fields.{underline_location}

@@ -1,10 +1,15 @@
 //! Where characters are fetched, apart for speed alone: what the registers say of every address is
 //! looked up once for a line.
-ghost use Rattle.std.specs.Prelude.{◌≡◌, ◌<◌, ℕ, List};
+ghost use Rattle.std.specs.Prelude.{◌≡◌, ◌<◌, ◌≤◌, true, ℕ, List};
+ghost use Rattle.vga_host.specs.Host.{HostState};
+ghost use Rattle.vga_crtc.specs.Fields.{horizontal_display_end};
+ghost use Rattle.vga_attr.specs.Attr.{AttrState};
 ghost use Rattle.vga_dots.specs.SourceDot.{fetch_address};
 ghost use Rattle.vga_dots.specs.Addressing.{addressing_of};
+ghost use Rattle.vga_dots.specs.Fetch.{fetched_at};
+ghost use Rattle.vga_dots.specs.Line.{placed};
 
-use vga_crtc::Registers;
+use vga_crtc::{Crtc, Registers};
 
 /// A bit that no counter has.
 const NO_BIT: u32 = 16;
@@ -51,4 +56,20 @@ impl Addressing {
         let low = (counter as u32 >> self.bit) % 2;
         counter.wrapping_mul(self.step).wrapping_add(low as u16)
     }
+}
+
+/// Whether no displayed dot of the beam's line fetches an offset. The start of the frame must have
+/// been taken. An offset that is near those that are fetched may count as one of them.
+#[tactic(auto, unfolding(crate::specs::Addressing::addressing_of))]
+pub fn is_apart(crtc: &Crtc, offset: u16) -> bool
+    ensures { result ≡ true → (h : HostState) (a : AttrState) (x k : ℕ) →
+        x ≤ horizontal_display_end crtc.now.registers
+        → ¬ (fetched_at h (placed crtc.now x k) a ≡ offset) }
+{
+    let registers = crtc.fields();
+    let step = Addressing::new(registers).step;
+    let first = crtc.beam().base.wrapping_mul(step);
+    let characters = registers.horizontal_display_end() as u32 + 2;
+    let distance = offset.wrapping_sub(first);
+    characters * step as u32 <= distance as u32
 }

@@ -1,13 +1,15 @@
 //! Laws of dots, for those who build on them. Each function has an empty body: its clauses are the
 //! law.
-ghost use Rattle.std.specs.Prelude.{◌≡◌, ℕ, true};
+ghost use Rattle.std.specs.Prelude.{◌≡◌, ℕ, List, true};
+ghost use Rattle.vga_bits.specs.Four.{Four};
 ghost use Rattle.vga_host.specs.Host.{HostState};
-ghost use Rattle.vga_host.specs.Fields.{is_graphics};
+ghost use Rattle.vga_host.specs.Graphics.{is_graphics};
 ghost use Rattle.vga_crtc.specs.declared.beam.Beam.{Beam};
 ghost use Rattle.vga_crtc.specs.Crtc.{CrtcState};
 ghost use Rattle.vga_attr.specs.Attr.{AttrState};
 ghost use Rattle.vga_dac.specs.Dac.{DacState};
 ghost use Rattle.vga_dots.specs.Colour.{dot_colour};
+ghost use Rattle.vga_dots.specs.Fetch.{IsSeenAlike};
 ghost use Rattle.vga_dots.specs.Line.{placed};
 ghost use Rattle.vga_dots.specs.Repeat.{IsSameFetch};
 
@@ -18,4 +20,13 @@ pub fn graphics_lines_repeat()
     ensures { (h : HostState) (c : CrtcState) (b : Beam) (a : AttrState) (d : DacState) (x k : ℕ) →
         is_graphics h ≡ true → IsSameFetch b c.beam →
         dot_colour h (placed (record c { beam = b }) x k) a d ≡ dot_colour h (placed c x k) a d }
+{}
+
+/// A dot's colour depends on no byte of the memory but those that the dot fetches, and in text on
+/// the glyphs.
+#[tactic(auto, using(crate::proofs::FetchLemmas::same_colour))]
+pub fn dots_see_what_they_fetch()
+    ensures { (h : HostState) (c : CrtcState) (a : AttrState) (d : DacState)
+        (memory : Four (List ℕ)) → IsSeenAlike h c a memory →
+        dot_colour (record h { memory = memory }) c a d ≡ dot_colour h c a d }
 {}

@@ -1,6 +1,6 @@
 //! The dots of a line, a character at a time.
 ghost use Rattle.std.specs.Prelude.{◌≡◌, ◌+◌, ◌*◌, ◌<◌, ◌≤◌, length};
-ghost use Rattle.vga_host.specs.Fields.{character_width};
+ghost use Rattle.vga_host.specs.Sequencer.{character_width};
 ghost use Rattle.vga_dots.specs.SourceDot.{panning_shift as panning_shift_of};
 ghost use Rattle.vga_dots.specs.Display.{display_of, ShowsMemory, ShowsText};
 ghost use Rattle.vga_dots.specs.Character.{DrawsText};

@@ -5,16 +5,17 @@ use Rattle.std.specs.Prelude.{not}
 use Rattle.std.proofs.lemmas.Bool.Decides.{nat_tests}
 use Rattle.vga_bits.proofs.FourLemmas.{by_plane}
 use Rattle.vga_bits.specs.Four.{Four, four, of_plane}
-use Rattle.vga_host.specs.declared.host.memory_access.MemoryAccess.{MemoryAccess}
+use Rattle.vga_host.specs.declared.host.memory.access.MemoryAccess.{MemoryAccess}
 use Rattle.vga_host.specs.Host.{HostState}
-use Rattle.vga_host.specs.Address.{is_decoded, window_offset, plane_offset, is_reached}
-use Rattle.vga_host.specs.Fields.{is_in_map_mask, is_chain_four, is_chain_odd_even, is_odd_even_off}
-use Rattle.vga_host.specs.MemoryWrite.{written_bit, combined_bit, written_byte, after_put, IsPlain}
-use Rattle.vga_host.specs.Runs.{put_where, after_puts, in_turn, with_memory}
-use Rattle.vga_host.specs.MemoryAccess.{IsAccess}
-use Rattle.vga_host.specs.PlaneWords.{word_put, alternating, grouped, ArePutWithin, FillsPlanes, FillsFours, FillsPairs, PutsWords}
+use Rattle.vga_host.specs.Memory.Address.{is_decoded, window_offset, plane_offset, is_reached}
+use Rattle.vga_host.specs.Sequencer.{is_in_map_mask, is_chain_four, is_odd_even_off}
+use Rattle.vga_host.specs.Graphics.{is_chain_odd_even}
+use Rattle.vga_host.specs.Memory.Write.{written_bit, combined_bit, written_byte, after_put, StoresByte}
+use Rattle.vga_host.specs.Memory.Runs.{put_where, after_puts, in_turn, with_memory}
+use Rattle.vga_host.specs.Memory.Access.{IsAccess}
+use Rattle.vga_host.specs.Memory.PlaneWords.{word_put, alternating, grouped, ArePutWithin, FillsPlanes, FillsFours, FillsPairs, PutsWords}
 use Rattle.vga_bits.proofs.BitLemmas.{byte_from_bits}
-use Rattle.vga_host.proofs.PlainLemmas.{plain_bit}
+use Rattle.vga_host.proofs.StoresByteLemmas.{plain_bit}
 use Rattle.vga_host.proofs.RunLemmas.{even_in_turn, odd_in_turn, Turns}
 use Rattle.vga_host.proofs.WordLemmas.{plane_is, plane_alone, alone_is, and_turned, in_four, of_four, in_two, of_two, next_place, access_over}
 
@@ -273,13 +274,13 @@ fill_leaves access bytes others misc first even odd n done h s is be bo few kept
 -- ---- bytes of the caller's
 
 -- a plain write leaves its byte in each plane
-plain_byte : (h : HostState) (v p : ℕ) → IsPlain h → p < 4 → v < 256 → written_byte h v p ≡ v
+plain_byte : (h : HostState) (v p : ℕ) → StoresByte h → p < 4 → v < 256 → written_byte h v p ≡ v
 plain_byte h v p plain l byte = sym (byte_from_bits v (λ i. written_bit h v p i) byte (λ i li. sym (plain_bit h v p i plain l li)))
 
-plain_over : (h : HostState) (m : Four (List ℕ)) → IsPlain h → (let s : HostState = record h { memory = m } in IsPlain s)
+plain_over : (h : HostState) (m : Four (List ℕ)) → StoresByte h → (let s : HostState = record h { memory = m } in StoresByte s)
 plain_over h m is = record { mode = is.mode; rotate = is.rotate; function = is.function; own = is.own; mask = is.mask }
 
-pub four_grouped : (h : HostState) (misc first n f : ℕ) (g : ℕ → ℕ) → ArePutWithin h misc first n f → FillsFours h f → IsPlain h → ((i : ℕ) → g i < 256) →
+pub four_grouped : (h : HostState) (misc first n f : ℕ) (g : ℕ → ℕ) → ArePutWithin h misc first n f → FillsFours h f → StoresByte h → ((i : ℕ) → g i < 256) →
     PutsWords 4 h misc first n f g (grouped 4 g)
 four_grouped h misc first n f g within is plain bytes = record {
   some = omega arith;
@@ -292,7 +293,7 @@ four_grouped h misc first n f g within is plain bytes = record {
       (own 3 (i + 1 + 1 + 1) (omega arith) (omega arith));
 }
 
-pub pair_grouped : (h : HostState) (misc first n f : ℕ) (g : ℕ → ℕ) → ArePutWithin h misc first n f → FillsPairs h f → IsPlain h → ((i : ℕ) → g i < 256) →
+pub pair_grouped : (h : HostState) (misc first n f : ℕ) (g : ℕ → ℕ) → ArePutWithin h misc first n f → FillsPairs h f → StoresByte h → ((i : ℕ) → g i < 256) →
     PutsWords 2 h misc first n f g (grouped 2 g)
 pair_grouped h misc first n f g within is plain bytes = record {
   some = omega arith;
@@ -307,7 +308,7 @@ pair_grouped h misc first n f g within is plain bytes = record {
       (λ x. absurd (cc)) (λ x. refl) (λ x. absurd (cc)) (λ x. refl) p l odd);
 }
 
-pub plane_grouped : (h : HostState) (misc first n f : ℕ) (g : ℕ → ℕ) → ArePutWithin h misc first n f → FillsPlanes h → IsPlain h → ((i : ℕ) → g i < 256) →
+pub plane_grouped : (h : HostState) (misc first n f : ℕ) (g : ℕ → ℕ) → ArePutWithin h misc first n f → FillsPlanes h → StoresByte h → ((i : ℕ) → g i < 256) →
     PutsWords 1 h misc first n f g (grouped 1 g)
 plane_grouped h misc first n f g within is plain bytes = record {
   some = omega arith;

@@ -1,4 +1,4 @@
-pub mod PlainLemmas
+pub mod StoresByteLemmas
 pub mod WordLemmas
 pub mod RunLemmas
 pub mod FillLemmas

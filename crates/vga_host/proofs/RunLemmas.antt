@@ -1,5 +1,5 @@
 -- Runs of writes: what the registers say stays, and a write by what they say.
-use Rattle.std.proofs.Common.{Bool, true, false, ◌≡◌, ℕ, suc, ◌+◌, ◌-◌, ◌*◌, ◌/◌, ◌%◌, ◌<◌, ◌==◌, ◌&&◌, ◌||◌, nat_le, nat_lt, IsTrue, refl, sym, ap}
+use Rattle.std.proofs.Common.{Bool, true, false, ◌≡◌, ℕ, suc, ◌+◌, ◌-◌, ◌%◌, ◌<◌, ◌==◌, ◌&&◌, nat_le, nat_lt, IsTrue, refl, sym, ap}
 use Rattle.std.proofs.Common.{subst, ◌∙◌, arith, if◌then◌else◌}
 use Rattle.std.specs.Prelude.{slice_set, slice_index}
 use Rattle.std.proofs.Common.{length, List, ◌≤◌, zero}
@@ -11,17 +11,18 @@ use Rattle.std.proofs.lemmas.List.{get_or-set_other, get_or-set_same}
 use Rattle.vga_bits.specs.Bits.{is_set, byte_of}
 use Rattle.vga_bits.specs.Four.{Four, four, of_plane}
 use Rattle.vga_planes.specs.Planes.{with_bytes, bytes_at, byte_at}
-use Rattle.vga_host.specs.declared.host.memory_access.MemoryAccess.{MemoryAccess}
+use Rattle.vga_host.specs.declared.host.memory.access.MemoryAccess.{MemoryAccess}
 use Rattle.vga_host.specs.Host.{HostState}
-use Rattle.vga_host.specs.Address.{is_decoded, decoded_among, window_offset, plane_offset, is_reached, window_start, window_len}
-use Rattle.vga_host.specs.MemoryWrite.{written_bit, combined_bit, written_byte, after_put}
-use Rattle.vga_host.specs.MemoryRead.{loaded, compared_bit, picked_plane, read_bit, read_byte, after_get}
+use Rattle.vga_host.specs.Memory.Address.{is_decoded, decoded_among, window_offset, plane_offset, is_reached, window_start, window_len}
+use Rattle.vga_host.specs.Memory.Write.{written_bit, combined_bit, written_byte, after_put}
+use Rattle.vga_host.specs.Memory.Read.{loaded, compared_bit, picked_plane, read_bit, read_byte, after_get}
 use Rattle.std.specs.Int.{bit_at}
 use Rattle.vga_bits.proofs.BitLemmas.{byte_from_bits}
 use Rattle.vga_bits.proofs.FourLemmas.{by_plane}
-use Rattle.vga_host.specs.Runs.{put_where, put_bytes, get_where, byte_where, move_where, after_puts, after_gets, after_moves, in_turn}
-use Rattle.vga_host.specs.MemoryAccess.{IsAccess}
-use Rattle.vga_host.specs.Fields.{write_mode, is_memory_enabled, is_read_compare}
+use Rattle.vga_host.specs.Memory.Runs.{put_where, put_bytes, get_where, byte_where, move_where, after_puts, after_gets, after_moves, in_turn}
+use Rattle.vga_host.specs.Memory.Access.{IsAccess}
+use Rattle.vga_host.specs.Graphics.{write_mode, is_read_compare}
+use Rattle.vga_host.specs.Memory.Address.{is_memory_enabled}
 
 -- ---- what the registers say stays
 
@@ -65,63 +66,44 @@ if_true : {A : Type 0} (d : Bool) (x y : A) → IsTrue d → x ≡ (if d then x 
 if_true true x y is = refl
 if_true false x y is = absurd (cc)
 
-module _ (access : MemoryAccess) (h : HostState) (misc a : ℕ) (is : IsAccess access h) where
-  access_planes : (w set : ℕ) (bytes : Four ℕ) → w ≡ (a - access.start) % 65536
-      → (reach : (p : ℕ) → p < 4 → is_set set p ≡ (is_set access.map_mask p && (if access.chain_four then p == w % 4 else access.odd_even_off || (p % 2 == w % 2))))
-      → with_bytes h.memory (if access.chain_four then w / 4 * 4 else if access.chain_odd_even then w / 2 * 2 else w) bytes set
+-- ---- a cycle at the place of an address
+
+module _ (h : HostState) (misc a w o : ℕ) (decoded : IsTrue (is_decoded h misc a)) (at : w ≡ window_offset h a) (place : o ≡ plane_offset h w) where
+  pub there : o ≡ plane_offset h (window_offset h a)
+  there = place ∙ ap (plane_offset h) at
+
+  pub planes_after : (set : ℕ) (bytes : Four ℕ) → (reach : (p : ℕ) → p < 4 → is_set set p ≡ is_reached h w p)
+      → with_bytes h.memory o bytes set
       ≡ four (λ p. if is_reached h (window_offset h a) p then slice_set (of_plane h.memory p) (plane_offset h (window_offset h a)) (of_plane bytes p)
       else of_plane h.memory p)
-  access_planes w set bytes in_window reach =
-      let at : w ≡ window_offset h a = in_window ∙ ap (λ s. (a - s) % 65536) is.start in
-      let o : (if access.chain_four then w / 4 * 4 else if access.chain_odd_even then w / 2 * 2 else w) ≡ plane_offset h (window_offset h a) =
-      λ j. if is.chain_four j then at j / 4 * 4 else if is.chain_odd_even j then at j / 2 * 2 else at j in
-      let through : (p : ℕ) → (is_set access.map_mask p && (if access.chain_four then p == w % 4 else access.odd_even_off || (p % 2 == w % 2))) ≡ is_reached h (window_offset h a) p =
-      λ p. λ j. is.map_mask p j && (if is.chain_four j then p == at j % 4 else is.odd_even_off j || (p % 2 == at j % 2)) in
-      let r0 = reach 0 (omega arith) ∙ through 0 in
-      let r1 = reach 1 (omega arith) ∙ through 1 in
-      let r2 = reach 2 (omega arith) ∙ through 2 in
-      let r3 = reach 3 (omega arith) ∙ through 3 in
+  planes_after set bytes reach =
+      let r : (p : ℕ) → p < 4 → is_set set p ≡ is_reached h (window_offset h a) p = λ p less. reach p less ∙ ap (λ x. is_reached h x p) at in
+      let r0 = r 0 (omega arith) in
+      let r1 = r 1 (omega arith) in
+      let r2 = r 2 (omega arith) in
+      let r3 = r 3 (omega arith) in
       λ j. record {
-        plane0 = if r0 j then slice_set h.memory.plane0 (o j) bytes.plane0 else h.memory.plane0;
-        plane1 = if r1 j then slice_set h.memory.plane1 (o j) bytes.plane1 else h.memory.plane1;
-        plane2 = if r2 j then slice_set h.memory.plane2 (o j) bytes.plane2 else h.memory.plane2;
-        plane3 = if r3 j then slice_set h.memory.plane3 (o j) bytes.plane3 else h.memory.plane3;
+        plane0 = if r0 j then slice_set h.memory.plane0 (there j) bytes.plane0 else h.memory.plane0;
+        plane1 = if r1 j then slice_set h.memory.plane1 (there j) bytes.plane1 else h.memory.plane1;
+        plane2 = if r2 j then slice_set h.memory.plane2 (there j) bytes.plane2 else h.memory.plane2;
+        plane3 = if r3 j then slice_set h.memory.plane3 (there j) bytes.plane3 else h.memory.plane3;
       }
 
-  decoded_as : (is_memory_enabled misc && (nat_le access.start a && nat_lt a (access.start + access.len))) ≡ is_decoded h misc a
-  decoded_as = λ j. is_memory_enabled misc && (nat_le (is.start j) a && nat_lt a (is.start j + is.len j))
+  -- four bytes that are stored there are a write of them
+  pub put_at : (set : ℕ) (bytes : Four ℕ) → (reach : (p : ℕ) → p < 4 → is_set set p ≡ is_reached h w p)
+      → (let after : HostState = record h { memory = with_bytes h.memory o bytes set } in after ≡ put_bytes h misc a bytes)
+  put_at set bytes reach = ap (λ m. let after : HostState = record h { memory = m } in after) (planes_after set bytes reach) ∙ if_true (is_decoded h misc a) _ h decoded
 
-  -- a write by what the registers say is a write
-  pub put_as : (w set : ℕ) (bytes : Four ℕ) → IsTrue (is_memory_enabled misc && (nat_le access.start a && nat_lt a (access.start + access.len)))
-      → w ≡ (a - access.start) % 65536
-      → (reach : (p : ℕ) → p < 4 → is_set set p ≡ (is_set access.map_mask p && (if access.chain_four then p == w % 4 else access.odd_even_off || (p % 2 == w % 2))))
-      → (let after : HostState = record h { memory = with_bytes h.memory (if access.chain_four then w / 4 * 4 else if access.chain_odd_even then w / 2 * 2 else w) bytes set } in
-      after ≡ put_bytes h misc a bytes)
-  put_as w set bytes decoded in_window reach =
-      ap (λ m. let after : HostState = record h { memory = m } in after) (access_planes w set bytes in_window reach)
-      ∙ if_true (is_decoded h misc a) _ h (sym decoded_as ∙ decoded)
+  -- four bytes that are loaded from there are a read's
+  pub get_at : (let after : HostState = record h { latches = bytes_at h.memory o } in after ≡ get_where h misc a)
+  get_at = ap (λ o. let after : HostState = record h { latches = bytes_at h.memory o } in after) there ∙ if_true (is_decoded h misc a) (after_get h a) h decoded
 
-  -- a load by what they say is a read
-  pub get_as : (w : ℕ) → IsTrue (is_memory_enabled misc && (nat_le access.start a && nat_lt a (access.start + access.len))) → w ≡ (a - access.start) % 65536
-      → (let after : HostState = record h { latches = bytes_at h.memory (if access.chain_four then w / 4 * 4 else if access.chain_odd_even then w / 2 * 2 else w) } in after
-      ≡ get_where h misc a)
-  get_as w decoded in_window =
-      let at : w ≡ window_offset h a = in_window ∙ ap (λ s. (a - s) % 65536) is.start in
-      let o : (if access.chain_four then w / 4 * 4 else if access.chain_odd_even then w / 2 * 2 else w) ≡ plane_offset h (window_offset h a) =
-      λ j. if is.chain_four j then at j / 4 * 4 else if is.chain_odd_even j then at j / 2 * 2 else at j in
-      ap (λ o. let after : HostState = record h { latches = bytes_at h.memory o } in after) o
-      ∙ if_true (is_decoded h misc a) (after_get h a) h (sym decoded_as ∙ decoded)
-
-  -- and so is its byte
-  pub byte_as : (w : ℕ) → IsTrue (is_memory_enabled misc && (nat_le access.start a && nat_lt a (access.start + access.len))) → w ≡ (a - access.start) % 65536
-      → byte_of (λ i. read_bit h w (bytes_at h.memory (if access.chain_four then w / 4 * 4 else if access.chain_odd_even then w / 2 * 2 else w)) i) ≡ byte_where h misc a
-  byte_as w decoded in_window =
-      let at : w ≡ window_offset h a = in_window ∙ ap (λ s. (a - s) % 65536) is.start in
-      let o : (if access.chain_four then w / 4 * 4 else if access.chain_odd_even then w / 2 * 2 else w) ≡ plane_offset h (window_offset h a) =
-      λ j. if is.chain_four j then at j / 4 * 4 else if is.chain_odd_even j then at j / 2 * 2 else at j in
-      ap (λ o. byte_of (λ i. read_bit h w (bytes_at h.memory o) i)) o
+  -- and so is the byte that they give
+  pub byte_got : byte_of (λ i. read_bit h w (bytes_at h.memory o) i) ≡ byte_where h misc a
+  byte_got =
+      ap (λ o. byte_of (λ i. read_bit h w (bytes_at h.memory o) i)) there
       ∙ ap (λ x. byte_of (λ i. read_bit h x (loaded h a) i)) at
-      ∙ if_true (is_decoded h misc a) (read_byte h a) 0xFF (sym decoded_as ∙ decoded)
+      ∙ if_true (is_decoded h misc a) (read_byte h a) 0xFF decoded
 
 access_loaded : (d : Bool) (access : MemoryAccess) (h : HostState) (misc a : ℕ) → IsAccess access h → IsAccess access (if d then after_get h a else h)
 access_loaded true access h misc a is = record {

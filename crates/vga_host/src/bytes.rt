@@ -3,7 +3,7 @@
 ghost use Rattle.std.specs.Prelude.{◌≡◌, ◌==◌, ◌+◌, ◌%◌, ◌<◌, ◌&&◌, ℕ, if◌then◌else◌};
 ghost use Rattle.std.specs.Int.{bit_at};
 ghost use Rattle.vga_bits.specs.Words.{word_bit};
-ghost use Rattle.vga_host.specs.MemoryWrite.{combined_by};
+ghost use Rattle.vga_host.specs.Memory.Write.{combined_by};
 
 /// The byte, rotated right by 0 to 7 places.
 #[tactic(auto, using(vga_bits::proofs::BitLemmas::bit_at_rotate))]

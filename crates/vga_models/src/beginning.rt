@@ -1,7 +1,7 @@
-//! What the scripts begin with.
+//! How scripts begin.
 
-/// What a script begins with: a mode set, and the part of function 11 that then gives text another
-/// height, if any does.
+/// How a script begins: with a mode set, and then perhaps a subfunction of 11 that gives text
+/// another height.
 #[derive(Clone, Copy)]
 pub struct Beginning {
     pub mode: u8,

@@ -1,5 +1,5 @@
-//! How often each function ended in each way in each mode, in text with characters of each height,
-//! and which ways have to be met.
+//! Counting how often each function ended in each way in each mode, in text with characters of each
+//! height, and finding ways that were not met.
 ghost use Rattle.std.specs.Prelude.{◌≡◌, ◌<◌};
 
 use crate::plain_modes::{HEIGHTS, Kind, MODES, PlainMode};
@@ -8,10 +8,10 @@ use bios_services::Regs;
 use std::alloc::{AllocError, Global};
 use vga_bits::Refusal;
 
-/// How often each way has to be met by scripts of whole frames.
+/// How many times scripts of whole frames must meet each way.
 pub const OFTEN: u32 = 3;
 
-/// A function with its part, and how it ended: accepted, or refused so.
+/// A function with its subfunction, and how it ended: accepted, or refused for this reason.
 #[derive(Clone, Copy, PartialEq, Eq)]
 struct Ending {
     function: u8,
@@ -19,7 +19,7 @@ struct Ending {
     refusal: Option<Refusal>,
 }
 
-/// How often a function ended so in a mode, with characters of a height.
+/// How often a function ended in this way in a mode, with characters of a height.
 #[derive(Clone, Copy)]
 struct Count {
     mode: u8,
@@ -29,13 +29,13 @@ struct Count {
 }
 
 impl Count {
-    /// Whether it counts a way in a mode, with characters of a height.
+    /// Whether it counts this way in this mode, with characters of this height.
     fn is_of(self, mode: u8, height: u8, ending: Ending) -> bool {
         self.mode == mode && self.height == height && self.ending == ending
     }
 }
 
-/// How often each way was met and has to be, and mode and height of each frame that was drawn.
+/// How often each way was met, how often it must be, and the mode and height of each frame drawn.
 #[derive(Drop)]
 pub struct CallCounts {
     often: u32,
@@ -44,7 +44,7 @@ pub struct CallCounts {
     refused: u32,
 }
 
-/// Functions and parts that are accepted in each mode, beside mode sets.
+/// Functions and subfunctions that are accepted in every mode, besides mode sets.
 const ACCEPTED: [(u8, u8); 30] = [
     (0x01, 0),
     (0x02, 0),
@@ -78,7 +78,7 @@ const ACCEPTED: [(u8, u8); 30] = [
     (0x1A, 0),
 ];
 
-/// Functions and parts that are refused so in each mode.
+/// Functions and subfunctions that are refused for these reasons in every mode.
 const REFUSED: [(u8, u8, Refusal); 30] = [
     (0x00, 0, Refusal::BadMode),
     (0x05, 0, Refusal::BadPage),
@@ -112,8 +112,8 @@ const REFUSED: [(u8, u8, Refusal); 30] = [
     (0x1A, 0, Refusal::BadFunction),
 ];
 
-/// Functions and parts that are accepted in text with characters of each height, to whom it matters
-/// how the cells are cut.
+/// Functions and subfunctions that are accepted in text with characters of each height, and that
+/// depend on how the cells are arranged.
 const ACCEPTED_AT_HEIGHT: [(u8, u8); 17] = [
     (0x00, 0),
     (0x02, 0),
@@ -134,7 +134,8 @@ const ACCEPTED_AT_HEIGHT: [(u8, u8); 17] = [
     (0x13, 3),
 ];
 
-/// Functions and parts that are refused so in text with characters of each height.
+/// Functions and subfunctions that are refused for these reasons in text with characters of each
+/// height.
 const REFUSED_AT_HEIGHT: [(u8, u8, Refusal); 7] = [
     (0x02, 0, Refusal::BadPage),
     (0x05, 0, Refusal::BadPage),
@@ -145,17 +146,17 @@ const REFUSED_AT_HEIGHT: [(u8, u8, Refusal); 7] = [
     (0x0E, 0, Refusal::Outside),
 ];
 
-/// The parts of function 11, which graphics refuse.
+/// The subfunctions of 11, which graphics modes refuse.
 const GLYPH_PARTS: [u8; 4] = [0x10, 0x11, 0x12, 0x14];
 
-/// How text refuses the glyphs of a block.
+/// Why text modes refuse glyphs of a block.
 const BLOCK_REFUSALS: [Refusal; 3] = [Refusal::CountPast, Refusal::BadBlock, Refusal::BadHeight];
 
-/// Functions that are refused where BH names a page that is not there, in modes of several pages.
+/// Functions that are refused if BH names a page that does not exist, in modes of several pages.
 const PAGED: [u8; 6] = [0x02, 0x03, 0x08, 0x09, 0x0A, 0x13];
 
-/// The part of a function, where it has parts: those of strings and of glyphs that are not there
-/// are one.
+/// The subfunction, if the function has any. All invalid ones of strings count as one, and so do
+/// those of glyphs.
 fn part_of(regs: Regs) -> u8 {
     let al = low(regs.ax);
     match high(regs.ax) {
@@ -167,7 +168,7 @@ fn part_of(regs: Regs) -> u8 {
     }
 }
 
-/// A function with its part that is accepted.
+/// A function and subfunction that is accepted.
 fn accepted(function: u8, part: u8) -> Ending {
     Ending {
         function,
@@ -176,7 +177,7 @@ fn accepted(function: u8, part: u8) -> Ending {
     }
 }
 
-/// A function with its part that is refused so.
+/// A function and subfunction that is refused for this reason.
 fn refused(function: u8, part: u8, refusal: Refusal) -> Ending {
     Ending {
         function,
@@ -186,7 +187,7 @@ fn refused(function: u8, part: u8, refusal: Refusal) -> Ending {
 }
 
 impl CallCounts {
-    /// None yet, where each way has to be met so often.
+    /// No counts so far. Each way must be met `often` times.
     pub fn new(alloc: Global, often: u32) -> CallCounts {
         CallCounts {
             often,
@@ -201,7 +202,7 @@ impl CallCounts {
         self.refused
     }
 
-    /// Counts a call in a mode, with characters of the height that it has before the call.
+    /// Counts a call in a mode, with characters of the height before the call.
     pub fn note(
         &mut self,
         mode: PlainMode,
@@ -227,8 +228,8 @@ impl CallCounts {
         Ok(())
     }
 
-    /// Counts a way that was met before in the mode with characters of this height; false where it
-    /// was not.
+    /// Counts a way that was met before in this mode with characters of this height; returns false
+    /// if it was not met before.
     fn counts_again(&mut self, mode: PlainMode, ending: Ending) -> bool {
         for count in self.counts.iter_mut() {
             if count.is_of(mode.number, mode.height, ending) {
@@ -245,7 +246,7 @@ impl CallCounts {
         Ok(())
     }
 
-    /// Whether a way was seldom met in a mode, with characters of any height.
+    /// Whether a way was met too seldom in a mode, with characters of any height.
     fn is_seldom(&self, mode: u8, ending: Ending) -> bool {
         let mut times = 0u32;
         for count in self.counts.iter() {
@@ -256,7 +257,7 @@ impl CallCounts {
         times < self.often
     }
 
-    /// Whether a way was seldom met in a mode, with characters of this height.
+    /// Whether a way was met too seldom in a mode, with characters of this height.
     fn is_seldom_at(&self, mode: u8, height: u8, ending: Ending) -> bool {
         for count in self.counts.iter() {
             if count.is_of(mode, height, ending) {
@@ -266,7 +267,7 @@ impl CallCounts {
         true
     }
 
-    /// A function that was seldom accepted in a mode, or seldom refused in a way that it has there.
+    /// A function that was accepted too seldom in a mode, or refused too seldom in one of its ways.
     fn seldom_in(&self, mode: PlainMode) -> Option<(u8, u8)> {
         self.seldom_accepted_in(mode.number)
             .or(self.seldom_refused_in(mode.number))
@@ -274,7 +275,7 @@ impl CallCounts {
             .or(self.seldom_pixel_in(mode))
     }
 
-    /// A function that was seldom accepted in a mode.
+    /// A function that was accepted too seldom in a mode.
     fn seldom_accepted_in(&self, mode: u8) -> Option<(u8, u8)> {
         for (function, part) in ACCEPTED {
             if self.is_seldom(mode, accepted(function, part)) {
@@ -284,7 +285,7 @@ impl CallCounts {
         None
     }
 
-    /// A function that was seldom refused in a way that it has in each mode.
+    /// A function that was refused too seldom for a reason that it has in every mode.
     fn seldom_refused_in(&self, mode: u8) -> Option<(u8, u8)> {
         for (function, part, refusal) in REFUSED {
             if self.is_seldom(mode, refused(function, part, refusal)) {
@@ -294,7 +295,7 @@ impl CallCounts {
         None
     }
 
-    /// A function that was seldom refused for its page in a mode of several pages.
+    /// A function that was refused too seldom for its page in a mode of several pages.
     fn seldom_bad_page_in(&self, mode: PlainMode) -> Option<(u8, u8)> {
         if mode.pages <= 1 {
             return None;
@@ -307,7 +308,7 @@ impl CallCounts {
         None
     }
 
-    /// The same of functions for pixels, which text refuses.
+    /// The same of functions for pixels, which text modes refuse.
     fn seldom_pixel_in(&self, mode: PlainMode) -> Option<(u8, u8)> {
         let number = mode.number;
         for function in [0x0C, 0x0D] {
@@ -326,7 +327,7 @@ impl CallCounts {
         None
     }
 
-    /// The same of function 11, which graphics refuse.
+    /// The same of function 11, which graphics modes refuse.
     fn seldom_glyphs_in(&self, mode: PlainMode) -> Option<(u8, u8)> {
         let number = mode.number;
         let is_text = mode.kind == Kind::Text;
@@ -348,13 +349,13 @@ impl CallCounts {
         None
     }
 
-    /// The same of text with characters of a height.
+    /// The same of text with characters of this height.
     fn seldom_at(&self, mode: u8, height: u8) -> Option<(u8, u8)> {
         self.seldom_accepted_at(mode, height)
             .or(self.seldom_refused_at(mode, height))
     }
 
-    /// A function that was seldom accepted in text with characters of a height.
+    /// A function that was accepted too seldom in text with characters of this height.
     fn seldom_accepted_at(&self, mode: u8, height: u8) -> Option<(u8, u8)> {
         for (function, part) in ACCEPTED_AT_HEIGHT {
             if self.is_seldom_at(mode, height, accepted(function, part)) {
@@ -364,7 +365,8 @@ impl CallCounts {
         None
     }
 
-    /// A function that was seldom refused in a way that it has in text with characters of a height.
+    /// A function that was refused too seldom for a reason that it has in text with characters of
+    /// this height.
     fn seldom_refused_at(&self, mode: u8, height: u8) -> Option<(u8, u8)> {
         for (function, part, refusal) in REFUSED_AT_HEIGHT {
             if self.is_seldom_at(mode, height, refused(function, part, refusal)) {
@@ -384,7 +386,7 @@ impl CallCounts {
             .find_map(|height| self.seldom_at(mode.number, *height))
     }
 
-    /// A mode set, where it was seldom accepted in a mode.
+    /// The mode set of a mode, if it was accepted too seldom.
     fn seldom_mode_set_in(&self, mode: PlainMode) -> Option<(u8, u8)> {
         if self.is_seldom(mode.number, accepted(0x00, 0)) {
             Some((0x00, 0))
@@ -393,19 +395,20 @@ impl CallCounts {
         }
     }
 
-    /// The first function, with its part, that was not met often in each way that it has in each
-    /// mode, of calls that set no mode and load no glyphs of text.
+    /// The first function and subfunction that was not met often enough in each of its ways in each
+    /// mode, among calls that set no mode and load no glyphs of text.
     pub fn seldom_within_frames(&self) -> Option<(u8, u8)> {
         MODES.iter().find_map(|mode| self.seldom_in(*mode))
     }
 
-    /// The first function, with its part, that was not met often in each way that it has in each
+    /// The first function and subfunction that was not met often enough in each of its ways in each
     /// mode.
     pub fn seldom(&self) -> Option<(u8, u8)> {
         MODES.iter().find_map(|mode| self.seldom_of_all_in(*mode))
     }
 
-    /// The first function, with its part, that was not met often in each way that it has in a mode.
+    /// The first function and subfunction that was not met often enough in each of its ways in this
+    /// mode.
     fn seldom_of_all_in(&self, mode: PlainMode) -> Option<(u8, u8)> {
         self.seldom_mode_set_in(mode)
             .or(self.seldom_in(mode))
@@ -413,7 +416,7 @@ impl CallCounts {
             .or(self.seldom_at_heights(mode))
     }
 
-    /// Whether few frames were drawn in a mode with characters of this height.
+    /// Whether too few frames were drawn in a mode with characters of this height.
     fn is_seldom_drawn(&self, mode: u8, height: u8) -> bool {
         let mut times = 0u32;
         for frame in self.drawn.iter() {
@@ -424,7 +427,7 @@ impl CallCounts {
         times < self.often
     }
 
-    /// The first mode of text, with the first height, of which few frames were drawn.
+    /// The first text mode and height in which too few frames were drawn.
     pub fn seldom_drawn(&self) -> Option<(u8, u8)> {
         for mode in [0x03, 0x07] {
             for height in HEIGHTS {

@@ -1,6 +1,6 @@
-//! The adapter and its services against the plain screen, dot by dot: pseudo-random scripts of
-//! services, advances and frames in all six modes, of text with characters of each height, with
-//! services between any two dots. Modes are set and glyphs loaded at the first dot of a frame.
+//! Compares the adapter and its BIOS with the plain screen, dot by dot, on pseudo-random scripts of
+//! BIOS calls, advances and frames in all six modes and with text of each height. Calls may stand
+//! between any two dots. Modes are set and glyphs loaded at the first dot of a frame.
 ghost use Rattle.std.specs.Prelude.{◌≡◌, ◌<◌};
 
 use crate::beginning::Beginning;
@@ -20,24 +20,25 @@ use rand_pcg::Pcg32;
 use std::alloc::Global;
 use vga_bits::Refusal;
 
-/// Of the frames those alone are counted that are ended by a frame.
+/// Only frames that a frame step ends count.
 const COUNTS: ScriptCounts = ScriptCounts {
     scripts: 2,
     frames: 10,
     services: 112,
 };
 
-/// Before one of so many services there is an advance.
+/// One of this many calls has an advance before it.
 const SERVICES_TO_ADVANCE: u32 = 4;
 
-/// In how many frames a screen of pixels is read. One of cells is read in each.
+/// In one of this many frames a graphics screen is read. A text screen is read in each frame.
 const FRAMES_TO_READ: u32 = 5;
 
-/// By how many dots an advance goes on at the most.
+/// The most dots of an advance.
 const MOST_DOTS: u32 = 16_777_216;
 
-/// By how many dots to go on where so many are left of the frame: mostly by few, at times to its
-/// end or just before or behind it, seldom over up to three frames, or too far.
+/// How many dots to advance by, with `left` dots left of the frame. Mostly there are few; sometimes
+/// they lead to the frame's end, or to just before or after it; seldom over up to three frames, or
+/// too far.
 fn next_dots(random: &mut Pcg32, mode: PlainMode, left: u32) -> u32 {
     let line = mode.line_dots as u32;
     match next_below(random, 128) {
@@ -53,18 +54,17 @@ fn next_dots(random: &mut Pcg32, mode: PlainMode, left: u32) -> u32 {
     }
 }
 
-/// An adapter and a plain screen, which are given the same services, advances and frames.
+/// An adapter and a plain screen, which get the same calls, advances and frames.
 #[derive(Drop)]
 struct CutFrames<'a> {
     pair: Pair<'a>,
     drawing: PlainDrawing,
-    /// The calls behind the first dot of a frame, where each way is to be met.
+    /// The calls after the first dot of a frame. Each way must be met among them as well.
     within: CallCounts,
 }
 
 impl<'a> CutFrames<'a> {
-    /// An adapter at power-on, over the bytes of a font file, and a plain screen of whose frames no
-    /// dot is taken.
+    /// An adapter at power-on with this font file, and a plain screen at the first dot of a frame.
     fn new(alloc: Global, font: &'a [u8]) -> Result<CutFrames<'a>> {
         let pair = Pair::new(alloc, font)?;
         Ok(CutFrames {
@@ -104,7 +104,7 @@ impl CutFrames<'_> {
         Ok(picture_difference(self.pair.card.frame(), size, self.drawing.picture()))
     }
 
-    /// Takes both to the next frame's first dot, by an advance or by a frame.
+    /// Takes both to the next frame's first dot, by an advance or by a frame step.
     fn end_difference(&mut self, random: &mut Pcg32) -> Result<Option<Difference>> {
         if is_one_in(random, 2) {
             return self.frame_difference();
@@ -113,14 +113,13 @@ impl CutFrames<'_> {
         self.advance_difference(left)
     }
 
-    /// Whether a call has to wait for the first dot of a frame: one that sets a mode or loads
-    /// glyphs.
+    /// Whether a call must wait for the first dot of a frame, since it sets a mode or loads glyphs.
     fn waits(&self, call: &RandomCall, refusal: Option<Refusal>) -> bool {
         let cuts_anew = matches!(high(call.regs.ax), 0x00 | 0x11);
         refusal.is_none() && cuts_anew && !self.drawing.is_at_first_dot()
     }
 
-    /// Counts a call behind the first dot of a frame.
+    /// Counts a call after the first dot of a frame.
     fn note(&mut self, call: &RandomCall, refusal: Option<Refusal>) -> Result<()> {
         if !self.drawing.is_at_first_dot() {
             self.within.note(self.pair.plain.mode, call.regs, refusal)?;
@@ -128,7 +127,7 @@ impl CutFrames<'_> {
         Ok(())
     }
 
-    /// Does a service on both. One that sets a mode or loads glyphs is done at the first dot of a
+    /// Makes a call on both. A call that sets a mode or loads glyphs is made at the first dot of a
     /// frame.
     fn service_difference(
         &mut self,
@@ -146,7 +145,7 @@ impl CutFrames<'_> {
         self.pair.service_difference(call)
     }
 
-    /// The next advance.
+    /// Makes the next advance.
     fn next_advance_difference(&mut self, random: &mut Pcg32) -> Result<Option<Difference>> {
         let mode = self.pair.plain.mode;
         let dots = next_dots(random, mode, self.drawing.dots_left(mode));
@@ -167,7 +166,7 @@ impl FrameScripts for CutFrames<'_> {
         self.pair.begin_anew(beginning)
     }
 
-    /// Before a service there is often an advance.
+    /// Makes the next call, sometimes after an advance.
     fn next_service(&mut self, random: &mut Pcg32) -> Result<Option<Difference>> {
         if is_one_in(random, SERVICES_TO_ADVANCE) {
             let difference = self.next_advance_difference(random)?;

@@ -1,12 +1,12 @@
-//! Pseudo-random scripts of services and frames, up to the first difference.
+//! Pseudo-random scripts of BIOS calls and frames, up to the first difference.
 
 use crate::beginning::{BEGINNINGS, Beginning};
 use crate::difference::Difference;
 use anyhow::Result;
 use rand_pcg::Pcg32;
 
-/// How many scripts have each beginning, how many frames each has, and how many services each
-/// frame.
+/// How many scripts there are with each beginning, how many frames in each, and how many calls in
+/// each frame.
 #[derive(Clone, Copy)]
 pub struct ScriptCounts {
     pub scripts: u32,
@@ -14,27 +14,27 @@ pub struct ScriptCounts {
     pub services: u32,
 }
 
-/// An adapter and a plain screen that go through scripts of services and frames.
+/// An adapter and a plain screen that run scripts of BIOS calls and frames.
 pub trait FrameScripts {
-    /// How much there is of each.
+    /// How many there are of each.
     fn counts(&self) -> ScriptCounts;
 
     /// Begins a script on both.
     fn begin(&mut self, beginning: Beginning) -> Result<Option<Difference>>;
 
-    /// Begins a script anew on both, where the mode is now another than at its beginning.
+    /// Begins a script anew on both, if the mode is no longer that of its beginning.
     fn begin_anew(&mut self, beginning: Beginning) -> Result<Option<Difference>>;
 
-    /// The next service, with what goes before it.
+    /// Makes the next call, with what comes before it.
     fn next_service(&mut self, random: &mut Pcg32) -> Result<Option<Difference>>;
 
-    /// Ends the frame of this number within its script, and reads the screen that is shown.
+    /// Ends the frame with this number in its script, and reads the screen that is shown.
     fn end_frame(&mut self, number: u32) -> Result<Option<Difference>>;
 
-    /// What was seldom met.
+    /// What was met too seldom.
     fn seldom(&self) -> Option<Difference>;
 
-    /// The services of a frame.
+    /// Makes the calls of a frame.
     fn services(&mut self, random: &mut Pcg32) -> Result<Option<Difference>> {
         for _ in 0..self.counts().services {
             let difference = self.next_service(random)?;
@@ -45,7 +45,8 @@ pub trait FrameScripts {
         Ok(None)
     }
 
-    /// The frame of this number, and the script's beginning where it ends in another mode.
+    /// Runs the frame with this number, and begins the script anew if the frame ends in another
+    /// mode.
     fn frame(
         &mut self,
         random: &mut Pcg32,
@@ -63,7 +64,7 @@ pub trait FrameScripts {
         self.begin_anew(beginning)
     }
 
-    /// A script, which begins anew behind each frame that ends in another mode.
+    /// Runs a script, which begins anew after each frame that ends in another mode.
     fn script(&mut self, random: &mut Pcg32, beginning: Beginning) -> Result<Option<Difference>> {
         let difference = self.begin(beginning)?;
         if difference.is_some() {
@@ -78,7 +79,7 @@ pub trait FrameScripts {
         Ok(None)
     }
 
-    /// A script of each beginning.
+    /// Runs a script of each beginning.
     fn round(&mut self, random: &mut Pcg32) -> Result<Option<Difference>> {
         for beginning in BEGINNINGS {
             let difference = self.script(random, beginning)?;
@@ -89,7 +90,7 @@ pub trait FrameScripts {
         Ok(None)
     }
 
-    /// So many scripts of each beginning, and then what was seldom met in them.
+    /// Runs the scripts, and then finds what was met too seldom in them.
     fn scripts(&mut self, random: &mut Pcg32) -> Result<Option<Difference>> {
         for _ in 0..self.counts().scripts {
             let difference = self.round(random)?;

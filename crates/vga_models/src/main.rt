@@ -1,6 +1,6 @@
-//! Compares the adapter and its services with a slow model of the plain screen, on pseudo-random
-//! services and frames, whole ones and frames that are cut at any dot, and prints how each
-//! comparison ended. The exit status is 1 where any differs.
+//! Compares the adapter and its BIOS with a slow model of the plain screen, on pseudo-random calls,
+//! and on frames that are whole or cut at any dot. Prints the result of each comparison. The exit
+//! status is 1 if anything differs.
 #![tactic(auto)]
 
 mod beginning;
@@ -33,8 +33,13 @@ use std::process::ExitCode;
 use vga_bits::Tally;
 use whole_frames::compare_whole_frames;
 
-/// Prints how a comparison ended, and counts it.
-fn tell<R: Print>(rt: &R, tally: &mut Tally, name: &str, outcome: ScreensOutcome) -> Result<()> {
+/// Prints the result of a comparison, and counts it.
+fn print_outcome<R: Print>(
+    rt: &R,
+    tally: &mut Tally,
+    name: &str,
+    outcome: ScreensOutcome,
+) -> Result<()> {
     println!(rt; "{name}: {outcome}")?;
     tally.count(outcome.is_alike());
     Ok(())
@@ -43,13 +48,13 @@ fn tell<R: Print>(rt: &R, tally: &mut Tally, name: &str, outcome: ScreensOutcome
 fn main(rt: HostRuntime) -> Result<ExitCode> {
     let alloc = rt.alloc();
     let mut tally = Tally::new();
-    tell(
+    print_outcome(
         &rt,
         &mut tally,
         "plain screens",
         compare_whole_frames(alloc)?,
     )?;
-    tell(
+    print_outcome(
         &rt,
         &mut tally,
         "plain screens, dot by dot",

@@ -1,4 +1,4 @@
-//! An adapter and a plain screen, which are given the same services.
+//! An adapter and a plain screen, which get the same BIOS calls.
 ghost use Rattle.std.specs.Prelude.{◌≡◌, ◌<◌};
 
 use crate::beginning::Beginning;
@@ -18,7 +18,7 @@ use std::alloc::Global;
 use vga_bits::Refusal;
 use vga_card::Card;
 
-/// Whether a service is answered or refused as is wanted.
+/// Whether a call is answered or refused as expected.
 fn is_as_wanted(
     answer: &Result<Reply, ServiceError>,
     wanted: &Result<PlainReply, Refusal>,
@@ -32,7 +32,7 @@ fn is_as_wanted(
     }
 }
 
-/// An adapter and a plain screen, which are given the same services.
+/// An adapter and a plain screen, which get the same BIOS calls.
 #[derive(Drop)]
 pub struct Pair<'a> {
     pub alloc: Global,
@@ -46,8 +46,8 @@ pub struct Pair<'a> {
 }
 
 impl<'a> Pair<'a> {
-    /// An adapter at power-on, over the bytes of a font file, and a plain screen that its first
-    /// mode set replaces.
+    /// An adapter at power-on with this font file, and a plain screen that the first mode set
+    /// replaces.
     pub fn new(alloc: Global, font: &'a [u8]) -> Result<Pair<'a>> {
         let fonts = Fonts::from_bytes(alloc, font)?;
         let plain = PlainScreen::fresh(alloc, font, MODE_3, 0)?;
@@ -64,7 +64,7 @@ impl<'a> Pair<'a> {
         })
     }
 
-    /// How the comparison ended.
+    /// The result of the comparison.
     pub fn outcome(&self, difference: Option<Difference>) -> ScreensOutcome {
         ScreensOutcome {
             services: self.services,
@@ -83,13 +83,13 @@ impl Pair<'_> {
         Ok(())
     }
 
-    /// The next service.
+    /// The next call.
     pub fn next_call(&self, random: &mut Pcg32) -> Result<RandomCall> {
         let call = next_call(self.alloc, random, self.plain.mode, self.plain.page)?;
         Ok(call)
     }
 
-    /// Does a service on both.
+    /// Makes a call on both.
     pub fn service_difference(&mut self, call: &RandomCall) -> Result<Option<Difference>> {
         let regs = call.regs;
         let block = call.block.as_slice();
@@ -115,7 +115,7 @@ impl Pair<'_> {
         })
     }
 
-    /// Does a service on both for which AX is enough.
+    /// Makes a call on both that needs only AX.
     fn short_difference(&mut self, ax: u16) -> Result<Option<Difference>> {
         let regs = Regs {
             ax,
@@ -136,7 +136,7 @@ impl Pair<'_> {
         }
     }
 
-    /// Begins a script anew, where the mode is now another than at its beginning.
+    /// Begins a script anew, if the mode is no longer that of its beginning.
     pub fn begin_anew(&mut self, beginning: Beginning) -> Result<Option<Difference>> {
         if self.plain.mode.number == beginning.mode {
             return Ok(None);
@@ -145,9 +145,9 @@ impl Pair<'_> {
     }
 }
 
-/// Screens that are read.
+/// Reading and comparing screens.
 impl Pair<'_> {
-    /// Reads the screen that the adapter shows, one of pixels only where it is to be read.
+    /// Reads the screen that the adapter shows; a graphics screen only if `is_read`.
     pub fn read_difference(&self, is_read: bool) -> Result<Option<Difference>> {
         if is_read || self.plain.is_text() {
             self.shown_difference()
@@ -164,7 +164,7 @@ impl Pair<'_> {
         Ok(self.screen_difference(&screen))
     }
 
-    /// All pages, and one past them.
+    /// Compares all pages, and the one after the last.
     fn screen_difference(&self, screen: &Screen) -> Option<Difference> {
         for page in 0..9u8 {
             let difference = self.page_difference(screen, page);
@@ -175,7 +175,7 @@ impl Pair<'_> {
         None
     }
 
-    /// The cells or pixels of a page, and its cursor.
+    /// Compares the cells or pixels of a page, and its cursor.
     fn page_difference(&self, screen: &Screen, page: u8) -> Option<Difference> {
         let spot = if self.plain.is_text() {
             self.cell_difference(screen, page)
@@ -185,7 +185,7 @@ impl Pair<'_> {
         spot.or(self.cursor_difference(screen, page))
     }
 
-    /// Whether both have the same cell at a place of a page, or neither has one.
+    /// Whether both have the same cell at a position of a page, or neither has one.
     fn is_cell_alike(&self, screen: &Screen, page: u8, at: Place) -> bool {
         match (
             screen.cell(page, at.row, at.column),
@@ -198,7 +198,7 @@ impl Pair<'_> {
         }
     }
 
-    /// The cells of a row of a page, and one past them.
+    /// Compares the cells of a row of a page, and the one after the last.
     fn row_difference(&self, screen: &Screen, page: u8, row: u8) -> Option<Difference> {
         for column in 0..81u8 {
             if !self.is_cell_alike(screen, page, Place { row, column }) {
@@ -208,7 +208,7 @@ impl Pair<'_> {
         None
     }
 
-    /// The cells of a page, as many rows as the smallest characters have and one more.
+    /// Compares the cells of a page: as many rows as with the smallest characters, and one more.
     fn cell_difference(&self, screen: &Screen, page: u8) -> Option<Difference> {
         for row in 0..51u8 {
             let difference = self.row_difference(screen, page, row);
@@ -222,7 +222,7 @@ impl Pair<'_> {
         None
     }
 
-    /// The pixels of a page, those just past it too.
+    /// Compares the pixels of a page, and those just past it.
     fn pixel_difference(&self, screen: &Screen, page: u8) -> Option<Difference> {
         for y in 0..481u16 {
             for x in 0..641u16 {

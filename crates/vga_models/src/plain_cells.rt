@@ -1,12 +1,12 @@
-//! The cells of a screen of text once more: one list, which the height of characters cuts into
-//! pages. A page shows the first of its cells, row after row, and the others are kept.
+//! The cells of a plain text screen. They are one list, which the height of characters divides into
+//! pages. A page shows the first of its cells, row by row, and keeps the others.
 ghost use Rattle.std.specs.Prelude.{◌≡◌, ◌<◌};
 
 use crate::plain_screen::{Cell, Place, PlainScreen, Way, Window};
 use std::alloc::AllocError;
 
 impl PlainScreen<'_> {
-    /// Where the cell at a place of a page stands in the list, if the page shows it.
+    /// The index of the cell at a position of a page, if the page shows it.
     fn cell_index(&self, page: u8, at: Place) -> Option<usize> {
         let mode = self.mode;
         if page >= mode.pages || at.row >= mode.rows || at.column >= mode.columns {
@@ -16,7 +16,7 @@ impl PlainScreen<'_> {
         Some(mode.distance as usize * page as usize + number)
     }
 
-    /// The cell at a place of a page, if the page shows it: none in graphics.
+    /// The cell at a position of a page, if the page shows it. A graphics screen has none.
     pub fn cell(&self, page: u8, at: Place) -> Option<Cell> {
         let i = self.cell_index(page, at)?;
         self.cells.get(i).copied()
@@ -30,8 +30,8 @@ impl PlainScreen<'_> {
         }
     }
 
-    /// Shows a character in the cell at a place of a page, with an attribute or with that which the
-    /// cell has.
+    /// Shows a character in the cell at a position of a page, with this attribute, or with the one
+    /// that the cell has.
     pub fn show_cell(&mut self, page: u8, at: Place, character: u8, attribute: Option<u8>) {
         if let Some(old) = self.cell(page, at) {
             let attribute = attribute.unwrap_or(old.attribute);
@@ -46,8 +46,8 @@ impl PlainScreen<'_> {
         }
     }
 
-    /// Moves the rows of a window of a page by so many, and blanks those that are left in an
-    /// attribute; by 0 all.
+    /// Moves the rows of a window of a page, and blanks those that are left, in an attribute. By 0
+    /// all are blanked.
     pub fn scroll_cells(
         &mut self,
         page: u8,
@@ -64,7 +64,7 @@ impl PlainScreen<'_> {
         Ok(())
     }
 
-    /// Gives the cells of a window in one row those that stood in another, or blanks.
+    /// Copies the cells of a window from another row into one, or blanks them.
     fn set_row(
         &mut self,
         page: u8,
@@ -84,7 +84,7 @@ impl PlainScreen<'_> {
         }
     }
 
-    /// The cell that stood in a row and a column of a page.
+    /// The cell that was at a row and a column of a page.
     fn old_cell(&self, old: &[Cell], page: u8, row: Option<u8>, column: u8) -> Option<Cell> {
         let i = self.cell_index(page, Place { row: row?, column })?;
         old.get(i).copied()

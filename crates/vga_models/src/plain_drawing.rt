@@ -1,4 +1,4 @@
-//! How far the frame of a plain screen is drawn, one dot at a time: docs/SCREENS.md once more.
+//! How far the frame of a plain screen is drawn, dot by dot, after docs/SCREENS.md.
 ghost use Rattle.std.specs.Prelude.{◌≡◌, ◌<◌};
 
 use crate::plain_modes::PlainMode;
@@ -8,7 +8,7 @@ use std::alloc::{AllocError, Global};
 /// How far a frame is drawn.
 #[derive(Drop)]
 pub struct PlainDrawing {
-    /// The dot of the frame that is taken next.
+    /// The dot of the frame that comes next.
     dot: u32,
     /// The page that the frame shows: the one that was active at its first dot.
     page: u8,
@@ -17,7 +17,7 @@ pub struct PlainDrawing {
 }
 
 impl PlainDrawing {
-    /// A frame of which no dot is taken.
+    /// A frame before its first dot.
     pub fn new(alloc: Global) -> PlainDrawing {
         PlainDrawing {
             dot: 0,
@@ -26,22 +26,22 @@ impl PlainDrawing {
         }
     }
 
-    /// Whether no dot of the frame is taken.
+    /// Whether the frame's first dot comes next.
     pub fn is_at_first_dot(&self) -> bool {
         self.dot == 0
     }
 
-    /// How many dots lead to the end of a frame of a mode.
+    /// How many dots are left of a frame of a mode.
     pub fn dots_left(&self, mode: PlainMode) -> u32 {
         mode.frame_dots().saturating_sub(self.dot)
     }
 
-    /// The bytes of the picture so far; at the first dot those of the frame that ended.
+    /// The bytes of the picture so far; at the first dot, those of the frame that ended.
     pub fn picture(&self) -> &[u8] {
         self.picture.as_slice()
     }
 
-    /// At the first dot of a frame its picture begins, of the page that is then active.
+    /// At the first dot of a frame, begins its picture, of the page that is then active.
     fn begin_at_first_dot(&mut self, active: u8) {
         if self.dot == 0 {
             self.page = active;
@@ -49,7 +49,7 @@ impl PlainDrawing {
         }
     }
 
-    /// Goes on to the next dot, behind the last one to the first of the next frame.
+    /// Goes on to the next dot; after the last one, to the first of the next frame.
     fn go_on(&mut self, screen: &mut PlainScreen<'_>) {
         self.dot = self.dot.saturating_add(1);
         if self.dot >= screen.mode.frame_dots() {
@@ -58,7 +58,7 @@ impl PlainDrawing {
         }
     }
 
-    /// The colour of the dot that is taken next joins the picture, if there it has one.
+    /// Adds the colour of the next dot to the picture, if the dot is in it.
     fn draw_dot(&mut self, screen: &PlainScreen<'_>) -> Result<(), AllocError> {
         let line_dots = screen.mode.line_dots.max(1) as u32;
         let x = self.dot % line_dots;
@@ -69,7 +69,7 @@ impl PlainDrawing {
         Ok(())
     }
 
-    /// Takes a dot: its colour joins the picture, and behind the last one the screen has the next
+    /// Takes a dot: its colour joins the picture. After the last dot the screen has the next
     /// frame's number.
     fn take_dot(&mut self, screen: &mut PlainScreen<'_>) -> Result<(), AllocError> {
         self.begin_at_first_dot(screen.page);
@@ -78,7 +78,7 @@ impl PlainDrawing {
         Ok(())
     }
 
-    /// Takes so many dots, over the ends of frames.
+    /// Takes dots, past the ends of frames if need be.
     pub fn take_dots(
         &mut self,
         screen: &mut PlainScreen<'_>,

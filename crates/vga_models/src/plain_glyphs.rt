@@ -1,10 +1,10 @@
-//! Glyphs once more: those of a font file, and those that text is shown in after a mode set.
+//! Glyphs: those of a font file, and those that text is shown in after a mode set.
 ghost use Rattle.std.specs.Prelude.{◌≡◌, ◌<◌};
 
 /// The glyphs that text is shown in: sixteen scan lines of each character, top line first.
 pub type Glyphs = [[u8; 16]; 256];
 
-/// A row of a character's glyph in the font of so many rows.
+/// A row of a character's glyph, in the font of this height.
 pub fn font_row(font: &[u8], height: u8, character: u8, row: usize) -> u8
     requires { row < 256 }
 {
@@ -17,7 +17,7 @@ pub fn font_row(font: &[u8], height: u8, character: u8, row: usize) -> u8
     font.get(at + row).copied().unwrap_or(0)
 }
 
-/// A character's glyph in the font of sixteen rows.
+/// A character's glyph, in the font of sixteen rows.
 fn tall_glyph(font: &[u8], character: u8) -> [u8; 16] {
     let mut glyph = [0; 16];
     for row in 0..16usize {

@@ -1,5 +1,5 @@
-//! How glyphs are loaded on a plain screen of text, with which its characters get another height:
-//! docs/SCREENS.md once more.
+//! Loading glyphs on a plain text screen, which may change the height of its characters, after
+//! docs/SCREENS.md.
 ghost use Rattle.std.specs.Prelude.{◌≡◌, ◌<◌};
 
 use crate::plain_glyphs::font_row;
@@ -8,7 +8,7 @@ use crate::plain_refusals::{high, low};
 use crate::plain_screen::{CORNER, PlainScreen};
 use bios_services::Regs;
 
-/// The height that characters get: that in BH with the glyphs of a block, else that of the font.
+/// The new height of characters: the one in BH for glyphs of a block, otherwise that of the font.
 fn loaded_height(regs: Regs) -> u8 {
     match low(regs.ax) {
         0x10 => high(regs.bx),
@@ -19,7 +19,7 @@ fn loaded_height(regs: Regs) -> u8 {
 }
 
 impl PlainScreen<'_> {
-    /// A row of a character's glyph that is loaded: of a font each, of the block those that it has.
+    /// A row of a character's glyph, if that row is loaded from the font or from the block.
     fn loaded_row(&self, regs: Regs, block: &[u8], character: u8, row: u8) -> Option<u8> {
         let height = loaded_height(regs);
         if row >= height {
@@ -34,7 +34,7 @@ impl PlainScreen<'_> {
             .copied()
     }
 
-    /// A character's glyph with the rows that are loaded, and its own below them.
+    /// A character's glyph with the rows that are loaded, and its old rows below them.
     fn loaded_glyph(&self, regs: Regs, block: &[u8], character: u8) -> [u8; 16] {
         let mut glyph = self.glyphs[character as usize];
         for row in 0..16u8 {
@@ -45,8 +45,8 @@ impl PlainScreen<'_> {
         glyph
     }
 
-    /// Loads glyphs, and cuts the cells anew by their height: page 0 is active, and each cursor is
-    /// in the corner.
+    /// Loads glyphs, and divides the cells anew by their height. Then page 0 is active, and each
+    /// cursor is in the corner.
     pub fn load_glyphs(&mut self, regs: Regs, block: &[u8]) {
         let Some(mode) = with_height(self.mode, loaded_height(regs)) else {
             return;

@@ -1,9 +1,9 @@
-//! The six modes once more: how each cuts its screen, text by the height of its characters, and the
-//! colours that it begins with. It was written from docs/MODES.md and docs/SERVICES.md, and nothing
-//! is shared with the crates that are tested.
+//! The six modes: how each divides its screen, text by the height of its characters, and the
+//! colours that it begins with. They were written from docs/MODES.md and docs/SERVICES.md, and
+//! share nothing with the crates under test.
 ghost use Rattle.std.specs.Prelude.{◌<◌, ◌≤◌};
 
-/// What stands at the places of a screen.
+/// What a screen is made of.
 #[derive(Clone, Copy, PartialEq, Eq)]
 pub enum Kind {
     Text,
@@ -11,7 +11,7 @@ pub enum Kind {
     Colours256,
 }
 
-/// How a mode cuts its screen, and what a mode set gives it.
+/// How a mode divides its screen, and what a mode set gives it.
 #[derive(Clone, Copy)]
 pub struct PlainMode {
     pub number: u8,
@@ -22,14 +22,14 @@ pub struct PlainMode {
     /// Scan lines of a character.
     pub height: u8,
     pub pages: u8,
-    /// How many cells of text lead from a page to the next.
+    /// How many cells of text a page has, including those it does not show.
     pub distance: u16,
     pub cursor_type: u16,
     pub palette: [u8; 16],
-    /// How many dots of a line a pixel has, and how many lines.
+    /// The width and the height of a pixel, in dots and lines.
     pub dots: u8,
     pub lines: u8,
-    /// How many dots a line has, displayed or not, and how many lines a frame has.
+    /// How many dots a line has and how many lines a frame has, displayed or not.
     pub line_dots: u16,
     pub frame_lines: u16,
 }
@@ -154,7 +154,7 @@ const MODE_13: PlainMode = PlainMode {
 /// The six modes.
 pub const MODES: [PlainMode; 6] = [MODE_3, MODE_7, MODE_0D, MODE_10, MODE_12, MODE_13];
 
-/// The mode of this number, where there is one.
+/// The mode with this number, if it exists.
 pub fn plain_mode(number: u8) -> Option<PlainMode> {
     MODES.iter().copied().find(|mode| mode.number == number)
 }
@@ -162,8 +162,8 @@ pub fn plain_mode(number: u8) -> Option<PlainMode> {
 /// The heights that characters of text can have.
 pub const HEIGHTS: [u8; 3] = [8, 14, 16];
 
-/// What text has with characters of a height: rows and pages, how far apart the pages are, and the
-/// cursor's lines.
+/// What text has with characters of a height: rows, pages, the distance of pages, and the cursor's
+/// lines.
 #[derive(Clone, Copy)]
 struct TextCut {
     height: u8,
@@ -198,7 +198,7 @@ const TEXT_CUTS: [TextCut; 3] = [
     },
 ];
 
-/// A mode of text with characters of another height, where there are such.
+/// A text mode with characters of another height, if text can have that height.
 pub fn with_height(mode: PlainMode, height: u8) -> Option<PlainMode> {
     let cut = TEXT_CUTS.iter().copied().find(|cut| cut.height == height)?;
     Some(PlainMode {
@@ -211,7 +211,7 @@ pub fn with_height(mode: PlainMode, height: u8) -> Option<PlainMode> {
     })
 }
 
-/// `v` where bit `i` of `n` is 1, else 0.
+/// `v` if bit `i` of `n` is 1, otherwise 0.
 fn where_set(n: u8, i: u8, v: u8) -> u8
     requires { i < 8 }
     ensures { result ≤ v }
@@ -219,8 +219,8 @@ fn where_set(n: u8, i: u8, v: u8) -> u8
     if (n >> i) & 1 == 1 { v } else { 0 }
 }
 
-/// Red, green and blue by bits 2 to 0, and brighter where bit `bright` is 1; but colour 6 is brown
-/// where it is not.
+/// Red, green and blue by bits 2 to 0, brighter if bit `bright` is 1. Without that bit colour 6 is
+/// brown.
 fn bright_colour(n: u8, bright: u8) -> [u8; 3]
     requires { bright < 8 }
 {
@@ -237,7 +237,7 @@ fn bright_colour(n: u8, bright: u8) -> [u8; 3]
     ]
 }
 
-/// Red, green and blue by bits 2 to 0, each brighter by one of bits 5 to 3.
+/// Red, green and blue by bits 2 to 0, each made brighter by one of bits 5 to 3.
 fn sixty_fourth_colour(n: u8) -> [u8; 3] {
     [
         where_set(n, 2, 0x2A).saturating_add(where_set(n, 5, 0x15)),
@@ -255,7 +255,7 @@ fn monochrome_colour(n: u8) -> [u8; 3] {
     }
 }
 
-/// Of 256 colours: sixteen bright ones, sixteen greys, and all others by bits of the number.
+/// Of 256 colours: sixteen bright ones, sixteen greys, and all others by the bits of the number.
 fn colour_of_256(n: u8) -> [u8; 3] {
     if n < 0x10 {
         bright_colour(n, 3)

@@ -1,4 +1,4 @@
-//! The picture of a plain screen, dot by dot: docs/SCREENS.md once more.
+//! The picture of a plain screen, dot by dot, after docs/SCREENS.md.
 ghost use Rattle.std.specs.Prelude.{◌≡◌, ◌<◌};
 
 use crate::plain_modes::Kind;
@@ -24,7 +24,7 @@ struct ScannedCell {
 }
 
 impl PlainScreen<'_> {
-    /// Red, green and blue of the colour that a dot has by its cell or its pixel.
+    /// Red, green and blue of the colour number of a cell or a pixel.
     fn colour_of(&self, n: u8) -> [u8; 3] {
         let named = match self.mode.kind {
             Kind::Text | Kind::SixteenColours => self.palette[(n & 0x0F) as usize],
@@ -42,7 +42,7 @@ impl PlainScreen<'_> {
         colours
     }
 
-    /// Whether a dot of a cell has the cell's foreground.
+    /// Whether a dot of a cell has the foreground colour.
     fn is_foreground(&self, cell: ScannedCell, dots: u8, i: u8) -> bool
         requires { i < 9 }
     {
@@ -205,12 +205,12 @@ impl PlainScreen<'_> {
         (width, height)
     }
 
-    /// The screen has the next frame's number.
+    /// Gives the screen the next frame's number.
     pub fn end_frame(&mut self) {
         self.frame = (self.frame % 32 + 1) % 32;
     }
 
-    /// Draws a whole frame: the picture, and the screen has the next frame's number.
+    /// Draws a whole frame, and gives the screen the next frame's number.
     pub fn draw(&mut self) -> Result<PlainPicture, AllocError> {
         let colours = self.colours();
         let bytes = if self.is_text() {
@@ -235,8 +235,8 @@ impl PlainScreen<'_> {
         self.mode.distance as u32 * page as u32 + self.cell_number(at)
     }
 
-    /// The colour of a dot of the cells of a page, where a cell is there. The cursor of the active
-    /// page may stand on it.
+    /// The colour number of a dot of a text page, if it lies on a cell. The active page may show
+    /// its cursor there.
     fn text_dot(&self, page: u8, x: u32, y: u32) -> Option<u8> {
         let height = self.mode.height.max(1) as u32;
         let row = u8::try_from(y / height).ok()?;
@@ -253,14 +253,14 @@ impl PlainScreen<'_> {
         Some(self.cell_dot(cell, (x % 9) as u8))
     }
 
-    /// The colour of a dot of the pixels of a page, where a pixel is there.
+    /// The colour number of a dot of a graphics page, if it lies on a pixel.
     fn pixel_dot(&self, page: u8, x: u32, y: u32) -> Option<u8> {
         let x = u16::try_from(x / self.mode.dots.max(1) as u32).ok()?;
         let y = u16::try_from(y / self.mode.lines.max(1) as u32).ok()?;
         self.pixel(page, x, y)
     }
 
-    /// Red, green and blue of dot `x` of line `y` where a page is shown; none beside the picture.
+    /// Red, green and blue of dot `x` of line `y` while a page is shown; None outside the picture.
     pub fn dot_colour(&self, page: u8, x: u32, y: u32) -> Option<[u8; 3]> {
         let colour = if self.is_text() {
             self.text_dot(page, x, y)

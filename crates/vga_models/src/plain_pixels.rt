@@ -1,4 +1,4 @@
-//! The pixels of a screen of graphics once more: pages of rows of characters, which are lines of
+//! The pixels of a plain graphics screen. A page has rows of characters, and these have lines of
 //! pixels.
 ghost use Rattle.std.specs.Prelude.{◌≡◌, ◌<◌};
 
@@ -7,7 +7,7 @@ use crate::plain_modes::Kind;
 use crate::plain_screen::{Line, Place, PlainScreen, Strip, Way, Window};
 use std::alloc::AllocError;
 
-/// What a blank of a colour leaves of a pixel.
+/// What a blank of a colour makes of a pixel.
 fn blank_pixel(kind: Kind, colour: u8) -> u8 {
     match kind {
         Kind::Text | Kind::SixteenColours => colour & 0x0F,
@@ -15,7 +15,7 @@ fn blank_pixel(kind: Kind, colour: u8) -> u8 {
     }
 }
 
-/// What a dot of a character leaves of a pixel.
+/// What a dot of a character makes of a pixel.
 fn inked(kind: Kind, old: u8, is_set: bool, colour: u8) -> u8 {
     let low = colour & 0x0F;
     match (kind, is_set) {
@@ -27,7 +27,7 @@ fn inked(kind: Kind, old: u8, is_set: bool, colour: u8) -> u8 {
     }
 }
 
-/// Gives the pixels `from..to` of a line those of another line, or blanks.
+/// Copies the pixels `from..to` of another line into a line, or blanks them.
 fn set_pixels(shown: &mut Line, from: usize, to: usize, source: Option<&Line>, blank: u8) {
     for i in from..to {
         if let Some(pixel) = shown.get_mut(i) {
@@ -59,7 +59,7 @@ impl PlainScreen<'_> {
         pixels.get(place).copied()
     }
 
-    /// The pixel at column `x` of line `y` of a page: none in text.
+    /// The pixel at column `x` of line `y` of a page. A text screen has none.
     pub fn pixel(&self, page: u8, x: u16, y: u16) -> Option<u8> {
         let height = self.mode.height.max(1) as u16;
         let row = u8::try_from(y / height).ok()?;
@@ -67,7 +67,7 @@ impl PlainScreen<'_> {
         self.pixel_in(page, row, line, x as usize)
     }
 
-    /// Gives the pixel at column `x` of line `y` of a page a colour, or its XOR with one.
+    /// Gives the pixel at column `x` of line `y` of a page a colour, or XORs its colour with one.
     pub fn set_pixel(&mut self, page: u8, x: u16, y: u16, colour: u8) {
         let kind = self.mode.kind;
         let height = self.mode.height.max(1) as u16;
@@ -83,7 +83,7 @@ impl PlainScreen<'_> {
         }
     }
 
-    /// Shows a character at a place of a page as its glyph in a colour.
+    /// Draws a character's glyph at a position of a page, in a colour.
     pub fn show_glyph(&mut self, page: u8, at: Place, character: u8, colour: u8) {
         for line in 0..self.mode.height {
             self.show_glyph_row(page, at, line, character, colour);
@@ -104,7 +104,7 @@ impl PlainScreen<'_> {
         }
     }
 
-    /// Whether a line of a place has the dots of a glyph, as pixels that are not 0.
+    /// Whether a line at a position has the dots of a glyph, as pixels other than 0.
     fn has_glyph_row(&self, page: u8, at: Place, line: u8, character: u8) -> bool {
         let dots = font_row(self.font, self.mode.height, character, line as usize);
         for i in 0..8u8 {
@@ -118,7 +118,7 @@ impl PlainScreen<'_> {
         true
     }
 
-    /// Whether a place has the dots of a glyph in all its lines.
+    /// Whether a position has the dots of a glyph in all its lines.
     fn has_glyph(&self, page: u8, at: Place, character: u8) -> bool {
         for line in 0..self.mode.height {
             if !self.has_glyph_row(page, at, line, character) {
@@ -128,7 +128,7 @@ impl PlainScreen<'_> {
         true
     }
 
-    /// The first character whose glyph a place has, or 0.
+    /// The first character whose glyph stands at a position, or 0.
     pub fn character_at(&self, page: u8, at: Place) -> u8 {
         for character in 0..=0xFFu8 {
             if self.has_glyph(page, at, character) {
@@ -138,8 +138,8 @@ impl PlainScreen<'_> {
         0
     }
 
-    /// Moves the rows of a window of a page by so many, and blanks those that are left in a colour;
-    /// by 0 all.
+    /// Moves the rows of a window of a page, and blanks those that are left, in a colour. By 0 all
+    /// are blanked.
     pub fn scroll_pixels(
         &mut self,
         page: u8,
@@ -160,7 +160,7 @@ impl PlainScreen<'_> {
         Ok(())
     }
 
-    /// Gives the pixels of a window in one row of characters those of another row, or blanks.
+    /// Copies the pixels of a window from another row of characters into one, or blanks them.
     fn set_strip(&mut self, page: u8, row: u8, window: Window, source: Option<&Strip>, colour: u8) {
         let blank = blank_pixel(self.mode.kind, colour);
         let from = 8 * window.first.column as usize;

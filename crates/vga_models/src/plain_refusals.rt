@@ -1,4 +1,4 @@
-//! Which services a plain screen refuses, and why: the rules of docs/SERVICES.md once more.
+//! Which BIOS calls a plain screen refuses, and why, after docs/SERVICES.md.
 ghost use Rattle.std.specs.Prelude.{◌≡◌, ◌<◌};
 
 use crate::plain_modes::{plain_mode, with_height};
@@ -24,7 +24,7 @@ pub fn place_of(register: u16) -> Place {
     }
 }
 
-/// Whether there is such a function, with this AL or BL.
+/// Whether the function exists, with this AL or BL.
 fn is_function(regs: Regs) -> bool {
     let al = low(regs.ax);
     match high(regs.ax) {
@@ -38,17 +38,17 @@ fn is_function(regs: Regs) -> bool {
     }
 }
 
-/// Whether the glyphs of the block are to be loaded, and not those of a font.
+/// Whether glyphs of the block are to be loaded, rather than those of a font.
 fn loads_block(regs: Regs) -> bool {
     high(regs.ax) == 0x11 && low(regs.ax) == 0x10
 }
 
-/// What is refused where a condition is met.
+/// This refusal, if a condition holds.
 fn refused_where(is_met: bool, refusal: Refusal) -> Option<Refusal> {
     if is_met { Some(refusal) } else { None }
 }
 
-/// How long a block has to be, in bytes.
+/// How long a block must be, in bytes.
 fn wanted_length(regs: Regs) -> usize {
     let count = regs.cx as usize;
     match (high(regs.ax), low(regs.ax)) {
@@ -70,7 +70,7 @@ impl PlainScreen<'_> {
         }
     }
 
-    /// The cursor's place on a page.
+    /// The cursor position on a page.
     pub fn place(&self, page: u8) -> Place {
         match self.places.get(page as usize) {
             Some(place) => *place,
@@ -78,7 +78,7 @@ impl PlainScreen<'_> {
         }
     }
 
-    /// The number of the cell at a place, counted along the rows.
+    /// The number of the cell at a position, counted along the rows.
     pub fn cell_number(&self, at: Place) -> u32
         ensures { result < 65536 }
     {
@@ -90,12 +90,12 @@ impl PlainScreen<'_> {
         self.mode.columns as u32 * self.mode.rows as u32
     }
 
-    /// Whether a place is none of the page.
+    /// Whether a position is outside the page.
     fn is_outside(&self, at: Place) -> bool {
         at.row >= self.mode.rows || at.column >= self.mode.columns
     }
 
-    /// Whether the registers name a page that the mode has not.
+    /// Whether the registers name a page that the mode does not have.
     fn is_bad_page(&self, regs: Regs) -> bool {
         match high(regs.ax) {
             0x02 | 0x03 | 0x08..=0x0A | 0x0C | 0x0D | 0x13 => {
@@ -106,7 +106,7 @@ impl PlainScreen<'_> {
         }
     }
 
-    /// Whether a pixel or a place of the call is outside.
+    /// Whether a pixel or a position of the call is outside the page.
     fn is_place_outside(&self, regs: Regs) -> bool {
         let place = self.place(self.page_of(regs));
         match high(regs.ax) {
@@ -118,8 +118,8 @@ impl PlainScreen<'_> {
         }
     }
 
-    /// Whether the cells that are to be written go past the page's last, or the characters whose
-    /// glyphs are to be loaded past FF.
+    /// Whether the cells to be written go past the page's last, or the characters whose glyphs are
+    /// to be loaded past FF.
     fn is_count_past(&self, regs: Regs) -> bool {
         let place = self.place(self.page_of(regs));
         let count = regs.cx as u32;
@@ -140,13 +140,12 @@ impl PlainScreen<'_> {
         }
     }
 
-    /// Whether the glyphs of the block are to be loaded for characters of a height that there is
-    /// not.
+    /// Whether glyphs of the block are to be loaded for a height that characters cannot have.
     fn is_bad_height(&self, regs: Regs) -> bool {
         loads_block(regs) && with_height(self.mode, high(regs.bx)).is_none()
     }
 
-    /// The refusal of a call of a function that is there.
+    /// Why a call of a function that exists is refused, if it is.
     fn function_refusal(&self, regs: Regs, block: &[u8]) -> Option<Refusal> {
         refused_where(is_bad_mode(regs), Refusal::BadMode)
             .or(refused_where(self.is_wrong_kind(regs), Refusal::WrongKind))
@@ -158,7 +157,7 @@ impl PlainScreen<'_> {
             .or(refused_where(self.is_bad_height(regs), Refusal::BadHeight))
     }
 
-    /// The first refusal of a call, where it is refused.
+    /// Why a call is refused, if it is. The first reason counts.
     pub fn refusal(&self, regs: Regs, block: &[u8]) -> Option<Refusal> {
         if is_function(regs) {
             self.function_refusal(regs, block)
@@ -168,12 +167,12 @@ impl PlainScreen<'_> {
     }
 }
 
-/// Whether a mode is to be set that is not there.
+/// Whether a mode is to be set that does not exist.
 fn is_bad_mode(regs: Regs) -> bool {
     high(regs.ax) == 0x00 && plain_mode(low(regs.ax) & 0x7F).is_none()
 }
 
-/// Whether the block has not the length that the call wants, where it takes one.
+/// Whether the block does not have the length that the call needs, if it takes one.
 fn is_bad_block(regs: Regs, block: &[u8]) -> bool {
     let takes_block = matches!(
         (high(regs.ax), low(regs.ax)),
@@ -182,8 +181,8 @@ fn is_bad_block(regs: Regs, block: &[u8]) -> bool {
     takes_block && block.len() != wanted_length(regs)
 }
 
-/// Whether the registers name no palette register or entry of the DAC, or a blinking that is
-/// neither.
+/// Whether the registers name a palette register or a DAC entry that does not exist, or blinking by
+/// another number than 0 or 1.
 fn is_bad_register(regs: Regs) -> bool {
     let first = regs.bx as u32;
     if high(regs.ax) != 0x10 {

@@ -1,6 +1,5 @@
-//! The plain screen once more: what it is, and what a mode set leaves. It was written from
-//! docs/SCREENS.md, and nothing is shared with the crates that are tested but the registers of a
-//! call and the refusals.
+//! The plain screen: what it is, and what a mode set leaves. It was written from docs/SCREENS.md.
+//! It shares only the registers of a call and the refusals with the crates under test.
 ghost use Rattle.std.specs.Prelude.{◌≡◌, ◌<◌};
 
 use crate::plain_glyphs::{Glyphs, tall_glyphs};
@@ -49,7 +48,7 @@ pub struct Window {
     pub last: Place,
 }
 
-/// Where a row of a window takes its places from.
+/// Which rows of a window are moved into which.
 #[derive(Clone, Copy)]
 pub enum Way {
     Up,
@@ -57,8 +56,8 @@ pub enum Way {
 }
 
 impl Window {
-    /// The row of the window that one of its rows takes its places from, where the rows move by so
-    /// many; by 0 all are left blank.
+    /// The row of a window that is moved into this row, if the rows move by `by`. By 0 all are left
+    /// blank.
     pub fn source(self, way: Way, by: u8, row: u8) -> Option<u8> {
         match way {
             _ if by == 0 => None,
@@ -68,18 +67,18 @@ impl Window {
     }
 }
 
-/// A screen of one of the six modes, over the bytes of a font file.
+/// A screen of one of the six modes, with a font file.
 #[derive(Drop)]
 pub struct PlainScreen<'a> {
     pub alloc: Global,
     pub font: &'a [u8],
-    /// The mode, in text with what the height of its characters makes of it.
+    /// The mode; for text, with the height of its characters.
     pub mode: PlainMode,
-    /// In text all cells in one list, page after page; in graphics none.
+    /// Text: all cells in one list, page after page. Graphics: none.
     pub cells: Vec<Cell>,
-    /// In graphics the pixels of each page; in text none.
+    /// Graphics: the pixels of each page. Text: none.
     pub pages: Vec<Page>,
-    /// The glyphs of text; in graphics nothing is drawn by them.
+    /// The glyphs of text. Graphics do not use them.
     pub glyphs: Glyphs,
     pub places: [Place; 8],
     pub cursor_type: u16,
@@ -92,7 +91,7 @@ pub struct PlainScreen<'a> {
     pub frame: u8,
 }
 
-/// Lines of pixels that are all 0.
+/// A row of characters in graphics whose pixels are all 0.
 fn blank_strip(alloc: Global, width: usize, height: u8) -> Result<Strip, AllocError> {
     let mut strip = Vec::new(alloc);
     for _ in 0..height {
@@ -111,7 +110,7 @@ fn blank_page(alloc: Global, mode: PlainMode) -> Result<Page, AllocError> {
     Ok(page)
 }
 
-/// The pages of graphics as a mode set leaves them, none of text.
+/// The pages of graphics as a mode set leaves them; text has none.
 fn blank_pages(alloc: Global, mode: PlainMode) -> Result<Vec<Page>, AllocError> {
     let count = if mode.kind == Kind::Text {
         0
@@ -125,7 +124,7 @@ fn blank_pages(alloc: Global, mode: PlainMode) -> Result<Vec<Page>, AllocError> 
     Ok(pages)
 }
 
-/// The cells of text as a mode set leaves them, none of graphics.
+/// The cells of text as a mode set leaves them; graphics have none.
 fn blank_cells(alloc: Global, mode: PlainMode) -> Result<Vec<Cell>, AllocError> {
     let count = if mode.kind == Kind::Text { CELLS } else { 0 };
     Ok(vec![in alloc; FIRST_CELL; count]?)
@@ -141,7 +140,7 @@ fn default_dac(mode: u8) -> [[u8; 3]; 256] {
 }
 
 impl<'a> PlainScreen<'a> {
-    /// The screen that a mode set leaves which clears the memory.
+    /// The screen after a mode set that clears the memory.
     pub fn fresh(
         alloc: Global,
         font: &'a [u8],
@@ -167,7 +166,7 @@ impl<'a> PlainScreen<'a> {
         })
     }
 
-    /// Whether it is of cells.
+    /// Whether it is a text screen.
     pub fn is_text(&self) -> bool {
         self.mode.kind == Kind::Text
     }

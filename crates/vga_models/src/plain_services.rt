@@ -1,4 +1,4 @@
-//! What each service does to a plain screen, and what it answers: docs/SCREENS.md once more.
+//! What each BIOS call does to a plain screen, and what it answers, after docs/SCREENS.md.
 ghost use Rattle.std.specs.Prelude.{◌≡◌, ◌<◌};
 
 use crate::plain_modes::plain_mode;
@@ -8,7 +8,7 @@ use bios_services::Regs;
 use std::alloc::AllocError;
 use vga_bits::Refusal;
 
-/// What a service answers: the four registers, and the bytes of a table, which most have none of.
+/// What a call answers: the four registers, and the bytes of a table. Most have no table.
 #[derive(Drop)]
 pub struct PlainReply {
     pub regs: Regs,
@@ -20,13 +20,13 @@ fn word(high: u8, low: u8) -> u16 {
     256 * high as u16 + low as u16
 }
 
-/// A place as a register.
+/// A position as a register: the row is the high byte.
 fn register_of(at: Place) -> u16 {
     word(at.row, at.column)
 }
 
 impl PlainScreen<'_> {
-    /// Does a service: its answer, or its refusal, which leaves the screen.
+    /// Makes a call: returns its answer, or its refusal, which leaves the screen as it is.
     pub fn call(
         &mut self,
         regs: Regs,
@@ -41,7 +41,7 @@ impl PlainScreen<'_> {
         Ok(Ok(PlainReply { regs, table }))
     }
 
-    /// What a service that is not refused does to the screen.
+    /// Changes the screen as a call does that is not refused.
     fn change(&mut self, regs: Regs, block: &[u8]) -> Result<(), AllocError> {
         let page = self.page_of(regs);
         match high(regs.ax) {
@@ -76,7 +76,7 @@ impl PlainScreen<'_> {
         }
     }
 
-    /// Moves a window, cut to the page. One with no row or no column changes nothing.
+    /// Moves a window, which is cut to the page. A window without rows or columns changes nothing.
     fn move_window(&mut self, regs: Regs, way: Way) -> Result<(), AllocError> {
         let first = place_of(regs.cx);
         let corner = place_of(regs.dx);
@@ -92,7 +92,7 @@ impl PlainScreen<'_> {
         self.scroll(self.page, window, way, low(regs.ax), high(regs.bx))
     }
 
-    /// Writes a character to so many cells from the cursor on, row after row.
+    /// Writes a character to CX cells from the cursor on, row by row.
     fn write_cells(&mut self, regs: Regs, keeps: bool) {
         let page = self.page_of(regs);
         let start = self.cell_number(self.place(page));
@@ -116,8 +116,8 @@ impl PlainScreen<'_> {
         Ok(())
     }
 
-    /// Types a string: each character with its own attribute or colour where AL has bit 1, and the
-    /// cursor goes behind it where AL has bit 0.
+    /// Types a string. If AL has bit 1, each character has its own attribute or colour. If AL has
+    /// bit 0, the cursor goes after the string.
     fn type_string(&mut self, regs: Regs, block: &[u8]) -> Result<(), AllocError> {
         let page = self.page_of(regs);
         let has_colours = low(regs.ax) & 2 == 2;
@@ -163,7 +163,7 @@ impl PlainScreen<'_> {
         }
     }
 
-    /// Sixteen values of the palette, and the overscan.
+    /// Sets the sixteen palette registers, and the overscan colour.
     fn set_whole_palette(&mut self, block: &[u8]) {
         for i in 0..16u8 {
             if let Some(v) = block.get(i as usize) {
@@ -181,7 +181,7 @@ impl PlainScreen<'_> {
         }
     }
 
-    /// Entries of the DAC from one on: red, green and blue of each.
+    /// Sets entries of the DAC from `first` on: red, green and blue of each.
     fn set_entries(&mut self, first: usize, block: &[u8]) {
         let mut i = first;
         for colour in block.chunks_exact(3) {
@@ -199,7 +199,7 @@ impl PlainScreen<'_> {
 
 /// Answers.
 impl PlainScreen<'_> {
-    /// The bytes of the table that a service answers, none for most.
+    /// The bytes of the table that a call answers. Most have none.
     fn table(&self, regs: Regs) -> Result<Vec<u8>, AllocError> {
         let mut table = Vec::new(self.alloc);
         match (high(regs.ax), low(regs.ax)) {
@@ -213,7 +213,7 @@ impl PlainScreen<'_> {
         Ok(table)
     }
 
-    /// Appends red, green and blue of CX entries of the DAC, from that in BX on.
+    /// Appends red, green and blue of CX entries of the DAC, from the one in BX on.
     fn push_entries(&self, regs: Regs, table: &mut Vec<u8>) -> Result<(), AllocError> {
         for i in 0..regs.cx as usize {
             table.extend_from_slice(&self.entry(regs.bx as usize + i))?;
@@ -221,7 +221,7 @@ impl PlainScreen<'_> {
         Ok(())
     }
 
-    /// The registers that a service answers.
+    /// The registers that a call answers.
     fn answer(&self, regs: Regs) -> Regs {
         let Regs { ax, bx, cx, dx } = regs;
         let page = self.page_of(regs);
@@ -263,7 +263,7 @@ impl PlainScreen<'_> {
         }
     }
 
-    /// Attribute and character of the cell at the cursor; in graphics the character alone.
+    /// Attribute and character of the cell at the cursor; in graphics only the character.
     fn read_cell(&self, page: u8, ah: u8) -> u16 {
         let number = self.cell_number(self.place(page));
         let columns = self.mode.columns.max(1) as u32;

@@ -1,13 +1,12 @@
-//! How characters are shown and typed on a plain screen, and how its rows move: docs/SCREENS.md
-//! once more.
+//! Showing and typing characters on a plain screen, and moving its rows, after docs/SCREENS.md.
 ghost use Rattle.std.specs.Prelude.{◌≡◌, ◌<◌};
 
 use crate::plain_screen::{Place, PlainScreen, Way, Window};
 use std::alloc::AllocError;
 
 impl PlainScreen<'_> {
-    /// Shows a character at a place of a page: in text in the cell with an attribute, or with that
-    /// which the cell has; in graphics as its glyph in a colour.
+    /// Shows a character at a position of a page: in text as a cell, with this attribute or with
+    /// the one that the cell has; in graphics as its glyph in a colour.
     pub fn show(&mut self, page: u8, at: Place, character: u8, colour: u8, keeps: bool) {
         if self.is_text() {
             self.show_cell(page, at, character, if keeps { None } else { Some(colour) });
@@ -16,9 +15,8 @@ impl PlainScreen<'_> {
         }
     }
 
-    /// Moves the rows of a window of a page by so many, and blanks those that are left in an
-    /// attribute or a colour;
-    /// by 0 all.
+    /// Moves the rows of a window of a page, and blanks those that are left, in an attribute or a
+    /// colour. By 0 all are blanked.
     pub fn scroll(
         &mut self,
         page: u8,
@@ -34,7 +32,7 @@ impl PlainScreen<'_> {
         }
     }
 
-    /// The row below; from the last one the page goes up by one, and it is the last again.
+    /// The row below. Below the last row the page goes up by one, and the row is the last again.
     fn row_below(&mut self, page: u8, at: Place) -> Result<u8, AllocError> {
         let last = self.whole().last.row;
         if at.row < last {
@@ -48,7 +46,7 @@ impl PlainScreen<'_> {
         Ok(last)
     }
 
-    /// The place behind one, which is the first of the row below behind the last of a row.
+    /// The next position: the next column, or after the last column the first of the row below.
     fn place_behind(&mut self, page: u8, at: Place) -> Result<Place, AllocError> {
         let Place { row, column } = at;
         if column < self.whole().last.column {
@@ -61,7 +59,7 @@ impl PlainScreen<'_> {
         Ok(Place { row, column: 0 })
     }
 
-    /// Types a character at a place of a page, and answers the place behind it.
+    /// Types a character at a position of a page, and returns the next position.
     pub fn typed(
         &mut self,
         page: u8,

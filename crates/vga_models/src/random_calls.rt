@@ -1,5 +1,5 @@
-//! Pseudo-random calls of the video BIOS: mostly with arguments that a mode has, often at its
-//! edges, and some that it refuses.
+//! Pseudo-random calls of the video BIOS. Their arguments mostly suit the mode, often at its
+//! limits. Some calls are refused.
 ghost use Rattle.std.specs.Prelude.{◌≡◌, ◌<◌};
 
 use crate::plain_modes::{HEIGHTS, MODES, PlainMode};
@@ -17,7 +17,7 @@ pub struct RandomCall {
     pub block: Vec<u8>,
 }
 
-/// Functions, each as often as it is to come among so many calls.
+/// Functions, each as many times as it should occur in 57 calls.
 const FUNCTIONS: [u8; 57] = [
     0x00, 0x01, 0x02, 0x02, 0x02, 0x02, 0x03, 0x05, 0x05, 0x06, 0x06, 0x07, 0x07, 0x08, 0x08, 0x08,
     0x08, 0x09, 0x09, 0x09, 0x0A, 0x0A, 0x0A, 0x0C, 0x0C, 0x0C, 0x0D, 0x0D, 0x0E, 0x0E, 0x0E, 0x0E,
@@ -25,22 +25,22 @@ const FUNCTIONS: [u8; 57] = [
     0x11, 0x11, 0x12, 0x13, 0x13, 0x13, 0x13, 0x13, 0x1A,
 ];
 
-/// The parts of function 10.
+/// The subfunctions of 10.
 const COLOUR_PARTS: [u8; 13] = [
     0x00, 0x01, 0x02, 0x03, 0x07, 0x08, 0x09, 0x10, 0x12, 0x15, 0x17, 0x18, 0x19,
 ];
 
-/// The parts of function 11: the glyphs of a block oftener than each font.
+/// The subfunctions of 11. The glyphs of a block come more often than each font.
 const GLYPH_PARTS: [u8; 5] = [0x10, 0x10, 0x11, 0x12, 0x14];
 
-/// The characters that are obeyed where they are typed.
+/// The control characters, which are obeyed when they are typed.
 const CONTROLS: [u8; 4] = [0x07, 0x08, 0x0A, 0x0D];
 
 fn word(high: u8, low: u8) -> u16 {
     256 * high as u16 + low as u16
 }
 
-/// One of some bytes.
+/// One of these bytes.
 fn one_of(random: &mut Pcg32, bytes: &[u8]) -> u8 {
     let n = next_byte(random) as usize;
     match bytes.len() {
@@ -49,7 +49,7 @@ fn one_of(random: &mut Pcg32, bytes: &[u8]) -> u8 {
     }
 }
 
-/// A number up to `last`: often the last, seldom one that is past it.
+/// A number up to `last`: often `last`, seldom one past it.
 fn up_to(random: &mut Pcg32, last: u8) -> u8 {
     match next_below(random, 8) {
         0 => next_byte(random),
@@ -68,7 +68,7 @@ fn mostly(random: &mut Pcg32, byte: u8) -> u8 {
     }
 }
 
-/// A character: often one that is obeyed.
+/// A character: often a control character.
 fn next_character(random: &mut Pcg32) -> u8 {
     if is_one_in(random, 4) {
         one_of(random, &CONTROLS)
@@ -99,7 +99,7 @@ fn next_place(random: &mut Pcg32, mode: PlainMode) -> u16 {
     }
 }
 
-/// How many cells are written: mostly few, else up to some more than a page has.
+/// How many cells are written: mostly few, sometimes up to a little more than a page has.
 fn next_count(random: &mut Pcg32, mode: PlainMode) -> u16 {
     let cells = mode.columns as u32 * mode.rows as u32;
     match next_below(random, 8) {
@@ -109,7 +109,7 @@ fn next_count(random: &mut Pcg32, mode: PlainMode) -> u16 {
     }
 }
 
-/// A column or a line of pixels, of so many: often the last or the first that is none.
+/// A column or a line of pixels below `end`: often the last, or the first that does not exist.
 fn next_coordinate(random: &mut Pcg32, end: u16) -> u16 {
     match next_below(random, 10) {
         0 => end,
@@ -119,7 +119,7 @@ fn next_coordinate(random: &mut Pcg32, end: u16) -> u16 {
     }
 }
 
-/// Bytes of which a few are characters that are obeyed.
+/// Bytes with a few control characters.
 fn next_block(alloc: Global, random: &mut Pcg32, len: usize) -> Result<Vec<u8>, AllocError> {
     let mut block = Vec::new(alloc);
     for _ in 0..len {
@@ -133,7 +133,7 @@ fn next_block(alloc: Global, random: &mut Pcg32, len: usize) -> Result<Vec<u8>, 
     Ok(block)
 }
 
-/// The length of a block: mostly as it is wanted, else one less or one more.
+/// The length of a block: mostly the one that is needed, sometimes one less or one more.
 fn next_length(random: &mut Pcg32, wanted: usize) -> usize
     requires { wanted < 262144 }
 {
@@ -144,7 +144,7 @@ fn next_length(random: &mut Pcg32, wanted: usize) -> usize
     }
 }
 
-/// The registers of a function of text, with this AH.
+/// The registers of a call for cells, with this AH.
 fn cell_call(random: &mut Pcg32, mode: PlainMode, active: u8, ah: u8) -> Regs {
     let page = next_page(random, mode, active);
     let colour = next_byte(random);
@@ -156,7 +156,7 @@ fn cell_call(random: &mut Pcg32, mode: PlainMode, active: u8, ah: u8) -> Regs {
     }
 }
 
-/// The registers of a function for windows, with this AH.
+/// The registers of a call for windows, with this AH.
 fn window_call(random: &mut Pcg32, mode: PlainMode, ah: u8) -> Regs {
     let by = match next_below(random, 4) {
         0 => 0,
@@ -181,7 +181,7 @@ fn window_call(random: &mut Pcg32, mode: PlainMode, ah: u8) -> Regs {
     }
 }
 
-/// The registers of a function for pixels, with this AH.
+/// The registers of a call for pixels, with this AH.
 fn pixel_call(random: &mut Pcg32, mode: PlainMode, active: u8, ah: u8) -> Regs {
     let width = 8 * mode.columns as u16;
     let height = mode.rows as u16 * mode.height as u16;
@@ -193,7 +193,7 @@ fn pixel_call(random: &mut Pcg32, mode: PlainMode, active: u8, ah: u8) -> Regs {
     }
 }
 
-/// A string: mostly short, and mostly with as many bytes as it has to have.
+/// A call for a string: mostly short, and mostly of the length that it must have.
 fn string_call(
     alloc: Global,
     random: &mut Pcg32,
@@ -217,7 +217,7 @@ fn string_call(
     })
 }
 
-/// An entry of the DAC: seldom one that is not there.
+/// An entry of the DAC: seldom one that does not exist.
 fn next_entry(random: &mut Pcg32) -> u16 {
     match next_below(random, 8) {
         0 => 0x100,
@@ -277,8 +277,8 @@ fn next_glyph_count(random: &mut Pcg32) -> u16 {
     }
 }
 
-/// The character of the first of so many glyphs: often such that the last is FF, or just past it,
-/// or such that a sum of 16 bits would be 0.
+/// The first character of `count` glyphs: often one with which the last character is FF or just
+/// past it, or with which a sum of 16 bits would be 0.
 fn next_first_character(random: &mut Pcg32, count: u16) -> u16 {
     let past = 0x100u16.saturating_sub(count);
     match next_below(random, 10) {
@@ -290,7 +290,7 @@ fn next_first_character(random: &mut Pcg32, count: u16) -> u16 {
     }
 }
 
-/// The glyphs of a block, for characters of a height that there mostly is.
+/// A call that loads glyphs of a block, for characters of a height that mostly exists.
 fn block_glyph_call(alloc: Global, random: &mut Pcg32, map: u8) -> Result<RandomCall, AllocError> {
     let listed = one_of(random, &HEIGHTS);
     let height = if is_one_in(random, 6) {
@@ -312,8 +312,8 @@ fn block_glyph_call(alloc: Global, random: &mut Pcg32, map: u8) -> Result<Random
     })
 }
 
-/// A call that loads glyphs, mostly into the map that there is. Of a font it may have a block,
-/// which is not looked at.
+/// A call that loads glyphs, mostly into a map that exists. For glyphs of a font it may have a
+/// block, which is ignored.
 fn glyph_call(alloc: Global, random: &mut Pcg32) -> Result<RandomCall, AllocError> {
     let map = if is_one_in(random, 5) {
         next_byte(random)
@@ -341,7 +341,8 @@ fn glyph_call(alloc: Global, random: &mut Pcg32) -> Result<RandomCall, AllocErro
     })
 }
 
-/// A mode: one of the six to be cleared, or none.
+/// A mode set that clears the memory: half of the time of one of the six modes, otherwise of a
+/// number that mostly is no mode.
 fn mode_call(random: &mut Pcg32) -> Regs {
     let number = match MODES.get(next_below(random, 12) as usize) {
         Some(mode) => mode.number,
@@ -356,7 +357,7 @@ fn mode_call(random: &mut Pcg32) -> Regs {
 }
 
 /// The registers of a call without a block, with this AH.
-fn plain_call(random: &mut Pcg32, mode: PlainMode, active: u8, ah: u8) -> Regs {
+fn call_without_block(random: &mut Pcg32, mode: PlainMode, active: u8, ah: u8) -> Regs {
     let any = (random.next_u32() >> 16) as u16;
     match ah {
         0x00 => mode_call(random),
@@ -394,8 +395,8 @@ fn plain_call(random: &mut Pcg32, mode: PlainMode, active: u8, ah: u8) -> Regs {
     }
 }
 
-/// The next call on a screen of a mode, in text as the height of its characters cuts it, with this
-/// active page.
+/// The next call on a screen of this mode, in text with this height of its characters, and with
+/// this active page.
 pub fn next_call(
     alloc: Global,
     random: &mut Pcg32,
@@ -413,7 +414,7 @@ pub fn next_call(
         0x11 => glyph_call(alloc, random),
         0x13 => string_call(alloc, random, mode, active),
         _ => Ok(RandomCall {
-            regs: plain_call(random, mode, active, ah),
+            regs: call_without_block(random, mode, active, ah),
             block: Vec::new(alloc),
         }),
     }

@@ -5,7 +5,7 @@ use crate::random_numbers::next_byte;
 use rand_pcg::Pcg32;
 use std::alloc::{AllocError, Global};
 
-/// The number that a character's glyph is made from. Those of 81 to FF that are odd have the glyphs
+/// The number that a character's glyph is made from. Odd characters from 81 to FF have the glyphs
 /// of 01 to 7F.
 fn glyph_number(character: u8) -> u8 {
     if character & 0x81 == 0x81 {
@@ -15,7 +15,7 @@ fn glyph_number(character: u8) -> u8 {
     }
 }
 
-/// Puts a glyph of so many rows behind others: pseudo-random dots, but none for 00 and 20.
+/// Appends a glyph of `height` rows: pseudo-random dots, and no dots for characters 00 and 20.
 fn push_glyph(font: &mut Vec<u8>, character: u8, height: u8) -> Result<(), AllocError> {
     let mut random = Pcg32::new(glyph_number(character) as u64, 5);
     let is_empty = character & 0xDF == 0;

@@ -17,7 +17,7 @@ pub fn next_below(random: &mut Pcg32, end: u32) -> u32
     (random.next_u32() >> 8) % end
 }
 
-/// Whether one of so many throws is met.
+/// True once in `throws` times, on average.
 pub fn is_one_in(random: &mut Pcg32, throws: u32) -> bool
     requires { 0 < throws }
 {

@@ -1,9 +1,9 @@
-//! How a comparison with plain screens ended.
+//! The result of a comparison with plain screens.
 
 use crate::difference::Difference;
 use std::fmt;
 
-/// How the comparison with plain screens ended.
+/// The result of the comparison with plain screens.
 #[derive(Clone, Copy)]
 pub struct ScreensOutcome {
     pub services: u32,
@@ -13,7 +13,7 @@ pub struct ScreensOutcome {
 }
 
 impl ScreensOutcome {
-    /// Whether all was alike.
+    /// Whether nothing differs.
     pub fn is_alike(&self) -> bool {
         self.difference.is_none()
     }

@@ -1,6 +1,6 @@
-//! The adapter and its services against the plain screen, on pseudo-random scripts of services and
-//! whole frames in all six modes, of text with characters of each height: every answer, every
-//! refusal, every picture, and screens that are read.
+//! Compares the adapter and its BIOS with the plain screen, on pseudo-random scripts of BIOS calls
+//! and whole frames in all six modes and with text of each height: every answer, every refusal,
+//! every picture, and screens that are read.
 ghost use Rattle.std.specs.Prelude.{◌≡◌, ◌<◌};
 
 use crate::beginning::Beginning;
@@ -19,17 +19,17 @@ const COUNTS: ScriptCounts = ScriptCounts {
     services: 28,
 };
 
-/// Behind how many frames a screen of pixels is read. One of cells is read behind each.
+/// In one of this many frames a graphics screen is read. A text screen is read in each frame.
 const FRAMES_TO_READ: u32 = 10;
 
-/// An adapter and a plain screen, which are given the same services and whole frames.
+/// An adapter and a plain screen, which get the same calls and whole frames.
 #[derive(Drop)]
 struct WholeFrames<'a> {
     pair: Pair<'a>,
 }
 
 impl<'a> WholeFrames<'a> {
-    /// An adapter at power-on, over the bytes of a font file, and a plain screen.
+    /// An adapter at power-on with this font file, and a plain screen.
     fn new(alloc: Global, font: &'a [u8]) -> Result<WholeFrames<'a>> {
         let pair = Pair::new(alloc, font)?;
         Ok(WholeFrames { pair })

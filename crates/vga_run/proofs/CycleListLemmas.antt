@@ -20,7 +20,7 @@ use Rattle.vga_script.proofs.ScriptBytesLemmas.{script_written, script_spells, r
 use Rattle.vga_run.specs.declared.cycle_list.Unlisted.{Unlisted}
 use Rattle.vga_run.specs.declared.cycle_list.Unlisted.TheVariants.{TooLong}
 use Rattle.vga_run.specs.declared.machine.Machine.{Machine}
-use Rattle.vga_run.specs.Answer.{Plain, of_byte}
+use Rattle.vga_run.specs.Answer.{Short, of_byte}
 use Rattle.vga_run.specs.Step.{after_step, after_steps, answer_to, called}
 use Rattle.vga_run.specs.CycleList.{write_step, read_step, cycles_of, cycles_of_call, byte_answered, bytes_read, answer_by, Listed, is_place, list_write}
 use Rattle.vga_run.specs.CycleList.{list_read, list_meaning, listed_bytes, IsList, IsUnlisted}
@@ -169,7 +169,7 @@ pub call_taken : (m : Machine) (regs : Regs) (block : List ℕ) → after_steps 
 unfolding cycles_of_call called
 call_taken m regs block = taken (service m.fonts m.bda regs block) m m.card
 
-byte_same : (r : Result ℕ Refusal) → byte_answered (Plain (of_byte r)) ≡ byte_of r
+byte_same : (r : Result ℕ Refusal) → byte_answered (Short (of_byte r)) ≡ byte_of r
 byte_same (Ok v) = refl
 byte_same (Err e) = refl
 

@@ -5,7 +5,7 @@ use Rattle.bios_modes.specs.Modes.{colour_text}
 use Rattle.bios_modes.specs.Fonts.{FontSet}
 use Rattle.vga_script.specs.declared.step.Step.TheVariants.{Int, Advance, Frame}
 use Rattle.vga_run.specs.declared.answer.Answer.TheVariants.{Done, Refused}
-use Rattle.vga_run.specs.Answer.{Plain}
+use Rattle.vga_run.specs.Answer.{Short}
 use Rattle.bios_screen.specs.Step.{refusal_on, next}
 use Rattle.bios_screen.specs.Loaded.{load_glyphs}
 use Rattle.bios_screen.specs.Drawing.{Drawing, dots_a_frame, take_dot, take_dots}
@@ -16,11 +16,11 @@ not_none x e = absurd (cc)
 
 module _ (fonts : FontSet) (b : Drawing) where
   -- the most dots that a step may take, and one more
-  most : reply_to fonts b (Advance 16777216) ≡ Plain Done
+  most : reply_to fonts b (Advance 16777216) ≡ Short Done
   unfolding reply_to
   most = refl
 
-  too_many : reply_to fonts b (Advance 16777217) ≡ Plain (Refused TooFar)
+  too_many : reply_to fonts b (Advance 16777217) ≡ Short (Refused TooFar)
   unfolding reply_to
   too_many = refl
 

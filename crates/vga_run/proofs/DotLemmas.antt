@@ -40,7 +40,7 @@ use Rattle.vga_script.specs.Step.{IsInRange, AreInRange}
 use Rattle.vga_run.specs.declared.machine.Machine.{Machine}
 use Rattle.vga_run.specs.declared.answer.Answer.TheVariants.{Done, Refused}
 use Rattle.vga_run.specs.Machine.{power_on_machine}
-use Rattle.vga_run.specs.Answer.{Plain, of_write, of_service, of_shape}
+use Rattle.vga_run.specs.Answer.{Short, of_write, of_service, of_shape}
 use Rattle.vga_run.specs.Step.{answer_to, after_step, called}
 use Rattle.vga_run.specs.Report.{line, report_from, report_of}
 use Rattle.vga_run.proofs.ScreenLemmas.{Laws as ScreenLaws, row_of_mode, block_bytes, frame_shown}
@@ -141,7 +141,7 @@ record StepFollows (fonts : FontSet) (m : Machine) (b : Drawing) (step : Step) :
 -- dots, or more than one step may take
 advanced : Laws → (few : Bool) (fonts : FontSet) (m : Machine) (b : Drawing) (count : ℕ) → Stands fonts m b →
     (let w : Written = (if few then (dots count m.card, Ok tt) else (m.card, Err TooFar)) in
-    (Plain (of_write w.1) ≡ Plain (if few then Done else Refused TooFar)) × Stands fonts (record m { card = w.0 }) (if few then take_dots count b else b))
+    (Short (of_write w.1) ≡ Short (if few then Done else Refused TooFar)) × Stands fonts (record m { card = w.0 }) (if few then take_dots count b else b))
 advanced law true fonts m b count is = (
   refl,
   record {

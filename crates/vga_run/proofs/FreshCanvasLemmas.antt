@@ -1,4 +1,4 @@
--- No step tells a machine that was saved and restored from the one that it was.
+-- No step tells a machine that was saved and restored from the original.
 use Rattle.std.proofs.Common.{◌≡◌, ◌∙◌, ℕ, zero, suc, ◌+◌, Bool, true, false, nat_le, if◌then◌else◌, Option, Some, None, Result, Ok, Err, refl}
 use Rattle.std.proofs.Common.{sym, ap, ap₂, arith}
 use Rattle.std.proofs.Common.{List, [], ◌∷◌, ◌++◌}
@@ -21,7 +21,7 @@ use Rattle.bios_services.proofs.CardLemmas.{plan_fresh}
 use Rattle.vga_show.specs.Beam.{beam_line}
 use Rattle.vga_show.specs.Cells.{row_text, rows_text, cells_refusal, cells_text}
 use Rattle.vga_run.specs.declared.machine.Machine.{Machine}
-use Rattle.vga_run.specs.Answer.{StepAnswer, Plain, of_write, of_byte, of_word, of_service, of_frame, of_dump}
+use Rattle.vga_run.specs.Answer.{StepAnswer, Short, of_write, of_byte, of_word, of_service, of_frame, of_dump}
 use Rattle.vga_run.specs.Step.{dump_text, dump_refusal, called, advance_cycle, answer_to, after_step}
 use Rattle.vga_run.specs.Report.{line, report_from}
 use Rattle.vga_run.specs.Saved.{machine_with_fresh_canvas}
@@ -94,20 +94,20 @@ called_same m ax bx cx dx block = plan_fresh (service m.fonts m.bda (record { ax
 
 pub answer_same : (m : Machine) (step : Step) → answer_to (machine_with_fresh_canvas m) step ≡ answer_to m step
 unfolding answer_to
-answer_same m (Out port value) = ap (λ (w : Written). Plain (of_write w.1)) (cannot_be_told.out m.card port value)
-answer_same m (OutWord port value) = ap (λ (w : Written). Plain (of_write w.1)) (cannot_be_told.out_word m.card port value)
-answer_same m (In port) = ap (λ (a : Answered). Plain (of_byte a.1)) (cannot_be_told.inp m.card port)
-answer_same m (InWord port) = ap (λ (a : Answered). Plain (of_word a.1)) (cannot_be_told.inp_word m.card port)
-answer_same m (Put address value) = ap (λ (w : Written). Plain (of_write w.1)) (cannot_be_told.put m.card address value)
-answer_same m (PutWord address value) = ap (λ (w : Written). Plain (of_write w.1)) (cannot_be_told.put_word m.card address value)
-answer_same m (Get address) = ap (λ (a : Answered). Plain (of_byte a.1)) (cannot_be_told.get m.card address)
-answer_same m (GetWord address) = ap (λ (a : Answered). Plain (of_word a.1)) (cannot_be_told.get_word m.card address)
+answer_same m (Out port value) = ap (λ (w : Written). Short (of_write w.1)) (cannot_be_told.out m.card port value)
+answer_same m (OutWord port value) = ap (λ (w : Written). Short (of_write w.1)) (cannot_be_told.out_word m.card port value)
+answer_same m (In port) = ap (λ (a : Answered). Short (of_byte a.1)) (cannot_be_told.inp m.card port)
+answer_same m (InWord port) = ap (λ (a : Answered). Short (of_word a.1)) (cannot_be_told.inp_word m.card port)
+answer_same m (Put address value) = ap (λ (w : Written). Short (of_write w.1)) (cannot_be_told.put m.card address value)
+answer_same m (PutWord address value) = ap (λ (w : Written). Short (of_write w.1)) (cannot_be_told.put_word m.card address value)
+answer_same m (Get address) = ap (λ (a : Answered). Short (of_byte a.1)) (cannot_be_told.get m.card address)
+answer_same m (GetWord address) = ap (λ (a : Answered). Short (of_word a.1)) (cannot_be_told.get_word m.card address)
 answer_same m (Int ax bx cx dx block) = ap (λ (s : CardState × Served). of_service s.1.0) (called_same m ax bx cx dx block)
-answer_same m (Advance count) = ap (λ (r : Result Unit Refusal). Plain (of_write r)) (advance_same m.card count)
+answer_same m (Advance count) = ap (λ (r : Result Unit Refusal). Short (of_write r)) (advance_same m.card count)
 answer_same m Frame = ap (λ (c : CardState). of_frame c.drawn) (cannot_be_told.frame m.card)
 answer_same m (Show what) = ap₂ of_dump (refusal_same m what) (dump_same m what)
 
--- a machine with this adapter, settled
+-- a machine with this adapter, without the dots that no step can see any more
 abbrev with_card : Machine → CardState → Machine
 with_card m c = record m { card = with_fresh_canvas c }
 
@@ -137,7 +137,7 @@ after_same m (Show what) = once m m.card
 
 -- ---- reports
 
--- two machines that are one once they are settled
+-- two machines that are equal without those dots
 alike : (m other : Machine) (n : ℕ) (steps : List Step) → machine_with_fresh_canvas m ≡ machine_with_fresh_canvas other
     → report_from m n steps ≡ report_from other n steps
 alike m other n [] same = refl

@@ -82,7 +82,7 @@ digit_in_line text prefix n h small =
     ∙ get_or_append_left (digits ++ codes " ") (drop prefix text) 0 (length digits - 1) (omega (arith, length-append digits (codes " ")))
     ∙ get_or_append_left digits (codes " ") 0 (length digits - 1) (omega arith) ∙ last_digit n small
 
--- a line keeps its number, whatever is put behind it
+-- a line keeps its number, whatever is put after it
 pub number_behind : (text mid new rest : List ℕ) (prefix n : ℕ) → HasNumber text prefix n → mid ≡ take prefix text → new ≡ mid ++ rest → HasNumber new prefix n
 number_behind text mid new rest prefix n h e f =
     let number : mid ≡ number_text n = e ∙ h.is in
@@ -147,7 +147,7 @@ two_digits n long = elim (cases_lt n 10) [
   | inr many ↦ many
 ]
 
--- two bytes in the place of a digit and the 9 behind it
+-- two bytes in the place of a digit and the 9 after it
 nine_counted : (digits more rest : List ℕ) (v : ℕ) → 0 < length digits → slice_set digits (length digits - 1) v ≡ more →
     slice_set (slice_set (((digits ++ 57 ∷ []) ++ codes " ") ++ rest) (length digits - 1) v) (length digits) 48 ≡ ((more ++ 48 ∷ []) ++ codes " ") ++ rest
 nine_counted digits more rest v some e =
@@ -169,7 +169,7 @@ nine_counted digits more rest v some e =
     ∙ ap (λ (l : List ℕ). (l ++ codes " ") ++ rest) (set-append_right more (57 ∷ []) j j 48 same (omega arith))
     ∙ ap (λ (k : ℕ). ((more ++ slice_set (57 ∷ []) k 48) ++ codes " ") ++ rest) zero
 
--- behind a digit below 9 a last 9 becomes 0, and the digit one more
+-- after a digit below 9 a last 9 becomes 0, and the digit one more
 pub tens_counted : (text mid new : List ℕ) (prefix n digit : ℕ) → HasNumber text prefix n → n + 1 < 2 ^ 64 → 3 ≤ prefix → 57 ≤ get_or text (prefix - 2) 0 →
     digit ≡ get_or text (prefix - 3) 0 → digit < 57
     → mid ≡ slice_set text (prefix - 3) (digit + 1) → new ≡ slice_set mid (prefix - 2) 48 → HasNumber new prefix (n + 1)

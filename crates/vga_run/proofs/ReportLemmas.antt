@@ -31,7 +31,7 @@ use Rattle.bios_services.specs.Tables.{table_bytes}
 use Rattle.bios_services.specs.Service.{Answered, MayAnswer}
 use Rattle.bios_services.specs.Service.{service as asked_service}
 use Rattle.vga_run.specs.declared.answer.Answer.TheVariants.{Refused}
-use Rattle.vga_run.specs.Answer.{Plain, Served, Picture, of_service, of_dump}
+use Rattle.vga_run.specs.Answer.{Short, Served, Picture, of_service, of_dump}
 use Rattle.vga_run.specs.Report.{picture_line, line, number_text, report_from}
 
 -- no refusal has a name of more than 15 bytes
@@ -50,7 +50,7 @@ name_is_short BadBlock = omega arith
 name_is_short TooFar = omega arith
 name_is_short BadHeight = omega arith
 
--- what stands behind the number in the line of a dump: its lines, or why it is refused
+-- what stands after the number in the line of a dump: its lines, or why it is refused
 abbrev pub after_number : Option Refusal → List ℕ → List ℕ
 after_number None text = text
 after_number (Some why) text = refusal_name why ++ codes "\n"
@@ -88,14 +88,14 @@ reply_is_written before after failed result machine n ax bx cx dx block next bio
 
 pub refusal_is_written : (before after : Option (List ℕ)) (failed : Bool) (result : Result Unit Fault) (machine : Machine) (n ax bx cx dx : ℕ) (block : List ℕ)
     (next : CardState) (bios : BiosData) (error : ServiceError) (why : Refusal)
-    → error ≡ service.Refused why → Answers machine ax bx cx dx block (Err error) next bios → Writes before after failed result (line n (Plain (Refused why)))
+    → error ≡ service.Refused why → Answers machine ax bx cx dx block (Err error) next bios → Writes before after failed result (line n (Short (Refused why)))
     → WritesStep before after failed result machine n (Int ax bx cx dx block)
 unfolding answer_to called
 refusal_is_written before after failed result machine n ax bx cx dx block next bios (service.Refused other) why e is w =
     let same : other ≡ why = cc in
     step_is_written before after failed result machine n (Int ax bx cx dx block)
     (subst (λ (c : CardState × Answered). Writes before after failed result (line n (of_service c.1.0))) is
-    (subst (λ (r : Refusal). Writes before after failed result (line n (Plain (Refused r)))) (sym same) w))
+    (subst (λ (r : Refusal). Writes before after failed result (line n (Short (Refused r)))) (sym same) w))
 refusal_is_written before after failed result machine n ax bx cx dx block next bios service.OutOfMemory why e is w = absurd (cc)
 
 -- ---- some steps and others
@@ -124,7 +124,7 @@ prefix_of_steps old new machine n steps others a =
     subst (AppendsPrefix old new) (sym (report_joined machine n steps others)) (prefix_of_more old new (report_from machine n steps)
     (report_from (after_steps machine steps) (n + length steps) others) a)
 
--- a prefix of what is written behind some bytes is, with these, one of both
+-- a prefix of what is written after some bytes is, with these, one of both
 pub prefix_behind : (old mid new : Option (List ℕ)) (first second : List ℕ) → Appends old mid first → AppendsPrefix mid new second →
     AppendsPrefix old new (first ++ second)
 prefix_behind old mid new first second a (prefix, back, parts, more) =
@@ -136,7 +136,7 @@ stops_in_prefix : (old new : Option (List ℕ)) (machine : Machine) (n : ℕ) (s
 stops_in_prefix old new machine n steps others (done, step, rest, parts, takes, a) =
     (done, step, rest ++ others, ap (λ (l : List Step). l ++ others) parts ∙ append_assoc done (step ∷ rest) others, takes, a)
 
--- and memory that runs out among the others does so behind the first
+-- and memory that runs out among the others does so after the first
 stops_behind : (old mid new : Option (List ℕ)) (machine : Machine) (n : ℕ) (steps others : List Step) → Appends old mid (report_from machine n steps)
     → StopsIn (after_steps machine steps) (n + length steps) others mid new → StopsIn machine n (steps ++ others) old new
 stops_behind old mid new machine n steps others a (done, step, rest, parts, takes, more) =
@@ -156,7 +156,7 @@ pub err_of_more : (old new : Option (List ℕ)) (failed : Bool) (e : Fault) (mac
 err_of_more old new failed e machine n steps others (inl (is, bad, prefix)) = inl (is, bad, prefix_of_steps old new machine n steps others prefix)
 err_of_more old new failed e machine n steps others (inr (is, sound, stops)) = inr (is, sound, stops_in_prefix old new machine n steps others stops)
 
--- and the others are taken behind the first
+-- and the others are taken after the first
 others_behind : (old mid new : Option (List ℕ)) (failed : Bool) (result : Result Unit Fault) (machine : Machine) (n : ℕ) (steps others : List Step)
     → Appends old mid (report_from machine n steps) → WritesReport mid new failed result (after_steps machine steps) (n + length steps) others
     → WritesReport old new failed result machine n (steps ++ others)
@@ -308,7 +308,7 @@ reported_all old new failed start machine first steps i h past =
     let all : take i steps ≡ steps = take_all i steps past in
     (subst (λ (l : List Step). Appends old new (report_from start first l)) all h.appended, h.state ∙ ap (after_steps start) all)
 
--- a report is written where, behind it, nothing more is
+-- a report is written where, after it, nothing more is
 pub report_is_flushed : (old mid new : Option (List ℕ)) (failed : Bool) (result : Result Unit Fault) (machine : Machine) (n : ℕ) (steps : List Step)
     → Appends old mid (report_from machine n steps) → Writes mid new failed result [] → WritesReport old new failed result machine n steps
 report_is_flushed old mid new failed (Ok u) machine n steps a w = writes_more {U = Unit} old mid new failed (Ok u) (report_from machine n steps) a w
@@ -328,7 +328,7 @@ first_in_range (s ∷ steps) (suc n) all = (all.0, first_in_range steps n all.1)
 
 -- ---- pictures
 
--- behind its line a call writes the picture of a step
+-- after its line a call writes the picture of a step
 pub writes_picture : {U : Type 0} (old mid new : Option (List ℕ)) (failed : Bool) (result : Result U Fault) (n width height len : ℕ) (bytes : List ℕ)
     → len ≡ length (ppm width height bytes) → Appends old mid (picture_line n len) → Writes mid new failed result (ppm width height bytes ++ codes "\n")
     → Writes old new failed result (line n (Picture width height bytes))

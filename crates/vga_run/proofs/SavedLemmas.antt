@@ -28,16 +28,16 @@ machine_bytes m len e =
     let counted : len ≡ 9 + length (saved_parts m) = e ∙ header_counts m in
     ap (λ (n : ℕ). (saved_mark ++ long_bytes n) ++ (saved_bda m.bda ++ saved_card m.card)) counted
 
--- where the slice is as long as the machine's bytes, there is room for the BIOS data behind the header
+-- where the slice is as long as the machine's bytes, there is room for the BIOS data after the header
 pub bda_fits : (slice left whole card next : ℕ) → left ≡ slice → slice ≡ whole → whole ≡ 40 + card → next ≡ 9 → next + 31 ≤ left
 bda_fits slice left whole card next same given counted there = omega arith
 
--- and behind the BIOS data for the adapter
+-- and after the BIOS data for the adapter
 pub card_fits : (slice mid left whole card dots at next : ℕ) → mid ≡ slice → left ≡ mid → slice ≡ whole → whole ≡ 40 + card → card ≡ dots → at ≡ 9
     → next ≡ at + 31 → next + dots ≤ left
 card_fits slice mid left whole card dots at next first second given counted drawn there behind = omega arith
 
--- and the slice ends behind the adapter
+-- and the slice ends after the adapter
 pub whole_put : (slice mid last left whole next : ℕ) → mid ≡ slice → last ≡ mid → left ≡ last → slice ≡ whole → next ≡ 0 + whole → left ≡ next
 whole_put slice mid last left whole next first second third given ends = omega arith
 

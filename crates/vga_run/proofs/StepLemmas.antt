@@ -20,7 +20,7 @@ use Rattle.vga_card.specs.Bus.{card_meaning}
 use Rattle.vga_run.specs.declared.machine.Machine.{Machine}
 use Rattle.vga_run.specs.declared.answer.Answer.{Answer}
 use Rattle.vga_run.specs.declared.answer.Answer.TheVariants.{Refused}
-use Rattle.vga_run.specs.Answer.{Plain, of_write, of_byte, of_word, of_service, of_shape}
+use Rattle.vga_run.specs.Answer.{Short, of_write, of_byte, of_word, of_service, of_shape}
 use Rattle.vga_run.specs.Step.{advance_cycle, answer_to, after_step, called}
 
 -- the law that a refused cycle leaves the whole state
@@ -45,19 +45,19 @@ with_card m c = record m { card = c }
 
 -- a write whose answer is a refusal
 refused_write : (m : Machine) (next : CardState) (result : Result Unit Refusal) (refusal : Refusal) → ((e : Refusal) → result ≡ Err e → next ≡ m.card)
-    → Plain (of_write result) ≡ Plain (Refused refusal) → with_card m next ≡ m
+    → Short (of_write result) ≡ Short (Refused refusal) → with_card m next ≡ m
 refused_write m next (Ok u) refusal law is = absurd (cc)
 refused_write m next (Err e) refusal law is = ap (with_card m) (law e refl)
 
 -- a read of a byte whose answer is a refusal
 refused_byte : (m : Machine) (next : CardState) (result : Result ℕ Refusal) (refusal : Refusal) → ((e : Refusal) → result ≡ Err e → next ≡ m.card)
-    → Plain (of_byte result) ≡ Plain (Refused refusal) → with_card m next ≡ m
+    → Short (of_byte result) ≡ Short (Refused refusal) → with_card m next ≡ m
 refused_byte m next (Ok v) refusal law is = absurd (cc)
 refused_byte m next (Err e) refusal law is = ap (with_card m) (law e refl)
 
 -- a read of a word whose answer is a refusal
 refused_word : (m : Machine) (next : CardState) (result : Result ℕ Refusal) (refusal : Refusal) → ((e : Refusal) → result ≡ Err e → next ≡ m.card)
-    → Plain (of_word result) ≡ Plain (Refused refusal) → with_card m next ≡ m
+    → Short (of_word result) ≡ Short (Refused refusal) → with_card m next ≡ m
 refused_word m next (Ok v) refusal law is = absurd (cc)
 refused_word m next (Err e) refusal law is = ap (with_card m) (law e refl)
 
@@ -72,18 +72,18 @@ refused_advance false card next e is = refl
 
 -- a service whose answer is a refusal
 refused_call : (m : Machine) (after : CardState × Answered) (refusal : Refusal) → ((e : Refusal) → after.1.0 ≡ Err e → after ≡ (m.card, (Err e, m.bda)))
-    → of_service after.1.0 ≡ Plain (Refused refusal) → record m { card = after.0; bda = after.1.1 } ≡ m
+    → of_service after.1.0 ≡ Short (Refused refusal) → record m { card = after.0; bda = after.1.1 } ≡ m
 refused_call m (card, (Ok reply, bda)) refusal law is = absurd (cc)
 refused_call m (card, (Err e, bda)) refusal law is = ap (λ (a : CardState × Answered). record m { card = a.0; bda = a.1.1 }) (law e refl)
 
 -- a frame has no such answer
-answered_frame : (s : Option Shape) (bytes : List ℕ) (answer : Answer) → of_shape s bytes ≡ Plain answer → ⊥
+answered_frame : (s : Option Shape) (bytes : List ℕ) (answer : Answer) → of_shape s bytes ≡ Short answer → ⊥
 answered_frame None bytes answer is = cc
 answered_frame (Some s) bytes answer is = cc
 
 -- a step whose answer is a refusal
 pub refused_step : RefusedCyclesChangeNothing → RefusedServicesDoNothing → (m : Machine) (step : Step) (refusal : Refusal) →
-    answer_to m step ≡ Plain (Refused refusal) → after_step m step ≡ m
+    answer_to m step ≡ Short (Refused refusal) → after_step m step ≡ m
 unfolding answer_to after_step called
 refused_step law services m (Out port v) refusal is = refused_write m (out_cycle m.card port v).0 (out_cycle m.card port v).1 refusal (law.out m.card port v) is
 refused_step law services m (OutWord port v) refusal is = refused_write m (out_word_cycle m.card port v).0 (out_word_cycle m.card port v).1 refusal

@@ -30,7 +30,7 @@ some_dots : (mode : ℕ) → 0 < dots_a_frame mode
 unfolding dots_a_frame
 some_dots = each_mode (λ _ row. HasDots row) (omega arith) (omega arith) (omega arith) (omega arith) (omega arith) (omega arith) (λ _. omega arith)
 
--- the law of plain frames
+-- the law of the plain screen's frames
 abbrev pub FramesEnd : Type 0
 FramesEnd = (b : Drawing) → b.dot < dots_a_frame b.screen.mode → IsFrameTaken b
 

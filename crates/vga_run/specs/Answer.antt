@@ -26,22 +26,22 @@ abbrev pub of_word : Result ℕ Refusal → Answer
 of_word (Ok value) = Word value
 of_word (Err refusal) = Refused refusal
 
--- what a step answers: on its own line; or with four registers and the bytes of a table; or with a
--- picture of so many dots in width and height, red, green and blue of each; or that a frame is
--- ragged; or the lines of a dump
+-- What a step answers: a short answer (`ok`, a byte, a word, or a refusal); or the registers of a
+-- BIOS call and the bytes of a table; or a picture by its width, its height, and red, green and
+-- blue of each dot; or that a frame is ragged; or the lines of a dump.
 pub data StepAnswer : Type 0 where
-  Plain : Answer → StepAnswer
+  Short : Answer → StepAnswer
   Served : Regs → List ℕ → StepAnswer
   Picture : ℕ → ℕ → List ℕ → StepAnswer
   Ragged : StepAnswer
   Dump : List ℕ → StepAnswer
 
--- what a service answers
+-- what a BIOS call answers
 abbrev pub of_service : Result ServiceReply Refusal → StepAnswer
 of_service (Ok reply) = Served reply.regs (table_bytes reply.table)
-of_service (Err refusal) = Plain (Refused refusal)
+of_service (Err refusal) = Short (Refused refusal)
 
--- a picture of some shape, if there is one
+-- a picture of this shape, or a ragged frame, which has none
 abbrev pub of_shape : Option Shape → List ℕ → StepAnswer
 of_shape (Some s) bytes = Picture s.width s.height bytes
 of_shape None bytes = Ragged
@@ -50,7 +50,7 @@ of_shape None bytes = Ragged
 abbrev pub of_frame : List Dot → StepAnswer
 of_frame dots = of_shape (shape dots) (bytes_of dots)
 
--- what the picture of a frame, or a ragged one, answers
+-- what is answered for the picture that the code gives, or for a ragged frame
 abbrev pub of_drawn : Drawn → StepAnswer
 of_drawn (drawn.Picture width height bytes) = Picture width height bytes.now
 of_drawn drawn.Ragged = Ragged
@@ -58,4 +58,4 @@ of_drawn drawn.Ragged = Ragged
 -- what a dump answers: its dump, unless it is refused
 abbrev pub of_dump : Option Refusal → List ℕ → StepAnswer
 of_dump None text = Dump text
-of_dump (Some why) text = Plain (Refused why)
+of_dump (Some why) text = Short (Refused why)

@@ -15,7 +15,7 @@ use Rattle.vga_script.specs.Spelling.{script_limit, spelling, encoding, Spells}
 use Rattle.vga_run.specs.declared.machine.Machine.{Machine}
 use Rattle.vga_run.specs.declared.cycle_list.Unlisted.{Unlisted}
 use Rattle.vga_run.specs.declared.cycle_list.Unlisted.TheVariants.{Refused, TooLong, OutOfMemory}
-use Rattle.vga_run.specs.Answer.{StepAnswer, Plain}
+use Rattle.vga_run.specs.Answer.{StepAnswer, Short}
 use Rattle.vga_run.specs.declared.answer.Answer.TheVariants.{Byte}
 use Rattle.vga_run.specs.Step.{called, answer_to, after_step}
 
@@ -38,18 +38,18 @@ cycles_of (Write place v rest) c = write_step place v ∷ cycles_of rest (card_w
 cycles_of (Read place rest) c = let r = card_read c place in
     read_step place ∷ cycles_of (rest (byte_of r.1)) r.0
 
--- those of a call of interrupt 10 on a machine
+-- the cycles of a call of interrupt 10 on a machine
 unfoldable pub cycles_of_call : Machine → Regs → List ℕ → List Step
 cycles_of_call m regs block = cycles_of (service m.fonts m.bda regs block) m.card
 
--- ---- what the cycles tell
+-- ---- what the cycles read
 
--- the byte that a plan has of a step that reads; a refused one gives FF
+-- the byte that a plan gets from a step that reads; from a refused one, FF
 abbrev pub byte_answered : StepAnswer → ℕ
-byte_answered (Plain (Byte v)) = v
+byte_answered (Short (Byte v)) = v
 byte_answered other = 0xFF
 
--- the bytes that the reads among some steps give, where the steps are taken one after the other
+-- the bytes that the reads among these steps give, if the steps are taken one after another
 abbrev pub bytes_read : Machine → List Step → List ℕ
 bytes_read m [] = []
 bytes_read m (In port ∷ steps) = byte_answered (answer_to m (In port))
@@ -58,7 +58,7 @@ bytes_read m (Get address ∷ steps) = byte_answered (answer_to m (Get address))
     ∷ bytes_read (after_step m (Get address)) steps
 bytes_read m (step ∷ steps) = bytes_read (after_step m step) steps
 
--- what a plan answers whose reads give these bytes, and 0 where there are no more
+-- what a plan answers if its reads give these bytes, and 0 when they are used up
 abbrev pub answer_by : {A : Type 0} → Plan A → List ℕ → A
 answer_by (Done a) bytes = a
 answer_by (Write place v rest) bytes = answer_by rest bytes
@@ -67,18 +67,19 @@ answer_by (Read place rest) (b ∷ bytes) = answer_by (rest b) bytes
 
 -- ---- an adapter that lists
 
--- an adapter, the script of the cycles that were issued on it, and whether the fields of each fit
--- their bytes
+-- An adapter, the script of the cycles that were issued on it, and whether the fields of each cycle
+-- fit into their bytes.
 pub record Listed : Type 0 where
   pub card : CardState
   pub script : Written
   pub fits : Bool
 
--- a port and an address as wide as they are on a bus
+-- a port of 16 bits, or an address of 32 bits
 abbrev pub is_place : Place → Bool
 is_place (AtPort port) = nat_lt port 0x10000
 is_place (AtAddress address) = nat_lt address 0x100000000
 
+-- a write on the adapter, which is listed
 abbrev pub list_write : Listed → Place → ℕ → Listed × Result (Unit {0}) Refusal
 list_write s place v = let w = card_write s.card place v in (
   record {
@@ -89,6 +90,7 @@ list_write s place v = let w = card_write s.card place v in (
   w.1,
 )
 
+-- a read on the adapter, which is listed
 abbrev pub list_read : Listed → Place → Listed × Result ℕ Refusal
 list_read s place = let r = card_read s.card place in (
   record {
@@ -99,7 +101,7 @@ list_read s place = let r = card_read s.card place in (
   r.1,
 )
 
--- each cycle is the adapter's, and is listed
+-- each cycle is issued on the adapter, and listed
 abbrev pub list_meaning : Meaning Listed
 list_meaning = record { write = list_write; read = list_read }
 
@@ -109,16 +111,16 @@ list_meaning = record { write = list_write; read = list_read }
 unfoldable pub listed_bytes : Machine → Regs → List ℕ → List ℕ
 listed_bytes m regs block = encoding (script_of_steps (cycles_of_call m regs block))
 
--- bytes list the cycles of a call that is not refused: they spell its script, and are kept where
--- there is room for all
+-- These bytes list the cycles of a call that is not refused: they spell its script, and are kept if
+-- there is room for all of them.
 pub record IsList (m : Machine) (regs : Regs) (block : List ℕ) (room : ℕ) (script : Written) : Type 0 where
   pub done : IsOk (called m regs.ax regs.bx regs.cx regs.dx block).1.0
   pub spelled : Spells (listed_bytes m regs block) (script_of_steps (cycles_of_call m regs block))
   pub counted : script.len ≡ length (listed_bytes m regs block)
   pub kept : script.len ≤ room → script.bytes ≡ listed_bytes m regs block
 
--- why there is no list: the call is refused; the bytes are too many for a script; or there was no
--- memory
+-- why there is no list: the call is refused; or the script has too many bytes; or an allocation
+-- failed
 abbrev pub IsUnlisted : Machine → Regs → List ℕ → Unlisted → Type 0
 IsUnlisted m regs block (Refused why) =
     (called m regs.ax regs.bx regs.cx regs.dx block).1.0 ≡ Err why

@@ -1,4 +1,4 @@
--- What runs answer whose steps have a report that is known in other words: those of plain screens.
+-- What runs answer whose report is known in other terms: those of the plain screen.
 use Rattle.std.specs.Prelude.{ℕ, ◌≡◌, List, Option, None, Some, Result, Ok, Err}
 use Rattle.std.specs.Io.KnownBytes.{Appends}
 use Rattle.vga_bits.specs.Tracked.{AppendsPrefix}
@@ -8,15 +8,15 @@ use Rattle.bios_modes.specs.Fonts.{FontSet, fonts_of}
 use Rattle.vga_script.specs.declared.step.Step.{Step}
 use Rattle.vga_script.specs.Spelled.{SpellsExpanded}
 
--- What the run of steps answers that have this report, over a writer that holds what is before and
--- after: it has written the report, or a prefix of it where the writer fails.
+-- What the run of steps with this report answers, over a writer whose contents are `before` and
+-- `after`: it has written the report, or a prefix of it if the writer failed.
 abbrev pub ReportsAs : List ℕ → Option (List ℕ) → Option (List ℕ) → Result Unit Fault → Type 0
 ReportsAs report before after (Ok u) = Appends before after report
 ReportsAs report before after (Err WriteFault) = AppendsPrefix before after report
 ReportsAs report before after (Err _) = Unit {0}
 
--- What a run over a font file answers that is not stopped: that, where its input spells steps of a
--- kind whose report over the fonts is known.
+-- What a run with a font file and without a limit answers: that report, if its input spells steps
+-- of a kind whose report is known for these fonts.
 abbrev pub RunsAs : (FontSet → List Step → Type 0) → (FontSet → List Step → List ℕ) → Option ℕ →
     List ℕ → Option (List ℕ) → Option (List ℕ) → Option (List ℕ) → Result Unit Fault → Type 0
 RunsAs Are report until file input before after result =

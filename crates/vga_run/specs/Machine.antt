@@ -4,6 +4,6 @@ use Rattle.bios_modes.specs.Bda.{power_on_data}
 use Rattle.bios_modes.specs.Fonts.{FontSet}
 use Rattle.vga_run.specs.declared.machine.Machine.{Machine}
 
--- adapter and BIOS data at power-on, with the fonts that the BIOS has
+-- a machine at power-on with these fonts
 abbrev pub power_on_machine : FontSet → Machine
 power_on_machine fonts = record { card = power_on_card; bda = power_on_data; fonts = fonts }

@@ -1,5 +1,5 @@
--- The report of a script: a line for each step, with its number and its answer, and behind it the
--- picture of a frame.
+-- The report of a script: a line for each step, with its number and its answer, and after the line
+-- of a frame its picture.
 use Rattle.std.specs.Prelude.{◌≡◌, ℕ, ◌+◌, ◌==◌, if◌then◌else◌, List, [], ◌∷◌, ◌++◌, length, take}
 use Rattle.std.specs.Prelude.{Option, None, Some, codes, decimal}
 use Rattle.std.specs.List.{flat_map}
@@ -15,7 +15,7 @@ use Rattle.bios_services.specs.declared.regs.Regs.{Regs}
 use Rattle.vga_run.specs.declared.machine.Machine.{Machine}
 use Rattle.vga_run.specs.Machine.{power_on_machine}
 use Rattle.vga_show.specs.Ppm.{ppm}
-use Rattle.vga_run.specs.Answer.{StepAnswer, Plain, Served, Picture, Ragged, Dump}
+use Rattle.vga_run.specs.Answer.{StepAnswer, Short, Served, Picture, Ragged, Dump}
 use Rattle.vga_run.specs.Step.{answer_to, after_step}
 
 -- the text of four registers
@@ -23,8 +23,8 @@ unfoldable pub registers_text : Regs → List ℕ
 registers_text r = codes "ax=" ++ (hex_word r.ax ++ (codes " bx="
     ++ (hex_word r.bx ++ (codes " cx=" ++ (hex_word r.cx ++ (codes " dx=" ++ hex_word r.dx))))))
 
--- the text of a table behind four registers: the word block, and two digits for each byte; an empty
--- one has none
+-- the text of a table after four registers: the word `block`, and two digits for each byte; an
+-- empty table has none
 abbrev pub table_text : List ℕ → List ℕ
 table_text table = if length table == 0 then [] else codes " block " ++ flat_map hex_byte table
 
@@ -40,20 +40,19 @@ answer_text (Refused refusal) = refusal_name refusal
 unfoldable pub number_text : ℕ → List ℕ
 number_text n = decimal n ++ codes " "
 
--- a line has the number of a step and a blank at its beginning, which is so long
+-- a line begins with the number of step n and a blank, which are `prefix` bytes
 pub record HasNumber (text : List ℕ) (prefix n : ℕ) : Type 0 where
   pub is : take prefix text ≡ number_text n
   pub whole : prefix ≡ length (number_text n)
 
--- the line of step n that stands before a picture of so many bytes
+-- the line of step n before a picture of `len` bytes
 unfoldable pub picture_line : ℕ → ℕ → List ℕ
 picture_line n len = decimal n ++ (codes " picture " ++ (decimal len ++ codes "\n"))
 
--- the line of step n: its number in decimal, a blank, what it answers, and a newline; a picture
--- stands behind the line that tells how many bytes it has, with a newline of its own, and a dump
--- has its own lines
+-- the line of step n: its number in decimal, a blank, its answer, and a newline; a picture follows
+-- the line that gives its length, with a newline of its own, and a dump has its own lines
 unfoldable pub line : ℕ → StepAnswer → List ℕ
-line n (Plain answer) = decimal n ++ (codes " " ++ (answer_text answer ++ codes "\n"))
+line n (Short answer) = decimal n ++ (codes " " ++ (answer_text answer ++ codes "\n"))
 line n (Served regs table) = (number_text n ++ registers_text regs)
     ++ (table_text table ++ codes "\n")
 line n (Picture width height bytes) =
@@ -62,22 +61,22 @@ line n (Picture width height bytes) =
 line n Ragged = decimal n ++ codes " ragged\n"
 line n (Dump text) = number_text n ++ text
 
--- the lines of the steps from this machine on, of which the first has the number n
+-- the lines of these steps on this machine; the first has the number n
 abbrev pub report_from : Machine → ℕ → List Step → List ℕ
 report_from m n [] = []
 report_from m n (step ∷ steps) = line n (answer_to m step)
     ++ report_from (after_step m step) (n + 1) steps
 
--- what is shown where a run is stopped: the registers, the beam, the latches and the BIOS data
+-- the dumps after the last step of a limited run: registers, beam, latches and BIOS data
 abbrev pub last_dumps : List Step
 last_dumps = Show shown.Registers ∷ Show shown.Beam ∷ Show shown.Latches ∷ Show shown.BiosData ∷ []
 
--- the steps of a run: all of a script, or so many of the first, all if there are fewer, and then
--- the last dumps
+-- the steps of a run: all of a script; or with a limit the first ones, all if there are fewer, and
+-- then the last dumps
 abbrev pub steps_until : Option ℕ → List Step → List Step
 steps_until None steps = steps
 steps_until (Some most) steps = take most steps ++ last_dumps
 
--- the report of a script over some fonts: its steps are run from power-on, and numbered from 1
+-- the report of a script with these fonts: its steps run from power-on, and are numbered from 1
 abbrev pub report_of : FontSet → List Step → List ℕ
 report_of fonts steps = report_from (power_on_machine fonts) 1 steps

@@ -17,9 +17,9 @@ use Rattle.vga_run.specs.Machine.{power_on_machine}
 use Rattle.vga_run.specs.Step.{TakesMemory, answer_to, after_step, after_steps}
 use Rattle.vga_run.specs.Report.{line, report_from, report_of, steps_until}
 
--- What taking step n on this machine answers, over a writer that holds what is before and after,
--- and may have failed: its line is written; or a prefix of it where the writer failed; or there was
--- no memory, and nothing is written.
+-- What taking step n on this machine answers, over a writer whose contents are `before` and
+-- `after`, and which may have failed. Its line is written; or a prefix of it, if the writer failed;
+-- or nothing, if an allocation failed.
 abbrev pub WritesStep : Option (List ℕ) → Option (List ℕ) → Bool → Result Unit Fault → Machine → ℕ →
     Step → Type 0
 WritesStep before after failed (Ok u) m n step = Appends before after (line n (answer_to m step))
@@ -28,15 +28,16 @@ WritesStep before after failed (Err e) m n step =
     ((e ≡ WriteFault) × (failed ≡ true) × AppendsPrefix before after (line n (answer_to m step)))
     ⊎ ((e ≡ OutOfMemory) × (failed ≡ false) × TakesMemory m step × (after ≡ before))
 
--- Where memory runs out while these steps are taken from this machine on, of which the first has
--- the number n: in a step that takes some. The answers of the steps before it are written, whole.
+-- An allocation failed while these steps were taken from this machine on, the first with the number
+-- n. It failed in a step that allocates. The answers of the steps before it are written, each
+-- whole.
 abbrev pub StopsIn : Machine → ℕ → List Step → Option (List ℕ) → Option (List ℕ) → Type 0
 StopsIn m n steps before after =
     (done : List Step) × (step : Step) × (others : List Step) × (steps ≡ done ++ step ∷ others)
     × TakesMemory (after_steps m done) step × Appends before after (report_from m n done)
 
--- What taking these steps answers: their report is written; or a prefix of it where the writer
--- failed; or memory ran out.
+-- What taking these steps answers: their report is written; or a prefix of it, if the writer
+-- failed; or an allocation failed.
 abbrev pub WritesReport : Option (List ℕ) → Option (List ℕ) → Bool → Result Unit Fault → Machine →
     ℕ → List Step → Type 0
 WritesReport before after failed (Ok u) m n steps = Appends before after (report_from m n steps)
@@ -53,20 +54,20 @@ IsTakenOrNot old step new = (new ≡ old) ⊎ (new ≡ after_step old step)
 abbrev pub IsOnTheWay : Machine → List Step → Machine → Type 0
 IsOnTheWay old steps new = (n : ℕ) × (new ≡ after_steps old (take n steps))
 
--- where memory runs out in the run of some steps from power-on, or in that of the script that an
--- input spells
+-- an allocation failed in the run of some steps from power-on
 abbrev pub StopsSteps : Option ℕ → FontSet → List Step → Option (List ℕ) → Option (List ℕ) → Type 0
 StopsSteps until fonts steps before after = StopsIn (power_on_machine fonts) 1
     (steps_until until steps) before after
 
+-- an allocation failed in the run of the script that an input spells
 abbrev pub StopsRun : Option ℕ → FontSet → Option (List ℕ) → Option (List ℕ) → Option (List ℕ) →
     Type 0
 StopsRun until fonts input before after = (steps : List Step) × InputMeans input steps
     × StopsSteps until fonts steps before after
 
--- What the run of these steps over some fonts answers that is stopped after so many, or not, over a
--- writer that holds what is before and after: it has written their report, or a prefix of it where
--- the writer fails; or memory ran out.
+-- What the run of these steps with these fonts answers, with a limit or without, over a writer
+-- whose contents are `before` and `after`. It has written their report, or a prefix of it if the
+-- writer failed; or an allocation failed.
 abbrev pub ReportsSteps : Option ℕ → FontSet → List Step → Option (List ℕ) → Option (List ℕ) →
     Result Unit Fault → Type 0
 ReportsSteps until fonts steps before after (Ok u) =
@@ -76,18 +77,18 @@ ReportsSteps until fonts steps before after (Err WriteFault) =
 ReportsSteps until fonts steps before after (Err OutOfMemory) = ⊤
 ReportsSteps until fonts steps before after (Err _) = ⊥
 
--- What the run of these steps over a font file answers: what one over its fonts does, or that it is
--- none.
+-- What the run of these steps with a font file answers: what the run with its fonts does, or that
+-- the file has the wrong size.
 abbrev pub RunsScript : Option ℕ → List ℕ → List Step → Option (List ℕ) → Option (List ℕ) →
     Result Unit Fault → Type 0
 RunsScript until file steps before after (Err FontSize) = length file ≢ file_len
 RunsScript until file steps before after result = (length file ≡ file_len)
     × ReportsSteps until (fonts_of file) steps before after result
 
--- What a run over some fonts answers that is stopped after so many steps, or not, over a reader
--- that has this input, and a writer that holds what is before and after: it has written the report
--- of the input's script, or a prefix of it where the writer fails; or there is a fault of the
--- input, the first in order.
+-- What a run with these fonts answers, with a limit or without, over a reader that contains this
+-- input and a writer whose contents are `before` and `after`. It has written the report of the
+-- input's script, or a prefix of it if the writer failed; or it returns the first fault of the
+-- input.
 abbrev pub Reports : Option ℕ → FontSet → Option (List ℕ) → Option (List ℕ) → Option (List ℕ) →
     Result Unit Fault → Type 0
 Reports until fonts input before after (Ok u) = (steps : List Step) × InputMeans input steps
@@ -101,14 +102,15 @@ Reports until fonts input before after (Err TooLong) = IsTooLong input
 Reports until fonts input before after (Err OutOfMemory) = ⊤
 Reports until fonts input before after (Err fault) = InputHasFault input fault
 
--- What a run over a font file answers: what one over its fonts does, or that it is none.
+-- What a run with a font file answers: what the run with its fonts does, or that the file has the
+-- wrong size.
 abbrev pub RunAnswers : Option ℕ → List ℕ → Option (List ℕ) → Option (List ℕ) → Option (List ℕ) →
     Result Unit Fault → Type 0
 RunAnswers until file input before after (Err FontSize) = length file ≢ file_len
 RunAnswers until file input before after result = (length file ≡ file_len)
     × Reports until (fonts_of file) input before after result
 
--- Over fonts of the right size, bytes that spell a script are run, unless memory runs out or the
+-- With a font file of the right size, bytes that spell a script are run, unless an allocation, the
 -- reader or the writer fails.
 abbrev pub RunsGoodScripts : List ℕ → Option (List ℕ) → Bool → Bool → Result Unit Fault → Type 0
 RunsGoodScripts file input read_failed write_failed result =

@@ -1,5 +1,5 @@
--- A machine as bytes: a header, the BIOS data, and the adapter. The fonts are not among them: they
--- are those of who opens a machine.
+-- A machine as bytes: a header, the BIOS data, and the adapter. The fonts are not saved: whoever
+-- opens a machine gives its fonts.
 use Rattle.std.specs.Prelude.{ℕ, ◌≡◌, ◌+◌, ◌*◌, ◌/◌, ◌%◌, ◌≤◌, List, [], ◌∷◌, ◌++◌, length, take}
 use Rattle.std.specs.Prelude.{drop}
 use Rattle.std.specs.Prelude.{slice_index}
@@ -17,25 +17,27 @@ use Rattle.vga_run.specs.declared.machine.Machine.{Machine}
 abbrev pub saved_mark : List ℕ
 saved_mark = 0x5A ∷ 0x41 ∷ 0x4B ∷ 0x53 ∷ 1 ∷ []
 
--- a number in four bytes, of which the lowest comes first
+-- a number in four bytes, low byte first
 abbrev pub long_bytes : ℕ → List ℕ
 long_bytes n = word_bytes (n % 65536) ++ word_bytes (n / 65536)
 
+-- the number of four bytes at `at`, low byte first
 abbrev pub long_at : List ℕ → ℕ → ℕ
 long_at bytes at = word_at bytes at + 65536 * word_at bytes (at + 2)
 
--- what stands behind the header: the BIOS data, and the adapter
+-- what follows the header: the BIOS data, and the adapter
 unfoldable pub saved_parts : Machine → List ℕ
 saved_parts m = saved_bda m.bda ++ saved_card m.card
 
--- the bytes of a machine, of which the header counts all
+-- the bytes of a saved machine; its header gives their number
 unfoldable pub saved_machine : Machine → List ℕ
 saved_machine m = (saved_mark ++ long_bytes (9 + length (saved_parts m))) ++ saved_parts m
 
--- what follows the header, and what follows the BIOS data
+-- what follows the header
 abbrev pub past_header : List ℕ → List ℕ
 past_header bytes = drop 9 bytes
 
+-- what follows the BIOS data
 abbrev pub past_bda : List ℕ → List ℕ
 past_bda bytes = drop 31 (past_header bytes)
 
@@ -46,28 +48,28 @@ pub record HasMagic (bytes : List ℕ) : Type 0 where
   pub third : slice_index bytes 2 ≡ 0x4B
   pub fourth : slice_index bytes 3 ≡ 0x53
 
--- bytes are of this version of the format
+-- bytes have this version of the format
 pub record HasVersion (bytes : List ℕ) : Type 0 where
   pub version : slice_index bytes 4 ≡ 1
 
--- bytes are as many as they say, and no fewer than any machine has
+-- bytes are as many as their header says, and no fewer than the smallest saved machine
 pub record HasLength (bytes : List ℕ) : Type 0 where
   pub counted : length bytes ≡ long_at bytes 5
   pub least : 265086 ≤ length bytes
 
--- bytes have the parts of a machine
+-- bytes contain the parts of a machine
 pub record HasParts (bytes : List ℕ) : Type 0 where
   pub bda : IsSavedBda (take 31 (past_header bytes))
   pub card : IsSavedCard (past_bda bytes)
 
--- bytes within the bounds of a machine
+-- bytes that can be restored as a machine
 pub record IsSavedMachine (bytes : List ℕ) : Type 0 where
   pub magic : HasMagic bytes
   pub version : HasVersion bytes
   pub len : HasLength bytes
   pub parts : HasParts bytes
 
--- why bytes are not those of a saved machine: the first of the reasons
+-- why bytes are not a saved machine; the first reason counts
 abbrev pub IsStateFault : StateFault → List ℕ → Type 0
 IsStateFault BadMagic bytes = ¬ HasMagic bytes
 IsStateFault BadVersion bytes = HasMagic bytes × (¬ HasVersion bytes)
@@ -75,7 +77,7 @@ IsStateFault BadLength bytes = HasMagic bytes × HasVersion bytes × (¬ HasLeng
 IsStateFault BadPart bytes = HasMagic bytes × HasVersion bytes × HasLength bytes
     × (¬ HasParts bytes)
 
--- the machine that has these bytes, with some fonts
+-- the machine that these bytes give, with these fonts
 unfoldable pub machine_from : FontSet → List ℕ → Machine
 machine_from fonts bytes = record {
   card = card_from (past_bda bytes);
@@ -83,6 +85,6 @@ machine_from fonts bytes = record {
   fonts = fonts;
 }
 
--- the machine with its adapter settled
+-- the machine without the dots that no step can see any more
 abbrev pub machine_with_fresh_canvas : Machine → Machine
 machine_with_fresh_canvas m = record m { card = with_fresh_canvas m.card }

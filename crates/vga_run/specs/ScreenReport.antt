@@ -1,6 +1,6 @@
--- The report of services and whole frames in words of the plain screen alone: with no cycle, and no
--- register or address but for the mode table's values.
--- From the IBM PS/2 and PC BIOS Interface Technical Reference, "Interrupt 10H - Video".
+-- The report of BIOS calls and whole frames in terms of the plain screen only: without cycles, and
+-- without registers or addresses except the values of the mode table. From the IBM PS/2 and PC BIOS
+-- Interface Technical Reference, "Interrupt 10H - Video".
 use Rattle.std.specs.Prelude.{ℕ, ◌≡◌, ◌≢◌, ◌+◌, ◌⊎◌, false, List, [], ◌∷◌, ◌++◌, length, Option}
 use Rattle.std.specs.Prelude.{None, Some, Result, Ok, Err}
 use Rattle.std.specs.List.{AllByRecursion}
@@ -34,12 +34,13 @@ use Rattle.vga_run.specs.Report.{line}
 
 -- ---- which steps
 
--- a mode set that clears the memory, where there is such a mode
+-- a mode set that clears the memory, of a mode that exists
 abbrev pub Clears : Option Call → Type 0
 Clears (Some (SetMode mode keeps)) = (mode_row mode ≢ None) × (keeps ≡ false)
 Clears call = ⊥
 
--- a call that leads from screen to screen: it sets no mode, or clears, or there is no such mode
+-- a call that leads from a screen to a screen: it sets no mode; or it clears the memory; or its
+-- mode does not exist
 abbrev pub StaysOnScreens : Option Call → Type 0
 StaysOnScreens (Some (SetMode mode keeps)) = Clears (Some (SetMode mode keeps))
     ⊎ (mode_row mode ≡ None)
@@ -55,7 +56,7 @@ IsOfScreens (Int ax bx cx dx block) = StaysOnScreens (call_of (registers_of ax b
 IsOfScreens Frame = Unit {0}
 IsOfScreens step = ⊥
 
--- such steps alone, of which the first is a mode set that clears the memory
+-- all steps are such, and the first is a mode set that clears the memory
 abbrev pub AreOfScreens : List Step → Type 0
 AreOfScreens (Int ax bx cx dx block ∷ steps) = Clears (call_of (registers_of ax bx cx dx))
     × AllByRecursion IsOfScreens steps
@@ -63,7 +64,7 @@ AreOfScreens steps = ⊥
 
 -- ---- what a step answers, and the screen after it
 
--- a mode set that clears the memory: the fresh screen, or the old one where there is no such mode
+-- a mode set that clears the memory: the fresh screen, or the old one if the mode does not exist
 abbrev pub set_on : Option ModeRow → ℕ → FontSet → Regs → Screen → Screen
     × Result ServiceReply Refusal
 set_on None mode fonts r s = (s, Err BadMode)
@@ -72,7 +73,7 @@ set_on (Some row) mode fonts r s = (
   Ok (record { regs = r; table = Empty }),
 )
 
--- a call
+-- the screen after a call
 abbrev pub called_on : Option Call → FontSet → Regs → List ℕ → Screen → Screen
     × Result ServiceReply Refusal
 called_on None fonts r block s = (s, Err BadFunction)
@@ -88,7 +89,7 @@ called_on (Some (InMode service)) fonts r block s =
       reply_unless why (answer_on fonts s service r),
     )
 
--- what a call answers; a frame answers the picture of the active page. No other step is of screens.
+-- what a call answers, and a frame: the picture of the active page; there are no other steps
 unfoldable pub reply_on : FontSet → Screen → Step → StepAnswer
 reply_on fonts s (Int ax bx cx dx block) = let r = registers_of ax bx cx dx in
     of_service (called_on (call_of r) fonts r block s).1
@@ -105,25 +106,26 @@ screen_after fonts s step = s
 
 -- ---- the report
 
--- the lines of the steps from this screen on, of which the first has the number n
+-- the lines of these steps on this screen; the first has the number n
 abbrev pub screen_report_from : FontSet → Screen → ℕ → List Step → List ℕ
 screen_report_from fonts s n [] = []
 screen_report_from fonts s n (step ∷ steps) = line n (reply_on fonts s step)
     ++ screen_report_from fonts (screen_after fonts s step) (n + 1) steps
 
--- the line of the first step, which sets a mode, and those of the others from the fresh screen on,
--- in frame 0
+-- the line of the first step, which sets a mode, and those of the others on the fresh screen, in
+-- frame 0
 abbrev pub set_report : Option ModeRow → ℕ → FontSet → Regs → List Step → List ℕ
 set_report None mode fonts r steps = []
 set_report (Some row) mode fonts r steps = line 1 (Served r [])
     ++ screen_report_from fonts (fresh_screen mode row fonts.f16 0) 2 steps
 
+-- the report whose first step is this call, which must set a mode
 abbrev pub first_report : Option Call → FontSet → Regs → List Step → List ℕ
 first_report (Some (SetMode mode keeps)) fonts r steps =
     set_report (mode_row mode) mode fonts r steps
 first_report call fonts r steps = []
 
--- the report of steps of screens, of which the first sets a mode
+-- the report of these steps; the first sets a mode
 abbrev pub screen_report : FontSet → List Step → List ℕ
 screen_report fonts (Int ax bx cx dx block ∷ steps) = let r = registers_of ax bx cx dx in
     first_report (call_of r) fonts r steps
@@ -131,14 +133,14 @@ screen_report fonts steps = []
 
 -- ---- a run
 
--- What the run of steps of screens answers over some fonts: the plain screen's report.
+-- What the run of such steps answers with these fonts: the plain screen's report.
 abbrev pub ReportsScreens : FontSet → List Step → Option (List ℕ) → Option (List ℕ) →
     Result Unit Fault → Type 0
 ReportsScreens fonts steps before after result =
     ReportsAs (screen_report fonts steps) before after result
 
--- What a run over a font file answers that is not stopped: that, where its input spells steps of
--- screens.
+-- What a run with a font file and without a limit answers: that report, if its input spells such
+-- steps.
 abbrev pub RunsScreens : Option ℕ → List ℕ → Option (List ℕ) → Option (List ℕ) → Option (List ℕ) →
     Result Unit Fault → Type 0
 RunsScreens until file input before after result =

@@ -1,5 +1,5 @@
--- What each step of a script answers, and what it leaves: a cycle of the adapter, some dots, a
--- frame, a service of the video BIOS, or a dump of the machine.
+-- What each step of a script answers, and what it leaves: a cycle of the adapter, an advance, a
+-- frame, a call of the video BIOS, or a dump of the machine.
 use Rattle.std.specs.Prelude.{ℕ, ◌≡◌, true, List, [], ◌∷◌, nat_le, if◌then◌else◌, Option, None, Ok}
 use Rattle.std.specs.Prelude.{Err}
 use Rattle.vga_bits.specs.declared.refusal.Refusal.{Refusal}
@@ -27,7 +27,7 @@ use Rattle.vga_script.specs.declared.step.Step.{Step}
 use Rattle.vga_script.specs.declared.step.Step.TheVariants.{Out, OutWord, In, InWord, Put, PutWord}
 use Rattle.vga_script.specs.declared.step.Step.TheVariants.{Get, GetWord, Int, Advance, Frame, Show}
 use Rattle.vga_run.specs.declared.machine.Machine.{Machine}
-use Rattle.vga_run.specs.Answer.{StepAnswer, Plain, of_write, of_byte, of_word, of_service}
+use Rattle.vga_run.specs.Answer.{StepAnswer, Short, of_write, of_byte, of_word, of_service}
 use Rattle.vga_run.specs.Answer.{of_frame}
 use Rattle.vga_run.specs.Answer.{of_dump}
 
@@ -41,23 +41,22 @@ dump_text m (shown.Plane plane offset count) = plane_text m.card plane offset co
 dump_text m shown.BiosData = bda_text m.bda
 dump_text m shown.Cells = cells_text (cells_refusal m.bda.mode) m.card m.bda
 
--- why a dump is refused: there are no cells
+-- why a dump is refused: the mode has no cells
 unfoldable pub dump_refusal : Machine → Shown → Option Refusal
 dump_refusal m shown.Cells = cells_refusal m.bda.mode
 dump_refusal m what = None
 
--- a call of interrupt 10: its cycles over the adapter, what it answers, and the BIOS data
--- afterwards
+-- a call of interrupt 10: its cycles on the adapter, what it answers, and the BIOS data afterwards
 unfoldable pub called : Machine → ℕ → ℕ → ℕ → ℕ → List ℕ → CardState × Answered
 called m ax bx cx dx block = run card_meaning (service m.fonts m.bda
     (record { ax = ax; bx = bx; cx = cx; dx = dx }) block) m.card
 
--- so many dots of the clock, or none where they are more than one step may take
+-- an advance by `count` dots, which is refused if they are more than one step may take
 abbrev pub advance_cycle : CardState → ℕ → Written
 advance_cycle card count = if nat_le count most_dots then (dots count card, Ok tt)
     else (card, Err TooFar)
 
--- a step that takes memory on this machine: a call of interrupt 10 that does
+-- a step that allocates on this machine, which only a call of interrupt 10 does
 abbrev pub TakesMemory : Machine → Step → Type 0
 TakesMemory m (Int ax bx cx dx block) = takes_memory
     (call_of (record { ax = ax; bx = bx; cx = cx; dx = dx })) m.bda ≡ true
@@ -65,20 +64,20 @@ TakesMemory m _ = ⊥
 
 -- what a step answers
 unfoldable pub answer_to : Machine → Step → StepAnswer
-answer_to m (Out port value) = Plain (of_write (out_cycle m.card port value).1)
-answer_to m (OutWord port value) = Plain (of_write (out_word_cycle m.card port value).1)
-answer_to m (In port) = Plain (of_byte (inp_cycle m.card port).1)
-answer_to m (InWord port) = Plain (of_word (inp_word_cycle m.card port).1)
-answer_to m (Put address value) = Plain (of_write (put_cycle m.card address value).1)
-answer_to m (PutWord address value) = Plain (of_write (put_word_cycle m.card address value).1)
-answer_to m (Get address) = Plain (of_byte (get_cycle m.card address).1)
-answer_to m (GetWord address) = Plain (of_word (get_word_cycle m.card address).1)
+answer_to m (Out port value) = Short (of_write (out_cycle m.card port value).1)
+answer_to m (OutWord port value) = Short (of_write (out_word_cycle m.card port value).1)
+answer_to m (In port) = Short (of_byte (inp_cycle m.card port).1)
+answer_to m (InWord port) = Short (of_word (inp_word_cycle m.card port).1)
+answer_to m (Put address value) = Short (of_write (put_cycle m.card address value).1)
+answer_to m (PutWord address value) = Short (of_write (put_word_cycle m.card address value).1)
+answer_to m (Get address) = Short (of_byte (get_cycle m.card address).1)
+answer_to m (GetWord address) = Short (of_word (get_word_cycle m.card address).1)
 answer_to m (Int ax bx cx dx block) = of_service (called m ax bx cx dx block).1.0
-answer_to m (Advance count) = Plain (of_write (advance_cycle m.card count).1)
+answer_to m (Advance count) = Short (of_write (advance_cycle m.card count).1)
 answer_to m Frame = of_frame (frame m.card).drawn
 answer_to m (Show what) = of_dump (dump_refusal m what) (dump_text m what)
 
--- the machine after a step; one that is refused, and a dump of the machine, leave it
+-- the machine after a step; a refused step and a dump do not change it
 unfoldable pub after_step : Machine → Step → Machine
 after_step m (Out port value) = record m { card = (out_cycle m.card port value).0 }
 after_step m (OutWord port value) = record m { card = (out_word_cycle m.card port value).0 }

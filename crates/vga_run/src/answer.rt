@@ -1,18 +1,18 @@
-//! What a step answers.
+//! What a cycle or an advance answers, and a refused step.
 ghost use Rattle.std.specs.Prelude.{◌≡◌};
 
 use vga_bits::Refusal;
 
-/// What a step answers.
+/// What a cycle or an advance answers, and a refused step.
 #[derive(Clone, Copy, PartialEq, Eq, Debug)]
 pub enum Answer {
-    /// The step is done, and has no value to answer.
+    /// The step is done, and answers no value.
     Done,
     /// The byte that was read.
     Byte(u8),
     /// The word that was read.
     Word(u16),
-    /// The step is refused, and has changed nothing.
+    /// The step is refused, and nothing has changed.
     Refused(Refusal),
 }
 

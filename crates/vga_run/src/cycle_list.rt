@@ -1,4 +1,4 @@
-//! The cycles of a call of the video BIOS, listed as a script.
+//! Listing the cycles of a call of the video BIOS as a script.
 ghost use Rattle.std.specs.Prelude.{◌≡◌, ◌≤◌, ◌<◌, ℕ, IfErr, IfOk};
 ghost use Rattle.bios_modes.specs.Valid.{IsValid};
 ghost use Rattle.vga_script.specs.Spelling.{script_limit};
@@ -17,15 +17,15 @@ use vga_script::{SCRIPT_LIMIT, ScriptBytes};
 pub enum Unlisted {
     /// The call is refused.
     Refused(Refusal),
-    /// They are more than a script may have.
+    /// They have more bytes than a script may have.
     TooLong,
-    /// A request for memory was refused.
+    /// An allocation failed.
     OutOfMemory,
 }
 
 /// An adapter, and the script of the cycles that were issued on it.
 ///
-/// Contracts see both, and that the fields of each cycle fit their bytes.
+/// Contracts see both, and whether the fields of each cycle fit into their bytes.
 #[derive(Drop)]
 struct ListedCard {
     card: Card,
@@ -41,7 +41,7 @@ impl Model for ListedCard {
     ghost view = { λ c. record { card = c.card; script = c.script; fits = true } };
 }
 
-/// A cycle is the adapter's, and is listed.
+/// Each cycle is issued on the adapter, and listed.
 impl Bus for ListedCard {
     ghost use Rattle.vga_run.specs.CycleList.{list_meaning};
 
@@ -73,7 +73,7 @@ impl ListedCard {
     ghost use Rattle.vga_card.specs.FreshCanvas.{with_fresh_canvas};
     ghost use Rattle.vga_script.specs.ScriptBytes.{begun};
 
-    /// A copy of an adapter, with no cycle so far, and room for a script of so many bytes.
+    /// A copy of an adapter without any cycle so far, and room for a script of `room` bytes.
     fn new(alloc: Global, card: &Card, room: usize) -> Result<ListedCard, Unlisted>
         ensures ok { IfOk result (λ c. c ≡ record {
           card = with_fresh_canvas card.now;
@@ -91,7 +91,7 @@ impl ListedCard {
         }
     }
 
-    /// The script, unless it is too long for one.
+    /// The script, unless it has more bytes than a script may have.
     fn into_script(self) -> Result<ScriptBytes, Unlisted>
         ensures ok { IfOk result (λ script. (script ≡ self.script)
             × (self.script.len ≤ script_limit)) }
@@ -107,18 +107,18 @@ impl ListedCard {
     }
 }
 
-/// Room for so many bytes, but no more than a script may have.
+/// Room for `asked` bytes, but for no more than a script may have.
 fn room_for(asked: usize) -> usize
     ensures { (n : ℕ) → n ≤ script_limit → n ≤ asked → n ≤ result }
 {
     asked.min(SCRIPT_LIMIT)
 }
 
-/// The cycles that a call of interrupt 10 (hexadecimal) makes on a machine as it is, in order, as
-/// the bytes of a script. The machine stays as it is. There is room for so many bytes; with more
-/// the script says how many there are, and keeps others.
+/// Lists the cycles that a call of interrupt 10 (hexadecimal) makes on a machine, in order, as the
+/// bytes of a script. The machine stays as it is. There is room for `room` bytes. If the script has
+/// more, it says how many it has, and its contents mean nothing.
 ///
-/// A call that is refused has no cycles: the answer is its refusal.
+/// A call that is refused has no cycles: the error is its refusal.
 pub fn list_cycles(
     alloc: Global,
     machine: &Machine,

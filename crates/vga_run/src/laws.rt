@@ -1,8 +1,8 @@
-//! Laws of steps, each of which is a contract, and nothing that runs.
+//! Laws of steps. Each is a contract of a function that does nothing.
 ghost use Rattle.std.specs.Prelude.{◌≡◌, ℕ, List};
 ghost use Rattle.vga_bits.specs.declared.refusal.Refusal.{Refusal};
 ghost use Rattle.vga_run.specs.declared.machine.Machine.{Machine};
-ghost use Rattle.vga_run.specs.Answer.{Plain};
+ghost use Rattle.vga_run.specs.Answer.{Short};
 ghost use Rattle.vga_run.specs.Step.{answer_to, after_step, after_steps, called};
 ghost use Rattle.vga_run.specs.CycleList.{cycles_of_call, bytes_read, answer_by};
 ghost use Rattle.vga_run.specs.Report.{report_from};
@@ -16,19 +16,20 @@ use bios_services::laws::refused_services_do_nothing;
 use vga_card::Card;
 use vga_card::laws::refused_cycles_change_nothing;
 
-/// A step that is refused leaves the whole machine, adapter and BIOS data, whether it is a cycle,
-/// an advance or a call of the video BIOS.
+/// A refused step changes nothing, neither adapter nor BIOS data, whether it is a cycle, an advance
+/// or a call of the video BIOS.
 pub fn refused_steps_change_nothing()
     ensures { (machine : Machine) (step : Step) (refusal : Refusal) →
-        answer_to machine step ≡ Plain (Answer.Refused refusal) →
+        answer_to machine step ≡ Short (Answer.Refused refusal) →
         after_step machine step ≡ machine }
 {
     refused_cycles_change_nothing();
     refused_services_do_nothing::<Card>();
 }
 
-/// No step tells a machine that was saved and restored from the one that it was: each step answers
-/// the same and leaves the same but for what is not saved, and so any steps have the same report.
+/// No step tells a machine that was saved and restored from the original. Each step answers the
+/// same on both, and leaves the same, except for what is not saved. So any steps have the same
+/// report.
 #[tactic(auto, using(crate::proofs::FreshCanvasLemmas::answer_same, crate::proofs::FreshCanvasLemmas::after_same, crate::proofs::FreshCanvasLemmas::report_same))]
 pub fn restored_machines_report_the_same()
     ensures answer { (machine : Machine) (step : Step) →
@@ -40,8 +41,8 @@ pub fn restored_machines_report_the_same()
         report_from (machine_with_fresh_canvas machine) n steps ≡ report_from machine n steps }
 {}
 
-/// The cycles that are listed of a call are the call: steps of them, taken one after the other,
-/// leave the adapter that it leaves, and the bytes that they read give what it answers.
+/// The cycles that are listed of a call are the call. Taken as steps, one after another, they leave
+/// the adapter as the call does, and the bytes that they read give the call's answer.
 pub fn listed_cycles_are_the_call()
     ensures state { (machine : Machine) (regs : Regs) (block : List ℕ) →
         after_steps machine (cycles_of_call machine regs block) ≡ record machine {

@@ -1,4 +1,4 @@
-//! A run: the bytes of a script in, its report out.
+//! Runs of scripts: a script in, its report out.
 #![tactic(auto)]
 
 mod answer;

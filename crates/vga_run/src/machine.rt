@@ -10,7 +10,7 @@ use std::alloc::Global;
 use vga_bits::Fault;
 use vga_card::Card;
 
-/// An adapter, the data of its video BIOS, and the fonts of that.
+/// An adapter, the data of its video BIOS, and the fonts of the BIOS.
 #[derive(Drop)]
 pub struct Machine {
     pub card: Card,
@@ -19,7 +19,7 @@ pub struct Machine {
 }
 
 impl Machine {
-    /// A machine at power-on with these fonts. It fails with `OutOfMemory` alone.
+    /// A machine at power-on with these fonts. The only error is `OutOfMemory`.
     pub fn power_on(alloc: Global, fonts: Fonts) -> Result<Machine, Fault>
         ensures ok { IfOk result (λ machine. machine ≡ power_on_machine fonts) }
         ensures err { IsOkUnless result Fault.OutOfMemory }

@@ -1,7 +1,7 @@
 //! The line of a step, whose number is counted up from step to step.
 ghost use Rattle.std.specs.Prelude.{◌≡◌, ◌+◌, ◌<◌, ◌^◌, false};
 ghost use Rattle.vga_bits.specs.Tracked.{inner_of, has_failed, Writes};
-ghost use Rattle.vga_run.specs.Answer.{Plain};
+ghost use Rattle.vga_run.specs.Answer.{Short};
 ghost use Rattle.vga_run.specs.Report.{line as line_of};
 
 use super::answer::Answer;
@@ -10,8 +10,8 @@ use std::io::Write;
 use std::marker::Model;
 use vga_bits::{Fault, Tracked};
 
-/// The line of a step. It begins with the step's number and a blank, which stay from step to step:
-/// to print a number anew takes longer than many a step.
+/// The line of a step. It begins with the step's number and a blank, which stay in place from step
+/// to step, since printing a number anew takes longer than many a step.
 ///
 /// Contracts see the number.
 #[derive(Drop)]
@@ -54,7 +54,7 @@ impl NumberedLine {
         self.number
     }
 
-    /// Goes on to the next step. Only where the last two digits are 99 are all printed anew.
+    /// Goes on to the next step. The number is printed anew only if its last two digits are 99.
     #[tactic(auto, using(crate::proofs::NumberLemmas::prefix_is_long, crate::proofs::NumberLemmas::prefix_is_within))]
     pub(crate) fn count_up(&mut self)
         requires { self.old + 1 < 2 ^ 64 }
@@ -84,7 +84,7 @@ impl NumberedLine {
     ) -> Result<(), Fault>
         requires { has_failed out.old ≡ false }
         ensures text { Writes (W.contents (inner_of out.old)) (W.contents (inner_of out.new))
-            (has_failed out.new) result (line_of self.old (Plain answer)) }
+            (has_failed out.new) result (line_of self.old (Short answer)) }
         ensures number { self.new ≡ self.old }
     {
         put_answer(&mut self.line, self.prefix, answer);

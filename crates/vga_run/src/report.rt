@@ -33,7 +33,7 @@ use vga_show::{
     write_ppm,
 };
 
-/// The line of step n that stands before a picture: how many bytes the picture has.
+/// The line of step n before a picture of `length` bytes.
 #[tactic(auto, unfolding(crate::specs::Report::picture_line, crate::specs::Report::number_text))]
 fn picture_line(n: usize, length: u32) -> Line
     ensures { result ≡ picture_line_of n length }
@@ -45,7 +45,7 @@ fn picture_line(n: usize, length: u32) -> Line
     line
 }
 
-/// Writes a picture, of so many dots in width and height, and a newline.
+/// Writes a picture of `width` by `height` dots, and a newline.
 #[tactic(auto, using(vga_bits::proofs::WritingLemmas::writes_after, vga_bits::proofs::WritingLemmas::prefix_of_more))]
 fn write_ppm_line<W: Write>(
     out: &mut Tracked<W>,
@@ -61,7 +61,7 @@ fn write_ppm_line<W: Write>(
     write_whole(out, b"\n")
 }
 
-/// Writes the line of step n and its picture, of so many dots in width and height.
+/// Writes the line of step n and its picture, of `width` by `height` dots.
 fn write_picture<W: Write>(
     out: &mut Tracked<W>,
     n: usize,
@@ -81,7 +81,7 @@ fn write_picture<W: Write>(
     write_ppm_line(out, width, height, bytes)
 }
 
-/// Writes the line of step n that says that a frame is ragged.
+/// Writes the line of step n for a ragged frame.
 #[tactic(auto, unfolding(crate::specs::Report::line, crate::specs::Report::number_text), using(std::proofs::lemmas::List::append_assoc))]
 fn write_ragged<W: Write>(out: &mut Tracked<W>, n: usize) -> Result<(), Fault>
     requires { has_failed out.old ≡ false }
@@ -107,7 +107,8 @@ fn write_drawn<W: Write>(out: &mut Tracked<W>, n: usize, drawn: Drawn<'_>) -> Re
     }
 }
 
-/// Writes the dump of what a step shows. A dump that is refused answers why, and writes nothing.
+/// Writes the dump of what a step shows. If the dump is refused, it returns the reason and writes
+/// nothing.
 #[tactic(auto, unfolding(crate::specs::Step::dump_text, crate::specs::Step::dump_refusal))]
 pub fn write_dump<W: Write>(
     out: &mut Tracked<W>,
@@ -139,7 +140,7 @@ pub fn write_dump<W: Write>(
     Ok(None)
 }
 
-/// Writes the rest of a line whose number stands there: why the step is refused.
+/// Writes the end of a line that has its number already: why the step is refused.
 fn write_refusal<W: Write>(out: &mut Tracked<W>, why: Refusal) -> Result<(), Fault>
     requires { has_failed out.old ≡ false }
     ensures { Writes (W.contents (inner_of out.old)) (W.contents (inner_of out.new))
@@ -150,7 +151,7 @@ fn write_refusal<W: Write>(out: &mut Tracked<W>, why: Refusal) -> Result<(), Fau
     write_whole(out, text.as_slice())
 }
 
-/// Writes the number of step n, and the dump of what it shows or why that is refused.
+/// Writes the number of step n, and then the dump of what it shows, or why the dump is refused.
 #[tactic(auto, using(crate::proofs::ReportLemmas::dump_line, vga_bits::proofs::WritingLemmas::writes_after, vga_bits::proofs::WritingLemmas::prefix_of_more))]
 #[inline(never)]
 fn write_shown<W: Write>(
@@ -173,7 +174,7 @@ fn write_shown<W: Write>(
     }
 }
 
-/// Calls the video BIOS, and writes what it answers, in the line of its number.
+/// Calls the video BIOS, and writes what the call answers as the line of step n.
 #[tactic(auto, unfolding(crate::specs::Step::called, crate::specs::Step::answer_to, crate::specs::Step::after_step))]
 #[inline(never)]
 fn write_service<W: Write>(
@@ -211,7 +212,7 @@ fn write_service<W: Write>(
     }
 }
 
-/// Takes a step, and writes what it answers, in the line of its number.
+/// Takes a step, and writes what it answers as the line with its number.
 #[tactic(auto, using(crate::proofs::ReportLemmas::step_is_written), unfolding(crate::specs::Step::answer_to, crate::specs::Step::after_step))]
 #[inline(always)]
 pub(crate) fn write_step<W: Write>(
@@ -264,8 +265,7 @@ pub(crate) fn write_step<W: Write>(
     line.write(out, answer)
 }
 
-/// Takes the steps on this machine, and writes a line for each, of which the first has this
-/// number.
+/// Takes the steps on this machine, and writes a line for each. The first has the number n.
 #[tactic(auto, using(crate::proofs::ReportLemmas::reported_none, crate::proofs::ReportLemmas::reported_all))]
 fn write_lines<W: Write>(
     alloc: Global,
@@ -291,7 +291,7 @@ fn write_lines<W: Write>(
     Ok(())
 }
 
-/// Takes the last dumps of the machine, of which the first has this number.
+/// Takes the last dumps of the machine. The first has the number n.
 pub(crate) fn write_last_dumps<W: Write>(
     alloc: Global,
     out: &mut Tracked<W>,

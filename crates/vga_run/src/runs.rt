@@ -1,4 +1,4 @@
-//! A run of a script.
+//! Running a script.
 ghost use Rattle.std.specs.Prelude.{◌≡◌, ◌≢◌, ◌⊎◌, ◌≤◌, length, false, IfErr, IfOk, None};
 ghost use Rattle.std.specs.Prelude.{Some, Err};
 ghost use Rattle.vga_bits.specs.declared.fault.Fault.TheVariants.{WriteFault, OutOfMemory};
@@ -24,20 +24,20 @@ use vga_script::{Script, Steps, one_fault, one_list, read_script, steps_fit};
 /// Runs a script from power-on, writes its report and nothing else, and flushes the writer. The
 /// reader and the writer must not have failed before.
 ///
-/// With `until` the run is that of so many of the first steps, all if there are fewer, followed by
-/// dumps of the registers, the beam, the latches and the BIOS data, as steps with the next numbers.
+/// With `until` the run takes only the first `until` steps, or all if there are fewer. Dumps of the
+/// registers, the beam, the latches and the BIOS data follow, as steps with the next numbers.
 ///
-/// A fault ends the run. Of several the first in this order is answered:
+/// A fault ends the run. If there are several, the first in this order is returned:
 ///
-/// - `FontSize`: `fonts`, the font file, has not 9,728 bytes. Nothing is read.
+/// - `FontSize`: `fonts`, the font file, does not have 9,728 bytes. Nothing is read.
 /// - `ReadFault`: the reader failed.
-/// - `TooLong`: the reader had more than 16,777,216 bytes. One more is read, and none behind it.
+/// - `TooLong`: the reader had more than 16,777,216 bytes. At most one more is read.
 /// - `BadMagic`, `BadVersion`, `BadStep`, `Truncated`, `TooMany`: the bytes are no script.
 /// - `WriteFault`: the writer failed, and has a prefix of the report.
 ///
-/// `OutOfMemory` comes where a request for memory was refused: before the first byte is written, or
-/// in a step that takes memory, and then the answers of the steps before it are written, whole.
-/// Each other fault but `WriteFault` comes before the first byte is written.
+/// `OutOfMemory`: an allocation failed, either before the first byte is written, or in a step; then
+/// the answers of the steps before it are written, each whole. Every other fault except
+/// `WriteFault` comes before the first byte is written.
 #[tactic(auto, using(crate::proofs::AnswerLemmas::input_answers, crate::proofs::AnswerLemmas::input_stops, crate::proofs::AnswerLemmas::font_answers, crate::proofs::AnswerLemmas::unread_answers))]
 pub fn run<R: Read, W: Write>(
     alloc: Global,
@@ -49,26 +49,26 @@ pub fn run<R: Read, W: Write>(
     requires reader { has_failed script.old ≡ false }
     requires writer { has_failed out.old ≡ false }
 
-    // The report of the script that was read, or the first fault.
+    // The writer has the report of the script, or the answer is the first fault.
     ensures answer { RunAnswers until fonts.now (R.remaining (inner_of script.old))
         (W.contents (inner_of out.old)) (W.contents (inner_of out.new)) result }
-    // A fault comes only where there is one.
+    // A script that has no fault is run.
     ensures runs { RunsGoodScripts fonts.now (R.remaining (inner_of script.old))
         (has_failed script.new) (has_failed out.new) result }
-    // The report of services and whole frames alone is the plain screen's.
+    // The report of only BIOS calls and whole frames is the plain screen's.
     ensures screens { RunsScreens until fonts.now (R.remaining (inner_of script.old))
         (W.contents (inner_of out.old)) (W.contents (inner_of out.new)) result }
-    // That of services, dots and frames is its report dot by dot.
+    // The report of BIOS calls, dots and frames is the plain screen's, dot by dot.
     ensures dots { RunsDots until fonts.now (R.remaining (inner_of script.old))
         (W.contents (inner_of out.old)) (W.contents (inner_of out.new)) result }
 
-    // The reader and the writer fail exactly where the answer says so. Of any reader at most
-    // 16,777,217 bytes are read, and none where the fonts are no font file.
+    // The reader and the writer fail exactly if the answer says so. At most 16,777,217 bytes are
+    // read of any reader, and none if the font file has the wrong size.
     ensures reading { ReadsScript R.remaining script.old script.new result }
     ensures write_failed { has_failed out.new ≡ is_write_fault result }
     ensures unread { length fonts.now ≢ file_len → script.new ≡ script.old }
-    // What is written at a fault that is not the writer's: nothing, or whole answers before want of
-    // memory.
+    // What is written at a fault that is not the writer's: nothing; or, if an allocation failed,
+    // whole answers.
     ensures unwritten { IfErr result (λ e. e ≢ WriteFault → e ≢ OutOfMemory → out.new ≡ out.old) }
     ensures stopped { result ≡ Err OutOfMemory → (out.new ≡ out.old)
         ⊎ StopsRun until (fonts_of fonts.now) (R.remaining (inner_of script.old))
@@ -85,7 +85,7 @@ pub fn run<R: Read, W: Write>(
     run_bytes_over(alloc, bytes.as_slice(), fonts, out, until)
 }
 
-/// Runs a script whose bytes are at hand, as `run` does. So its faults are those of `run` but
+/// Runs a script whose bytes are at hand, as `run` does. The faults are those of `run`, without
 /// `ReadFault`.
 #[tactic(auto, using(crate::proofs::AnswerLemmas::file_answers, crate::proofs::AnswerLemmas::font_answers))]
 pub fn run_bytes<W: Write>(
@@ -96,18 +96,19 @@ pub fn run_bytes<W: Write>(
     until: Option<u32>,
 ) -> Result<(), Fault>
     requires { has_failed out.old ≡ false }
-    // The report of the script, or the first fault.
+    // The writer has the report of the script, or the answer is the first fault.
     ensures answer { RunAnswers until fonts.now (Some script.now)
         (W.contents (inner_of out.old)) (W.contents (inner_of out.new)) result }
-    // The report of services and whole frames alone is the plain screen's.
+    // The report of only BIOS calls and whole frames is the plain screen's.
     ensures screens { RunsScreens until fonts.now (Some script.now)
         (W.contents (inner_of out.old)) (W.contents (inner_of out.new)) result }
-    // That of services, dots and frames is its report dot by dot.
+    // The report of BIOS calls, dots and frames is the plain screen's, dot by dot.
     ensures dots { RunsDots until fonts.now (Some script.now)
         (W.contents (inner_of out.old)) (W.contents (inner_of out.new)) result }
     ensures unread { is_read_fault result ≡ false }
-    // The writer fails exactly where the answer says so, and is left untouched by any other fault;
-    // but before want of memory in a step the answers of the steps before are written, whole.
+    // The writer fails exactly if the answer says so. Any other fault leaves it unchanged, except
+    // that if an allocation fails in a step, the answers of the steps before it are written, each
+    // whole.
     ensures write_failed { has_failed out.new ≡ is_write_fault result }
     ensures unwritten { IfErr result (λ e. e ≢ WriteFault → e ≢ OutOfMemory → out.new ≡ out.old) }
     ensures stopped { result ≡ Err OutOfMemory → (out.new ≡ out.old)
@@ -123,7 +124,7 @@ pub fn run_bytes<W: Write>(
     run_bytes_over(alloc, script, fonts, out, until)
 }
 
-/// Runs a script whose bytes are at hand over some fonts.
+/// Runs a script whose bytes are at hand, with these fonts.
 #[tactic(auto, using(crate::proofs::AnswerLemmas::reports_of_steps, crate::proofs::AnswerLemmas::stops_of_steps, crate::proofs::AnswerLemmas::fault_answers))]
 fn run_bytes_over<W: Write>(
     alloc: Global,
@@ -146,7 +147,7 @@ fn run_bytes_over<W: Write>(
     run_steps_over(alloc, steps, fonts, out, until)
 }
 
-/// Runs steps that are taken from the bytes of a script over some fonts.
+/// Runs steps that are read from the bytes of a script, with these fonts.
 #[tactic(auto, using(crate::proofs::AnswerLemmas::report_answers, crate::proofs::AnswerLemmas::report_fails, crate::proofs::AnswerLemmas::report_stops))]
 fn run_steps_over<W: Write>(
     alloc: Global,
@@ -169,8 +170,8 @@ fn run_steps_over<W: Write>(
     machine.report(alloc, steps, out, until)
 }
 
-/// Runs a script that was decoded or assembled, as `run` does. So its faults are `FontSize`,
-/// `WriteFault` and `OutOfMemory` alone.
+/// Runs a script that was decoded or assembled, as `run` does. The only faults are `FontSize`,
+/// `WriteFault` and `OutOfMemory`.
 #[tactic(auto, using(crate::proofs::AnswerLemmas::steps_answers, crate::proofs::AnswerLemmas::font_runs))]
 pub fn run_script<W: Write>(
     alloc: Global,
@@ -180,19 +181,20 @@ pub fn run_script<W: Write>(
     until: Option<u32>,
 ) -> Result<(), Fault>
     requires { has_failed out.old ≡ false }
-    // The report of the script's steps, or the first fault.
+    // The writer has the report of the script's steps, or the answer is the first fault.
     ensures answer { RunsScript until fonts.now (expanded script.now.items)
         (W.contents (inner_of out.old)) (W.contents (inner_of out.new)) result }
-    // The report of services and whole frames alone is the plain screen's.
+    // The report of only BIOS calls and whole frames is the plain screen's.
     ensures screens { until ≡ None → AreOfScreens (expanded script.now.items) →
         ReportsScreens (fonts_of fonts.now) (expanded script.now.items)
         (W.contents (inner_of out.old)) (W.contents (inner_of out.new)) result }
-    // That of services, dots and frames is its report dot by dot.
+    // The report of BIOS calls, dots and frames is the plain screen's, dot by dot.
     ensures dots { until ≡ None → AreOfDots (fonts_of fonts.now) (expanded script.now.items) →
         ReportsDots (fonts_of fonts.now) (expanded script.now.items)
         (W.contents (inner_of out.old)) (W.contents (inner_of out.new)) result }
-    // The writer fails exactly where the answer says so, and is left untouched by any other fault;
-    // but before want of memory in a step the answers of the steps before are written, whole.
+    // The writer fails exactly if the answer says so. Any other fault leaves it unchanged, except
+    // that if an allocation fails in a step, the answers of the steps before it are written, each
+    // whole.
     ensures write_failed { has_failed out.new ≡ is_write_fault result }
     ensures unwritten { IfErr result (λ e. e ≢ WriteFault → e ≢ OutOfMemory → out.new ≡ out.old) }
     ensures stopped { result ≡ Err OutOfMemory → (out.new ≡ out.old)

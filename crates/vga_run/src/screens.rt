@@ -1,4 +1,4 @@
-//! What runs of services and whole frames answer, in words of the plain screen. Nothing runs here.
+//! What runs of BIOS calls and frames answer, in terms of the plain screen. Nothing runs here.
 ghost use Rattle.std.specs.Prelude.{◌≡◌, List};
 ghost use Rattle.bios_modes.specs.Bounds.{AreBytes, AreFonts};
 ghost use Rattle.bios_modes.specs.Fonts.{FontSet};
@@ -14,8 +14,8 @@ use bios_screen::laws::{calls_lead_to_screens, mode_set_is_fresh};
 use bios_services::laws::calls_keep_bounds;
 use vga_card::laws::bounds_stay;
 
-/// The report of services and whole frames alone, of which the first step is a mode set that clears
-/// the memory, is the plain screen's.
+/// The steps are BIOS calls and whole frames, and the first is a mode set that clears the memory.
+/// Their report is the plain screen's.
 pub fn reports_are_screens()
     ensures { (fonts : FontSet) (steps : List Step) → AreFonts fonts → AreInRange steps →
         AreOfScreens steps →
@@ -28,9 +28,10 @@ pub fn reports_are_screens()
     frame_draws_screen();
 }
 
-/// The report of services, dots and frames, of which the first step is a mode set that clears the
-/// memory, is the plain screen's, dot by dot. Each later mode set clears it too and stands at dot 0
-/// of a frame, as does a load of glyphs; those that are refused may stand anywhere.
+/// The steps are BIOS calls, dots and frames, and the first is a mode set that clears the memory.
+/// Their report is the plain screen's, dot by dot. Each later mode set clears the memory too and
+/// stands at dot 0 of a frame, and so does a load of glyphs. Those that are refused may stand
+/// anywhere.
 pub fn reports_are_dots()
     ensures { (fonts : FontSet) (steps : List Step) → AreFonts fonts → AreInRange steps →
         AreOfDots fonts steps →
@@ -45,7 +46,7 @@ pub fn reports_are_dots()
     dots_follow_screens();
 }
 
-/// Services and whole frames alone are such steps, and their two reports are one.
+/// BIOS calls and whole frames are such steps, and their two reports are the same.
 pub fn whole_frames_are_dots()
     ensures steps { (fonts : FontSet) (steps : List Step) → AreOfScreens steps →
         AreOfDots fonts steps }

@@ -1,4 +1,4 @@
-//! What a service answers, as text.
+//! Writing what a BIOS call answers.
 ghost use Rattle.std.specs.Prelude.{◌≡◌, ◌+◌, ◌≤◌, ◌++◌, length, false, codes};
 ghost use Rattle.std.specs.List.{flat_map};
 ghost use Rattle.vga_bits.specs.Hex.{hex_byte};
@@ -12,7 +12,7 @@ use bios_services::{Regs, Reply};
 use std::io::Write;
 use vga_bits::{Fault, Tracked, write_whole};
 
-/// Puts the text of four registers at the line's end.
+/// Appends the text of four registers to a line.
 #[tactic(auto, using(std::proofs::lemmas::List::append_assoc), unfolding(crate::specs::Report::registers_text))]
 fn push_registers(line: &mut Line, regs: Regs)
     requires { length line.old ≤ 21 }
@@ -54,7 +54,7 @@ fn write_block<W: Write>(out: &mut Tracked<W>, bytes: &[u8]) -> Result<(), Fault
     write_digits(out, bytes)
 }
 
-/// Writes a table, where it is not empty.
+/// Writes a table, unless it is empty.
 fn write_table<W: Write>(out: &mut Tracked<W>, bytes: &[u8]) -> Result<(), Fault>
     requires { has_failed out.old ≡ false }
     ensures { Writes (W.contents (inner_of out.old)) (W.contents (inner_of out.new))
@@ -66,7 +66,7 @@ fn write_table<W: Write>(out: &mut Tracked<W>, bytes: &[u8]) -> Result<(), Fault
     write_block(out, bytes)
 }
 
-/// Writes a table, where it is not empty, and ends the line.
+/// Writes a table, unless it is empty, and ends the line.
 #[tactic(auto, using(vga_bits::proofs::WritingLemmas::writes_after, vga_bits::proofs::WritingLemmas::prefix_of_more))]
 fn end_line<W: Write>(out: &mut Tracked<W>, bytes: &[u8]) -> Result<(), Fault>
     requires { has_failed out.old ≡ false }
@@ -77,7 +77,7 @@ fn end_line<W: Write>(out: &mut Tracked<W>, bytes: &[u8]) -> Result<(), Fault>
     write_whole(out, b"\n")
 }
 
-/// The line of step n as far as its table: the registers that a service answers.
+/// The line of step n up to its table: the registers that a BIOS call answers.
 fn registers_line(n: usize, regs: Regs) -> Line
     ensures { result ≡ number_text n ++ registers_text regs }
 {
@@ -86,7 +86,7 @@ fn registers_line(n: usize, regs: Regs) -> Line
     line
 }
 
-/// Writes the line of step n: the registers that a service answers, and a table.
+/// Writes the line of step n: the registers that a BIOS call answers, and a table.
 #[tactic(auto, unfolding(crate::specs::Report::line), using(vga_bits::proofs::WritingLemmas::writes_after, vga_bits::proofs::WritingLemmas::prefix_of_more))]
 pub(crate) fn write_reply<W: Write>(
     out: &mut Tracked<W>,

@@ -1,22 +1,22 @@
 //! The line of a step.
 ghost use Rattle.std.specs.Prelude.{◌≡◌, ◌+◌, ◌≤◌, ◌++◌, length, take, false, codes};
 ghost use Rattle.vga_bits.specs.Tracked.{inner_of, has_failed, Writes};
-ghost use Rattle.vga_run.specs.Answer.{Plain};
+ghost use Rattle.vga_run.specs.Answer.{Short};
 ghost use Rattle.vga_run.specs.Report.{answer_text, line, number_text};
 
 use super::answer::Answer;
 use std::io::Write;
 use vga_bits::{Fault, TextBuffer, Tracked, hex_digit, write_whole};
 
-/// Room for the longest text that is put together here: a number of at most 20 digits, a blank, and
-/// four registers of 31 bytes.
+/// Room for the longest text that is built here: a number of at most 20 digits, a blank, and four
+/// registers of 31 bytes.
 const LINE_LEN: usize = 52;
 
-/// The line of a step, or its first piece.
+/// The line of a step, or its first part.
 pub(crate) type Line = TextBuffer<LINE_LEN>;
 
-/// Puts three bytes behind the first `prefix` bytes of a line, in the place of the others: at once
-/// where those are three, as they mostly are.
+/// Replaces what follows the first `prefix` bytes of a line by three bytes. In most cases it has
+/// three bytes already, and they are overwritten in place.
 #[tactic(auto, using(crate::proofs::NumberLemmas::three_put))]
 #[inline(always)]
 fn put_three(line: &mut Line, prefix: usize, bytes: [u8; 3])
@@ -33,8 +33,8 @@ fn put_three(line: &mut Line, prefix: usize, bytes: [u8; 3])
     }
 }
 
-/// Puts the text of an answer and a newline behind the first `prefix` bytes of a line, in the place
-/// of the others: at once where it has two digits or letters, as most have.
+/// Replaces what follows the first `prefix` bytes of a line by the text of an answer and a newline.
+/// Most answers have two digits or letters, and are written in place.
 #[tactic(auto, using(crate::proofs::ReportLemmas::name_is_short, vga_bits::proofs::HexLemmas::hex_of_byte))]
 #[inline(always)]
 pub(crate) fn put_answer(line: &mut Line, prefix: usize, answer: Answer)
@@ -61,7 +61,7 @@ pub(crate) fn put_answer(line: &mut Line, prefix: usize, answer: Answer)
     }
 }
 
-/// Puts the number of a step, and a blank, in the place of a line's text.
+/// Replaces a line by the number of a step and a blank.
 #[tactic(auto, unfolding(crate::specs::Report::number_text))]
 pub(crate) fn put_number(line: &mut Line, n: usize)
     ensures items { line.new ≡ number_text n }
@@ -72,7 +72,7 @@ pub(crate) fn put_number(line: &mut Line, n: usize)
     line.push(b" ");
 }
 
-/// The number of a step, and a blank.
+/// The line of a step's number and a blank.
 pub(crate) fn numbered(n: usize) -> Line
     ensures items { result ≡ number_text n }
     ensures len { length result ≤ 21 }
@@ -82,8 +82,8 @@ pub(crate) fn numbered(n: usize) -> Line
     line
 }
 
-/// Writes a text of so many bytes. Their number is known when the program is built, so that a
-/// writer copies them with no call.
+/// Writes a text of `LEN` bytes. The compiler knows `LEN`, so a writer copies the text without a
+/// call.
 #[inline(always)]
 fn write_exact<const LEN: usize, W: Write>(out: &mut Tracked<W>, text: &[u8]) -> Result<(), Fault>
     requires writer { has_failed out.old ≡ false }
@@ -94,8 +94,7 @@ fn write_exact<const LEN: usize, W: Write>(out: &mut Tracked<W>, text: &[u8]) ->
     write_whole(out, text.split_at(LEN).0)
 }
 
-/// Writes a line. Those of short answers behind numbers of six to eight digits are copied with no
-/// call.
+/// Writes a line. Short answers after numbers of six to eight digits are copied without a call.
 #[inline(always)]
 pub(crate) fn write_text<W: Write>(out: &mut Tracked<W>, text: &[u8]) -> Result<(), Fault>
     requires { has_failed out.old ≡ false }

@@ -337,7 +337,7 @@ none_two text n h m others says = all_blank h.before says.before says.line other
 
 -- ---- the groups of a text
 
--- groups one after the other
+-- groups one after another
 all_groups : (version : Version) (groups : List Group) (group : Group) → AllByRecursion (IsGroup version) groups → IsGroup version group →
     AllByRecursion (IsGroup version) (groups ++ group ∷ [])
 all_groups version [] group all good = (good, tt)
@@ -354,7 +354,7 @@ groups_more version prefix items group (groups, e, f, all) good = (
   all_groups version groups group all good,
 )
 
--- the lines so far spell the items so far, which mean so many steps
+-- the lines so far spell the items so far, which mean `so_far` steps
 pub record HasRead (text : List ℕ) (version : Version) (items : List Item) (so_far : ℕ) (n : ℕ) (left : Option (List ℕ)) : Type 0 where
   pub start : ℕ
   pub rest : List (List ℕ)
@@ -473,7 +473,7 @@ pub header_written : (version : Version) (byte : ℕ) (empty first second : List
 header_written version byte empty first second e m b is = b ∙ ap (λ (l : List ℕ). l ++ byte ∷ []) (m ∙ ap (λ (l : List ℕ). l ++ magic) e)
     ∙ ap (λ (n : ℕ). magic ++ n ∷ []) is
 
--- the lines so far spell items, which mean so many steps, and whose bytes these are
+-- the lines so far spell items with these bytes, which mean `so_far` steps
 pub record HasAssembled (text : List ℕ) (version : Version) (so_far n : ℕ) (left : Option (List ℕ)) (out : List ℕ) : Type 0 where
   pub items : List Item
   pub read : HasRead text version items so_far n left

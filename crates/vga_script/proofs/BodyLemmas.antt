@@ -16,7 +16,7 @@ use Rattle.vga_script.specs.Decoding.{HasStepsBefore, OpensRepeat, IsItemFault}
 use Rattle.vga_script.proofs.GrammarLemmas.{steps_range, spelled_steps}
 use Rattle.vga_script.proofs.BeginningLemmas.{few_steps, steps_are, spells_in}
 
--- one more step behind some
+-- one more step after some
 spells_more : (prefix : List ℕ) (steps : List Step) (step : Step) → SpellsSteps prefix steps → IsInRange step →
     SpellsSteps (prefix ++ spelling step) (steps ++ step ∷ [])
 spells_more prefix [] step none fits =
@@ -42,7 +42,7 @@ body_goes_on bytes rest others len step h (fits, e) = record {
   count = let counted = h.count in let l = length-append h.steps (step ∷ []) in omega arith;
 }
 
--- there are no more steps and bytes behind them than bytes
+-- there are no more steps and bytes after them than bytes
 pub body_within : (bytes rest : List ℕ) (len : ℕ) → HasStepsBefore bytes len rest → len + length rest ≤ length bytes
 body_within bytes rest len h =
     let whole = ap length h.whole ∙ length-append h.prefix rest in
@@ -63,7 +63,7 @@ repeat_counted bytes rest prefix len h is =
     let few = body_within bytes rest len h in
     (spells_in prefix h.steps good, h.count ∙ sym (ap length (steps_are prefix h.steps good)), omega arith)
 
--- the repeat is found, where its end stands behind the steps
+-- the repeat is found, where its end stands after the steps
 pub repeat_found : (version : Version) (bytes fields body rest others prefix : List ℕ) (count len : ℕ) → AllowsRepeats version → bytes ≡ opcode_repeat ∷ fields →
     fields ≡ little_bytes 2 count ++ body
     → 0 < count → count < 2 ^ 16 → HasStepsBefore body len rest → rest ≡ opcode_end ∷ others → prefix ≡ take (length body - length rest) body

@@ -62,10 +62,10 @@ cut_plane fields short = (opcode_show, kind_plane ∷ fields, 6, refl, refl, ome
 pub no_opcode : (bytes fields : List ℕ) (opcode : ℕ) → bytes ≡ opcode ∷ fields → fields_len opcode fields ≡ None → StartsWithBadStep bytes
 no_opcode bytes fields opcode e is = inl (opcode, fields, e, is)
 
--- the same, where it is the opcode of no plain step and of none of the others
-pub no_plain_opcode : (fields : List ℕ) (opcode : ℕ) → (opcode ≢ opcode_int → opcode ≢ opcode_frame → opcode ≢ opcode_show → fields_len opcode fields ≡ None) →
+-- the same, where it is the opcode of no numeric step and of none of the others
+pub no_numeric_opcode : (fields : List ℕ) (opcode : ℕ) → (opcode ≢ opcode_int → opcode ≢ opcode_frame → opcode ≢ opcode_show → fields_len opcode fields ≡ None) →
     opcode ≢ opcode_int → opcode ≢ opcode_frame → opcode ≢ opcode_show → StartsWithBadStep (opcode ∷ fields)
-no_plain_opcode fields opcode h int frame shown = no_opcode (opcode ∷ fields) fields opcode refl (h int frame shown)
+no_numeric_opcode fields opcode h int frame shown = no_opcode (opcode ∷ fields) fields opcode refl (h int frame shown)
 
 -- and a byte that is no kind
 pub no_kind : (fields rest : List ℕ) (kind : ℕ) → fields ≡ kind ∷ rest → shown_len (kind ∷ rest) ≡ None → StartsWithBadStep (opcode_show ∷ fields)
@@ -83,7 +83,7 @@ bad_range bytes h = inr h
 
 -- ---- the items of a script
 
--- one more item behind some
+-- one more item after some
 items_more : (version : Version) (prefix : List ℕ) (items : List Item) (i : Item) → SpellsItems version prefix items → IsItemOf version i →
     SpellsItems version (prefix ++ item_spelling i) (items ++ i ∷ [])
 items_more version prefix [] i none fits = ([], (fits, ap (λ (l : List ℕ). l ++ item_spelling i) none ∙ sym (append-nil (item_spelling i))), refl)
@@ -93,7 +93,7 @@ items_more version prefix (j ∷ items) i (rest, (fits, whole), more) last = (
   items_more version rest items i more last,
 )
 
--- the items so far, which mean so many steps, stand before the rest of a script
+-- the items so far, which mean `so_far` steps, stand before the rest of a script
 pub record HasDecoded (bytes : List ℕ) (version : Version) (items : List Item) (so_far : ℕ) (rest : List ℕ) : Type 0 where
   pub prefix : List ℕ
   pub good : Spells prefix (listing version items)

@@ -16,7 +16,7 @@ use Rattle.vga_script.proofs.ItemLemmas.{length-repeated, length-expanded-cons}
 pub begins : (version : Version) (rest : List ℕ) → SpellsUpTo (header version ++ rest) (listing version []) 5 rest
 begins version rest = record { prefix = header version; whole = refl; good = ([], refl, refl, omega arith); place = refl }
 
--- frames are in range, and spelled one after the other
+-- frames are in range, and spelled one after another
 frames_range : (n : ℕ) → AreInRange (frames n)
 unfolding frames
 frames_range zero = tt
@@ -38,7 +38,7 @@ frames_start n = (
   ap (λ (l : List ℕ). 0x0D ∷ 0xFF ∷ 0xFF ∷ (l ++ 0x0E ∷ [])) (sym (frames_spelled n)) ∙ sym (append-nil (item_spelling (Repeated 0xFFFF (frames n)))),
 )
 
--- means so many
+-- it means n frames as often as it counts
 pub many_frames : (n : ℕ) → length (repeated 0xFFFF (frames n)) ≡ 0xFFFF * n
 many_frames n = length-repeated 0xFFFF (frames n) ∙ ap (λ (m : ℕ). 0xFFFF * m) (length-frames n)
 

@@ -109,7 +109,7 @@ no_version bytes rest more other version e none prefix =
     let same : other ≡ version_byte version = cc in
     none version same
 
--- bytes that go on behind the letters
+-- bytes that go on after the letters
 goes_on : (bytes x : List ℕ) (v : ℕ) → bytes ≡ magic ++ v ∷ x → bytes ≡ magic → ⊥
 goes_on bytes x v e short = let both : magic ++ v ∷ x ≡ magic = sym e ∙ short in absurd (cc)
 

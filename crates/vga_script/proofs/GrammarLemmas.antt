@@ -69,7 +69,7 @@ step_back (Show (shown.Plane plane offset count)) x (four, some, most, within) =
 step_back (Show shown.BiosData) x fits = refl
 step_back (Show shown.Cells) x fits = refl
 
--- the prefix of some bytes tells the step that it spells
+-- the prefix of some bytes determines the step that it spells
 pub one_step : (s t : Step) (x y : List ℕ) → IsInRange s → IsInRange t → spelling s ++ x ≡ spelling t ++ y → (s ≡ t) × (x ≡ y)
 one_step s t x y fits fits' e =
     let same : (s, x) ≡ (t, y) = some_is (s, x) (t, y) (sym (step_back s x fits) ∙ ap step_of e ∙ step_back t y fits') in
@@ -98,7 +98,7 @@ encoded_steps (s ∷ steps) (fits, others) = (flat_map spelling steps, (fits, re
 
 -- ---- the item at the prefix of some bytes
 
--- the prefix of some bytes tells the item that it spells
+-- the prefix of some bytes determines the item that it spells
 pub one_item : (version : Version) (a b : Item) (x y : List ℕ) → IsItemOf version a → IsItemOf version b → item_spelling a ++ x ≡ item_spelling b ++ y → (a ≡ b)
     × (x ≡ y)
 one_item version (Once s) (Once t) x y fits fits' e = let same = one_step s t x y fits fits' e in (ap Once same.0, same.1)

@@ -90,7 +90,7 @@ line_or_repeat : (line first : List ℕ) (x y : List (List ℕ)) (steps : List S
 line_or_repeat line first x y steps count e good begins =
     let same : first ≡ line = cc in step_or_repeat (words line) steps count good (subst (λ (l : List ℕ). SpellsRepeat (words l) count) same begins)
 
--- the prefix of some lines tells the group that it spells
+-- the prefix of some lines determines the group that it spells
 pub one_group : (version : Version) (g h : Group) (x y : List (List ℕ)) → IsGroup version g → IsGroup version h → g.lines ++ x ≡ h.lines ++ y → (g ≡ h)
     × (x ≡ y)
 one_group version g h x y (inl (line, steps, ls, is, good)) (inl (line', steps', ls', is', good')) e =

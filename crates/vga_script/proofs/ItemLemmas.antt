@@ -10,7 +10,7 @@ use Rattle.vga_script.specs.Version.{version_byte}
 
 -- ---- how many steps items mean
 
--- so many rounds of some steps are so many times as many
+-- n rounds of some steps are n times as many steps
 pub length-repeated : (times : ℕ) (steps : List Step) → length (repeated times steps) ≡ times * length steps
 unfolding repeated
 length-repeated zero steps = omega arith
@@ -18,7 +18,7 @@ length-repeated (suc times) steps =
     let whole = length-append steps (repeated times steps) in
     let others = length-repeated times steps in rw suc-mul (omega arith)
 
--- a repeat means so many times as many steps as it has
+-- a repeat means as many steps as it has, times its count
 pub steps_of_repeat : (count len : ℕ) (steps : List Step) → len ≡ length steps → count * len ≡ length (repeated count steps)
 steps_of_repeat count len steps e = ap (λ (n : ℕ). count * n) e ∙ sym (length-repeated count steps)
 
@@ -38,12 +38,12 @@ unfolding repeated
 repeated_less zero steps some = absurd (omega arith)
 repeated_less (suc times) steps some = let e : suc times - 1 ≡ times = omega arith in ap (λ (n : ℕ). steps ++ repeated n steps) (sym e)
 
--- items one after the other
+-- items one after another
 pub expanded-append : (a b : List Item) → expanded (a ++ b) ≡ expanded a ++ expanded b
 expanded-append [] b = refl
 expanded-append (i ∷ a) b = ap (λ (l : List Step). steps_of i ++ l) (expanded-append a b) ∙ sym (append_assoc (steps_of i) (expanded a) (expanded b))
 
--- an item, and others behind it
+-- an item, and others after it
 pub length-expanded-append : (a b : List Item) → length (expanded (a ++ b)) ≡ length (expanded a) + length (expanded b)
 length-expanded-append a b = ap length (expanded-append a b) ∙ length-append (expanded a) (expanded b)
 
@@ -58,7 +58,7 @@ length-expanded-push a i =
 
 -- ---- ranges
 
--- two lists of steps one after the other
+-- two lists of steps one after another
 pub range-append : (a b : List Step) → AreInRange a → AreInRange b → AreInRange (a ++ b)
 range-append [] b p q = q
 range-append (s ∷ a) b (p, ps) q = (p, range-append a b ps q)

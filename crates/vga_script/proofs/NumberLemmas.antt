@@ -22,7 +22,7 @@ through a b c p q = omega arith
 along : (n v a b : ℕ) → n ≡ v → v < a → a ≤ b → n < b
 along n v a b e p q = omega arith
 
--- digits behind a number that were read, and that can be
+-- digits after a number: those that were read, and those that can be
 from_reads : (radix most n : ℕ) (w : List ℕ) (m : ℕ) → n ≤ most → number_from radix most n w ≡ Some m → AllDigits radix w × (m ≡ digits_value_after radix n w)
     × (m ≤ most)
 from_reads radix most n [] m within e = let same : n ≡ m = some_is n m e in (tt, sym same, omega arith)
@@ -68,7 +68,7 @@ spells_number radix most (c ∷ cs) m some (has, all, value) within =
 fits : (n a most : ℕ) → n < a → a ≤ most + 1 → n ≤ most
 fits n a most below room = omega arith
 
--- a number of so many digits is below that power
+-- a number of at most `digits` hexadecimal digits is below that power of 16
 pub hex_below : (digits : ℕ) (w : List ℕ) (n : ℕ) → IsHex digits w n → n < 16 ^ digits
 hex_below digits w n (short, (has, all, value)) =
     let below = digits_value-lt 16 w all in
@@ -110,7 +110,7 @@ ended_ok (w ∷ ws) r y e = absurd (cc)
 
 -- ---- all the words of a step's fields
 
--- a word and what is known of the words behind it
+-- a word and what is known of the words after it
 pub then_words : (ws : List (List ℕ)) (word : List ℕ) (rest known : List (List ℕ)) → ws ≡ word ∷ rest → rest ≡ known → ws ≡ word ∷ known
 then_words ws word rest known e f = e ∙ ap (λ (l : List (List ℕ)). word ∷ l) f
 

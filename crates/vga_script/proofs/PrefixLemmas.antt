@@ -1,4 +1,4 @@
--- Two lists of parts that are spelled one after the other at the prefix of one list, of bytes or of lines.
+-- Two lists of parts that are spelled one after another at the prefix of one list, of bytes or of lines.
 use Rattle.std.proofs.Common.{◌≡◌, ◌⊎◌, List, [], ◌∷◌, ◌++◌, refl, sym, ◌∙◌, append_assoc, inl, inr}
 use Rattle.std.specs.List.{flat_map, AllByRecursion}
 
@@ -20,7 +20,7 @@ along spell Fits s t first second rest other e (inl (same, follows)) = inl (cc, 
 along spell Fits s t first second rest other e (inr (inl (next, others, is, fits, follows))) = inr (inl (next, others, cc, fits, follows))
 along spell Fits s t first second rest other e (inr (inr (next, others, is, fits, follows))) = inr (inr (next, others, cc, fits, follows))
 
--- where the prefix of a list tells which part it spells, any two lists of parts compare
+-- if the prefix of a list determines which part it spells, any two lists of parts compare
 pub compare : {A X : Type 0} (spell : A → List X) (Fits : A → Type 0) (one : (s t : A) (x y : List X) → Fits s → Fits t → spell s ++ x ≡ spell t ++ y → (s ≡ t)
     × (x ≡ y))
     (first second : List A) (rest other : List X) → AllByRecursion Fits first → AllByRecursion Fits second → flat_map spell first

@@ -38,33 +38,33 @@ use Rattle.vga_script.specs.Printing.{printed_item, version_line, printed}
 -- ---- digits
 
 -- a byte that stands within a word
-abbrev is_plain : ℕ → Bool
-is_plain c = not (is_blank c || is_semicolon c || is_newline c)
+abbrev is_word_byte : ℕ → Bool
+is_word_byte c = not (is_blank c || is_semicolon c || is_newline c)
 
-abbrev AllPlain : List ℕ → Type 0
-AllPlain [] = Unit {0}
-AllPlain (c ∷ cs) = (is_plain c ≡ true) × AllPlain cs
+abbrev AllWordBytes : List ℕ → Type 0
+AllWordBytes [] = Unit {0}
+AllWordBytes (c ∷ cs) = (is_word_byte c ≡ true) × AllWordBytes cs
 
--- two plain texts one after the other
-plain-append : (a b : List ℕ) → AllPlain a → AllPlain b → AllPlain (a ++ b)
-plain-append [] b p q = q
-plain-append (c ∷ cs) b (p, ps) q = (p, plain-append cs b ps q)
+-- bytes of a word after others
+word-append : (a b : List ℕ) → AllWordBytes a → AllWordBytes b → AllWordBytes (a ++ b)
+word-append [] b p q = q
+word-append (c ∷ cs) b (p, ps) q = (p, word-append cs b ps q)
 
--- a digit is read back, and plain
+-- a digit is read back, and may stand in a word
 digit_back : (d : ℕ) → d < 16 → digit_value (hex_digit d) ≡ d
 digit_back d small = grind (arith, nat_tests)
 
-digit_plain : (d : ℕ) → d < 16 → is_plain (hex_digit d) ≡ true
-digit_plain d small = grind (arith, nat_tests)
+digit_of_word : (d : ℕ) → d < 16 → is_word_byte (hex_digit d) ≡ true
+digit_of_word d small = grind (arith, nat_tests)
 
 digit_below : (n : ℕ) → n % 16 < 16
 digit_below n = omega arith
 
--- the digits of a number are plain, so many, and read back
-plain_hex : (k n : ℕ) → AllPlain (hex k n)
+-- the digits of a number are bytes of a word, k of them, and are read back
+hex_of_word : (k n : ℕ) → AllWordBytes (hex k n)
 unfolding hex
-plain_hex zero n = tt
-plain_hex (suc k) n = plain-append (hex k (n / 16)) (hex_digit (n % 16) ∷ []) (plain_hex k (n / 16)) (digit_plain (n % 16) (digit_below n), tt)
+hex_of_word zero n = tt
+hex_of_word (suc k) n = word-append (hex k (n / 16)) (hex_digit (n % 16) ∷ []) (hex_of_word k (n / 16)) (digit_of_word (n % 16) (digit_below n), tt)
 
 length-hex : (k n : ℕ) → length (hex k n) ≡ k
 unfolding hex
@@ -106,22 +106,22 @@ pick : (b : Bool) (x y : List ℕ) (P : List ℕ → Type 0) → (b ≡ true →
 pick true x y P p q = p refl
 pick false x y P p q = q
 
-shorter_address : (k n : ℕ) → 0 < k → k ≤ 8 → n < 16 ^ k → IsHex 8 (hex k n) n × AllPlain (hex k n)
-shorter_address k n some le small = (wider k 8 n (hex k n) le (spells_exact k n some small), plain_hex k n)
+shorter_address : (k n : ℕ) → 0 < k → k ≤ 8 → n < 16 ^ k → IsHex 8 (hex k n) n × AllWordBytes (hex k n)
+shorter_address k n some le small = (wider k 8 n (hex k n) le (spells_exact k n some small), hex_of_word k n)
 
 -- the digits of a port and of an address spell it
-spells_port : (port : ℕ) → port < 2 ^ 16 → IsHex 4 (port_text port) port × AllPlain (port_text port)
+spells_port : (port : ℕ) → port < 2 ^ 16 → IsHex 4 (port_text port) port × AllWordBytes (port_text port)
 unfolding port_text
 spells_port port small =
-    pick (nat_lt port 0x1000) (hex 3 port) (hex 4 port) (λ w. IsHex 4 w port × AllPlain w)
-    (λ t. let lt = lt_test _ _ t in (wider 3 4 port (hex 3 port) (omega arith) (spells_exact 3 port (omega arith) (omega arith)), plain_hex 3 port))
-    (spells_exact 4 port (omega arith) (omega arith), plain_hex 4 port)
+    pick (nat_lt port 0x1000) (hex 3 port) (hex 4 port) (λ w. IsHex 4 w port × AllWordBytes w)
+    (λ t. let lt = lt_test _ _ t in (wider 3 4 port (hex 3 port) (omega arith) (spells_exact 3 port (omega arith) (omega arith)), hex_of_word 3 port))
+    (spells_exact 4 port (omega arith) (omega arith), hex_of_word 4 port)
 
-spells_address : (address : ℕ) → address < 2 ^ 32 → IsHex 8 (address_text address) address × AllPlain (address_text address)
+spells_address : (address : ℕ) → address < 2 ^ 32 → IsHex 8 (address_text address) address × AllWordBytes (address_text address)
 unfolding address_text
 spells_address address small =
-    let P : List ℕ → Type 0 = λ w. IsHex 8 w address × AllPlain w in
-    let last : P (hex 8 address) = (spells_exact 8 address (omega arith) (omega arith), plain_hex 8 address) in
+    let P : List ℕ → Type 0 = λ w. IsHex 8 w address × AllWordBytes w in
+    let last : P (hex 8 address) = (spells_exact 8 address (omega arith) (omega arith), hex_of_word 8 address) in
     let seven : P (cond (nat_lt address 0x1000_0000) (hex 7 address) (hex 8 address)) =
     pick (nat_lt address 0x1000_0000) (hex 7 address) (hex 8 address) P (λ t. shorter_address 7 address (omega arith) (omega arith) (lt_test _ _ t)) last in
     let six : P (cond (nat_lt address 0x100_0000) (hex 6 address) (cond (nat_lt address 0x1000_0000) (hex 7 address) (hex 8 address))) =
@@ -135,34 +135,34 @@ spells_address address small =
 -- words that a blank parts
 abbrev AreWords : List (List ℕ) → Type 0
 AreWords [] = Unit {0}
-AreWords (w ∷ ws) = (0 < length w) × AllPlain w × AreWords ws
+AreWords (w ∷ ws) = (0 < length w) × AllWordBytes w × AreWords ws
 
--- no byte of a plain text passes a test that no plain byte passes
-none_pass : (p : ℕ → Bool) → ((c : ℕ) → is_plain c ≡ true → p c ≡ false) → (w : List ℕ) → AllPlain w → AllByRecursion (λ c. p c ≡ false) w
+-- no byte of a word passes a test that no byte of words passes
+none_pass : (p : ℕ → Bool) → ((c : ℕ) → is_word_byte c ≡ true → p c ≡ false) → (w : List ℕ) → AllWordBytes w → AllByRecursion (λ c. p c ≡ false) w
 none_pass p h [] all = tt
 none_pass p h (c ∷ cs) (first, others) = (h c first, none_pass p h cs others)
 
--- a plain byte is no blank, semicolon or newline
+-- a byte of a word is no blank, semicolon or newline
 none_of : (a b c : Bool) → not (a || b || c) ≡ true → (a ≡ false) × (b ≡ false) × (c ≡ false)
 none_of true b c e = absurd (cc)
 none_of false true c e = absurd (cc)
 none_of false false true e = absurd (cc)
 none_of false false false e = (refl, refl, refl)
 
-plain_blank : (c : ℕ) → is_plain c ≡ true → is_blank c ≡ false
-plain_blank c e = (none_of (is_blank c) (is_semicolon c) (is_newline c) e).0
+no_blank : (c : ℕ) → is_word_byte c ≡ true → is_blank c ≡ false
+no_blank c e = (none_of (is_blank c) (is_semicolon c) (is_newline c) e).0
 
-plain_semicolon : (c : ℕ) → is_plain c ≡ true → is_semicolon c ≡ false
-plain_semicolon c e = (none_of (is_blank c) (is_semicolon c) (is_newline c) e).1
+no_semicolon : (c : ℕ) → is_word_byte c ≡ true → is_semicolon c ≡ false
+no_semicolon c e = (none_of (is_blank c) (is_semicolon c) (is_newline c) e).1
 
-plain_newline : (c : ℕ) → is_plain c ≡ true → is_newline c ≡ false
-plain_newline c e = (none_of (is_blank c) (is_semicolon c) (is_newline c) e).2
+no_newline : (c : ℕ) → is_word_byte c ≡ true → is_newline c ≡ false
+no_newline c e = (none_of (is_blank c) (is_semicolon c) (is_newline c) e).2
 
 -- words that are joined by spaces are cut into themselves
 split_join : (w : List ℕ) (ws : List (List ℕ)) → AreWords (w ∷ ws) → slice_split is_blank (join_with_byte 32 (w ∷ ws)) ≡ w ∷ ws
-split_join w [] (some, all, more) = slice_split_none is_blank w (All-from_recursion (λ c. is_blank c ≡ false) w (none_pass is_blank plain_blank w all))
+split_join w [] (some, all, more) = slice_split_none is_blank w (All-from_recursion (λ c. is_blank c ≡ false) w (none_pass is_blank no_blank w all))
 split_join w (v ∷ vs) (some, all, more) =
-    slice_split_at is_blank w 32 (join_with_byte 32 (v ∷ vs)) (All-from_recursion (λ c. is_blank c ≡ false) w (none_pass is_blank plain_blank w all)) refl
+    slice_split_at is_blank w 32 (join_with_byte 32 (v ∷ vs)) (All-from_recursion (λ c. is_blank c ≡ false) w (none_pass is_blank no_blank w all)) refl
     ∙ ap (λ (l : List (List ℕ)). w ∷ l) (split_join v vs more)
 
 -- and none is dropped
@@ -176,8 +176,8 @@ none_append : (p : ℕ → Bool) (a b : List ℕ) → AllByRecursion (λ c. p c 
 none_append p [] b none more = more
 none_append p (c ∷ cs) b (first, others) more = (first, none_append p cs b others more)
 
--- the joined words have no byte that passes, where no plain byte and no blank does
-join_none : (p : ℕ → Bool) → ((c : ℕ) → is_plain c ≡ true → p c ≡ false) → p 32 ≡ false → (ws : List (List ℕ)) → AreWords ws →
+-- the joined words have no byte that passes, where neither a byte of words nor a blank does
+join_none : (p : ℕ → Bool) → ((c : ℕ) → is_word_byte c ≡ true → p c ≡ false) → p 32 ≡ false → (ws : List (List ℕ)) → AreWords ws →
     AllByRecursion (λ c. p c ≡ false) (join_with_byte 32 ws)
 join_none p h blank [] all = tt
 join_none p h blank (w ∷ []) (some, all, more) = none_pass p h w all
@@ -194,7 +194,7 @@ before_none p xs none =
 words_join : (ws : List (List ℕ)) → AreWords ws → words (join_with_byte 32 ws) ≡ ws
 words_join [] h = refl
 words_join (w ∷ ws) h =
-    ap words_in (before_none is_semicolon (join_with_byte 32 (w ∷ ws)) (join_none is_semicolon plain_semicolon refl (w ∷ ws) h))
+    ap words_in (before_none is_semicolon (join_with_byte 32 (w ∷ ws)) (join_none is_semicolon no_semicolon refl (w ∷ ws) h))
     ∙ ap (filter has_bytes) (split_join w ws h) ∙ keep_words (w ∷ ws) h
 
 -- and its line ends at its newline
@@ -202,41 +202,41 @@ lines_join : (ws : List (List ℕ)) (rest : List ℕ) → AreWords ws → lines 
 lines_join ws rest h =
     ap lines (append_assoc (join_with_byte 32 ws) (10 ∷ []) rest)
     ∙ slice_split_at is_newline (join_with_byte 32 ws) 10 rest (All-from_recursion (λ c. is_newline c ≡ false) (join_with_byte 32 ws)
-    (join_none is_newline plain_newline refl ws h)) refl
+    (join_none is_newline no_newline refl ws h)) refl
 
 -- ---- the words of a step
 
--- text that passes a test is plain
-test_plain : (w : List ℕ) → list_all is_plain w ≡ true → AllPlain w
-test_plain [] e = tt
-test_plain (c ∷ cs) e = let t = and_ok (is_plain c) (list_all is_plain cs) e in (t.0, test_plain cs t.1)
+-- text whose bytes pass the test is bytes of a word
+word_by_test : (w : List ℕ) → list_all is_word_byte w ≡ true → AllWordBytes w
+word_by_test [] e = tt
+word_by_test (c ∷ cs) e = let t = and_ok (is_word_byte c) (list_all is_word_byte cs) e in (t.0, word_by_test cs t.1)
 
--- decimal digits are plain, and spell their number
-plain_digit : (c : ℕ) → IsWithin 48 57 c → is_plain c ≡ true
-plain_digit c (low, high) = grind (arith, nat_tests)
+-- decimal digits are bytes of a word, and spell their number
+decimal_of_word : (c : ℕ) → IsWithin 48 57 c → is_word_byte c ≡ true
+decimal_of_word c (low, high) = grind (arith, nat_tests)
 
-plain_digits : (w : List ℕ) → AllDigits 10 w → AllPlain w
-plain_digits [] all = tt
-plain_digits (c ∷ cs) (first, others) = (plain_digit c (digit_from_value c first), plain_digits cs others)
+digits_of_word : (w : List ℕ) → AllDigits 10 w → AllWordBytes w
+digits_of_word [] all = tt
+digits_of_word (c ∷ cs) (first, others) = (decimal_of_word c (digit_from_value c first), digits_of_word cs others)
 
-spells_decimal_text : (n : ℕ) → n < 2 ^ 64 → IsNumeral 10 (decimal n) n × AllPlain (decimal n)
+spells_decimal_text : (n : ℕ) → n < 2 ^ 64 → IsNumeral 10 (decimal n) n × AllWordBytes (decimal n)
 spells_decimal_text n small =
     let d = decimal_is_IsNumeral n small in
-    ((decimal_nonempty n small, d.0.1, sym d.1), plain_digits (decimal n) d.0.1)
+    ((decimal_nonempty n small, d.0.1, sym d.1), digits_of_word (decimal n) d.0.1)
 
--- every digit of a block is plain, as is a digit that is not there
-plain_at : (digits : List ℕ) (d : ℕ) → AllPlain digits → is_plain (slice_index digits d) ≡ true
-plain_at [] d all = refl
-plain_at (c ∷ cs) zero (first, others) = first
-plain_at (c ∷ cs) (suc d) (first, others) = plain_at cs d others
+-- every digit of a block is a byte of a word, as is a digit that is not there
+word_at : (digits : List ℕ) (d : ℕ) → AllWordBytes digits → is_word_byte (slice_index digits d) ≡ true
+word_at [] d all = refl
+word_at (c ∷ cs) zero (first, others) = first
+word_at (c ∷ cs) (suc d) (first, others) = word_at cs d others
 
-plain_upper : (d : ℕ) → is_plain (slice_index upper_digits d) ≡ true
-plain_upper d = plain_at upper_digits d (test_plain upper_digits refl)
+upper_of_word : (d : ℕ) → is_word_byte (slice_index upper_digits d) ≡ true
+upper_of_word d = word_at upper_digits d (word_by_test upper_digits refl)
 
-plain_bytes : (bytes : List ℕ) → AllPlain (encode_upper bytes)
+block_of_word : (bytes : List ℕ) → AllWordBytes (encode_upper bytes)
 unfolding encode_with
-plain_bytes [] = tt
-plain_bytes (b ∷ bs) = (plain_upper (b / 16), (plain_upper (b % 16), plain_bytes bs))
+block_of_word [] = tt
+block_of_word (b ∷ bs) = (upper_of_word (b / 16), (upper_of_word (b % 16), block_of_word bs))
 
 bytes_fit : (bytes : List ℕ) → AllByRecursion (λ byte. byte < 2 ^ 8) bytes → IsBytes bytes
 bytes_fit [] all i = omega arith
@@ -263,13 +263,13 @@ block_are_words : (block : List ℕ) → AreWords (block_words block)
 block_are_words [] = tt
 block_are_words (b ∷ bs) =
     let l = length-encode_with upper_digits (b ∷ bs) in
-    (omega arith, test_plain (codes "block") refl, (omega arith, plain_bytes (b ∷ bs), tt))
+    (omega arith, word_by_test (codes "block") refl, (omega arith, block_of_word (b ∷ bs), tt))
 
 -- a register is a word, and spells its value
-register_word : (name : List ℕ) (v : ℕ) (ws : List (List ℕ)) → 0 < length name → list_all is_plain name ≡ true → AreWords ws → AreWords ((name ++ hex 4 v) ∷ ws)
-register_word name v ws some plain more =
+register_word : (name : List ℕ) (v : ℕ) (ws : List (List ℕ)) → 0 < length name → list_all is_word_byte name ≡ true → AreWords ws → AreWords ((name ++ hex 4 v) ∷ ws)
+register_word name v ws some within more =
     let l = length-append name (hex 4 v) in
-    (omega arith, plain-append name (hex 4 v) (test_plain name plain) (plain_hex 4 v), more)
+    (omega arith, word-append name (hex 4 v) (word_by_test name within) (hex_of_word 4 v), more)
 
 register_text : (name : List ℕ) (v : ℕ) → lowered name ≡ name → v < 2 ^ 16 → SpellsRegister name ((name ++ hex 4 v) ∷ []) v
 register_text name v lower small = inr (name, hex 4 v, refl, lower, spells_exact 4 v (omega arith) (omega arith))
@@ -285,32 +285,32 @@ port_prints port small = let p = spells_port port small in ((p.0.1.0, p.1, tt), 
 address_prints : (address : ℕ) → address < 2 ^ 32 → AreWords (address_text address ∷ []) × SpellsHex 8 (address_text address ∷ []) address
 address_prints address small = let p = spells_address address small in ((p.0.1.0, p.1, tt), (address_text address, refl, p.0))
 
--- a value of k digits behind a word
-value_prints : (most k n v : ℕ) (word : List ℕ) → IsHex most word n × AllPlain word → 0 < k → v < 16 ^ k
+-- a value of k digits after a word
+value_prints : (most k n v : ℕ) (word : List ℕ) → IsHex most word n × AllWordBytes word → 0 < k → v < 16 ^ k
     → AreWords (word ∷ hex k v ∷ []) × SpellsTwoHex most k (word ∷ hex k v ∷ []) n v
 value_prints most k n v word p some small =
-    ((p.0.1.0, p.1, (some_hex k v some, plain_hex k v, tt)), (word, hex k v, refl, p.0, spells_exact k v some small))
+    ((p.0.1.0, p.1, (some_hex k v some, hex_of_word k v, tt)), (word, hex k v, refl, p.0, spells_exact k v some small))
 
 -- what is shown
 shown_prints : (what : Shown) → IsShownInRange what → AreWords (shown_name what ∷ shown_field_words what)
     × SpellsShown (shown_name what ∷ shown_field_words what) what
-shown_prints shown.Registers fits = ((omega arith, test_plain (codes "regs") refl, tt), (codes "regs", [], refl, refl, refl))
+shown_prints shown.Registers fits = ((omega arith, word_by_test (codes "regs") refl, tt), (codes "regs", [], refl, refl, refl))
 shown_prints (shown.Dac index) fits = (
-  (omega arith, test_plain (codes "dac") refl, (some_hex 2 index (omega arith), plain_hex 2 index, tt)),
+  (omega arith, word_by_test (codes "dac") refl, (some_hex 2 index (omega arith), hex_of_word 2 index, tt)),
   (codes "dac", hex 2 index ∷ [], refl, refl, (hex 2 index, refl, spells_exact 2 index (omega arith) (omega arith))),
 )
-shown_prints shown.Beam fits = ((omega arith, test_plain (codes "beam") refl, tt), (codes "beam", [], refl, refl, refl))
-shown_prints shown.Latches fits = ((omega arith, test_plain (codes "latches") refl, tt), (codes "latches", [], refl, refl, refl))
+shown_prints shown.Beam fits = ((omega arith, word_by_test (codes "beam") refl, tt), (codes "beam", [], refl, refl, refl))
+shown_prints shown.Latches fits = ((omega arith, word_by_test (codes "latches") refl, tt), (codes "latches", [], refl, refl, refl))
 shown_prints (shown.Plane plane offset count) (four, some, most, within) =
     let d = spells_decimal_text count (omega arith) in
     let fields = hex 1 plane ∷ hex 4 offset ∷ decimal count ∷ [] in (
       (
         omega arith,
-        test_plain (codes "plane") refl,
+        word_by_test (codes "plane") refl,
         (
           some_hex 1 plane (omega arith),
-          plain_hex 1 plane,
-          (some_hex 4 offset (omega arith), plain_hex 4 offset, (d.0.0, d.1, tt)),
+          hex_of_word 1 plane,
+          (some_hex 4 offset (omega arith), hex_of_word 4 offset, (d.0.0, d.1, tt)),
         ),
       ),
       (
@@ -330,8 +330,8 @@ shown_prints (shown.Plane plane offset count) (four, some, most, within) =
         ),
       ),
     )
-shown_prints shown.BiosData fits = ((omega arith, test_plain (codes "bda") refl, tt), (codes "bda", [], refl, refl, refl))
-shown_prints shown.Cells fits = ((omega arith, test_plain (codes "cells") refl, tt), (codes "cells", [], refl, refl, refl))
+shown_prints shown.BiosData fits = ((omega arith, word_by_test (codes "bda") refl, tt), (codes "bda", [], refl, refl, refl))
+shown_prints shown.Cells fits = ((omega arith, word_by_test (codes "cells") refl, tt), (codes "cells", [], refl, refl, refl))
 
 -- in each step
 fields_print : (s : Step) → IsInRange s → Prints s
@@ -367,7 +367,7 @@ fields_print Frame h = (tt, refl)
 fields_print (Show what) h = shown_prints what h
 
 -- a name is a word, in lower case
-name_prints : (k : Keyword) → (0 < length (name_of k)) × (list_all is_plain (name_of k) ≡ true) × (lowered (name_of k) ≡ name_of k)
+name_prints : (k : Keyword) → (0 < length (name_of k)) × (list_all is_word_byte (name_of k) ≡ true) × (lowered (name_of k) ≡ name_of k)
 name_prints keyword.Out = (omega arith, refl, refl)
 name_prints keyword.OutWord = (omega arith, refl, refl)
 name_prints keyword.In = (omega arith, refl, refl)
@@ -386,7 +386,7 @@ step_words : (s : Step) → IsInRange s → AreWords (printed_words s) × Spells
 step_words s fits =
     let n = name_prints (keyword_of s) in
     let f = fields_print s fits in
-    ((n.0, test_plain (name_of (keyword_of s)) n.1, f.0), (s, refl, n.2, f.1))
+    ((n.0, word_by_test (name_of (keyword_of s)) n.1, f.0), (s, refl, n.2, f.1))
 
 -- the line of some words is theirs, and ends at its newline
 words_line : (ws : List (List ℕ)) (rest : List ℕ) → AreWords ws → lines (line_of ws ++ rest) ≡ join_with_byte 32 ws ∷ lines rest
@@ -424,12 +424,12 @@ end_words = codes "end" ∷ []
 repeat_prints : (count : ℕ) → 0 < count → count < 2 ^ 16 → AreWords (repeat_words count) × SpellsRepeat (repeat_words count) count
 repeat_prints count some small =
     let d = spells_decimal_text count (omega arith) in (
-      (omega arith, test_plain (codes "repeat") refl, (d.0.0, d.1, tt)),
+      (omega arith, word_by_test (codes "repeat") refl, (d.0.0, d.1, tt)),
       (codes "repeat", decimal count, refl, refl, d.0, some, small),
     )
 
 end_prints : AreWords end_words × IsEnd end_words
-end_prints = ((omega arith, test_plain (codes "end") refl, tt), (codes "end", refl, refl))
+end_prints = ((omega arith, word_by_test (codes "end") refl, tt), (codes "end", refl, refl))
 
 -- the lines of an item
 abbrev printed_group : Item → Group
@@ -487,9 +487,9 @@ printed_groups version (i ∷ items) (first, others) =
       (group_spells version i first, r.3),
     )
 
--- and behind the line of its version a script
+-- and after the line of its version a script
 version_prints : AreWords (codes "version" ∷ codes "2" ∷ []) × IsVersionTwo (codes "version" ∷ codes "2" ∷ [])
-version_prints = ((omega arith, test_plain (codes "version") refl, (omega arith, test_plain (codes "2") refl, tt)), (codes "version", refl, refl))
+version_prints = ((omega arith, word_by_test (codes "version") refl, (omega arith, word_by_test (codes "2") refl, tt)), (codes "version", refl, refl))
 
 printed_version : (version : Version) (items : List Item) → AreItemsOf version items → length (expanded items) ≤ step_limit →
     SpellsText (version_line version ++ flat_map printed_item items) (listing version items)

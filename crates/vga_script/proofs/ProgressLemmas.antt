@@ -25,7 +25,7 @@ use Rattle.vga_script.proofs.StopLemmas.{step_starts}
 items_back : (items : List Item) → AreItemsOf Two items → items_in (flat_map item_spelling items) ≡ items
 items_back items fit = items_are Two (flat_map item_spelling items) items (encoded_items Two items fit)
 
--- the bytes of a repeat behind its opcode, and what follows it
+-- the bytes of a repeat after its opcode, and what follows it
 block_bytes : (count : ℕ) (steps : List Step) (x : List ℕ) → item_spelling (Repeated count steps)
     ++ x ≡ opcode_repeat ∷ (little_bytes 2 count ++ (flat_map spelling steps ++ opcode_end ∷ x))
 block_bytes count steps x = ap (λ (l : List ℕ). opcode_repeat ∷ (little_bytes 2 count ++ l)) (append_assoc (flat_map spelling steps) (opcode_end ∷ []) x)

@@ -27,7 +27,7 @@ same_word w name e = (bytes_eq-Decides (lowered w) name).1 e
 
 -- ---- registers
 
--- a register's words and what is known of the words behind them
+-- a register's words and what is known of the words after them
 after : (ws a rest known : List (List ℕ)) → ws ≡ a ++ rest → rest ≡ known → ws ≡ a ++ known
 after ws a rest known e f = e ∙ ap (λ (l : List (List ℕ)). a ++ l) f
 
@@ -142,7 +142,7 @@ spells_block ws block (inr (name, digits, e, named, some, short, spelled)) =
 
 -- ---- steps
 
--- the words behind this name spell this step
+-- the words after this name spell this step
 abbrev Found : Keyword → List (List ℕ) → Step → Type 0
 Found k ws s = (keyword_of s ≡ k) × SpellsFields ws s
 

@@ -24,7 +24,7 @@ use Rattle.vga_script.proofs.BeginningLemmas.{listing_back, spells_itself}
 
 -- ---- what a text spells is in range
 
--- numbers of so many digits
+-- a number of at most `digits` digits
 one_range : (digits : ℕ) (ws : List (List ℕ)) (n : ℕ) → SpellsHex digits ws n → n < 16 ^ digits
 one_range digits ws n (word, e, hex) = hex_below digits word n hex
 
@@ -85,7 +85,7 @@ steps_fit : (version : Version) (steps : List Step) → AreInRange steps → Are
 steps_fit version [] all = tt
 steps_fit version (s ∷ steps) (fits, all) = (fits, steps_fit version steps all)
 
--- items one after the other
+-- items one after another
 items-append : (version : Version) (a b : List Item) → AreItemsOf version a → AreItemsOf version b → AreItemsOf version (a ++ b)
 items-append version [] b p q = q
 items-append version (i ∷ a) b (p, ps) q = (p, items-append version a b ps q)

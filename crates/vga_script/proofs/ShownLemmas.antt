@@ -39,7 +39,7 @@ tests_fail plane offset count false few most same is =
 
 -- ---- what is read is spelled
 
--- this is shown by this name, and the words behind it are its fields
+-- this is shown by this name, and the words after it are its fields
 abbrev Spelled : List ℕ → List (List ℕ) → Shown → Type 0
 Spelled name ws what = (shown_name what ≡ name) × SpellsShownFields ws what
 

@@ -16,7 +16,7 @@ use Rattle.vga_script.proofs.BeginningLemmas.{items_are}
 use Rattle.vga_script.proofs.ItemLemmas.{all_widened, expanded_in_range}
 use Rattle.vga_script.proofs.ProgressLemmas.{outside_left}
 
--- behind the header stand the items
+-- after the header stand the items
 pub behind_header : (bytes : List ℕ) (script : Listing) → Spells bytes script → 5 ≤ length bytes
 behind_header bytes script (rest, whole, good, few) = let l = ap length whole in omega arith
 
@@ -75,7 +75,7 @@ encoding_kept bytes copy script h e = e ∙ spelled bytes script h
 pub copy_spells : (bytes copy : List ℕ) → copy ≡ bytes → Spells bytes (listing_of bytes) → Spells copy (listing_of copy) × Spells bytes (listing_of copy)
 copy_spells bytes copy e h = (subst (λ (l : List ℕ). Spells l (listing_of l)) (sym e) h, subst (λ (l : List ℕ). Spells bytes (listing_of l)) (sym e) h)
 
--- the version stands behind the letters
+-- the version stands after the letters
 pub version_two : (bytes : List ℕ) (script : Listing) → Spells bytes script → get_or bytes 4 0 ≡ 2 → Two ≡ script.version
 version_two bytes script (rest, whole, good, few) is = byte_two script.version (sym (ap (λ (l : List ℕ). get_or l 4 0) whole) ∙ is)
   where
@@ -100,11 +100,11 @@ meaning_fits bytes steps (script, h, e) = subst AreInRange (sym e) (steps_in_ran
 
 -- ---- steps that are passed over
 
--- behind the first i and one more, those are left that the one leaves
+-- after the first i and one more, those are left that the one leaves
 pub one_passed : (all left : List Step) (i : ℕ) (step : Step) → drop i all ≡ step ∷ left → left ≡ drop (i + 1) all
 one_passed all left i step e = sym (ap (drop 1) e) ∙ drop-drop 1 i all
 
--- where none is behind the first i, none is behind more
+-- where none is after the first i, none is after more
 none_behind : (n : ℕ) (left : List Step) → left ≡ [] → drop n left ≡ []
 none_behind zero left e = e
 none_behind (suc n) [] e = refl

@@ -27,14 +27,14 @@ keep : (w : List ℕ) (ws : List (List ℕ)) → 0 < length w → filter has_byt
 keep [] ws some = absurd (omega arith)
 keep (c ∷ cs) ws some = refl
 
--- a blank behind a word
+-- a blank after a word
 blank_next : (xs : List ℕ) → position_or_len is_blank xs < length xs → words_in (drop (position_or_len is_blank xs) xs) ≡ words_in (after_first is_blank xs)
 blank_next xs lt =
     rw (drop-cons xs (position_or_len is_blank xs) 0)
     (skip_blank (get_or xs (position_or_len is_blank xs) 0) (drop (suc (position_or_len is_blank xs)) xs) (passes_at_first is_blank xs 0 lt)
     ∙ ap (λ n. words_in (drop n xs)) (sym (add-one (position_or_len is_blank xs))))
 
--- a word with a blank behind it, and one that ends with the text
+-- a word with a blank after it, and one that ends with the text
 inside : (xs : List ℕ) → 0 < position_or_len is_blank xs → position_or_len is_blank xs < length xs →
     words_in xs ≡ take (position_or_len is_blank xs) xs ∷ words_in (drop (position_or_len is_blank xs) xs)
 inside xs some lt =

@@ -1,4 +1,4 @@
--- How a text is assembled, group by group. Public clauses cite none of this.
+-- How a text is assembled, group by group. No public clause cites this.
 use Rattle.std.specs.Prelude.{ℕ, ◌≡◌, ◌≤◌, ◌+◌, ◌⊎◌, List, ◌∷◌, ◌++◌, length, Option}
 use Rattle.std.specs.List.{flat_map}
 use Rattle.vga_bits.specs.declared.fault.Fault.{Fault}
@@ -11,8 +11,8 @@ use Rattle.vga_script.specs.Tokens.{words, lines_left, left_len}
 use Rattle.vga_script.specs.Text.{SpellsLine, SpellsLines, IsEnd, IsBadInside, Group, IsGroup}
 use Rattle.vga_script.specs.Text.{IsGroupFault}
 
--- These lines, the first of them with this number, begin with those of some steps and the end of a
--- repeat, and what is left of the text begins with the line of the next number.
+-- These lines, whose first has the number n, begin with the lines of some steps and the end of a
+-- repeat. The rest of the text begins with line `next`.
 pub record HasBody (n : ℕ) (left : Option (List ℕ)) (steps : List Step) (next : ℕ)
     (behind : Option (List ℕ)) : Type 0 where
   pub body : List (List ℕ)
@@ -23,8 +23,8 @@ pub record HasBody (n : ℕ) (left : Option (List ℕ)) (steps : List Step) (nex
   pub number : next ≡ n + length body + 1
   pub shorter : next + left_len behind ≤ n + left_len left
 
--- The fault of lines behind the first of a repeat, which has this number: they have no end, or one
--- of them is bad.
+-- The fault of the lines after the first of a repeat, which has this number: one of them is bad, or
+-- the repeat has no end.
 abbrev pub IsBodyFault : ℕ → Option (List ℕ) → Fault → Type 0
 IsBodyFault n left (BadLine bad) =
     ((bad ≡ n) × ((steps : List Step) × SpellsLines (lines_left left) steps))
@@ -33,8 +33,8 @@ IsBodyFault n left (BadLine bad) =
     × (lines_left left ≡ body ++ line ∷ others) × SpellsLines body steps × IsBadInside line)
 IsBodyFault n left _ = ⊥
 
--- These lines, the first of them with this number, begin with those of a group of a script of this
--- version, and what is left of the text begins with the line of the next number.
+-- These lines, whose first has the number n, begin with the lines of a group. The rest of the text
+-- begins with line `next`.
 pub record HasGroup (version : Version) (n : ℕ) (ls : List (List ℕ)) (items : List Item) (next : ℕ)
     (behind : Option (List ℕ)) : Type 0 where
   pub group : Group
@@ -43,12 +43,12 @@ pub record HasGroup (version : Version) (n : ℕ) (ls : List (List ℕ)) (items 
   pub whole : ls ≡ group.lines ++ lines_left behind
   pub number : next ≡ n + length group.lines
 
--- the fault of these lines, the first of them with this number, that stands in their first group
+-- the fault of the first group of these lines, whose first has this number
 abbrev pub IsGroupFaultOf : Version → ℕ → List (List ℕ) → Fault → Type 0
 IsGroupFaultOf version n ls (BadLine bad) = (so_far : ℕ) → IsGroupFault version so_far n ls bad
 IsGroupFaultOf version n ls _ = ⊥
 
--- The bytes after are those before, and those of the steps that a line spells, so many of them.
+-- The bytes afterwards are those before, followed by those of the `len` steps that a line spells.
 pub record AppendsLine (line before after : List ℕ) (len : ℕ) : Type 0 where
   pub steps : List Step
   pub good : SpellsLine (words line) steps
@@ -56,7 +56,7 @@ pub record AppendsLine (line before after : List ℕ) (len : ℕ) : Type 0 where
   pub few : len ≤ 1
   pub bytes : after ≡ before ++ flat_map spelling steps
 
--- The same of the lines of a repeat behind its first.
+-- The same of the lines of a repeat after its first.
 pub record AppendsBody (n : ℕ) (left : Option (List ℕ)) (before after : List ℕ) (len next : ℕ)
     (behind : Option (List ℕ)) : Type 0 where
   pub steps : List Step
@@ -65,7 +65,7 @@ pub record AppendsBody (n : ℕ) (left : Option (List ℕ)) (before after : List
   pub few : len ≤ next
   pub bytes : after ≡ before ++ flat_map spelling steps
 
--- The same of a repeat that counts so many and means so many steps, with its opcodes and its count.
+-- The same of a repeat of this count that means `meant` steps, with its opcodes and its count.
 pub record AppendsRepeat (n : ℕ) (left : Option (List ℕ)) (count : ℕ) (before after : List ℕ)
     (meant next : ℕ) (behind : Option (List ℕ)) : Type 0 where
   pub steps : List Step
@@ -73,7 +73,7 @@ pub record AppendsRepeat (n : ℕ) (left : Option (List ℕ)) (count : ℕ) (bef
   pub means : meant ≡ length (repeated count steps)
   pub bytes : after ≡ before ++ item_spelling (Repeated count steps)
 
--- The same of a group, whose items mean so many steps.
+-- The same of a group, whose items mean `meant` steps.
 pub record AppendsGroup (version : Version) (n : ℕ) (ls : List (List ℕ)) (before after : List ℕ)
     (meant next : ℕ) (behind : Option (List ℕ)) : Type 0 where
   pub items : List Item

@@ -1,4 +1,4 @@
--- The steps and the items at the beginning of some bytes, read from their fields.
+-- The steps and the items that bytes begin with, read field by field.
 use Rattle.std.specs.Prelude.{ℕ, zero, suc, ◌==◌, if◌then◌else◌, List, [], ◌∷◌, length, take, drop}
 use Rattle.std.specs.Prelude.{get_or, Option, None, Some}
 use Rattle.byteorder.specs.Endian.{little_number}
@@ -67,77 +67,77 @@ step_with opcode rest =
     else if opcode == opcode_show then shown_at (get_or rest 0 0) (drop 1 rest)
     else None
 
--- the step at the beginning of some bytes, and what follows it
+-- the step that bytes begin with, and what follows it
 abbrev pub step_of : List ℕ → Option (Step × List ℕ)
 step_of [] = None
 step_of (opcode ∷ rest) = step_with opcode rest
 
--- a step that was read, if one was, and those that its rest gives
+-- a step that was read, followed by those of the rest; or none
 abbrev pub and_others : Option (Step × List ℕ) → (List ℕ → List Step) → List Step
 and_others None others = []
 and_others (Some read) others = read.0 ∷ others read.1
 
--- the steps at the beginning of some bytes, so many at most
+-- the steps that bytes begin with, at most `most` of them
 abbrev pub steps_from : ℕ → List ℕ → List Step
 steps_from zero bytes = []
 steps_from (suc most) bytes = and_others (step_of bytes) (steps_from most)
 
--- all steps at the beginning of some bytes
+-- all steps that bytes begin with
 unfoldable pub steps_in : List ℕ → List Step
 steps_in bytes = steps_from (length bytes) bytes
 
--- what follows a step that was read and those behind it, if one was, and else the bytes
+-- what follows a step that was read and those after it; or the bytes themselves, if none was read
 abbrev pub behind_others : Option (Step × List ℕ) → (List ℕ → List ℕ) → List ℕ → List ℕ
 behind_others None behind bytes = bytes
 behind_others (Some read) behind bytes = behind read.1
 
--- what follows the steps at the beginning of some bytes, so many at most
+-- what follows those steps
 abbrev pub behind_from : ℕ → List ℕ → List ℕ
 behind_from zero bytes = bytes
 behind_from (suc most) bytes = behind_others (step_of bytes) (behind_from most) bytes
 
--- what follows all steps at the beginning of some bytes
+-- what follows all steps that bytes begin with
 unfoldable pub behind_steps : List ℕ → List ℕ
 behind_steps bytes = behind_from (length bytes) bytes
 
--- a step that was read, as an item
+-- the item of a step that was read
 abbrev pub step_item : Option (Step × List ℕ) → Option (Item × List ℕ)
 step_item None = None
 step_item (Some read) = Some (Once read.0, read.1)
 
--- a repeat of this count, with whose steps these bytes begin, and what follows its end
+-- a repeat of this count whose steps these bytes begin with, and what follows its end
 abbrev pub repeat_item : ℕ → List ℕ → Option (Item × List ℕ)
 repeat_item count bytes = Some (Repeated count (steps_in bytes), drop 1 (behind_steps bytes))
 
--- the item of an opcode and what follows that, and what follows the item
+-- the item of an opcode and of the bytes after it, and what follows the item
 abbrev pub item_with : ℕ → List ℕ → Option (Item × List ℕ)
 item_with opcode rest =
     if opcode == opcode_repeat then repeat_item (little_number 2 rest) (drop 2 rest)
     else step_item (step_with opcode rest)
 
--- the item at the beginning of some bytes, and what follows it
+-- the item that bytes begin with, and what follows it
 abbrev pub item_of : List ℕ → Option (Item × List ℕ)
 item_of [] = None
 item_of (opcode ∷ rest) = item_with opcode rest
 
--- an item that was read, if one was, and those that its rest gives
+-- an item that was read, followed by those of the rest; or none
 abbrev pub and_items : Option (Item × List ℕ) → (List ℕ → List Item) → List Item
 and_items None others = []
 and_items (Some read) others = read.0 ∷ others read.1
 
--- the items at the beginning of some bytes, so many at most
+-- the items that bytes begin with, at most `most` of them
 abbrev pub items_from : ℕ → List ℕ → List Item
 items_from zero bytes = []
 items_from (suc most) bytes = and_items (item_of bytes) (items_from most)
 
--- all items at the beginning of some bytes
+-- all items that bytes begin with
 unfoldable pub items_in : List ℕ → List Item
 items_in bytes = items_from (length bytes) bytes
 
--- the version of a byte that is the byte of one
+-- the version of a byte, if the byte is that of a version
 abbrev pub version_of : ℕ → Version
 version_of byte = if byte == version_byte Two then Two else One
 
--- What the bytes of a script spell: the version behind the letters, and the items behind it.
+-- The script that bytes spell: the version after the magic, and the items after the version.
 unfoldable pub listing_of : List ℕ → Listing
 listing_of bytes = listing (version_of (get_or bytes 4 0)) (items_in (drop 5 bytes))

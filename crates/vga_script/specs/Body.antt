@@ -1,4 +1,4 @@
--- What stands behind the steps of a repeat in bytes.
+-- What stands after the steps of a repeat in bytes.
 use Rattle.std.specs.Prelude.{ℕ, ◌≡◌, List, [], ◌∷◌}
 use Rattle.vga_script.specs.declared.items.Behind.{Behind}
 use Rattle.vga_script.specs.declared.items.Behind.TheVariants.{End, Nothing, Bad, Cut}

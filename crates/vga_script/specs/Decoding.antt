@@ -19,8 +19,8 @@ use Rattle.vga_script.specs.Spelling.{opcode_get_word, opcode_int, opcode_advanc
 use Rattle.vga_script.specs.Spelling.{opcode_show, opcode_repeat, opcode_end, spelling, SpellsSteps}
 use Rattle.vga_script.specs.Spelling.{Spells, StartsWithItem}
 
--- How many bytes say what is shown, of which these are the first: the kind, where it is one, and
--- its fields. Where not even the kind is there, that one is missing.
+-- How many bytes a dump has that begins with these: its kind and the fields of that kind, or None
+-- for an unknown kind. Without a byte of a kind it is 1.
 abbrev pub shown_len : List ℕ → Option ℕ
 shown_len [] = Some 1
 shown_len (kind ∷ rest) =
@@ -33,9 +33,8 @@ shown_len (kind ∷ rest) =
     else if kind == kind_cells then Some 1
     else None
 
--- How many bytes of fields belong to an opcode, where it is one, of which these bytes follow it.
--- Those of a call of the BIOS are four registers, the length of the block, which bytes that are not
--- there leave 0, and the block.
+-- How many bytes of fields follow an opcode, or None for an unknown opcode. A call of the BIOS has
+-- four registers, the length of its block, and the block; a length that is cut off counts as 0.
 abbrev pub fields_len : ℕ → List ℕ → Option ℕ
 fields_len opcode rest =
     if opcode == opcode_out then Some 3
@@ -52,14 +51,14 @@ fields_len opcode rest =
     else if opcode == opcode_show then shown_len rest
     else None
 
--- the bytes begin with no opcode, or with a dump of no kind
+-- the bytes begin with no opcode, or with a dump of an unknown kind
 abbrev pub StartsWithNoOpcode : List ℕ → Type 0
 StartsWithNoOpcode bytes = (opcode : ℕ) × (rest : List ℕ) × (bytes ≡ opcode ∷ rest)
     × (fields_len opcode rest ≡ None)
 
--- The bytes begin with a whole dump of a plane that is out of range: at none of the four, at no
--- bytes or more than 256, or past its end. Its offset and its count fit two bytes, since larger
--- numbers are spelled as smaller ones are.
+-- The bytes begin with a whole dump of a plane that is out of range: of no plane, of no bytes or
+-- more than 256, or past the plane's end. The offset and the count are below 65,536, since larger
+-- numbers would be spelled as smaller ones are.
 abbrev pub StartsOutOfRange : List ℕ → Type 0
 StartsOutOfRange bytes =
     (plane : ℕ) × (offset : ℕ) × (count : ℕ) × (rest : List ℕ) × (offset < 2 ^ 16)
@@ -67,7 +66,7 @@ StartsOutOfRange bytes =
     × (bytes ≡ spelling (Show (shown.Plane plane offset count)) ++ rest)
     × (IsShownInRange (shown.Plane plane offset count) → ⊥)
 
--- the bytes begin with what is no step, however they go on
+-- no step begins so, however the bytes go on
 abbrev pub StartsWithBadStep : List ℕ → Type 0
 StartsWithBadStep bytes = StartsWithNoOpcode bytes ⊎ StartsOutOfRange bytes
 
@@ -77,12 +76,12 @@ StartsWithCutStep bytes =
     (opcode : ℕ) × (rest : List ℕ) × (needed : ℕ) × (bytes ≡ opcode ∷ rest)
     × (fields_len opcode rest ≡ Some needed) × (length rest < needed)
 
--- the bytes begin with the opcode of a repeat, which a script of this version may have
+-- the bytes begin with the opcode of a repeat, and this version has repeats
 abbrev pub StartsWithRepeat : Version → List ℕ → Type 0
 StartsWithRepeat version bytes = AllowsRepeats version
     × ((rest : List ℕ) × (bytes ≡ opcode_repeat ∷ rest))
 
--- the bytes begin with a repeat that counts 0
+-- the bytes begin with a repeat whose count is 0
 abbrev pub StartsWithCountZero : Version → List ℕ → Type 0
 StartsWithCountZero version bytes = AllowsRepeats version
     × ((rest : List ℕ) × (bytes ≡ opcode_repeat ∷ (little_bytes 2 0 ++ rest)))
@@ -92,21 +91,21 @@ abbrev pub StartsWithCutCount : Version → List ℕ → Type 0
 StartsWithCutCount version bytes = AllowsRepeats version
     × ((rest : List ℕ) × (bytes ≡ opcode_repeat ∷ rest) × (length rest < 2))
 
--- The bytes begin with what is no item of a script of this version, however they go on: neither a
--- step nor a repeat, or a repeat that counts 0.
+-- No item of a script of this version begins so, however the bytes go on: neither a step nor a
+-- repeat, or a repeat whose count is 0.
 abbrev pub StartsWithBadItem : Version → List ℕ → Type 0
 StartsWithBadItem version bytes = (StartsWithBadStep bytes × (StartsWithRepeat version bytes → ⊥))
     ⊎ StartsWithCountZero version bytes
 
--- the bytes begin with a step that is cut off, or with a repeat whose count is
+-- the bytes begin with a step that is cut off, or with a repeat whose count is cut off
 abbrev pub StartsWithCutItem : Version → List ℕ → Type 0
 StartsWithCutItem version bytes = StartsWithCutStep bytes ⊎ StartsWithCutCount version bytes
 
--- the bytes begin with what may not stand in a repeat: neither a step nor the repeat's end
+-- the bytes begin with what no repeat contains: neither a step nor the repeat's end
 abbrev pub StartsWithBadBody : List ℕ → Type 0
 StartsWithBadBody bytes = StartsWithBadStep bytes × ((rest : List ℕ) → bytes ≢ opcode_end ∷ rest)
 
--- So many good steps stand in these bytes before the rest.
+-- These bytes are `len` good steps, followed by the rest.
 pub record HasStepsBefore (bytes : List ℕ) (len : ℕ) (rest : List ℕ) : Type 0 where
   pub prefix : List ℕ
   pub steps : List Step
@@ -114,8 +113,8 @@ pub record HasStepsBefore (bytes : List ℕ) (len : ℕ) (rest : List ℕ) : Typ
   pub good : SpellsSteps prefix steps
   pub count : len ≡ length steps
 
--- The bytes begin with a repeat, and the rest stand in it, so many bytes behind its opcode: between
--- them are its count and good steps.
+-- The bytes begin with a repeat, and the rest stands in it, `distance` bytes after its opcode.
+-- Between the two are the count and good steps.
 pub record OpensRepeat (version : Version) (bytes : List ℕ) (distance : ℕ)
     (rest : List ℕ) : Type 0 where
   pub count : ℕ
@@ -128,10 +127,10 @@ pub record OpensRepeat (version : Version) (bytes : List ℕ) (distance : ℕ)
   pub good : HasStepsBefore body len rest
   pub distance_is : distance + length rest ≡ length bytes
 
--- The fault of bytes at this offset of a script of this version, behind items that mean so many
--- steps: the item that begins there is bad or cut off, or in its repeat there is a bad step or one
--- that is cut off; or the repeat has no end; or with the item there are more steps than a script
--- may mean. A fault in a repeat stands where its step does, the others at the item.
+-- The fault of bytes at this offset of a script of this version, after items that mean `so_far`
+-- steps. The item that begins there is bad or cut off; or a step in its repeat is bad or cut off;
+-- or the repeat has no end; or with the item the script means more steps than it may. A fault of a
+-- step in a repeat has the offset of that step, the others have that of the item.
 abbrev pub IsItemFault : Version → ℕ → ℕ → List ℕ → Fault → Type 0
 IsItemFault version so_far offset bytes (BadStep at) =
     ((at ≡ offset) × StartsWithBadItem version bytes)
@@ -149,7 +148,7 @@ IsItemFault version so_far offset bytes (TooMany at) =
     × (step_limit < so_far + length (steps_of first)))
 IsItemFault version so_far offset bytes _ = ⊥
 
--- The bytes before this offset spell a script, and the rest stand from there on.
+-- The bytes before this offset spell a script, and the rest begins at this offset.
 pub record SpellsUpTo (bytes : List ℕ) (script : Listing) (offset : ℕ)
     (rest : List ℕ) : Type 0 where
   pub prefix : List ℕ
@@ -157,14 +156,14 @@ pub record SpellsUpTo (bytes : List ℕ) (script : Listing) (offset : ℕ)
   pub good : Spells prefix script
   pub place : offset ≡ length prefix
 
--- after good items the next has this fault
+-- after good items the next one has this fault
 abbrev pub HasItemFault : List ℕ → Fault → Type 0
 HasItemFault bytes fault =
     (script : Listing) × (offset : ℕ) × (rest : List ℕ) × SpellsUpTo bytes script offset rest
     × IsItemFault script.version (length (expanded script.items)) offset rest fault
 
 -- The first fault of bytes that spell no script, in the order of reading: they do not begin with
--- the letters, nothing or no version follows these, or after good items the next has a fault.
+-- the magic; nothing follows it, or no version; or after good items the next one has a fault.
 abbrev pub IsSpellingFault : List ℕ → Fault → Type 0
 IsSpellingFault bytes BadMagic = (rest : List ℕ) → bytes ≢ magic ++ rest
 IsSpellingFault bytes BadVersion = (other : ℕ) × (rest : List ℕ) × (bytes ≡ magic ++ other ∷ rest)
@@ -175,7 +174,8 @@ IsSpellingFault bytes (Truncated at) = ((bytes ≡ magic) × (at ≡ 4))
 IsSpellingFault bytes (TooMany at) = HasItemFault bytes (TooMany at)
 IsSpellingFault bytes _ = ⊥
 
--- the first fault of some bytes: they are too long, before all others, or they spell no script
+-- the first fault of some bytes: they are too long, which comes before all others, or they spell no
+-- script
 abbrev pub IsFault : List ℕ → Fault → Type 0
 IsFault bytes fault = ((fault ≡ TooLong) × (script_limit < length bytes))
     ⊎ ((length bytes ≤ script_limit) × IsSpellingFault bytes fault)

@@ -1,11 +1,11 @@
--- What a step shows: which part of the adapter, within which bounds, and its bytes.
+-- What a step shows: the part of the adapter, its bounds, and its bytes.
 use Rattle.std.specs.Prelude.{ℕ, ◌<◌, ◌≤◌, ◌+◌, ◌^◌, List, [], ◌∷◌, ◌++◌}
 use Rattle.byteorder.specs.Endian.{little_bytes}
 use Rattle.vga_script.specs.declared.dump_range.Shown.{Shown}
 use Rattle.vga_script.specs.declared.dump_range.Shown.TheVariants as shown
 
--- a DAC entry has an index of one byte, and of one of the four planes 1 to 256 bytes are shown,
--- none past its end
+-- The index of a DAC entry is below 256. Of one of the four planes 1 to 256 bytes are shown, none
+-- past the plane's end.
 abbrev pub IsShownInRange : Shown → Type 0
 IsShownInRange shown.Registers = Unit {0}
 IsShownInRange (shown.Dac index) = index < 2 ^ 8
@@ -44,7 +44,7 @@ kind_bios_data = 0x05
 abbrev pub kind_cells : ℕ
 kind_cells = 0x06
 
--- the bytes of what is shown: its kind, and its fields, each with the low byte first
+-- the bytes of what is shown: its kind, and its fields with the low byte first
 abbrev pub shown_spelling : Shown → List ℕ
 shown_spelling shown.Registers = kind_registers ∷ []
 shown_spelling (shown.Dac index) = kind_dac ∷ index ∷ []

@@ -1,4 +1,4 @@
--- Scripts on which the definitions are shown right.
+-- Scripts for the worked examples.
 use Rattle.std.specs.Prelude.{ℕ, List, [], ◌∷◌, ◌++◌, codes, replicate}
 use Rattle.vga_script.specs.declared.step.Step.{Step}
 use Rattle.vga_script.specs.declared.step.Step.TheVariants.{Out, Int, Frame}
@@ -23,18 +23,19 @@ three_times = listing Two (Repeated 3 (Out 0x3C4 2 ∷ []) ∷ [])
 abbrev pub three_times_bytes : List ℕ
 three_times_bytes = codes "VGAS" ++ 2 ∷ 0x0D ∷ 3 ∷ 0 ∷ 1 ∷ 0xC4 ∷ 0x03 ∷ 0x02 ∷ 0x0E ∷ []
 
--- no steps, as often as a repeat counts
+-- a repeat without steps, with the largest count
 abbrev pub nothing_repeated : Listing
 nothing_repeated = listing Two (Repeated 0xFFFF [] ∷ [])
 
--- so many frames. It is opaque, as are their bytes, since they would be written out in every goal.
+-- n frames; opaque, as are their bytes, since every goal would write them out
 unfoldable pub frames : ℕ → List Step
 frames n = replicate n Frame
 
+-- their bytes
 unfoldable pub frame_bytes : ℕ → List ℕ
 frame_bytes n = replicate n 0x0B
 
--- a repeat of so many frames, as often as a repeat counts
+-- n frames in a repeat with the largest count
 abbrev pub frames_repeated : ℕ → Listing
 frames_repeated n = listing Two (Repeated 0xFFFF (frames n) ∷ [])
 

@@ -1,5 +1,5 @@
--- What a reader holds, where it tells its bytes, as one over memory does: all of them, if they are
--- no more than a script may have, and what they spell.
+-- What a reader contains, if its contract says so, as that of a reader over memory does: all its
+-- bytes, if they are no more than a script may have, and what they spell.
 use Rattle.std.specs.Prelude.{ℕ, ◌≡◌, ◌<◌, ◌≤◌, ◌+◌, ◌⊎◌, List, length, Option, IfSome, Result}
 use Rattle.vga_bits.specs.LimitedReading.{TakesAtMost, is_read_fault}
 use Rattle.vga_bits.specs.Tracked.{inner_of, has_failed, read_count_of}
@@ -14,7 +14,7 @@ use Rattle.vga_script.specs.Script.{IsScript}
 use Rattle.vga_script.specs.Spelling.{script_limit, Spells}
 use Rattle.vga_script.specs.Text.{SpellsText}
 
--- these bytes are all that the reader had, and no more than a script may have
+-- these bytes are all that the reader had, and they are no more than a script may have
 abbrev pub IsInput : Option (List ℕ) → List ℕ → Type 0
 IsInput input bytes = IfSome input (λ all. all ≡ bytes) × (length bytes ≤ script_limit)
 
@@ -22,7 +22,7 @@ IsInput input bytes = IfSome input (λ all. all ≡ bytes) × (length bytes ≤ 
 abbrev pub IsTooLong : Option (List ℕ) → Type 0
 IsTooLong input = IfSome input (λ all. script_limit < length all)
 
--- why not all bytes of a reader were read: it failed, it had too many, or memory ran out
+-- why the bytes of a reader were not all read: it failed, it had too many, or an allocation failed
 abbrev pub IsReadingFault : Option (List ℕ) → Fault → Type 0
 IsReadingFault input fault = (fault ≡ ReadFault) ⊎ (((fault ≡ TooLong) × IsTooLong input)
     ⊎ (fault ≡ OutOfMemory))
@@ -44,9 +44,9 @@ abbrev pub InputSpellsText : Option (List ℕ) → Listing → Type 0
 InputSpellsText input script = (text : List ℕ) × IsInput input text × SpellsText text script
     × IsScript script
 
--- What a call does to the reader of a script, whose bytes are told by `remaining`: it fails exactly
--- where the call says so, and at most one byte more is taken of any reader than a script may have,
--- counted as the bytes come.
+-- What a call does to the reader of a script, whose bytes `remaining` gives. The reader has failed
+-- exactly if the call says so. At most one byte more is taken than a script may have, by the bytes
+-- themselves and by the count of bytes that were read.
 abbrev pub ReadsScript : {R A : Type 0} → (R → Option (List ℕ)) → TrackedState R → TrackedState R →
     Result A Fault → Type 0
 ReadsScript remaining old new result = (has_failed new ≡ is_read_fault result)

@@ -1,4 +1,5 @@
--- The printed text of a script: a line for each step, and for each beginning and end of a repeat.
+-- The printed text of a script: a line for each step, and for the beginning and the end of each
+-- repeat.
 use Rattle.std.specs.Prelude.{ℕ, nat_lt, if◌then◌else◌, List, [], ◌∷◌, ◌++◌, codes, decimal}
 use Rattle.std.specs.List.{join_with_byte, flat_map}
 use Rattle.hex.specs.Hex.{encode_upper}
@@ -25,7 +26,8 @@ address_text address =
     else if nat_lt address 0x1000_0000 then hex 7 address
     else hex 8 address
 
--- the words of a block: its name, and two digits in upper case for each byte; an empty one has none
+-- the words of a block: `block`, and two digits in upper case for each byte; an empty block has
+-- none
 abbrev pub block_words : List ℕ → List (List ℕ)
 block_words [] = []
 block_words (byte ∷ bytes) = codes "block" ∷ encode_upper (byte ∷ bytes) ∷ []
@@ -61,7 +63,7 @@ field_words (Show what) = shown_name what ∷ shown_field_words what
 abbrev pub printed_words : Step → List (List ℕ)
 printed_words step = name_of (keyword_of step) ∷ field_words step
 
--- a line of these words, with one space between two of them, and a newline
+-- a line of these words, separated by one space each, and a newline
 unfoldable pub line_of : List (List ℕ) → List ℕ
 line_of words = join_with_byte 0x20 words ++ 0x0A ∷ []
 
@@ -73,15 +75,15 @@ printed_line step = line_of (printed_words step)
 abbrev pub printed_steps : List Step → List ℕ
 printed_steps steps = flat_map printed_line steps
 
--- the printed text of an item: the line of a step; or that of the beginning of a repeat, those of
--- its steps, and that of its end
+-- the printed text of an item: the line of a step; or the line that begins a repeat, those of its
+-- steps, and the line that ends it
 abbrev pub printed_item : Item → List ℕ
 printed_item (Once step) = printed_line step
 printed_item (Repeated count steps) =
     line_of (codes "repeat" ∷ decimal count ∷ []) ++ (printed_steps steps
     ++ line_of (codes "end" ∷ []))
 
--- the line that says the version of a script, where it is not 1
+-- the line that gives the version of a script, unless it is 1
 abbrev pub version_line : Version → List ℕ
 version_line One = []
 version_line Two = line_of (codes "version" ∷ codes "2" ∷ [])

@@ -1,4 +1,4 @@
--- How far a walk through the bytes of a script has come, and the steps that are left there.
+-- A position in the bytes of a script, and the steps that are left from there on.
 use Rattle.std.specs.Prelude.{ℕ, ◌≡◌, ◌⊎◌, ◌+◌, ◌<◌, List, [], ◌∷◌, ◌++◌, length, drop}
 use Rattle.std.specs.List.{flat_map}
 use Rattle.vga_script.specs.declared.step.Step.{Step}
@@ -8,22 +8,22 @@ use Rattle.vga_script.specs.Item.{Item, repeated, expanded, AreItemsOf}
 use Rattle.vga_script.specs.Spelling.{opcode_end, spelling, item_spelling, StartsWithStep}
 use Rattle.vga_script.specs.Step.{AreInRange}
 
--- The steps that are left where the rest of a script's bytes stands: between items, where there is
--- no body; or in a repeat with this body, behind whose end the repeat is taken so often again.
+-- The steps that are left from the rest of a script's bytes on: between items, if there is no body;
+-- or in a repeat with this body, which is taken `left` more times once its end is reached.
 unfoldable pub steps_left : ℕ → List ℕ → List ℕ → List Step
 steps_left left [] rest = expanded (items_in rest)
 steps_left left (byte ∷ body) rest = steps_in rest ++ (repeated left (steps_in (byte ∷ body))
     ++ expanded (items_in (drop 1 (behind_steps rest))))
 
--- Between items: no repeat has begun, and the rest spells items.
+-- Between items: the rest spells items.
 pub record IsOutside (body rest : List ℕ) : Type 0 where
   pub items : List Item
   pub fit : AreItemsOf Two items
   pub none : body ≡ []
   pub spelled : rest ≡ flat_map item_spelling items
 
--- In a repeat: its steps are done up to the rest, which spells those to do, the repeat's end, and
--- items.
+-- In a repeat: the steps before the rest are done. The rest spells those still to do, the repeat's
+-- end, and items.
 pub record IsInside (body rest : List ℕ) : Type 0 where
   pub done : List Step
   pub todo : List Step
@@ -36,16 +36,16 @@ pub record IsInside (body rest : List ℕ) : Type 0 where
       ++ opcode_end ∷ flat_map item_spelling items)
   pub spelled : rest ≡ flat_map spelling todo ++ opcode_end ∷ flat_map item_spelling items
 
--- where the rest of a script's bytes stands
+-- the rest stands in one of the two ways
 abbrev pub Stands : List ℕ → List ℕ → Type 0
 Stands body rest = IsOutside body rest ⊎ IsInside body rest
 
--- nothing is left, or a step stands at the beginning
+-- the bytes are empty, or begin with a step
 abbrev pub BeginsWithStep : List ℕ → Type 0
 BeginsWithStep rest = (rest ≡ []) ⊎ ((step : Step) × (others : List ℕ)
     × StartsWithStep rest step others)
 
--- The walk goes on, and the steps that are left stay the same.
+-- The position moves on, and the steps that are left stay the same.
 pub record Reaches (left : ℕ) (body rest : List ℕ) (left_there : ℕ)
     (body_there rest_there : List ℕ) : Type 0 where
   pub stands : Stands body_there rest_there

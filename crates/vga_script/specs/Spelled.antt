@@ -1,4 +1,4 @@
--- What stands in the bytes of a script, and taking steps one after the other.
+-- Items that are read from the bytes of a script, and taking steps one after another.
 use Rattle.std.specs.Prelude.{ℕ, ◌≡◌, ◌≤◌, List, [], ◌∷◌, Option, None, Some, length}
 use Rattle.vga_script.specs.declared.step.Step.{Step}
 use Rattle.vga_script.specs.declared.spelled_item.SpelledItem.{SpelledItem}
@@ -12,7 +12,7 @@ abbrev pub spelled_item : SpelledItem → Item
 spelled_item (spelled.Step step) = Once step
 spelled_item (spelled.Block count len steps) = Repeated count (steps_in steps.now)
 
--- where it is a repeat, its bytes spell so many steps
+-- the bytes of a repeat spell `len` steps
 abbrev pub HasBody : SpelledItem → Type 0
 HasBody (spelled.Step step) = Unit {0}
 HasBody (spelled.Block count len steps) = SpellsSteps steps.now (steps_in steps.now)
@@ -23,7 +23,7 @@ abbrev pub SpellsExpanded : List ℕ → List Step → Type 0
 SpellsExpanded bytes steps = (script : Listing) × Spells bytes script
     × (steps ≡ expanded script.items)
 
--- of these steps the first is taken, if there is one, and those are left
+-- the first of these steps is taken, if there is one, and the others are left
 abbrev pub TakesFirst : List Step → List Step → Option Step → Type 0
 TakesFirst steps left None = (steps ≡ []) × (left ≡ [])
 TakesFirst steps left (Some step) = steps ≡ step ∷ left

@@ -1,4 +1,4 @@
--- What a script is in bytes: the letters VGAS, the version, and the items one after the other.
+-- The bytes of a script: the magic VGAS, the version, and the items in order.
 use Rattle.std.specs.Prelude.{ℕ, ◌≡◌, ◌≤◌, List, [], ◌∷◌, ◌++◌, length}
 use Rattle.std.specs.List.{flat_map}
 use Rattle.byteorder.specs.Endian.{little_bytes}
@@ -11,15 +11,15 @@ use Rattle.vga_script.specs.DumpRange.{shown_spelling}
 use Rattle.vga_script.specs.Step.{IsInRange}
 use Rattle.vga_script.specs.Version.{version_byte}
 
--- how many bytes a script may have, and a text that spells one
+-- how many bytes a script may have, and how many a text
 abbrev pub script_limit : ℕ
 script_limit = 16777216
 
--- the letters VGAS
+-- the magic
 abbrev pub magic : List ℕ
 magic = 0x56 ∷ 0x47 ∷ 0x41 ∷ 0x53 ∷ []
 
--- what stands before the items: the letters and the version
+-- the header, which stands before the items: the magic and the version
 abbrev pub header : Version → List ℕ
 header version = magic ++ version_byte version ∷ []
 
@@ -63,7 +63,7 @@ opcode_int = 0x09
 abbrev pub opcode_advance : ℕ
 opcode_advance = 0x0A
 
--- the opcode of a frame that is drawn
+-- the opcode of a step that draws a frame
 abbrev pub opcode_frame : ℕ
 opcode_frame = 0x0B
 
@@ -75,12 +75,12 @@ opcode_show = 0x0C
 abbrev pub opcode_repeat : ℕ
 opcode_repeat = 0x0D
 
--- the opcode that ends it
+-- the opcode that ends a repeat
 abbrev pub opcode_end : ℕ
 opcode_end = 0x0E
 
--- the bytes of a step: its opcode, and its fields, each with the low byte first; a block has its
--- length before it
+-- the bytes of a step: its opcode, then its fields with the low byte first; the length of a block
+-- stands before the block
 abbrev pub spelling : Step → List ℕ
 spelling (Out port value) = opcode_out ∷ (little_bytes 2 port ++ value ∷ [])
 spelling (OutWord port value) = opcode_out_word ∷ (little_bytes 2 port ++ little_bytes 2 value)
@@ -98,7 +98,7 @@ spelling (Advance dots) = opcode_advance ∷ little_bytes 4 dots
 spelling Frame = opcode_frame ∷ []
 spelling (Show what) = opcode_show ∷ shown_spelling what
 
--- the bytes of an item: those of a step; or the opcode of a repeat, its count, its steps, and the
+-- the bytes of an item: those of its step; or the opcode of a repeat, its count, its steps, and the
 -- opcode of its end
 abbrev pub item_spelling : Item → List ℕ
 item_spelling (Once step) = spelling step
@@ -109,28 +109,28 @@ item_spelling (Repeated count steps) = opcode_repeat ∷ (little_bytes 2 count
 abbrev pub encoding : Listing → List ℕ
 encoding script = header script.version ++ flat_map item_spelling script.items
 
--- the bytes begin with this step, and go on with the rest
+-- the bytes begin with this step, and the rest follows it
 abbrev pub StartsWithStep : List ℕ → Step → List ℕ → Type 0
 StartsWithStep bytes step rest = IsInRange step × (bytes ≡ spelling step ++ rest)
 
--- bytes that spell these steps, one after the other, and nothing else
+-- the bytes spell these steps, in order, and nothing else
 abbrev pub SpellsSteps : List ℕ → List Step → Type 0
 SpellsSteps bytes [] = bytes ≡ []
 SpellsSteps bytes (step ∷ steps) = (rest : List ℕ) × StartsWithStep bytes step rest
     × SpellsSteps rest steps
 
--- the bytes begin with this item, which a script of this version may have, and go on with the rest
+-- the bytes begin with this item, which this version allows, and the rest follows it
 abbrev pub StartsWithItem : Version → List ℕ → Item → List ℕ → Type 0
 StartsWithItem version bytes first rest = IsItemOf version first
     × (bytes ≡ item_spelling first ++ rest)
 
--- bytes that spell these items, one after the other, and nothing else
+-- the bytes spell these items, in order, and nothing else
 abbrev pub SpellsItems : Version → List ℕ → List Item → Type 0
 SpellsItems version bytes [] = bytes ≡ []
 SpellsItems version bytes (first ∷ others) = (rest : List ℕ)
     × StartsWithItem version bytes first rest × SpellsItems version rest others
 
--- bytes that spell a script, whose items mean no more steps than a script may
+-- the bytes spell a script that means no more steps than a script may
 abbrev pub Spells : List ℕ → Listing → Type 0
 Spells bytes script =
     (rest : List ℕ) × (bytes ≡ header script.version ++ rest)

@@ -1,4 +1,4 @@
--- Steps whose fields fit their bytes.
+-- Steps whose fields fit into their bytes.
 use Rattle.std.specs.Prelude.{ℕ, ◌<◌, ◌^◌, List, length}
 use Rattle.std.specs.List.{AllByRecursion}
 use Rattle.vga_script.specs.declared.step.Step.{Step}
@@ -6,11 +6,11 @@ use Rattle.vga_script.specs.DumpRange.{IsShownInRange}
 use Rattle.vga_script.specs.declared.step.Step.TheVariants.{Out, OutWord, In, InWord, Put, PutWord}
 use Rattle.vga_script.specs.declared.step.Step.TheVariants.{Get, GetWord, Int, Advance, Frame, Show}
 
--- bytes, no more of them than two bytes can count
+-- a block of at most 65,535 bytes
 abbrev pub IsBlock : List ℕ → Type 0
 IsBlock block = (length block < 2 ^ 16) × AllByRecursion (λ byte. byte < 2 ^ 8) block
 
--- the fields of a step fit their bytes
+-- the fields of a step fit into their bytes
 abbrev pub IsInRange : Step → Type 0
 IsInRange (Out port value) = (port < 2 ^ 16) × (value < 2 ^ 8)
 IsInRange (OutWord port value) = (port < 2 ^ 16) × (value < 2 ^ 16)
@@ -26,6 +26,6 @@ IsInRange (Advance dots) = dots < 2 ^ 32
 IsInRange Frame = Unit {0}
 IsInRange (Show what) = IsShownInRange what
 
--- and those of all steps do
+-- the fields of all steps do
 abbrev pub AreInRange : List Step → Type 0
 AreInRange steps = AllByRecursion IsInRange steps

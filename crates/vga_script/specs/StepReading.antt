@@ -1,5 +1,5 @@
--- How the words behind a step's name are read, from the left. Public clauses cite none of this:
--- what is read is what words spell, and the proofs join the two.
+-- How the words after a step's name are read, from the left. No public clause cites this: the
+-- proofs show that it reads what the words spell.
 use Rattle.std.specs.Prelude.{ℕ, ◌≡◌, ◌+◌, ◌*◌, ◌&&◌, nat_lt, nat_le, if◌then◌else◌, List, [], ◌∷◌}
 use Rattle.std.specs.Prelude.{length, take, drop, Option, Some, None, Result, Ok, Err, codes}
 use Rattle.std.specs.Char.{digit_value, is_digit}
@@ -17,39 +17,39 @@ use Rattle.vga_script.specs.declared.step_reading.Unread.{Unread}
 use Rattle.vga_script.specs.declared.step_reading.Unread.TheVariants as unread
 use Rattle.vga_script.specs.Tokens.{lowered}
 
--- what the second step reads after the first, where both read something
+-- the second reads after the first, if the first has read something
 infixl 10 ◌>>=◌
 abbrev pub ◌>>=◌ : {A B : Type 0} → Option A → (A → Option B) → Option B
 (Some x) >>= f = f x
 None >>= f = None
 
--- what is read where the code read nothing: nothing, or anything, where memory ran out
+-- what is read if the code reads nothing: nothing; or anything, if an allocation failed
 abbrev pub ReadsNothing : {Y : Type 0} → Unread → Option Y → Type 0
 ReadsNothing unread.Bad read = read ≡ None
 ReadsNothing unread.OutOfMemory read = Unit {0}
 
--- the code gives what is read, unless memory ran out
+-- the code gives what is read, unless an allocation fails
 abbrev pub Gives : {X Y : Type 0} → (X → Y) → Result X Unread → Option Y → Type 0
 Gives view (Ok x) read = read ≡ Some (view x)
 Gives view (Err e) read = ReadsNothing e read
 
--- the number that n and these digits behind it spell, where it is no larger than `most`
+-- the number that these digits spell after n, if it is at most `most`
 abbrev pub number_from : ℕ → ℕ → ℕ → List ℕ → Option ℕ
 number_from radix most n [] = Some n
 number_from radix most n (c ∷ cs) =
     if is_digit c radix && nat_le (n * radix + digit_value c) most
     then number_from radix most (n * radix + digit_value c) cs else None
 
--- the number that a word spells, where it spells one no larger than `most`
+-- the number that a word spells, if it spells one of at most `most`
 unfoldable pub number_of : ℕ → ℕ → List ℕ → Option ℕ
 number_of radix most [] = None
 number_of radix most (c ∷ cs) = number_from radix most 0 (c ∷ cs)
 
--- a hexadecimal number of at most so many digits
+-- a hexadecimal number of at most `digits` digits, itself at most `most`
 unfoldable pub hex_of : ℕ → ℕ → List ℕ → Option ℕ
 hex_of digits most word = if nat_le (length word) digits then number_of 16 most word else None
 
--- the same, and the words behind it
+-- the same of the first word, and the words after it
 unfoldable pub hex_at : ℕ → ℕ → List (List ℕ) → Option (ℕ × List (List ℕ))
 hex_at digits most [] = None
 hex_at digits most (w ∷ ws) = hex_of digits most w >>= λ n. Some (n, ws)
@@ -74,7 +74,7 @@ two_hex digits most other_digits other_most ws = do
   e ← ended m.1
   Some (n.0, m.0)
 
--- a decimal number, and the words behind it
+-- a decimal number, and the words after it
 abbrev pub decimal_at : ℕ → List (List ℕ) → Option (ℕ × List (List ℕ))
 decimal_at most [] = None
 decimal_at most (w ∷ ws) = number_of 10 most w >>= λ n. Some (n, ws)
@@ -86,24 +86,25 @@ one_decimal most ws = do
   e ← ended n.1
   Some n.0
 
--- a register, where its name is the prefix of the first word, or 0
+-- the register of this name, if the first word is that register, and 0 otherwise; and the words
+-- after it
 unfoldable pub register_at : List ℕ → List (List ℕ) → Option (ℕ × List (List ℕ))
 register_at name [] = Some (0, [])
 register_at name (w ∷ ws) =
     if bytes_eq (lowered (take 3 w)) name then (hex_of 4 0xFFFF (drop 3 w) >>= λ n. Some (n, ws))
     else Some (0, w ∷ ws)
 
--- the bytes that digits spell
+-- the bytes that the digits of a block spell
 abbrev pub decoded : Result (List ℕ) FromHexError → Option (List ℕ)
 decoded (Ok bytes) = Some bytes
 decoded (Err e) = None
 
--- the bytes of a word that has at least one byte's digits, and no more than a block may have
+-- the bytes of a word that has the digits of 1 to 65,535 bytes
 unfoldable pub bytes_of : List ℕ → Option (List ℕ)
 bytes_of word = if nat_lt 0 (length word) && nat_le (length word) 131070
     then decoded (decode_of word) else None
 
--- the digits of a block behind its name, and no other word
+-- the bytes of the word after `block`, and no other word
 unfoldable pub digits_at : List (List ℕ) → Option (List ℕ)
 digits_at [] = None
 digits_at (w ∷ ws) = do
@@ -126,7 +127,7 @@ read_int ws = do
   block ← block_at d.1
   Some (Int a.0 b.0 c.0 d.0 block)
 
--- what is shown, and no other word
+-- what is shown, if no word is left
 unfoldable pub alone : Shown → List (List ℕ) → Option Shown
 alone what ws = ended ws >>= λ e. Some what
 
@@ -134,7 +135,7 @@ alone what ws = ended ws >>= λ e. Some what
 unfoldable pub read_dac : List (List ℕ) → Option Shown
 read_dac ws = one_hex 2 0xFF ws >>= λ n. Some (shown.Dac n)
 
--- the bytes of a plane that are shown, at least one, none past its end
+-- the bytes of a plane that are shown: 1 to 256, none past its end
 unfoldable pub read_plane : List (List ℕ) → Option Shown
 read_plane ws = do
   p ← hex_at 1 3 ws
@@ -155,7 +156,7 @@ read_shown (w ∷ ws) =
     else if bytes_eq (lowered w) (codes "cells") then alone shown.Cells ws
     else None
 
--- the step of this name that words spell
+-- the step that a keyword and the words after it spell
 unfoldable pub read_step : Keyword → List (List ℕ) → Option Step
 read_step keyword.Out ws = two_hex 4 0xFFFF 2 0xFF ws >>= λ n. Some (Out n.0 n.1)
 read_step keyword.OutWord ws = two_hex 4 0xFFFF 4 0xFFFF ws >>= λ n. Some (OutWord n.0 n.1)

@@ -1,5 +1,5 @@
--- What a script is in text: each line has the words of one step, or no word; or, in version 2,
--- begins or ends a repeat.
+-- What a script is as text: each line has the words of one step, or none; in version 2 it may also
+-- begin or end a repeat.
 use Rattle.std.specs.Prelude.{ℕ, ◌≡◌, ◌<◌, ◌≤◌, ◌+◌, ◌^◌, ◌⊎◌, List, [], ◌∷◌, ◌++◌, length, map}
 use Rattle.std.specs.Prelude.{codes, Ok}
 use Rattle.std.specs.List.{AllByRecursion, flat_map}
@@ -35,7 +35,7 @@ name_of keyword.Advance = codes "advance"
 name_of keyword.Frame = codes "frame"
 name_of keyword.Show = codes "show"
 
--- which of these words is a step's
+-- the keyword of a step
 abbrev pub keyword_of : Step → Keyword
 keyword_of (Out port value) = keyword.Out
 keyword_of (OutWord port value) = keyword.OutWord
@@ -50,17 +50,17 @@ keyword_of (Advance dots) = keyword.Advance
 keyword_of Frame = keyword.Frame
 keyword_of (Show what) = keyword.Show
 
--- one word, a hexadecimal number of at most so many digits
+-- one word, a hexadecimal number of at most `most` digits
 abbrev pub SpellsHex : ℕ → List (List ℕ) → ℕ → Type 0
 SpellsHex most fields n = (word : List ℕ) × (fields ≡ word ∷ []) × IsHex most word n
 
--- two words, each a hexadecimal number of at most so many digits
+-- two words, each a hexadecimal number with a limit for its digits
 abbrev pub SpellsTwoHex : ℕ → ℕ → List (List ℕ) → ℕ → ℕ → Type 0
 SpellsTwoHex most_first most_second fields first second =
     (word : List ℕ) × (other : List ℕ) × (fields ≡ word ∷ other ∷ []) × IsHex most_first word first
     × IsHex most_second other second
 
--- no word, and then the register is 0; or one word, which is the register's name and a number of at
+-- no word, which means that the register is 0; or one word, the register's name and a number of at
 -- most four digits
 abbrev pub SpellsRegister : List ℕ → List (List ℕ) → ℕ → Type 0
 SpellsRegister name fields value =
@@ -72,7 +72,7 @@ SpellsRegister name fields value =
 abbrev pub SpellsBytes : List ℕ → List ℕ → Type 0
 SpellsBytes digits bytes = decode_of digits ≡ Ok bytes
 
--- no word, and then the block is empty; or `block` and the digits of its bytes, 1 to 65,535 of them
+-- no word, which means that the block is empty; or `block` and the digits of 1 to 65,535 bytes
 abbrev pub SpellsBlock : List (List ℕ) → List ℕ → Type 0
 SpellsBlock fields block =
     ((fields ≡ []) × (block ≡ []))
@@ -90,7 +90,7 @@ shown_name (shown.Plane plane offset count) = codes "plane"
 shown_name shown.BiosData = codes "bda"
 shown_name shown.Cells = codes "cells"
 
--- the words that follow it
+-- the words that follow that name
 abbrev pub SpellsShownFields : List (List ℕ) → Shown → Type 0
 SpellsShownFields fields shown.Registers = fields ≡ []
 SpellsShownFields fields (shown.Dac index) = SpellsHex 2 fields index
@@ -130,14 +130,14 @@ SpellsFields fields (Advance dots) = (word : List ℕ) × (fields ≡ word ∷ [
 SpellsFields fields Frame = fields ≡ []
 SpellsFields fields (Show what) = SpellsShown fields what
 
--- the words of a line: none for no step, or those of one step
+-- the words of a line: none, which spell no step, or those of one step
 abbrev pub SpellsLine : List (List ℕ) → List Step → Type 0
 SpellsLine [] steps = steps ≡ []
 SpellsLine (first ∷ fields) steps =
     (step : Step) × (steps ≡ step ∷ []) × (lowered first ≡ name_of (keyword_of step))
     × SpellsFields fields step
 
--- lines that spell these steps, one after the other
+-- these lines spell these steps, in order
 abbrev pub SpellsLines : List (List ℕ) → List Step → Type 0
 SpellsLines [] steps = steps ≡ []
 SpellsLines (line ∷ others) steps =
@@ -151,45 +151,45 @@ SpellsRepeat fields count =
     × (lowered first ≡ codes "repeat")
     × IsNumeral 10 number count × (0 < count) × (count < 2 ^ 16)
 
--- the word of a line that ends it
+-- the word of a line that ends a repeat
 abbrev pub IsEnd : List (List ℕ) → Type 0
 IsEnd fields = (first : List ℕ) × (fields ≡ first ∷ []) × (lowered first ≡ codes "end")
 
--- the words of the line that says version 2
+-- the words of the line that gives version 2
 abbrev pub IsVersionTwo : List (List ℕ) → Type 0
 IsVersionTwo fields = (first : List ℕ) × (fields ≡ first ∷ codes "2" ∷ [])
     × (lowered first ≡ codes "version")
 
--- Lines of a text, and the items that they spell together.
+-- Some lines of a text, and the items that they spell together.
 pub record Group : Type 0 where
   pub lines : List (List ℕ)
   pub items : List Item
 
--- one line, of a step or of no word
+-- one line, with a step or without a word
 abbrev pub IsLine : Group → Type 0
 IsLine group = (line : List ℕ) × (steps : List Step) × (group.lines ≡ line ∷ [])
     × (group.items ≡ map Once steps) × SpellsLine (words line) steps
 
--- the lines of a repeat: that of its beginning, those of its steps, and that of its end
+-- the lines of a repeat: the one that begins it, those of its steps, and the one that ends it
 abbrev pub IsRepeatOfLines : Group → Type 0
 IsRepeatOfLines group =
     (first : List ℕ) × (count : ℕ) × (body : List (List ℕ)) × (steps : List Step) × (last : List ℕ)
     × (group.lines ≡ first ∷ (body ++ last ∷ [])) × (group.items ≡ Repeated count steps ∷ [])
     × SpellsRepeat (words first) count × SpellsLines body steps × IsEnd (words last)
 
--- lines that together spell one item of a script of this version, or none
+-- these lines together spell one item that this version allows, or none
 abbrev pub IsGroup : Version → Group → Type 0
 IsGroup version group = IsLine group ⊎ (AllowsRepeats version × IsRepeatOfLines group)
 
--- lines that spell these items, group by group
+-- these lines spell these items, group by group
 abbrev pub SpellsGroups : Version → List (List ℕ) → List Item → Type 0
 SpellsGroups version ls items =
     (groups : List Group) × (ls ≡ flat_map (λ group. group.lines) groups)
     × (items ≡ flat_map (λ group. group.items) groups)
     × AllByRecursion (IsGroup version) groups
 
--- The first of these lines that has a word says version 2, and the rest stand behind it, the first
--- of them with this number.
+-- The first of these lines with a word gives version 2. The rest stands after it, and its first
+-- line has the number n.
 pub record SaysVersionTwo (ls : List (List ℕ)) (n : ℕ) (rest : List (List ℕ)) : Type 0 where
   pub before : List (List ℕ)
   pub line : List ℕ
@@ -198,21 +198,20 @@ pub record SaysVersionTwo (ls : List (List ℕ)) (n : ℕ) (rest : List (List �
   pub whole : ls ≡ before ++ line ∷ rest
   pub number : n ≡ length before + 2
 
--- where the lines of the items of a script of this version begin in a text, and with which number:
--- those of version 1 are all its lines, those of version 2 stand behind the line that says so
+-- The lines of the items of a script of this version begin at this line of a text. In version 1
+-- they are all its lines, in version 2 those after the line that gives the version.
 abbrev pub StandFrom : Version → List (List ℕ) → ℕ → List (List ℕ) → Type 0
 StandFrom One ls n rest = (n ≡ 1) × (rest ≡ ls)
 StandFrom Two ls n rest = SaysVersionTwo ls n rest
 
--- a text that spells a script, whose items mean no more steps than a script may
+-- the text spells a script that means no more steps than a script may
 abbrev pub SpellsText : List ℕ → Listing → Type 0
 SpellsText text script =
     (n : ℕ) × (rest : List (List ℕ)) × StandFrom script.version (lines text) n rest
     × SpellsGroups script.version rest script.items
     × (length (expanded script.items) ≤ step_limit)
 
--- a line outside repeats of a script of this version that spells neither a step nor the beginning
--- of a repeat
+-- a line outside repeats that spells neither a step nor, in this version, the beginning of a repeat
 abbrev pub IsBadOutside : Version → List ℕ → Type 0
 IsBadOutside version line =
     ((steps : List Step) → SpellsLine (words line) steps → ⊥)
@@ -223,8 +222,8 @@ abbrev pub IsBadInside : List ℕ → Type 0
 IsBadInside line = ((steps : List Step) → SpellsLine (words line) steps → ⊥)
     × (IsEnd (words line) → ⊥)
 
--- The lines begin with a repeat, and the rest stand in it, so many lines behind its first: between
--- them are lines of steps.
+-- The lines begin with a repeat, and the rest stands in it, `distance` lines after its first.
+-- Between the two are lines of steps.
 pub record OpensLines (version : Version) (ls : List (List ℕ)) (distance : ℕ)
     (rest : List (List ℕ)) : Type 0 where
   pub first : List ℕ
@@ -237,10 +236,10 @@ pub record OpensLines (version : Version) (ls : List (List ℕ)) (distance : ℕ
   pub whole : ls ≡ first ∷ (body ++ rest)
   pub distance_is : distance ≡ length body + 1
 
--- Why the line of this number is bad, from which on these lines stand in a script of this version
--- behind items that mean so many steps: it is bad outside repeats; or a later line is in its
--- repeat, or the repeat has no end; or with the group that begins there are more steps than a
--- script may mean.
+-- Why line `bad` is bad, where these lines begin with line n of a script of this version, after
+-- items that mean `so_far` steps. Line n is bad outside repeats; or a later line is bad in the
+-- repeat that line n begins; or that repeat has no end; or with the group that line n begins the
+-- script means more steps than it may.
 abbrev pub IsGroupFault : Version → ℕ → ℕ → List (List ℕ) → ℕ → Type 0
 IsGroupFault version so_far n ls bad =
     ((bad ≡ n) × ((line : List ℕ) × (others : List (List ℕ)) × (ls ≡ line ∷ others)
@@ -251,8 +250,8 @@ IsGroupFault version so_far n ls bad =
     ⊎ ((bad ≡ n) × ((group : Group) × (others : List (List ℕ)) × (ls ≡ group.lines ++ others)
     × IsGroup version group × (step_limit < so_far + length (expanded group.items))))))
 
--- The lines of a text before that of this number, counted from 1, spell a script, and these lines
--- are left. A text whose first line with a word does not say version 2 is read as one of version 1.
+-- The lines of a text before line n, counted from 1, spell a script, and the rest begins with line
+-- n. If the first line with a word does not give version 2, the text is of version 1.
 pub record SpellsLinesUpTo (text : List ℕ) (script : Listing) (n : ℕ)
     (left : List (List ℕ)) : Type 0 where
   pub start : ℕ
@@ -266,7 +265,7 @@ pub record SpellsLinesUpTo (text : List ℕ) (script : Listing) (n : ℕ)
   pub few : length (expanded script.items) ≤ step_limit
   pub number : n ≡ start + length prefix
 
--- the line of this number is the first bad line: after good groups it makes the next bad
+-- line n is the first bad line: the groups before it are good, and it makes the next one bad
 abbrev pub IsBadLine : List ℕ → ℕ → Type 0
 IsBadLine text bad =
     (script : Listing) × (n : ℕ) × (left : List (List ℕ)) × SpellsLinesUpTo text script n left

@@ -7,15 +7,15 @@ use Rattle.std.specs.Str.Parse.{AllDigits, digits_value}
 use Rattle.vga_script.specs.declared.tokens.End.{End}
 use Rattle.vga_script.specs.declared.tokens.End.TheVariants as end
 
--- a newline ends a line
+-- a newline, which ends a line
 abbrev pub is_newline : ℕ → Bool
 is_newline byte = byte == 0x0A
 
--- a space, a tab or a carriage return stands between words
+-- a space, a tab or a carriage return, which stand between words
 abbrev pub is_blank : ℕ → Bool
 is_blank byte = (byte == 0x20) || (byte == 0x09) || (byte == 0x0D)
 
--- a semicolon begins a comment
+-- a semicolon, which begins a comment
 abbrev pub is_semicolon : ℕ → Bool
 is_semicolon byte = byte == 0x3B
 
@@ -28,11 +28,11 @@ has_bytes (byte ∷ bytes) = true
 abbrev pub lines : List ℕ → List (List ℕ)
 lines text = slice_split is_newline text
 
--- the words of some bytes: what stands between blanks, and has at least one byte
+-- the words of some bytes: what stands between blanks, if it has at least one byte
 abbrev pub words_in : List ℕ → List (List ℕ)
 words_in bytes = filter has_bytes (slice_split is_blank bytes)
 
--- the words of a line: those before a comment
+-- the words of a line: those before its comment
 abbrev pub words : List ℕ → List (List ℕ)
 words line = words_in (before_first is_semicolon line)
 
@@ -40,20 +40,20 @@ words line = words_in (before_first is_semicolon line)
 abbrev pub lowered : List ℕ → List ℕ
 lowered word = map to_ascii_lowercase word
 
--- at least one digit of this radix, in either case, and the number that the digits spell
+-- at least one digit of this radix, in either case, and the number that these digits spell
 abbrev pub IsNumeral : ℕ → List ℕ → ℕ → Type 0
 IsNumeral radix word n = (0 < length word) × AllDigits radix word × (n ≡ digits_value radix word)
 
--- a hexadecimal number of at most so many digits
+-- a hexadecimal number of at most `most` digits
 abbrev pub IsHex : ℕ → List ℕ → ℕ → Type 0
 IsHex most word n = (length word ≤ most) × IsNumeral 16 word n
 
--- the lines of what is left of a text, where something is
+-- the lines of the rest of a text, or none if there is no rest
 abbrev pub lines_left : Option (List ℕ) → List (List ℕ)
 lines_left None = []
 lines_left (Some text) = lines text
 
--- how many bytes are left of a text, and one more for its end, where something is
+-- the length of the rest of a text, plus 1 for its end; or 0 if there is no rest
 abbrev pub left_len : Option (List ℕ) → ℕ
 left_len None = 0
 left_len (Some text) = length text + 1

@@ -1,4 +1,4 @@
-//! From the text of a script to its bytes.
+//! Assembling the text of a script into bytes.
 ghost use Rattle.std.specs.Prelude.{◌≡◌, ◌⊎◌, ◌<◌, ◌≤◌, ◌+◌, List, length, ℕ};
 ghost use Rattle.std.specs.Prelude.{IfOk, IfErr, IsOkUnless, Err};
 ghost use Rattle.std.specs.Option.{option_copied};
@@ -24,8 +24,8 @@ use super::version::Version;
 use std::alloc::Global;
 use vga_bits::Fault;
 
-/// Puts the bytes of the step that a line spells at the end, where it has a word, and says how many
-/// steps it spells.
+/// Appends the bytes of the step that a line spells, if the line has a word, and returns how many
+/// steps that is: 0 or 1.
 #[tactic(auto, using(crate::proofs::ScriptLemmas::line_in_range))]
 fn append_line(alloc: Global, out: &mut Vec<u8>, line: &[u8]) -> Result<usize, Unread>
     ensures found { IfOk result (λ len. AppendsLine line.now out.old.items out.new.items len) }
@@ -42,9 +42,8 @@ fn append_line(alloc: Global, out: &mut Vec<u8>, line: &[u8]) -> Result<usize, U
     }
 }
 
-/// Puts the bytes of the steps of a repeat at the end, of whose lines those behind the first are
-/// left; and how many steps there are, what follows the line of its end, and the number of the line
-/// behind that. The repeat's first line has the number `first`.
+/// Appends the bytes of the steps of a repeat, whose first line has the number `first`. It returns
+/// the number of steps, what follows the line of its end, and the number of the line after that.
 #[tactic(auto, using(crate::proofs::AssembleLemmas::body_begins, crate::proofs::AssembleLemmas::body_more, crate::proofs::AssembleLemmas::body_ends, crate::proofs::AssembleLemmas::body_bad, crate::proofs::AssembleLemmas::body_open))]
 fn append_body<'a>(
     alloc: Global,
@@ -78,8 +77,9 @@ fn append_body<'a>(
     Err(Fault::BadLine(first))
 }
 
-/// Puts the bytes of a repeat at the end that begins with a line of this number and counts so many;
-/// and how many steps it means, what follows its last line, and the number of the line behind that.
+/// Appends the bytes of a repeat whose first line has the number `first` and says `count`. It
+/// returns how many steps the repeat means, what follows its last line, and the number of the line
+/// after that.
 fn append_repeat<'a>(
     alloc: Global,
     out: &mut Vec<u8>,
@@ -101,9 +101,9 @@ fn append_repeat<'a>(
     Ok((count as usize * len, left, next))
 }
 
-/// Puts the bytes of the item at the end that a line outside repeats spells or begins, where it has
-/// a word; and how many steps it means, what follows its last line, and the number of the line
-/// behind that. The line has this number, and others follow it.
+/// Appends the bytes of the item that a line outside repeats spells or begins, if the line has a
+/// word. It returns how many steps the item means, what follows its last line, and the number of
+/// the line after that. The line has the number `first`, and `rest` follows it.
 #[tactic(auto, using(crate::proofs::AssembleLemmas::group_of_repeat, crate::proofs::AssembleLemmas::group_bad))]
 fn append_group<'a>(
     alloc: Global,
@@ -133,8 +133,8 @@ fn append_group<'a>(
     }
 }
 
-/// The version of the script that a text may spell, the lines of its items, and the number of the
-/// first of them.
+/// Finds the version of the script that a text may spell, the lines of its items, and the number of
+/// the first of those lines.
 #[tactic(auto, using(crate::proofs::AssembleLemmas::blank_none, crate::proofs::AssembleLemmas::two_found))]
 fn items_of_text(text: &[u8]) -> (Version, Option<&[u8]>, usize)
     requires { length text.now ≤ script_limit }
@@ -160,8 +160,8 @@ fn items_of_text(text: &[u8]) -> (Version, Option<&[u8]>, usize)
     (Version::One, Some(text), 1)
 }
 
-/// The bytes of the items that lines spell which follow a prefix of a text, or its first bad
-/// line.
+/// Assembles the lines of a text that stand after the line of its version, or finds the first bad
+/// one. It returns the bytes of the items.
 #[tactic(auto, using(crate::proofs::AssembleLemmas::read_none, crate::proofs::AssembleLemmas::read_more, crate::proofs::AssembleLemmas::read_all))]
 fn assemble_items(alloc: Global, text: &[u8]) -> Result<Vec<u8>, Fault>
     requires { length text.now ≤ script_limit }
@@ -186,7 +186,7 @@ fn assemble_items(alloc: Global, text: &[u8]) -> Result<Vec<u8>, Fault>
     Ok(out)
 }
 
-/// The script that a text spells, or its first fault.
+/// Assembles a text of allowed length, or finds its first fault.
 #[tactic(auto, using(crate::proofs::ScriptLemmas::too_long))]
 fn assemble_script(alloc: Global, text: &[u8]) -> Result<Script, Fault>
     ensures found { IfOk result (λ script. (length text.now ≤ script_limit)
@@ -204,22 +204,24 @@ fn assemble_script(alloc: Global, text: &[u8]) -> Result<Script, Fault>
     Ok(Script::of_bytes(bytes))
 }
 
-/// The script that a text spells.
+/// Assembles a text: it returns the script that the text spells.
 ///
-/// A text that spells none has a fault. Of several the first in this order is answered:
+/// A text that spells no script has a fault. If it has several, the first in this order is
+/// returned:
 ///
 /// - `TooLong`: the text has more than 16,777,216 bytes.
 /// - `BadLine`: the first bad line has this number, counted from 1.
-/// - `TooLong`: the bytes of the script are more than 16,777,216.
+/// - `TooLong`: the script has more than 16,777,216 bytes.
 ///
-/// The first line with a word may be `version 2`; else the script is of version 1. A line with
-/// words is bad if they are not those of a step nor, in version 2, `repeat` with a count of 1 to
-/// 65,535 outside repeats or `end` in one. A line with
-/// `repeat` is bad too where its repeat has no end, which comes behind all bad lines in the repeat,
-/// or where with the repeat the script means more than 16,777,216 steps; so is a line of a step
-/// with which it does.
+/// The first line with a word may be `version 2`; otherwise the script is of version 1. A line with
+/// words must be a step; in version 2 it may also be `repeat` with a count of 1 to 65,535, outside
+/// repeats, or `end` in a repeat. Any other line with words is bad.
 ///
-/// `OutOfMemory` comes where a request for memory was refused.
+/// A line with `repeat` is bad as well if its repeat has no end, which is found after all bad lines
+/// in the repeat, or if the repeat makes the script mean more than 16,777,216 steps. So is the line
+/// of a step that does.
+///
+/// `OutOfMemory`: an allocation failed.
 pub fn assemble(alloc: Global, text: &[u8]) -> Result<Script, Fault>
     ensures found { IfOk result (λ script. (length text.now ≤ script_limit)
         × SpellsText text.now script) }

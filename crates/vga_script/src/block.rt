@@ -3,7 +3,7 @@ ghost use Rattle.std.specs.Prelude.{◌≡◌};
 
 use std::marker::Model;
 
-/// Some bytes where they stand, so that they take no memory. Contracts see their list.
+/// A block of bytes, borrowed from where it stands: it allocates nothing. Contracts see its list.
 #[derive(Drop)]
 pub struct Block<'a> {
     bytes: &'a [u8],

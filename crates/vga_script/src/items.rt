@@ -1,4 +1,4 @@
-//! The item at the beginning of some bytes of a script.
+//! Reading an item from the bytes of a script.
 ghost use Rattle.std.specs.Prelude.{◌≡◌, ◌+◌, ◌<◌, ◌≤◌, ◌∷◌, ℕ, length, IfNone, IfOk, IfErr};
 ghost use Rattle.std.specs.Prelude.{IfSome};
 ghost use Rattle.vga_script.specs.Body.{StandsBehind};
@@ -16,7 +16,7 @@ use super::step_bytes::step_at;
 use super::version::Version;
 use vga_bits::Fault;
 
-/// What stands behind the steps of a repeat.
+/// What stands after the steps of a repeat.
 #[derive(Drop)]
 enum Behind<'a> {
     /// The repeat's end, and these bytes.
@@ -28,11 +28,11 @@ enum Behind<'a> {
     Nothing,
     /// No step, nor the end.
     Bad,
-    /// A step that is cut off.
+    /// An opcode of neither a step nor an end, or a step out of range.
     Cut,
 }
 
-/// With how many steps the bytes after a repeat's count begin, and what follows them.
+/// Counts the steps that the bytes after a repeat's count begin with, and finds what follows them.
 #[tactic(auto, using(crate::proofs::BeginningLemmas::step_shorter, crate::proofs::BodyLemmas::body_within, crate::proofs::BodyLemmas::body_begins, crate::proofs::BodyLemmas::body_goes_on))]
 fn behind_steps(bytes: &[u8]) -> (usize, &[u8], Behind<'_>)
     requires { length bytes.now ≤ script_limit }
@@ -55,7 +55,7 @@ fn behind_steps(bytes: &[u8]) -> (usize, &[u8], Behind<'_>)
     (len, rest, Behind::Nothing)
 }
 
-/// What follows the opcode of a repeat, where one begins some bytes of a script of this version.
+/// What follows the opcode of a repeat, if bytes of a script of this version begin with one.
 fn behind_repeat(bytes: &[u8], version: Version) -> Option<&[u8]>
     ensures found { IfSome result (λ fields. AllowsRepeats version
         × (bytes.now ≡ opcode_repeat ∷ fields.now)) }
@@ -67,8 +67,8 @@ fn behind_repeat(bytes: &[u8], version: Version) -> Option<&[u8]>
     }
 }
 
-/// The repeat whose opcode stands at this offset of a script, from the bytes that begin with it,
-/// and what follows its end.
+/// Reads the repeat whose opcode stands at `offset` in a script. The bytes begin with that opcode.
+/// It returns the repeat and what follows its end.
 #[tactic(auto, using(crate::proofs::BodyLemmas::repeat_open))]
 fn repeat_at<'a>(
     bytes: &'a [u8],
@@ -102,8 +102,8 @@ fn repeat_at<'a>(
     }
 }
 
-/// The item that stands at this offset of a script, from the bytes that begin with it, and what
-/// follows it.
+/// Reads the item that stands at `offset` in a script. The bytes begin with the item. It returns
+/// the item and what follows it.
 pub(crate) fn item_at(
     bytes: &[u8],
     offset: usize,
@@ -126,7 +126,8 @@ pub(crate) fn item_at(
     }
 }
 
-/// The same behind items that mean so many steps, and how many the items and it mean.
+/// The same after items that mean `so_far` steps. It also returns how many steps those and this
+/// item mean together.
 pub(crate) fn item_within(
     bytes: &[u8],
     offset: usize,

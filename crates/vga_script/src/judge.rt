@@ -1,4 +1,4 @@
-//! Whether bytes spell a script, and their first fault.
+//! Checking that bytes spell a script, or finding their first fault.
 ghost use Rattle.std.specs.Prelude.{◌≡◌, ◌≤◌, ◌++◌, ◌∷◌, length, List, IfOk, IfErr};
 ghost use Rattle.vga_script.specs.Decoding.{IsFault, IsSpellingFault};
 ghost use Rattle.vga_script.specs.Beginning.{listing_of};
@@ -12,7 +12,7 @@ use super::step_bytes::behind_step;
 use super::version::Version;
 use vga_bits::Fault;
 
-/// Passes over the items that stand behind the header of a script's bytes.
+/// Passes over the items after the header of a script, and finds the first fault among them.
 #[tactic(auto, using(crate::proofs::BeginningLemmas::item_shorter, crate::proofs::DecodeLemmas::decoded_none, crate::proofs::DecodeLemmas::passed_all))]
 fn pass_items(bytes: &[u8], spelled: &[u8], version: Version) -> Result<(), Fault>
     requires short { length bytes.now ≤ script_limit }
@@ -24,7 +24,7 @@ fn pass_items(bytes: &[u8], spelled: &[u8], version: Version) -> Result<(), Faul
     let mut so_far = 0;
     while !rest.is_empty() {
         let offset = bytes.len() - rest.len();
-        // Most items are steps, which are passed over here for speed.
+        // Most items are steps. They are passed over here, for speed.
         if let Some(others) = behind_step(rest) {
             if so_far == STEP_LIMIT {
                 return Err(Fault::TooMany(offset));
@@ -40,7 +40,7 @@ fn pass_items(bytes: &[u8], spelled: &[u8], version: Version) -> Result<(), Faul
     Ok(())
 }
 
-/// Judges bytes of allowed length.
+/// Checks bytes of allowed length.
 fn judge_short(bytes: &[u8]) -> Result<(), Fault>
     requires { length bytes.now ≤ script_limit }
     ensures found { IfOk result (λ _. (script : Listing) × Spells bytes.now script) }
@@ -58,7 +58,7 @@ fn judge_short(bytes: &[u8]) -> Result<(), Fault>
     }
 }
 
-/// That bytes spell a script, or their first fault.
+/// Checks that bytes spell a script, or finds their first fault.
 #[tactic(auto, using(crate::proofs::BeginningLemmas::spells_itself))]
 pub(crate) fn judge(bytes: &[u8]) -> Result<(), Fault>
     ensures short { IfOk result (λ _. length bytes.now ≤ script_limit) }

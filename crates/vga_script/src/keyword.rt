@@ -4,7 +4,7 @@ ghost use Rattle.std.specs.Str.{bytes_eq};
 ghost use Rattle.vga_script.specs.Text.{name_of};
 ghost use Rattle.vga_script.specs.Tokens.{lowered};
 
-/// Which step a line has, by the word that it begins with.
+/// The step that a line names, by its first word.
 #[derive(Clone, Copy, PartialEq, Eq, Debug)]
 pub(crate) enum Keyword {
     /// `out`.
@@ -33,7 +33,7 @@ pub(crate) enum Keyword {
     Show,
 }
 
-/// Whether a word is this name, which is in lower case. The word may have either case.
+/// Whether a word is this name, in either case. The name is in lower case.
 #[tactic(auto, using(crate::proofs::NameLemmas::same_name))]
 pub(crate) fn is_name(word: &[u8], name: &[u8]) -> bool
     requires { lowered name.now ≡ name.now }
@@ -43,7 +43,7 @@ pub(crate) fn is_name(word: &[u8], name: &[u8]) -> bool
 }
 
 impl Keyword {
-    /// The step that has this name.
+    /// The keyword that a word is, if it is one.
     #[tactic(auto, using(crate::proofs::NameLemmas::named, crate::proofs::NameLemmas::unnamed))]
     pub(crate) fn of_word(word: &[u8]) -> Option<Keyword>
         ensures found { IfSome result (λ keyword. lowered word.now ≡ name_of keyword) }

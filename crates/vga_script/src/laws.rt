@@ -1,4 +1,4 @@
-//! Laws of the grammar, each of which is a contract, and nothing that runs.
+//! Laws of the grammar. Each is a contract of a function that does nothing.
 ghost use Rattle.std.specs.Prelude.{◌≡◌, ◌≤◌, ℕ, List, length};
 ghost use Rattle.vga_bits.specs.declared.fault.Fault.{Fault};
 ghost use Rattle.vga_script.specs.Decoding.{IsFault};
@@ -24,12 +24,12 @@ pub fn one_list()
         SpellsExpanded bytes first → SpellsExpanded bytes second → first ≡ second }
 {}
 
-/// The fields of the steps that bytes mean fit.
+/// The steps that bytes mean have fields in range.
 pub fn steps_fit()
     ensures { (bytes : List ℕ) (steps : List Step) → SpellsExpanded bytes steps → AreInRange steps }
 {}
 
-/// No script has two spellings in bytes, and each that means no more steps than it may has one.
+/// No script has two spellings in bytes. Each script that means no more steps than it may has one.
 pub fn one_spelling()
     ensures one { (first second : List ℕ) (script : Listing) →
         Spells first script → Spells second script → first ≡ second }
@@ -37,7 +37,8 @@ pub fn one_spelling()
         length (expanded script.items) ≤ step_limit → Spells (encoding script) script }
 {}
 
-/// No bytes have two faults, and none that spell a script have one but that they are too long.
+/// No bytes have two faults. Bytes that spell a script have no fault, except that they may be too
+/// long.
 pub fn one_fault()
     ensures single { (bytes : List ℕ) (first second : Fault) →
         IsFault bytes first → IsFault bytes second → first ≡ second }
@@ -51,7 +52,8 @@ pub fn one_script_of_text()
         SpellsText text first → SpellsText text second → first ≡ second }
 {}
 
-/// No text has two faults, and none that spells a script has one but that it is too long.
+/// No text has two faults. A text that spells a script has no fault, except that it may be too
+/// long.
 pub fn one_text_fault()
     ensures single { (text : List ℕ) (first second : Fault) →
         IsTextFault text first → IsTextFault text second → first ≡ second }
@@ -59,14 +61,14 @@ pub fn one_text_fault()
         SpellsText text script → IsScript script → IsTextFault text fault → fault ≡ Fault.TooLong }
 {}
 
-/// The printed text of a script spells it, whatever length it has.
+/// The printed text of a script spells it, whatever its length.
 pub fn printed_text_spells()
     ensures { (script : Listing) → AreItemsOf script.version script.items →
         length (expanded script.items) ≤ step_limit → SpellsText (printed script) script }
 {}
 
-/// Steps that are put one after the other make the bytes of their script, as far as there is room;
-/// and these spell it, unless they are too many.
+/// Steps that are appended one after another make the bytes of their script, as far as there is
+/// room. The bytes spell that script, unless the steps are too many.
 pub fn written_steps_spell()
     ensures written { (room : ℕ) (steps : List Step) →
         HasWritten (encoding (script_of_steps steps)) (with_steps (begun room) steps) }

@@ -1,5 +1,5 @@
-//! The script of a run, as bytes and as text: its items, the steps that they mean, the grammar of
-//! both forms, and the ways between them.
+//! Scripts, as bytes and as text: the items of a script, the steps that they mean, the grammar of
+//! both forms, and the conversions between the forms.
 #![tactic(auto)]
 
 mod assembling;
@@ -12,9 +12,9 @@ mod judge;
 mod keyword;
 mod laws;
 mod numbers;
+mod numeric_steps;
 mod opcode;
 mod output;
-mod plain_steps;
 mod printed_line;
 mod printing;
 mod progress;

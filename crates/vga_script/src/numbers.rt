@@ -2,7 +2,7 @@
 ghost use Rattle.std.specs.Prelude.{◌≡◌, ◌≤◌, IfSome};
 ghost use Rattle.vga_script.specs.StepReading.{number_of};
 
-/// The number that a word spells in a radix from 2 to 16, where it spells one of at most `most`.
+/// Reads the number that a word spells in a radix from 2 to 16, if it spells one of at most `most`.
 #[tactic(auto, unfolding(crate::specs::StepReading::number_of))]
 pub(crate) fn number(word: &[u8], radix: u32, most: u32) -> Option<u32>
     requires low { 2 ≤ radix }

@@ -1,6 +1,6 @@
-//! What a script begins with, and the opcodes of its steps.
+//! The bytes that a script begins with, and the opcodes of its steps.
 
-/// What a script begins with.
+/// The magic that a script begins with.
 pub(crate) const MAGIC: [u8; 4] = *b"VGAS";
 
 /// The opcode of a write of a byte to a port.
@@ -42,29 +42,29 @@ pub(crate) const SHOW: u8 = 0x0C;
 /// The opcode that begins a repeat.
 pub(crate) const REPEAT: u8 = 0x0D;
 
-/// The opcode that ends it.
+/// The opcode that ends a repeat.
 pub(crate) const END: u8 = 0x0E;
 
-/// What follows the opcode of a dump where the registers are shown.
+/// The kind of a dump that shows the registers.
 pub(crate) const SHOW_REGISTERS: u8 = 0x00;
 
-/// What follows it where an entry of the DAC is.
+/// The kind of a dump that shows an entry of the DAC.
 pub(crate) const SHOW_DAC: u8 = 0x01;
 
-/// What follows it where the beam is.
+/// The kind of a dump that shows the beam.
 pub(crate) const SHOW_BEAM: u8 = 0x02;
 
-/// What follows it where the latches are.
+/// The kind of a dump that shows the latches.
 pub(crate) const SHOW_LATCHES: u8 = 0x03;
 
-/// What follows it where bytes of a plane are.
+/// The kind of a dump that shows bytes of a plane.
 pub(crate) const SHOW_PLANE: u8 = 0x04;
 
-/// What follows it where the data of the BIOS is.
+/// The kind of a dump that shows the data of the BIOS.
 pub(crate) const SHOW_BIOS_DATA: u8 = 0x05;
 
-/// What follows it where the cells of the active page are.
+/// The kind of a dump that shows the cells of the active page.
 pub(crate) const SHOW_CELLS: u8 = 0x06;
 
-/// How many bytes stand before the items: those of the magic and the version.
+/// How many bytes the header has, the magic and the version.
 pub(crate) const HEADER_LEN: usize = 5;

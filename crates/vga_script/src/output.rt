@@ -1,11 +1,11 @@
-//! Bytes that grow at their end.
+//! Appending to a list of bytes.
 ghost use Rattle.std.specs.Prelude.{◌≡◌, ◌++◌, IsOkUnless, OnOk};
 ghost use Rattle.byteorder.specs.Endian.{little_bytes};
 
 use byteorder::{ByteOrder, LittleEndian};
 use vga_bits::Fault;
 
-/// Puts bytes at the end. It fails with `OutOfMemory` alone.
+/// Appends bytes. Its only error is `OutOfMemory`.
 pub(crate) fn append(out: &mut Vec<u8>, bytes: &[u8]) -> Result<(), Fault>
     ensures ok { OnOk result (out.new.items ≡ out.old.items ++ bytes.now) }
     ensures err { IsOkUnless result Fault.OutOfMemory }
@@ -16,7 +16,7 @@ pub(crate) fn append(out: &mut Vec<u8>, bytes: &[u8]) -> Result<(), Fault>
     }
 }
 
-/// Puts a number of two bytes at the end. It fails with `OutOfMemory` alone.
+/// Appends a number as two bytes, low byte first. Its only error is `OutOfMemory`.
 pub(crate) fn append_u16(out: &mut Vec<u8>, number: u16) -> Result<(), Fault>
     ensures ok { OnOk result (out.new.items ≡ out.old.items ++ little_bytes 2 number) }
     ensures err { IsOkUnless result Fault.OutOfMemory }
@@ -26,7 +26,7 @@ pub(crate) fn append_u16(out: &mut Vec<u8>, number: u16) -> Result<(), Fault>
     append(out, &field)
 }
 
-/// Puts a number of four bytes at the end. It fails with `OutOfMemory` alone.
+/// Appends a number as four bytes, low byte first. Its only error is `OutOfMemory`.
 pub(crate) fn append_u32(out: &mut Vec<u8>, number: u32) -> Result<(), Fault>
     ensures ok { OnOk result (out.new.items ≡ out.old.items ++ little_bytes 4 number) }
     ensures err { IsOkUnless result Fault.OutOfMemory }

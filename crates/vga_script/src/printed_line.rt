@@ -4,13 +4,13 @@ ghost use Rattle.vga_script.specs.Printing.{address_text, port_text};
 
 use vga_bits::TextBuffer;
 
-/// Room for the longest line but for a block: `int`, four registers, and the block's name.
+/// Room for the longest line without its block: `int`, four registers, and the word `block`.
 const LINE_LEN: usize = 64;
 
 /// The text of a line.
 pub(crate) type Line = TextBuffer<LINE_LEN>;
 
-/// A line that begins with a name, and a space behind it.
+/// A line of a name and a space.
 pub(crate) fn named_line(name: &[u8]) -> Line
     requires { length name.now ≤ 16 }
     ensures items { result ≡ name.now ++ codes " " }
@@ -22,7 +22,7 @@ pub(crate) fn named_line(name: &[u8]) -> Line
     line
 }
 
-/// A line with the digits of a port at its end.
+/// Appends the digits of a port to a line.
 #[tactic(auto, unfolding(crate::specs::Printing::port_text))]
 pub(crate) fn with_port(mut line: Line, port: u16) -> Line
     requires { length line ≤ 60 }
@@ -34,7 +34,7 @@ pub(crate) fn with_port(mut line: Line, port: u16) -> Line
     line
 }
 
-/// A line with the digits of an address at its end.
+/// Appends the digits of an address to a line.
 #[tactic(auto, unfolding(crate::specs::Printing::address_text))]
 pub(crate) fn with_address(mut line: Line, address: u32) -> Line
     requires { length line ≤ 56 }

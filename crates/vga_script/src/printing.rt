@@ -1,4 +1,4 @@
-//! From the bytes of a script to its printed text.
+//! Printing a script as text.
 ghost use Rattle.std.specs.Prelude.{◌≡◌, ◌+◌, ◌≤◌, ◌<◌, ◌++◌, ◌∷◌, [], codes, decimal, length};
 ghost use Rattle.std.specs.Prelude.{IfOk, IsOkUnless, OnOk};
 ghost use Rattle.std.specs.List.{flat_map};
@@ -24,7 +24,7 @@ use super::version::Version;
 use std::alloc::Global;
 use vga_bits::Fault;
 
-/// Puts a line, and a newline behind it, at the end of a text. It fails with `OutOfMemory` alone.
+/// Appends a line and a newline to a text. Its only error is `OutOfMemory`.
 fn end_line(out: &mut Vec<u8>, mut line: Line) -> Result<(), Fault>
     requires { length line < 64 }
     ensures ok { OnOk result (out.new.items ≡ out.old.items ++ (line ++ 0x0A ∷ [])) }
@@ -34,8 +34,8 @@ fn end_line(out: &mut Vec<u8>, mut line: Line) -> Result<(), Fault>
     append(out, line.as_slice())
 }
 
-/// Puts a value of so many digits, and a newline behind it, at the end of a line, and the line at
-/// the end of a text. It fails with `OutOfMemory` alone.
+/// Appends a line to a text, with a value of `digits` hexadecimal digits and a newline at its end.
+/// Its only error is `OutOfMemory`.
 fn end_with_value(out: &mut Vec<u8>, mut line: Line, value: u16, digits: usize) -> Result<(), Fault>
     requires line { length line ≤ 25 }
     requires digits { digits ≤ 4 }
@@ -48,7 +48,7 @@ fn end_with_value(out: &mut Vec<u8>, mut line: Line, value: u16, digits: usize) 
     end_line(out, line)
 }
 
-/// Prints a frame that is drawn. It fails with `OutOfMemory` alone.
+/// Prints a step that draws a frame. Its only error is `OutOfMemory`.
 #[tactic(auto, unfolding(crate::specs::Printing::line_of))]
 fn print_frame(out: &mut Vec<u8>) -> Result<(), Fault>
     ensures ok { OnOk result (out.new.items ≡ out.old.items ++ line_of (codes "frame" ∷ [])) }
@@ -57,7 +57,7 @@ fn print_frame(out: &mut Vec<u8>) -> Result<(), Fault>
     append(out, b"frame\n")
 }
 
-/// Prints an advance of the clock. It fails with `OutOfMemory` alone.
+/// Prints an advance of the clock. Its only error is `OutOfMemory`.
 #[tactic(auto, unfolding(crate::specs::Printing::line_of))]
 fn print_advance(out: &mut Vec<u8>, dots: u32) -> Result<(), Fault>
     ensures ok { OnOk result (out.new.items ≡ out.old.items
@@ -70,7 +70,7 @@ fn print_advance(out: &mut Vec<u8>, dots: u32) -> Result<(), Fault>
     end_line(out, line)
 }
 
-/// Prints a dump of an entry of the DAC. It fails with `OutOfMemory` alone.
+/// Prints a dump of an entry of the DAC. Its only error is `OutOfMemory`.
 #[tactic(auto, unfolding(crate::specs::Printing::line_of))]
 fn print_dac(out: &mut Vec<u8>, index: u8) -> Result<(), Fault>
     ensures ok { OnOk result (out.new.items ≡ out.old.items
@@ -83,7 +83,7 @@ fn print_dac(out: &mut Vec<u8>, index: u8) -> Result<(), Fault>
     end_line(out, line)
 }
 
-/// Prints a dump of bytes of a plane. It fails with `OutOfMemory` alone.
+/// Prints a dump of bytes of a plane. Its only error is `OutOfMemory`.
 #[tactic(auto, unfolding(crate::specs::Printing::line_of, vga_bits::specs::Hex::hex))]
 fn print_plane(out: &mut Vec<u8>, plane: u8, offset: u16, count: u16) -> Result<(), Fault>
     ensures ok { OnOk result (out.new.items ≡ out.old.items
@@ -101,7 +101,7 @@ fn print_plane(out: &mut Vec<u8>, plane: u8, offset: u16, count: u16) -> Result<
     end_line(out, line)
 }
 
-/// Prints a dump of the adapter. It fails with `OutOfMemory` alone.
+/// Prints a dump of the adapter. Its only error is `OutOfMemory`.
 #[tactic(auto, unfolding(crate::specs::Printing::line_of))]
 fn print_shown(out: &mut Vec<u8>, shown: Shown) -> Result<(), Fault>
     ensures ok { OnOk result (out.new.items ≡ out.old.items ++ printed_line (Step.Show shown)) }
@@ -122,7 +122,7 @@ fn print_shown(out: &mut Vec<u8>, shown: Shown) -> Result<(), Fault>
     }
 }
 
-/// The line of a call of the BIOS, but for its repeat.
+/// The line of a call of the BIOS, without its block.
 fn call_line(ax: u16, bx: u16, cx: u16, dx: u16) -> Line
     ensures items { result ≡ codes "int ax=" ++ (hex 4 ax ++ (codes " bx=" ++ (hex 4 bx
         ++ (codes " cx=" ++ (hex 4 cx ++ (codes " dx=" ++ hex 4 dx)))))) }
@@ -140,8 +140,8 @@ fn call_line(ax: u16, bx: u16, cx: u16, dx: u16) -> Line
     line
 }
 
-/// Puts a line and the digits of a block, with the block's name between them, at the end of a text.
-/// It fails with `OutOfMemory` alone.
+/// Appends a line to a text, then the word `block`, the digits of the block and a newline. Its only
+/// error is `OutOfMemory`.
 fn append_block(
     alloc: Global,
     out: &mut Vec<u8>,
@@ -162,7 +162,7 @@ fn append_block(
     append(out, b"\n")
 }
 
-/// Prints a call of the BIOS. It fails with `OutOfMemory` alone.
+/// Prints a call of the BIOS. Its only error is `OutOfMemory`.
 #[tactic(auto, using(crate::proofs::PrintLemmas::call_line, crate::proofs::PrintLemmas::block_line))]
 fn print_call(
     alloc: Global,
@@ -187,7 +187,7 @@ fn print_call(
     }
 }
 
-/// Prints a step. It fails with `OutOfMemory` alone.
+/// Prints a step. Its only error is `OutOfMemory`.
 #[tactic(auto, unfolding(crate::specs::Printing::line_of))]
 fn print_step(alloc: Global, out: &mut Vec<u8>, step: &Step<'_>) -> Result<(), Fault>
     ensures ok { OnOk result (out.new.items ≡ out.old.items ++ printed_line step.now) }
@@ -227,7 +227,7 @@ fn print_step(alloc: Global, out: &mut Vec<u8>, step: &Step<'_>) -> Result<(), F
     }
 }
 
-/// Prints the steps that some bytes spell. It fails with `OutOfMemory` alone.
+/// Prints the steps that some bytes spell. Its only error is `OutOfMemory`.
 #[tactic(auto, using(crate::proofs::BeginningLemmas::step_shorter, crate::proofs::WalkLemmas::steps_begin, crate::proofs::WalkLemmas::steps_go_on))]
 fn print_steps(alloc: Global, out: &mut Vec<u8>, bytes: &[u8]) -> Result<(), Fault>
     requires { SpellsSteps bytes.now (steps_in bytes.now) }
@@ -247,7 +247,7 @@ fn print_steps(alloc: Global, out: &mut Vec<u8>, bytes: &[u8]) -> Result<(), Fau
     Ok(())
 }
 
-/// Prints the beginning of a repeat. It fails with `OutOfMemory` alone.
+/// Prints the beginning of a repeat. Its only error is `OutOfMemory`.
 #[tactic(auto, unfolding(crate::specs::Printing::line_of))]
 fn print_repeat(out: &mut Vec<u8>, count: u16) -> Result<(), Fault>
     ensures ok { OnOk result (out.new.items ≡ out.old.items
@@ -260,7 +260,7 @@ fn print_repeat(out: &mut Vec<u8>, count: u16) -> Result<(), Fault>
     end_line(out, line)
 }
 
-/// Prints the end of a repeat. It fails with `OutOfMemory` alone.
+/// Prints the end of a repeat. Its only error is `OutOfMemory`.
 #[tactic(auto, unfolding(crate::specs::Printing::line_of))]
 fn print_end(out: &mut Vec<u8>) -> Result<(), Fault>
     ensures ok { OnOk result (out.new.items ≡ out.old.items ++ line_of (codes "end" ∷ [])) }
@@ -269,7 +269,7 @@ fn print_end(out: &mut Vec<u8>) -> Result<(), Fault>
     append(out, b"end\n")
 }
 
-/// Prints an item. It fails with `OutOfMemory` alone.
+/// Prints an item. Its only error is `OutOfMemory`.
 fn print_item(alloc: Global, out: &mut Vec<u8>, item: &SpelledItem<'_>) -> Result<(), Fault>
     requires { HasBody item.now }
     ensures ok { OnOk result (out.new.items ≡ out.old.items
@@ -286,7 +286,7 @@ fn print_item(alloc: Global, out: &mut Vec<u8>, item: &SpelledItem<'_>) -> Resul
     }
 }
 
-/// The line that says the version of a script, where there is one.
+/// The line that gives the version, or nothing for version 1.
 #[tactic(auto, unfolding(crate::specs::Printing::line_of))]
 fn version_text(version: Version) -> &'static [u8]
     ensures { result.now ≡ version_line version }
@@ -297,8 +297,7 @@ fn version_text(version: Version) -> &'static [u8]
     }
 }
 
-/// Prints the items that some bytes of a script of this version spell. It fails with `OutOfMemory`
-/// alone.
+/// Prints the items that bytes of a script of this version spell. Its only error is `OutOfMemory`.
 #[tactic(auto, using(crate::proofs::BeginningLemmas::item_shorter, crate::proofs::WalkLemmas::items_begin, crate::proofs::WalkLemmas::items_go_on))]
 fn print_items(
     alloc: Global,
@@ -326,9 +325,9 @@ fn print_items(
     Ok(())
 }
 
-/// The printed text of a script: its version, where it is not 1, and a line for each step, with its
-/// name and values in full, and for each beginning and end of a repeat. It spells the script. It
-/// fails with `OutOfMemory` alone.
+/// Prints a script as text. The text gives the version, if that is not 1, and has a line for each
+/// step, with its name and all its values, and for the beginning and the end of each repeat. It
+/// spells the script. The only error is `OutOfMemory`.
 #[tactic(auto, using(crate::proofs::StepsLemmas::behind_header, crate::proofs::StepsLemmas::items_spelled))]
 pub fn print(alloc: Global, script: &Script) -> Result<Vec<u8>, Fault>
     ensures ok { IfOk result (λ text. text.items ≡ printed script.now) }

@@ -1,4 +1,4 @@
-//! How far a walk through the bytes of a script has come, and which steps are left there.
+//! A position in the bytes of a script, and the steps that are left from there on.
 ghost use Rattle.std.specs.Prelude.{ℕ, ◌≡◌, ◌≢◌, ◌<◌, ◌≤◌, ◌^◌, ◌++◌, ◌∷◌, List, length, IfNone};
 ghost use Rattle.std.specs.Prelude.{IfSome};
 ghost use Rattle.byteorder.specs.Endian.{little_bytes};
@@ -8,18 +8,18 @@ ghost use Rattle.vga_script.specs.Spelling.{opcode_end};
 use super::fields::{u8_at, u16_at};
 use super::opcode;
 
-/// How far a walk through the bytes of a script has come.
+/// A position in the bytes of a script.
 #[derive(Clone, Copy)]
 pub(crate) struct Progress<'a> {
     /// What follows.
     pub(crate) rest: &'a [u8],
-    /// In a repeat its steps and what follows them, from the first step on; else nothing.
+    /// In a repeat, the bytes from its first step on; outside repeats, nothing.
     pub(crate) body: &'a [u8],
-    /// How often the repeat is taken again behind its end.
+    /// How many more times the repeat is taken once its end is reached.
     pub(crate) left: u16,
 }
 
-/// The count of a repeat, and what follows it.
+/// Reads the count of a repeat, and returns it with what follows.
 fn count_at(fields: &[u8]) -> (u16, &[u8])
     requires { 2 ≤ length fields.now }
     ensures fields { fields.now ≡ little_bytes 2 result.0 ++ result.1.now }
@@ -31,7 +31,7 @@ fn count_at(fields: &[u8]) -> (u16, &[u8])
     }
 }
 
-/// What follows the end of a repeat, where it stands at the beginning.
+/// What follows the end of a repeat, if the bytes begin with one.
 fn behind_end(bytes: &[u8]) -> Option<&[u8]>
     ensures found { IfSome result (λ after. bytes.now ≡ opcode_end ∷ after.now) }
     ensures none { IfNone result ((after : List ℕ) → bytes.now ≢ opcode_end ∷ after) }
@@ -42,7 +42,7 @@ fn behind_end(bytes: &[u8]) -> Option<&[u8]>
     }
 }
 
-/// The same walk, at the next step or at the end. Repeats of no steps are passed over.
+/// Moves on to the next step, or to the end of the script. Repeats without steps are passed over.
 #[tactic(auto, using(crate::proofs::ProgressLemmas::stays, crate::proofs::ProgressLemmas::room_for_count))]
 pub(crate) fn skip_marks(progress: Progress<'_>) -> Progress<'_>
     requires { Stands progress.body.now progress.rest.now }

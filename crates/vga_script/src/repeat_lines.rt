@@ -1,4 +1,4 @@
-//! The lines of a text that say its version, and that begin and end a repeat.
+//! Reading the lines of a text that give its version, and those that begin and end a repeat.
 ghost use Rattle.std.specs.Prelude.{◌≡◌, ◌≢◌, ◌↔◌, ◌∷◌, [], ℕ, List, IfNone, IfSome, IsFalse};
 ghost use Rattle.std.specs.Prelude.{IsTrue};
 ghost use Rattle.vga_script.specs.Text.{IsEnd, IsVersionTwo, SpellsRepeat};
@@ -10,7 +10,7 @@ use super::numbers::number;
 use super::tokens::{before_comment, next_word};
 use super::version::Version;
 
-/// The word of a line, where it has just one.
+/// The word of a line that has exactly one.
 #[tactic(auto, using(crate::proofs::RepeatLineLemmas::not_one_of_none, crate::proofs::RepeatLineLemmas::not_one_of_more, crate::proofs::RepeatLineLemmas::one_alone))]
 fn one_word(line: &[u8]) -> Option<&[u8]>
     ensures found { IfSome result (λ word. words line.now ≡ word.now ∷ []) }
@@ -25,7 +25,7 @@ fn one_word(line: &[u8]) -> Option<&[u8]>
     }
 }
 
-/// The words of a line, where it has just two.
+/// The words of a line that has exactly two.
 #[tactic(auto, using(crate::proofs::RepeatLineLemmas::not_two_of_none, crate::proofs::RepeatLineLemmas::not_two_of_one, crate::proofs::RepeatLineLemmas::not_two_of_more, crate::proofs::RepeatLineLemmas::two_alone))]
 fn two_words(line: &[u8]) -> Option<(&[u8], &[u8])>
     ensures found { IfSome result (λ x. words line.now ≡ x.0.now ∷ x.1.now ∷ []) }
@@ -54,7 +54,7 @@ pub(crate) fn has_word(line: &[u8]) -> bool
     }
 }
 
-/// Whether a line says version 2.
+/// Whether a line is `version 2`.
 #[tactic(auto, using(crate::proofs::NameLemmas::named, crate::proofs::NameLemmas::unnamed))]
 pub(crate) fn says_version_two(line: &[u8]) -> bool
     ensures { IsTrue result ↔ IsVersionTwo (words line.now) }
@@ -86,7 +86,7 @@ fn count_of_line(line: &[u8]) -> Option<u16>
     Some(count as u16)
 }
 
-/// The same in a script of this version, which may have no repeats.
+/// The same in a script of this version. Version 1 has no repeats.
 pub(crate) fn count_in(line: &[u8], version: Version) -> Option<u16>
     ensures found { IfSome result (λ count. AllowsRepeats version
         × SpellsRepeat (words line.now) count) }

@@ -1,4 +1,4 @@
-//! A script, which is kept as the bytes that spell it.
+//! A script, kept as the bytes that spell it.
 ghost use Rattle.std.specs.Prelude.{◌≡◌, ◌⊎◌, ◌≤◌, length, IfErr, IfOk, IsOkUnless};
 ghost use Rattle.vga_script.specs.Decoding.{IsFault};
 ghost use Rattle.vga_script.specs.Beginning.{listing_of};
@@ -15,14 +15,14 @@ use std::alloc::Global;
 use std::marker::Model;
 use vga_bits::Fault;
 
-/// How many bytes a script may have, and a text that spells one.
+/// How many bytes a script may have, and how many a text.
 pub const SCRIPT_LIMIT: usize = 16_777_216;
 
 /// How many steps a script may mean.
 pub(crate) const STEP_LIMIT: usize = 16_777_216;
 
-/// A script, which has at most 16,777,216 bytes and means at most 16,777,216 steps. Contracts see
-/// its version and its items; it keeps the bytes that spell them.
+/// A script of at most 16,777,216 bytes that means at most 16,777,216 steps. It keeps the bytes
+/// that spell it. Contracts see its version and its items.
 #[derive(Drop)]
 pub struct Script {
     bytes: Vec<u8>,
@@ -73,9 +73,9 @@ impl Script {
         Version::One
     }
 
-    /// The steps that the items mean, one after the other: a step itself, and the steps of a repeat
-    /// so many times as it counts. Their fields fit, and they are no more than a script may mean.
-    /// They take no memory.
+    /// The steps that the script means, in order: each step outside repeats once, and the steps of
+    /// a repeat as often as its count says. Their fields are in range, and they are at most
+    /// 16,777,216. The iterator allocates nothing.
     #[tactic(auto, using(crate::proofs::StepsLemmas::range_of_steps, crate::proofs::StepsLemmas::few_steps))]
     pub fn steps(&self) -> Steps<'_>
         ensures steps { result ≡ expanded self.now.items }
@@ -86,7 +86,7 @@ impl Script {
     }
 }
 
-/// The script that some bytes spell, or their first fault.
+/// Decodes bytes, or finds their first fault.
 #[tactic(auto, using(crate::proofs::StepsLemmas::copy_spells))]
 fn decode_bytes(alloc: Global, bytes: &[u8]) -> Result<Script, Fault>
     ensures found { IfOk result (λ script. (length bytes.now ≤ script_limit)
@@ -99,27 +99,28 @@ fn decode_bytes(alloc: Global, bytes: &[u8]) -> Result<Script, Fault>
     Ok(Script::of_bytes(copy))
 }
 
-/// The script that some bytes spell.
+/// Decodes a script: it returns the script that the bytes spell.
 ///
-/// Bytes that spell none have a fault. Of several the first in this order is answered:
+/// Bytes that spell no script have a fault. If they have several, the first in this order is
+/// returned:
 ///
 /// - `TooLong`: there are more than 16,777,216 bytes.
 /// - `BadMagic`: they do not begin with `VGAS`.
-/// - `Truncated(4)`: nothing follows that.
-/// - `BadVersion`: neither version 1 nor version 2 follows it.
-/// - `BadStep`, `Truncated`, `TooMany`: what stands at this offset is the first that is bad, or
-///   that is cut off, or with which the script means more than 16,777,216 steps.
+/// - `Truncated(4)`: nothing follows `VGAS`.
+/// - `BadVersion`: the version is neither 1 nor 2.
+/// - `BadStep`, `Truncated`, `TooMany`: what stands at this offset is the first that is bad, that
+///   is cut off, or that makes the script mean more than 16,777,216 steps.
 ///
-/// A step is bad where it has no opcode or kind; else it may be cut off; and where it is not, it is
-/// bad if it shows bytes of a plane that is none, no bytes, more than 256, or bytes past the
-/// plane's end.
+/// A step with an unknown opcode or kind is bad. Any other step may be cut off. A whole step is bad
+/// if it shows bytes of a plane that does not exist, no bytes, more than 256 bytes, or bytes past
+/// the plane's end.
 ///
-/// In version 1 the opcodes of repeats are none. In version 2 that of a repeat is bad within a
-/// repeat, and that of an end outside one. A repeat is bad where it counts 0; it is cut off, at its
-/// opcode, where its count is or where the bytes end after a whole step of it. Too many steps are
-/// found where a repeat ends, or a step outside repeats.
+/// Version 1 has no opcodes of repeats. In version 2 a repeat inside a repeat is bad, and so is an
+/// end outside one. A repeat with a count of 0 is bad. A repeat is cut off, at its opcode, if its
+/// count is cut off or if the bytes end after a whole step of it. Too many steps are found at the
+/// end of a repeat, or at a step outside repeats.
 ///
-/// `OutOfMemory` comes where a request for memory was refused.
+/// `OutOfMemory`: an allocation failed.
 pub fn decode(alloc: Global, bytes: &[u8]) -> Result<Script, Fault>
     ensures found { IfOk result (λ script. (length bytes.now ≤ script_limit)
         × Spells bytes.now script) }
@@ -130,8 +131,8 @@ pub fn decode(alloc: Global, bytes: &[u8]) -> Result<Script, Fault>
     decode_bytes(alloc, bytes)
 }
 
-/// The bytes of a script, at most 16,777,216. No other bytes spell it. It fails with `OutOfMemory`
-/// alone.
+/// Encodes a script as at most 16,777,216 bytes. No other bytes spell it. The only error is
+/// `OutOfMemory`.
 #[tactic(auto, using(crate::proofs::StepsLemmas::encoding_kept))]
 pub fn encode(alloc: Global, script: &Script) -> Result<Vec<u8>, Fault>
     ensures ok { IfOk result (λ bytes. bytes.items ≡ encoding script.now) }

@@ -1,4 +1,4 @@
-//! The bytes of a script that is made step by step.
+//! Building the bytes of a script step by step.
 ghost use Rattle.std.specs.Prelude.{◌≡◌, ◌≤◌, nat_lt, length, IfOk, IsOkUnless};
 ghost use Rattle.vga_script.specs.Spelling.{script_limit, spelling};
 ghost use Rattle.vga_script.specs.declared.step.Step.TheVariants.{Out, In, Put, Get};
@@ -10,8 +10,8 @@ use std::alloc::Global;
 use std::marker::Model;
 use vga_bits::Fault;
 
-/// The bytes of a script of version 1 that is made step by step. Its memory is taken at the
-/// beginning: bytes for which there is no room are counted and not kept.
+/// The bytes of a script of version 1, built step by step. All memory is allocated at the start:
+/// bytes that have no room are counted but not kept.
 ///
 /// Contracts see the bytes that are kept, how many there are in all, and how much room there is.
 #[derive(Drop)]
@@ -37,8 +37,8 @@ impl Model for ScriptBytes {
 impl ScriptBytes {
     ghost use Rattle.vga_script.specs.ScriptBytes.{begun, with_bytes};
 
-    /// A script without steps, and room for so many bytes in all. It fails with `OutOfMemory`
-    /// alone.
+    /// A script without steps, and room for `room` bytes in all, its header included. The only
+    /// error is `OutOfMemory`.
     pub fn new(alloc: Global, room: usize) -> Result<ScriptBytes, Fault>
         ensures ok { IfOk result (λ script. script ≡ begun room) }
         ensures err { IsOkUnless result Fault.OutOfMemory }
@@ -56,7 +56,7 @@ impl ScriptBytes {
         Ok(script)
     }
 
-    /// Puts bytes at the end.
+    /// Appends bytes.
     fn push(&mut self, more: &[u8])
         requires { length more.now ≤ 8 }
         ensures { self.new ≡ with_bytes self.old more.now }
@@ -70,7 +70,7 @@ impl ScriptBytes {
         }
     }
 
-    /// Puts a write of a byte to a port at the end.
+    /// Appends a write of a byte to a port.
     pub fn push_out(&mut self, port: u16, value: u8)
         ensures { self.new ≡ with_bytes self.old (spelling (Out port value)) }
     {
@@ -78,7 +78,7 @@ impl ScriptBytes {
         self.push(&[opcode::OUT, low, high, value]);
     }
 
-    /// Puts a read of a byte from a port at the end.
+    /// Appends a read of a byte from a port.
     pub fn push_in(&mut self, port: u16)
         ensures { self.new ≡ with_bytes self.old (spelling (In port)) }
     {
@@ -86,7 +86,7 @@ impl ScriptBytes {
         self.push(&[opcode::IN, low, high]);
     }
 
-    /// Puts a write of a byte to an address at the end.
+    /// Appends a write of a byte to an address.
     pub fn push_put(&mut self, address: u32, value: u8)
         ensures { self.new ≡ with_bytes self.old (spelling (Put address value)) }
     {
@@ -94,7 +94,7 @@ impl ScriptBytes {
         self.push(&[opcode::PUT, a, b, c, d, value]);
     }
 
-    /// Puts a read of a byte from an address at the end.
+    /// Appends a read of a byte from an address.
     pub fn push_get(&mut self, address: u32)
         ensures { self.new ≡ with_bytes self.old (spelling (Get address)) }
     {
@@ -102,7 +102,7 @@ impl ScriptBytes {
         self.push(&[opcode::GET, a, b, c, d]);
     }
 
-    /// Whether the bytes are more than a script may have.
+    /// Whether there are more bytes than a script may have.
     pub fn is_too_long(&self) -> bool
         ensures { result ≡ nat_lt script_limit self.now.len }
     {
@@ -116,7 +116,7 @@ impl ScriptBytes {
         self.len
     }
 
-    /// The bytes that are kept: all of them where there was room.
+    /// The bytes that are kept: all of them, if there was room.
     pub fn as_slice(&self) -> &[u8]
         ensures { result.now ≡ self.now.bytes }
     {

@@ -1,11 +1,11 @@
-//! An item where it stands in the bytes of a script.
+//! An item, borrowed from the bytes of a script.
 ghost use Rattle.std.specs.Prelude.{◌≡◌, ◌<◌, ◌^◌, length};
 ghost use Rattle.vga_script.specs.Item.{steps_of};
 ghost use Rattle.vga_script.specs.Spelled.{HasBody, spelled_item};
 
 use super::step::Step;
 
-/// An item where it stands in the bytes of a script, so that it takes no memory.
+/// An item, borrowed from the bytes of a script: it allocates nothing.
 #[derive(Drop)]
 pub(crate) enum SpelledItem<'a> {
     /// A step.
@@ -15,7 +15,7 @@ pub(crate) enum SpelledItem<'a> {
     },
     /// A repeat of steps.
     Block {
-        /// How many times they are taken.
+        /// How many times its steps are taken.
         count: u16,
         /// How many steps there are.
         len: usize,

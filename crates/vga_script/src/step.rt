@@ -4,7 +4,7 @@ use super::block::Block;
 use super::dump_range::Shown;
 
 /// One step of a script: a cycle of the processor, a call of the video BIOS, some dots of the
-/// clock, or a dump of the adapter. A call's block is left where it stands.
+/// clock, or a dump of the adapter. The block of a call is borrowed.
 #[derive(Drop)]
 pub enum Step<'a> {
     /// A byte is written to a port.
@@ -14,11 +14,11 @@ pub enum Step<'a> {
         /// The byte.
         value: u8,
     },
-    /// A word is written to a port and the next.
+    /// A word is written to a port and the next port.
     OutWord {
         /// The port of the low byte.
         port: u16,
-        /// The word, whose low byte goes first.
+        /// The word. Its low byte is written first.
         value: u16,
     },
     /// A byte is read from a port.
@@ -26,7 +26,7 @@ pub enum Step<'a> {
         /// The port.
         port: u16,
     },
-    /// A word is read from a port and the next.
+    /// A word is read from a port and the next port.
     InWord {
         /// The port of the low byte.
         port: u16,
@@ -38,11 +38,11 @@ pub enum Step<'a> {
         /// The byte.
         value: u8,
     },
-    /// A word is written to an address and the next.
+    /// A word is written to an address and the next address.
     PutWord {
         /// The address of the low byte.
         address: u32,
-        /// The word, whose low byte goes first.
+        /// The word. Its low byte is written first.
         value: u16,
     },
     /// A byte is read from memory.
@@ -50,14 +50,14 @@ pub enum Step<'a> {
         /// The address.
         address: u32,
     },
-    /// A word is read from an address and the next.
+    /// A word is read from an address and the next address.
     GetWord {
         /// The address of the low byte.
         address: u32,
     },
     /// The video BIOS is called by interrupt 10.
     Int {
-        /// The function, and what it takes in AL.
+        /// The register AX: the function in AH, its argument in AL.
         ax: u16,
         /// The register BX.
         bx: u16,
@@ -73,9 +73,9 @@ pub enum Step<'a> {
         /// How many.
         dots: u32,
     },
-    /// The clock runs to the end of the frame, which is shown.
+    /// The clock runs to the end of the frame, and the frame's picture is shown.
     Frame,
-    /// A part of the adapter is shown, and left as it is.
+    /// A part of the adapter is shown, and stays as it is.
     Show {
         /// Which part.
         shown: Shown,

@@ -1,4 +1,4 @@
-//! A step in bytes, read and written: an opcode, and fields.
+//! Reading and writing a step as bytes: an opcode, and its fields.
 ghost use Rattle.std.specs.Prelude.{◌≡◌, ◌≢◌, ◌<◌, ◌++◌, ◌∷◌, length, IfOk, IfErr, IsOkUnless};
 ghost use Rattle.std.specs.Prelude.{OnOk, IfSome, Err};
 ghost use Rattle.byteorder.specs.Endian.{little_bytes};
@@ -12,13 +12,13 @@ ghost use Rattle.vga_script.specs.declared.step.Step.{Step};
 use super::block::Block;
 use super::dump_range::Shown;
 use super::fields::{NoStep, block_at, u8_at, u16_at, u32_at};
+use super::numeric_steps::numeric_steps;
 use super::opcode;
 use super::output::{append, append_u16, append_u32};
-use super::plain_steps::plain_steps;
 use super::step::Step;
 use vga_bits::Fault;
 
-/// A field that is read.
+/// Reads a field.
 macro_rules! read_field {
     (one, $rest:ident) => {
         u8_at($rest)?
@@ -34,7 +34,7 @@ macro_rules! read_field {
     };
 }
 
-/// The plain step of an opcode, whose fields are read in turn.
+/// Reads the numeric step of an opcode, field by field.
 macro_rules! read_steps {
     (
         $opcode:ident, $bytes:ident,
@@ -51,7 +51,7 @@ macro_rules! read_steps {
     };
 }
 
-/// A field that is written.
+/// Writes a field.
 macro_rules! write_field {
     (one, $out:ident, $value:ident) => {
         append(&mut *$out, &[*$value])?
@@ -67,7 +67,7 @@ macro_rules! write_field {
     };
 }
 
-/// A step whose fields are written in turn.
+/// Writes a step field by field.
 macro_rules! write_steps {
     (
         $out:ident, $from:ident,
@@ -90,7 +90,8 @@ macro_rules! write_steps {
     };
 }
 
-/// The fields of a call of the BIOS, whose block is left where it stands, and what follows them.
+/// Reads the fields of a call of the BIOS, and returns the call with what follows. Its block is
+/// borrowed.
 #[tactic(auto, using(crate::proofs::DecodeLemmas::cut_int))]
 fn int_at(fields: &[u8]) -> Result<(Step<'_>, &[u8]), NoStep>
     ensures found { IfOk result (λ x. StartsWithStep (opcode_int ∷ fields.now) x.0 x.1.now) }
@@ -116,7 +117,7 @@ fn int_at(fields: &[u8]) -> Result<(Step<'_>, &[u8]), NoStep>
     ))
 }
 
-/// The index of the DAC's entry that is shown, and what follows it.
+/// Reads the index of the DAC entry to show, and returns the step with what follows.
 #[tactic(auto, using(crate::proofs::DecodeLemmas::cut_dac))]
 fn dac_at(fields: &[u8]) -> Result<(Step<'_>, &[u8]), NoStep>
     ensures found { IfOk result (λ x. StartsWithStep (opcode_show ∷ kind_dac ∷ fields.now) x.0
@@ -129,7 +130,7 @@ fn dac_at(fields: &[u8]) -> Result<(Step<'_>, &[u8]), NoStep>
     Ok((Step::Show { shown }, rest))
 }
 
-/// Which bytes of a plane are shown, and what follows.
+/// Reads which bytes of a plane to show, and returns the step with what follows.
 #[tactic(auto, using(crate::proofs::DecodeLemmas::cut_plane, crate::proofs::DecodeLemmas::out_of_range))]
 fn plane_at(fields: &[u8]) -> Result<(Step<'_>, &[u8]), NoStep>
     ensures found { IfOk result (λ x. StartsWithStep (opcode_show ∷ kind_plane ∷ fields.now) x.0
@@ -153,7 +154,7 @@ fn plane_at(fields: &[u8]) -> Result<(Step<'_>, &[u8]), NoStep>
     Ok((Step::Show { shown }, rest))
 }
 
-/// What is shown, by its kind, and what follows it.
+/// Reads what to show, by its kind, and returns the step with what follows.
 #[tactic(auto, using(crate::proofs::DecodeLemmas::cut_kind, crate::proofs::DecodeLemmas::no_kind, crate::proofs::DecodeLemmas::bad_range))]
 fn shown_at(fields: &[u8]) -> Result<(Step<'_>, &[u8]), NoStep>
     ensures found { IfOk result (λ x. StartsWithStep (opcode_show ∷ fields.now) x.0 x.1.now) }
@@ -174,28 +175,28 @@ fn shown_at(fields: &[u8]) -> Result<(Step<'_>, &[u8]), NoStep>
     Ok((Step::Show { shown }, rest))
 }
 
-/// The plain step of an opcode and of its fields, and what follows them.
-#[tactic(auto, using(crate::proofs::DecodeLemmas::no_plain_opcode, crate::proofs::DecodeLemmas::cut_out, crate::proofs::DecodeLemmas::cut_out_word, crate::proofs::DecodeLemmas::cut_in, crate::proofs::DecodeLemmas::cut_in_word, crate::proofs::DecodeLemmas::cut_put, crate::proofs::DecodeLemmas::cut_put_word, crate::proofs::DecodeLemmas::cut_get, crate::proofs::DecodeLemmas::cut_get_word, crate::proofs::DecodeLemmas::cut_advance))]
+/// Reads the numeric step of an opcode from the bytes after it, and returns it with what follows.
+#[tactic(auto, using(crate::proofs::DecodeLemmas::no_numeric_opcode, crate::proofs::DecodeLemmas::cut_out, crate::proofs::DecodeLemmas::cut_out_word, crate::proofs::DecodeLemmas::cut_in, crate::proofs::DecodeLemmas::cut_in_word, crate::proofs::DecodeLemmas::cut_put, crate::proofs::DecodeLemmas::cut_put_word, crate::proofs::DecodeLemmas::cut_get, crate::proofs::DecodeLemmas::cut_get_word, crate::proofs::DecodeLemmas::cut_advance))]
 #[inline(always)]
-fn plain_with(opcode: u8, fields: &[u8]) -> Result<(Step<'_>, &[u8]), NoStep>
+fn numeric_with(opcode: u8, fields: &[u8]) -> Result<(Step<'_>, &[u8]), NoStep>
     ensures found { IfOk result (λ x. StartsWithStep (opcode ∷ fields.now) x.0 x.1.now) }
     ensures bad { result ≡ Err NoStep.Bad → opcode ≢ opcode_int → opcode ≢ opcode_frame
         → opcode ≢ opcode_show → StartsWithBadStep (opcode ∷ fields.now) }
     ensures cut { result ≡ Err NoStep.Cut → StartsWithCutStep (opcode ∷ fields.now) }
 {
-    plain_steps!(read_steps, opcode, fields)
+    numeric_steps!(read_steps, opcode, fields)
 }
 
-/// The plain step at the beginning of some bytes, and what follows it.
+/// Reads the numeric step that bytes begin with, and returns it with what follows.
 #[inline(always)]
-fn plain_at(bytes: &[u8]) -> Result<(Step<'_>, &[u8]), NoStep>
+fn numeric_at(bytes: &[u8]) -> Result<(Step<'_>, &[u8]), NoStep>
     ensures found { IfOk result (λ x. StartsWithStep bytes.now x.0 x.1.now) }
 {
     let (opcode, fields) = u8_at(bytes)?;
-    plain_with(opcode, fields)
+    numeric_with(opcode, fields)
 }
 
-/// The step of an opcode and of its fields, and what follows them.
+/// Reads the step of an opcode from the bytes after it, and returns it with what follows.
 #[inline(always)]
 fn step_with(opcode: u8, fields: &[u8]) -> Result<(Step<'_>, &[u8]), NoStep>
     ensures found { IfOk result (λ x. StartsWithStep (opcode ∷ fields.now) x.0 x.1.now) }
@@ -206,11 +207,11 @@ fn step_with(opcode: u8, fields: &[u8]) -> Result<(Step<'_>, &[u8]), NoStep>
         opcode::INT => int_at(fields),
         opcode::FRAME => Ok((Step::Frame, fields)),
         opcode::SHOW => shown_at(fields),
-        _ => plain_with(opcode, fields),
+        _ => numeric_with(opcode, fields),
     }
 }
 
-/// The step at the beginning of some bytes, and what follows it.
+/// Reads the step that bytes begin with, and returns it with what follows.
 #[inline(always)]
 pub(crate) fn step_at(bytes: &[u8]) -> Result<(Step<'_>, &[u8]), NoStep>
     requires { 0 < length bytes.now }
@@ -222,14 +223,14 @@ pub(crate) fn step_at(bytes: &[u8]) -> Result<(Step<'_>, &[u8]), NoStep>
     step_with(opcode, fields)
 }
 
-/// What follows the step that some bytes begin with, if there is one. Most are plain, and of
-/// those nothing but the length is looked at.
+/// What follows the step that bytes begin with, if they begin with one. Most steps are numeric, and
+/// only the length of those matters.
 #[inline(always)]
 pub(crate) fn behind_step(bytes: &[u8]) -> Option<&[u8]>
     requires { 0 < length bytes.now }
     ensures { IfSome result (λ others. (step : Step) × StartsWithStep bytes.now step others.now) }
 {
-    if let Ok((_, others)) = plain_at(bytes) {
+    if let Ok((_, others)) = numeric_at(bytes) {
         return Some(others);
     }
     match step_at(bytes) {
@@ -238,8 +239,8 @@ pub(crate) fn behind_step(bytes: &[u8]) -> Option<&[u8]>
     }
 }
 
-/// Puts a call of the BIOS, but for its block, at the end: the opcode, the registers, and the
-/// block's length. It fails with `OutOfMemory` alone.
+/// Appends a call of the BIOS without its block: the opcode, the registers, and the block's length.
+/// Its only error is `OutOfMemory`.
 fn append_call(out: &mut Vec<u8>, ax: u16, bx: u16, cx: u16, dx: u16, len: u16) -> Result<(), Fault>
     ensures ok { OnOk result (out.new.items ≡ out.old.items ++ (opcode_int ∷ (little_bytes 2 ax
         ++ (little_bytes 2 bx ++ (little_bytes 2 cx
@@ -254,7 +255,7 @@ fn append_call(out: &mut Vec<u8>, ax: u16, bx: u16, cx: u16, dx: u16, len: u16) 
     append_u16(out, len)
 }
 
-/// Puts the bytes of a dump of the adapter at the end. It fails with `OutOfMemory` alone.
+/// Appends the bytes of a dump. Its only error is `OutOfMemory`.
 fn append_shown(out: &mut Vec<u8>, shown: Shown) -> Result<(), Fault>
     ensures ok { OnOk result (out.new.items ≡ out.old.items
         ++ (opcode_show ∷ shown_spelling shown)) }
@@ -279,11 +280,11 @@ fn append_shown(out: &mut Vec<u8>, shown: Shown) -> Result<(), Fault>
     }
 }
 
-/// Puts the bytes of a step at the end. It fails with `OutOfMemory` alone.
+/// Appends the bytes of a step. Its only error is `OutOfMemory`.
 pub(crate) fn append_step(out: &mut Vec<u8>, step: &Step<'_>) -> Result<(), Fault>
     requires { IsInRange step.now }
     ensures ok { OnOk result (out.new.items ≡ out.old.items ++ spelling step.now) }
     ensures err { IsOkUnless result Fault.OutOfMemory }
 {
-    plain_steps!(write_steps, out, step)
+    numeric_steps!(write_steps, out, step)
 }

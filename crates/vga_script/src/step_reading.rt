@@ -1,4 +1,4 @@
-//! Reading the words of a line.
+//! Reading the step that a line spells.
 ghost use Rattle.std.specs.Prelude.{◌≡◌, ◌≢◌, ◌≤◌, IfOk, Some, take, drop, option_to_list, List, Err};
 ghost use Rattle.vga_script.specs.StepReading.{Gives, hex_of, hex_at, ended, one_hex};
 ghost use Rattle.vga_script.specs.StepReading.{decimal_at, one_decimal};
@@ -13,7 +13,7 @@ use super::block::Block;
 use super::dump_range::{MOST_SHOWN, Shown};
 use super::keyword::{Keyword, is_name};
 use super::numbers::number;
-use super::plain_steps::plain_steps;
+use super::numeric_steps::numeric_steps;
 use super::step::Step;
 use super::tokens::{before_comment, next_word};
 use hex::FromHexError;
@@ -25,13 +25,13 @@ const MOST_DIGITS: usize = 131_070;
 /// Why words were not read.
 #[derive(Clone, Copy, PartialEq, Eq, Debug)]
 pub(crate) enum Unread {
-    /// They spell nothing of what was looked for.
+    /// They spell nothing that may stand there.
     Bad,
-    /// A request for memory was refused.
+    /// An allocation failed.
     OutOfMemory,
 }
 
-/// The hexadecimal number, of at most so many digits and no larger than `most`, that a word spells.
+/// Reads the hexadecimal number that a word spells, of at most `digits` digits and at most `most`.
 #[tactic(auto, unfolding(crate::specs::StepReading::hex_of))]
 fn hex_of(word: &[u8], digits: usize, most: u32) -> Result<u32, Unread>
     ensures read { Gives (λ n. n) result (hex_of digits most word.now) }
@@ -46,7 +46,7 @@ fn hex_of(word: &[u8], digits: usize, most: u32) -> Result<u32, Unread>
     }
 }
 
-/// The same of the first word, and what follows it.
+/// The same of the first word. It returns the number with what follows the word.
 #[tactic(auto, unfolding(crate::specs::StepReading::hex_at))]
 fn hex_at(fields: &[u8], digits: usize, most: u32) -> Result<(u32, &[u8]), Unread>
     ensures read { Gives (λ x. (x.0, words_in x.1.now)) result
@@ -60,7 +60,7 @@ fn hex_at(fields: &[u8], digits: usize, most: u32) -> Result<(u32, &[u8]), Unrea
     Ok((n, rest))
 }
 
-/// That no word follows.
+/// Checks that no word follows.
 #[tactic(auto, unfolding(crate::specs::StepReading::ended))]
 fn ended(rest: &[u8]) -> Result<(), Unread>
     ensures { Gives (λ u. tt) result (ended (words_in rest.now)) }
@@ -71,7 +71,7 @@ fn ended(rest: &[u8]) -> Result<(), Unread>
     }
 }
 
-/// One hexadecimal number, and no other word.
+/// Reads one hexadecimal number, and checks that no other word follows.
 #[tactic(auto, unfolding(crate::specs::StepReading::one_hex))]
 fn one_hex(fields: &[u8], digits: usize, most: u32) -> Result<u32, Unread>
     ensures read { Gives (λ n. n) result (one_hex digits most (words_in fields.now)) }
@@ -82,7 +82,8 @@ fn one_hex(fields: &[u8], digits: usize, most: u32) -> Result<u32, Unread>
     Ok(n)
 }
 
-/// The decimal number, no larger than `most`, that the first word spells, and what follows it.
+/// Reads the decimal number that the first word spells, at most `most`, and returns it with what
+/// follows.
 fn decimal_at(fields: &[u8], most: u32) -> Result<(u32, &[u8]), Unread>
     ensures read { Gives (λ x. (x.0, words_in x.1.now)) result
         (decimal_at most (words_in fields.now)) }
@@ -97,7 +98,7 @@ fn decimal_at(fields: &[u8], most: u32) -> Result<(u32, &[u8]), Unread>
     }
 }
 
-/// One decimal number, no larger than `most`, and no other word.
+/// Reads one decimal number, at most `most`, and checks that no other word follows.
 #[tactic(auto, unfolding(crate::specs::StepReading::one_decimal))]
 fn one_decimal(fields: &[u8], most: u32) -> Result<u32, Unread>
     ensures read { Gives (λ n. n) result (one_decimal most (words_in fields.now)) }
@@ -117,7 +118,8 @@ fn cut_name(word: &[u8]) -> (&[u8], &[u8])
     word.split_at(word.len().min(3))
 }
 
-/// The register of this name, with its equals sign, where the first word begins so; or 0.
+/// Reads the register `name`, which includes the equals sign, if the first word is that register;
+/// otherwise the value is 0. It returns the value with what follows.
 #[tactic(auto, unfolding(crate::specs::StepReading::register_at))]
 fn register_at<'a>(fields: &'a [u8], name: &[u8]) -> Result<(u16, &'a [u8]), Unread>
     requires { lowered name.now ≡ name.now }
@@ -136,7 +138,7 @@ fn register_at<'a>(fields: &'a [u8], name: &[u8]) -> Result<(u16, &'a [u8]), Unr
     Ok((n, rest))
 }
 
-/// The bytes that the digits of a block spell.
+/// Decodes the digits of a block into bytes.
 #[tactic(auto, unfolding(crate::specs::StepReading::bytes_of))]
 fn bytes_of(alloc: Global, word: &[u8]) -> Result<Vec<u8>, Unread>
     ensures { Gives (λ bytes. bytes.items) result (bytes_of word.now) }
@@ -151,7 +153,7 @@ fn bytes_of(alloc: Global, word: &[u8]) -> Result<Vec<u8>, Unread>
     }
 }
 
-/// The bytes that the digits behind a block's name spell, and no other word.
+/// Reads the digits after the word `block` as bytes, and checks that no other word follows.
 #[tactic(auto, unfolding(crate::specs::StepReading::digits_at))]
 fn digits_at(alloc: Global, fields: &[u8]) -> Result<Vec<u8>, Unread>
     ensures { Gives (λ bytes. bytes.items) result (digits_at (words_in fields.now)) }
@@ -164,7 +166,7 @@ fn digits_at(alloc: Global, fields: &[u8]) -> Result<Vec<u8>, Unread>
     Ok(block)
 }
 
-/// A block, or an empty one where there is none, and no other word.
+/// Reads a block, which is empty if no word is left, and checks that no other word follows.
 #[tactic(auto, unfolding(crate::specs::StepReading::block_at))]
 fn block_at(alloc: Global, fields: &[u8]) -> Result<Vec<u8>, Unread>
     ensures { Gives (λ bytes. bytes.items) result (block_at (words_in fields.now)) }
@@ -178,7 +180,7 @@ fn block_at(alloc: Global, fields: &[u8]) -> Result<Vec<u8>, Unread>
     digits_at(alloc, rest)
 }
 
-/// A call of the BIOS, whose block is kept in `kept`.
+/// Reads a call of the BIOS. Its block is kept in `kept`.
 #[tactic(auto, unfolding(crate::specs::StepReading::read_int))]
 fn read_int<'a>(alloc: Global, kept: &'a mut Vec<u8>, fields: &[u8]) -> Result<Step<'a>, Unread>
     ensures { Gives (λ step. step) result (read_int (words_in fields.now)) }
@@ -198,7 +200,7 @@ fn read_int<'a>(alloc: Global, kept: &'a mut Vec<u8>, fields: &[u8]) -> Result<S
     })
 }
 
-/// A number of one byte, and what follows it.
+/// Reads a number of one byte, and returns it with what follows.
 fn u8_at(fields: &[u8]) -> Result<(u8, &[u8]), Unread>
     ensures { Gives (λ x. (x.0, words_in x.1.now)) result (hex_at 2 0xFF (words_in fields.now)) }
 {
@@ -206,7 +208,7 @@ fn u8_at(fields: &[u8]) -> Result<(u8, &[u8]), Unread>
     Ok((n as u8, rest))
 }
 
-/// A number of two bytes, and what follows it.
+/// Reads a number of two bytes, and returns it with what follows.
 fn u16_at(fields: &[u8]) -> Result<(u16, &[u8]), Unread>
     ensures { Gives (λ x. (x.0, words_in x.1.now)) result (hex_at 4 0xFFFF (words_in fields.now)) }
 {
@@ -214,7 +216,7 @@ fn u16_at(fields: &[u8]) -> Result<(u16, &[u8]), Unread>
     Ok((n as u16, rest))
 }
 
-/// What is shown, and no other word.
+/// Checks that no word follows, and returns what is shown.
 #[tactic(auto, unfolding(crate::specs::StepReading::alone))]
 fn alone(what: Shown, fields: &[u8]) -> Result<Shown, Unread>
     ensures { Gives (λ shown. shown) result (alone what (words_in fields.now)) }
@@ -223,7 +225,7 @@ fn alone(what: Shown, fields: &[u8]) -> Result<Shown, Unread>
     Ok(what)
 }
 
-/// An entry of the DAC.
+/// Reads which entry of the DAC is shown.
 #[tactic(auto, unfolding(crate::specs::StepReading::read_dac))]
 fn read_dac(fields: &[u8]) -> Result<Shown, Unread>
     ensures { Gives (λ what. what) result (read_dac (words_in fields.now)) }
@@ -233,7 +235,7 @@ fn read_dac(fields: &[u8]) -> Result<Shown, Unread>
     Ok(Shown::Dac { index })
 }
 
-/// Bytes of a plane.
+/// Reads which bytes of a plane are shown.
 #[tactic(auto, unfolding(crate::specs::StepReading::read_plane), using(crate::proofs::ShownLemmas::tests_pass, crate::proofs::ShownLemmas::tests_fail))]
 fn read_plane(fields: &[u8]) -> Result<Shown, Unread>
     ensures { Gives (λ what. what) result (read_plane (words_in fields.now)) }
@@ -252,7 +254,7 @@ fn read_plane(fields: &[u8]) -> Result<Shown, Unread>
     Ok(shown)
 }
 
-/// What is shown, by its name.
+/// Reads what is shown, by its name.
 #[tactic(auto, unfolding(crate::specs::StepReading::read_shown))]
 fn read_shown(fields: &[u8]) -> Result<Shown, Unread>
     ensures { Gives (λ what. what) result (read_shown (words_in fields.now)) }
@@ -284,7 +286,7 @@ fn read_shown(fields: &[u8]) -> Result<Shown, Unread>
     Err(Unread::Bad)
 }
 
-/// A field that is read.
+/// Reads a field.
 macro_rules! read_field {
     (one, $rest:ident) => {
         u8_at($rest)?
@@ -300,7 +302,7 @@ macro_rules! read_field {
     };
 }
 
-/// The step of a name, whose fields are read in turn.
+/// Reads the step of a keyword, field by field.
 macro_rules! read_steps {
     (
         $keyword:ident, $fields:ident,
@@ -318,18 +320,18 @@ macro_rules! read_steps {
     };
 }
 
-/// The plain step of this name that the words behind it spell.
+/// Reads the numeric step of this name from the words after it.
 #[tactic(auto, unfolding(crate::specs::StepReading::read_step, crate::specs::StepReading::one_hex, crate::specs::StepReading::two_hex, crate::specs::StepReading::one_decimal, crate::specs::StepReading::ended))]
-fn read_plain(keyword: Keyword, fields: &[u8]) -> Result<Step<'static>, Unread>
+fn read_numeric(keyword: Keyword, fields: &[u8]) -> Result<Step<'static>, Unread>
     requires int { keyword ≢ Keyword.Int }
     requires frame { keyword ≢ Keyword.Frame }
     requires show { keyword ≢ Keyword.Show }
     ensures { Gives (λ step. step) result (read_step keyword (words_in fields.now)) }
 {
-    plain_steps!(read_steps, keyword, fields)
+    numeric_steps!(read_steps, keyword, fields)
 }
 
-/// The step of this name that the words behind it spell. A block is kept in `kept`.
+/// Reads the step of a keyword from the words after it. A block is kept in `kept`.
 #[tactic(auto, unfolding(crate::specs::StepReading::read_step))]
 fn read_step<'a>(
     alloc: Global,
@@ -349,11 +351,11 @@ fn read_step<'a>(
             let shown = read_shown(fields)?;
             Ok(Step::Show { shown })
         }
-        _ => read_plain(keyword, fields),
+        _ => read_numeric(keyword, fields),
     }
 }
 
-/// The step that a line spells, where it has a word. A block is kept in `kept`.
+/// Reads the step that a line spells, if the line has a word. A block is kept in `kept`.
 #[tactic(auto, using(crate::proofs::LineLemmas::line_none, crate::proofs::LineLemmas::line_named, crate::proofs::LineLemmas::line_bad, crate::proofs::LineLemmas::line_unnamed))]
 pub(crate) fn step_of_line<'a>(
     alloc: Global,

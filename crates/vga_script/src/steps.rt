@@ -1,4 +1,4 @@
-//! The steps that a script means where they stand in its bytes, one after the other.
+//! The steps that a script means, read one after another from its bytes.
 ghost use Rattle.std.specs.Prelude.{◌≡◌, ◌≤◌, length, drop, IfErr, IfOk, IfSome};
 ghost use Rattle.vga_script.specs.Decoding.{IsFault};
 ghost use Rattle.vga_script.specs.Beginning.{listing_of};
@@ -15,15 +15,15 @@ use super::step_bytes::step_at;
 use std::marker::Model;
 use vga_bits::Fault;
 
-/// The steps that a script means, which are taken one after the other from the bytes that spell it,
-/// and take no memory. Contracts see the list of those that are left.
+/// The steps that a script means, read one after another from the bytes that spell it. Reading
+/// allocates nothing. Contracts see the list of the steps that are left.
 #[derive(Drop)]
 pub struct Steps<'a> {
     /// What follows.
     rest: &'a [u8],
-    /// In a repeat its steps and what follows them, from the first step on; else nothing.
+    /// In a repeat, the bytes from its first step on; outside repeats, nothing.
     body: &'a [u8],
-    /// How often the repeat is taken again behind its end.
+    /// How many more times the repeat is taken once its end is reached.
     left: u16,
 }
 
@@ -54,10 +54,9 @@ impl<'a> Steps<'a> {
         }
     }
 
-    /// The steps that a script means which some bytes spell.
+    /// The steps that the script in some bytes means.
     ///
-    /// Bytes that spell none have the fault that `decode` answers, of several the first; it is
-    /// never
+    /// If the bytes spell no script, the error is the fault that `decode` returns. It is never
     /// `OutOfMemory`.
     #[tactic(auto, using(crate::proofs::StepsLemmas::few_steps))]
     pub fn of(bytes: &'a [u8]) -> Result<Steps<'a>, Fault>
@@ -70,7 +69,7 @@ impl<'a> Steps<'a> {
         Ok(Steps::of_script(bytes))
     }
 
-    /// Takes the first of the steps that are left, if there is one.
+    /// Takes the next step, if one is left.
     #[tactic(auto, using(crate::proofs::ProgressLemmas::step_taken))]
     #[inline(always)]
     pub fn next(&mut self) -> Option<Step<'a>>
@@ -104,7 +103,7 @@ impl<'a> Steps<'a> {
         }
     }
 
-    /// Passes over the first `count` steps, or over all where there are fewer.
+    /// Skips the first `count` steps, or all if there are fewer.
     pub fn pass_over(&mut self, count: usize)
         ensures { self.new ≡ drop count self.old }
     {

@@ -1,4 +1,4 @@
-//! Lines of a text, and words of a line.
+//! Splitting a text into lines, and a line into words.
 ghost use Rattle.std.specs.Prelude.{◌≡◌, ◌∷◌, [], ◌<◌, ◌≤◌, length, IfNone, IfSome};
 ghost use Rattle.std.specs.List.{before_first, position_or_len};
 ghost use Rattle.std.specs.Option.{option_copied};
@@ -10,14 +10,14 @@ ghost use Rattle.vga_script.specs.Tokens.{words_in};
 enum End {
     /// A newline, which ends a line.
     Newline,
-    /// A semicolon, behind which a line has its comment.
+    /// A semicolon, which begins a comment.
     Semicolon,
     /// A blank, which ends a word.
     Blank,
 }
 
 impl End {
-    /// Whether this byte is one that ends such a piece.
+    /// Whether this byte ends such a piece.
     fn is_at(self, byte: u8) -> bool
         ensures { result ≡ ends_at self byte }
     {
@@ -28,7 +28,8 @@ impl End {
         }
     }
 
-    /// Where the first byte stands that ends such a piece of a text, or the text's length.
+    /// The position of the first byte that ends such a piece of a text, or the text's length if
+    /// none does.
     fn place_in(self, text: &[u8]) -> usize
         ensures position { result ≡ position_or_len (ends_at self) text.now }
         ensures within { result ≤ length text.now }
@@ -41,7 +42,7 @@ impl End {
     }
 }
 
-/// The first line of a text, and what follows its newline, where it has one.
+/// The first line of a text, and what follows its newline if it has one.
 #[tactic(auto, using(crate::proofs::WordLemmas::line_between, crate::proofs::WordLemmas::line_last))]
 pub(crate) fn first_line(text: &[u8]) -> (&[u8], Option<&[u8]>)
     ensures line { lines text.now ≡ result.0.now ∷ lines_left (option_copied result.1) }
@@ -54,14 +55,14 @@ pub(crate) fn first_line(text: &[u8]) -> (&[u8], Option<&[u8]>)
     (text.split_at(end).0, Some(text.split_at(end + 1).1))
 }
 
-/// What stands in a line before a comment.
+/// The part of a line before its comment.
 pub(crate) fn before_comment(line: &[u8]) -> &[u8]
     ensures { result.now ≡ before_first is_semicolon line.now }
 {
     line.split_at(End::Semicolon.place_in(line)).0
 }
 
-/// What follows the blanks at the beginning.
+/// Skips the blanks that a line begins with.
 #[tactic(auto, using(crate::proofs::WordLemmas::skip_blank))]
 fn after_blanks(line: &[u8]) -> &[u8]
     ensures words { words_in result.now ≡ words_in line.now }
@@ -77,7 +78,7 @@ fn after_blanks(line: &[u8]) -> &[u8]
     rest
 }
 
-/// The first word, and what follows it.
+/// The first word of a line and what follows it, if the line has a word.
 pub(crate) fn next_word(line: &[u8]) -> Option<(&[u8], &[u8])>
     ensures found { IfSome result (λ x. words_in line.now ≡ x.0.now ∷ words_in x.1.now) }
     ensures none { IfNone result (words_in line.now ≡ []) }

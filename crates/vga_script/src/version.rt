@@ -3,10 +3,10 @@ ghost use Rattle.std.specs.Prelude.{◌≡◌, ◌≢◌, IfNone, IfSome};
 ghost use Rattle.vga_script.specs.Version.{version_byte};
 ghost use Rattle.vga_script.specs.declared.version.Version.{Version};
 
-/// The version of a script, which says what it may have.
+/// The version of a script.
 #[derive(Clone, Copy, PartialEq, Eq, Debug)]
 pub enum Version {
-    /// Version 1: steps alone.
+    /// Version 1: steps only.
     One,
     /// Version 2: steps, and repeats of them.
     Two,

@@ -1,5 +1,5 @@
-//! The definitions of the grammar, shown right on values worked out by hand. Each function has an
-//! empty body, and nothing runs.
+//! Worked examples that show the definitions of the grammar right. Each is a contract of a function
+//! that does nothing.
 ghost use Rattle.std.specs.Prelude.{◌≡◌, [], ◌∷◌, ◌++◌, codes};
 ghost use Rattle.vga_script.specs.Decoding.{IsFault};
 ghost use Rattle.vga_script.specs.Examples.{frames_repeated, frames_repeated_bytes};
@@ -17,7 +17,7 @@ use super::step::Step;
 use super::version::Version;
 use vga_bits::Fault;
 
-/// The bytes of each step: an opcode, and fields with the low byte first.
+/// The bytes of each step: an opcode, then its fields with the low byte first.
 fn steps_in_bytes()
     ensures script { encoding two_steps ≡ two_steps_bytes }
     ensures out_word { spelling (Step.OutWord 0x3CE 0xFF08) ≡ 2 ∷ 0xCE ∷ 0x03 ∷ 0x08 ∷ 0xFF ∷ [] }
@@ -42,7 +42,7 @@ fn steps_in_bytes()
     ensures cells { spelling (Step.Show Shown.Cells) ≡ 0x0C ∷ 0x06 ∷ [] }
 {}
 
-/// The line of each step, as it is printed.
+/// The printed line of each step.
 #[tactic(auto, unfolding(crate::specs::Printing::line_of, vga_bits::specs::Hex::hex, crate::specs::Printing::port_text, crate::specs::Printing::address_text, hex::specs::Hex::encode_with))]
 fn steps_in_print()
     ensures script { printed two_steps ≡ codes "out 3C4 02\nint ax=0013 bx=0000 cx=0000 dx=0000\n" }
@@ -88,7 +88,7 @@ fn bytes_faulty()
     ensures no_repeat { IsFault (header Version.One ++ 0x0D ∷ 1 ∷ 0 ∷ 0x0E ∷ []) (Fault.BadStep 5) }
 {}
 
-/// Blocks in bytes and in print, and the steps that they mean.
+/// Repeats in bytes and in print, and the steps that they mean.
 #[tactic(auto, unfolding(crate::specs::Item::repeated, crate::specs::Printing::line_of, vga_bits::specs::Hex::hex, crate::specs::Printing::port_text))]
 fn repeats()
     ensures bytes { encoding three_times ≡ three_times_bytes }
@@ -119,7 +119,7 @@ fn repeats_faulty()
     ensures many { IsFault (frames_repeated_bytes 257) (Fault.TooMany 5) }
 {}
 
-/// A text with a repeat, and texts of which a line in or at a repeat is bad.
+/// A text with a repeat, and texts in which a line in or at a repeat is bad.
 fn repeats_in_text()
     ensures block { SpellsText (codes "Version 2\nrepeat 03 ; times\n\n out 3c4 2\nEND")
         three_times }

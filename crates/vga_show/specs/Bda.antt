@@ -4,14 +4,14 @@ use Rattle.bios_modes.specs.Bda.{BiosData}
 use Rattle.vga_bits.specs.Hex.{hex_byte, hex_word}
 use Rattle.vga_show.specs.Lines.{line, hex_words}
 
--- the mode, its columns, the size of a page, and the start of the active one
+-- the mode, its columns, the size of a page, and the start of the active page
 unfoldable pub mode_words : BiosData → List (List ℕ)
 mode_words bda =
     codes "mode" ∷ hex_byte bda.mode ∷ codes "cols" ∷ hex_word bda.columns ∷ codes "size"
     ∷ hex_word bda.size
     ∷ codes "start" ∷ hex_word bda.start ∷ []
 
--- the cursor's places on the eight pages
+-- the cursor positions on the eight pages
 abbrev pub place_words : BiosData → List (List ℕ)
 place_words bda = codes "at" ∷ hex_words (slice_index bda.cursor_places) 0 8
 
@@ -23,6 +23,6 @@ other_words bda =
     ∷ hex_word bda.crtc_address
     ∷ codes "last" ∷ hex_byte bda.last_row ∷ codes "height" ∷ hex_word bda.height ∷ []
 
--- the word bda, and each of the data behind its name
+-- the word bda, and each of the data after its name
 abbrev pub bda_text : BiosData → List ℕ
 bda_text bda = line (codes "bda") (mode_words bda ++ (place_words bda ++ other_words bda))

@@ -10,13 +10,13 @@ use Rattle.bios_modes.specs.Bda.{BiosData}
 use Rattle.bios_modes.specs.Kinds.{is_text}
 use Rattle.vga_show.specs.Lines.{line, hex_words}
 
--- why there are no cells: no mode is set, or it is one of graphics
+-- why there are no cells: no mode is set, or the mode is a graphics mode
 abbrev pub cells_refusal : ℕ → Option Refusal
 cells_refusal mode = if mode == 0 then Some NoMode else if is_text mode then None
     else Some WrongKind
 
--- cell k of the active page: its character as high byte, from plane 0, and its attribute as low
--- one, from plane 1
+-- cell k of the active page: its character, from plane 0, in the high byte, and its attribute, from
+-- plane 1, in the low byte
 abbrev pub cell_word : CardState → BiosData → ℕ → ℕ
 cell_word card bda k = 256 * byte_at card.host.memory 0 (bda.size * bda.page + 2 * k)
     + byte_at card.host.memory 1 (bda.size * bda.page + 2 * k)
@@ -26,12 +26,12 @@ abbrev pub row_text : CardState → BiosData → ℕ → List ℕ
 row_text card bda row = line (codes "row") ((hex_byte row ++ codes ":")
     ∷ hex_words (cell_word card bda) (bda.columns * row) bda.columns)
 
--- n rows from one on, a line for each
+-- the lines of n rows, from this one on
 unfoldable pub rows_text : CardState → BiosData → ℕ → ℕ → List ℕ
 rows_text card bda zero row = []
 rows_text card bda (suc n) row = row_text card bda row ++ rows_text card bda n (row + 1)
 
--- all rows, and nothing where there are no cells
+-- the lines of all rows, or nothing if there are no cells
 abbrev pub cells_text : Option Refusal → CardState → BiosData → List ℕ
 cells_text None card bda = rows_text card bda (bda.last_row + 1) 0
 cells_text (Some why) card bda = []

@@ -14,7 +14,7 @@ use Rattle.vga_show.specs.Lines.{line, hex_bytes}
 unfoldable pub misc_line : ℕ → List ℕ
 misc_line misc = line (codes "misc") (hex_byte misc ∷ [])
 
--- a group of n registers: its name, its index and a colon, and what each register holds
+-- a group of n registers: its name, its index and a colon, and its registers
 abbrev pub group_line : List ℕ → ℕ → ℕ → List ℕ → List ℕ
 group_line name index n registers = line name ((hex_byte index ++ codes ":")
     ∷ hex_bytes (slice_index registers) 0 n)
@@ -48,7 +48,7 @@ component_letter Red = codes "r"
 component_letter Green = codes "g"
 component_letter Blue = codes "b"
 
--- the word dac, the index, the component that is next, the mask, and the red and the green that
+-- the word dac, the index, the component that comes next, the mask, and the red and the green that
 -- wait
 unfoldable pub dac_line : DacState → List ℕ
 dac_line dac =

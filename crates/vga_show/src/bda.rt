@@ -9,8 +9,7 @@ use bios_modes::Bda;
 use std::io::Write;
 use vga_bits::{Fault, Tracked, write_whole};
 
-/// Puts the mode, its columns, the size of a page and the start of the active one at the end of a
-/// text.
+/// Appends the mode, its columns, the size of a page, and the start of the active page.
 #[tactic(auto, using(crate::proofs::TextLemmas::joins), unfolding(crate::specs::Bda::mode_words))]
 fn push_mode(text: &mut DumpText, bda: &Bda)
     requires { length text.old + 39 ≤ room }
@@ -23,7 +22,7 @@ fn push_mode(text: &mut DumpText, bda: &Bda)
     push_word_field(text, b"start", bda.start());
 }
 
-/// Puts the places of the cursor on the eight pages at the end of a text.
+/// Appends the cursor positions on the eight pages.
 #[tactic(auto, using(crate::proofs::TextLemmas::listing))]
 fn push_places(text: &mut DumpText, bda: &Bda)
     requires { length text.old + 43 ≤ room }
@@ -36,7 +35,7 @@ fn push_places(text: &mut DumpText, bda: &Bda)
     }
 }
 
-/// Puts the other data at the end of a text.
+/// Appends the other data.
 #[tactic(auto, using(crate::proofs::TextLemmas::joins), unfolding(crate::specs::Bda::other_words))]
 fn push_others(text: &mut DumpText, bda: &Bda)
     requires { length text.old + 48 ≤ room }
@@ -65,10 +64,10 @@ fn bda_text(bda: &Bda) -> DumpText
 }
 
 /// Writes the video BIOS's data in hexadecimal: `bda mode 03 cols 0050 size 1000 start 0000 at`,
-/// the places of the cursor on the eight pages, `type 0D0E page 00 crtc 03D4 last 18 height 0010`
-/// and a newline. The writer must not have failed before.
+/// the cursor positions on the eight pages, `type 0D0E page 00 crtc 03D4 last 18 height 0010` and a
+/// newline. The writer must not have failed before.
 ///
-/// It fails, with `WriteFault`, only where the writer does, which then has a prefix of the text.
+/// The only error is `WriteFault`: the writer failed, and has a prefix of the text.
 pub fn dump_bda<W: Write>(out: &mut Tracked<W>, bda: &Bda) -> Result<(), Fault>
     requires { has_failed out.old ≡ false }
     ensures { Writes (W.contents (inner_of out.old)) (W.contents (inner_of out.new))

@@ -11,7 +11,7 @@ use vga_bits::{Fault, Tracked, write_whole};
 use vga_card::Card;
 use vga_crtc::Beam;
 
-/// Puts where the beam is at the end of a text.
+/// Appends the position of the beam.
 #[tactic(auto, using(crate::proofs::TextLemmas::joins), unfolding(crate::specs::Beam::place_words))]
 fn push_place(text: &mut DumpText, beam: &Beam)
     requires { length text.old + 64 ≤ room }
@@ -24,7 +24,7 @@ fn push_place(text: &mut DumpText, beam: &Beam)
     push_decimal_field(text, b"dot", beam.dot as u32);
 }
 
-/// Puts what the beam counts at the end of a text.
+/// Appends the counters of the beam.
 #[tactic(auto, using(crate::proofs::TextLemmas::joins), unfolding(crate::specs::Beam::count_words))]
 fn push_counts(text: &mut DumpText, beam: &Beam)
     requires { length text.old + 65 ≤ room }
@@ -37,7 +37,7 @@ fn push_counts(text: &mut DumpText, beam: &Beam)
     push_decimal_field(text, b"split", beam.split as u32);
 }
 
-/// The line of the beam, with a number of rows.
+/// The line of the beam, with this number of rows.
 #[tactic(auto, using(crate::proofs::TextLemmas::joins))]
 pub(crate) fn beam_line(beam: &Beam, count: u16) -> DumpText
     ensures { result ≡ beam_line_of beam.now count }
@@ -51,11 +51,11 @@ pub(crate) fn beam_line(beam: &Beam, count: u16) -> DumpText
     text
 }
 
-/// Writes the beam, and how many rows are drawn of the frame under way:
-/// `beam frame 0 line 0 char 0 dot 0 base 0000 scan 0 half 0 split 0 rows 0` and a newline, in
-/// decimal but for the base. The writer must not have failed before.
+/// Writes the beam, and how many rows are drawn of the frame under way: `beam frame 0 line 0 char 0
+/// dot 0 base 0000 scan 0 half 0 split 0 rows 0` and a newline. The base is hexadecimal, all other
+/// numbers are decimal. The writer must not have failed before.
 ///
-/// It fails, with `WriteFault`, only where the writer does, which then has a prefix of the text.
+/// The only error is `WriteFault`: the writer failed, and has a prefix of the text.
 pub fn dump_beam<W: Write>(out: &mut Tracked<W>, card: &Card) -> Result<(), Fault>
     requires { has_failed out.old ≡ false }
     ensures { Writes (W.contents (inner_of out.old)) (W.contents (inner_of out.new))

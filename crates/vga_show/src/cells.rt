@@ -28,7 +28,7 @@ pub fn cells_refusal(bda: &Bda) -> Option<Refusal>
     }
 }
 
-/// Cell k of the active page: its character as high byte, its attribute as low one.
+/// Cell k of the active page: its character in the high byte, its attribute in the low byte.
 fn cell(card: &Card, bda: &Bda, k: u32) -> u16
     requires { bda.now.size * bda.now.page + 2 * k < 65536 }
     ensures { result ≡ cell_word card.now bda.now k }
@@ -38,7 +38,7 @@ fn cell(card: &Card, bda: &Bda, k: u32) -> u16
     planes.byte(0, offset) as u16 * 0x100 + planes.byte(1, offset) as u16
 }
 
-/// Puts the cells of a row at the end of a text.
+/// Appends the cells of a row.
 #[tactic(auto, using(crate::proofs::TextLemmas::listing))]
 fn push_cells(text: &mut DumpText, card: &Card, bda: &Bda, row: u8)
     requires data { HasCells bda.now }
@@ -84,12 +84,12 @@ fn write_rows<W: Write>(out: &mut Tracked<W>, card: &Card, bda: &Bda) -> Result<
     Ok(())
 }
 
-/// Writes the cells of the active page in hexadecimal, a line for each row: `row 00:` and for each
-/// column a blank, character and attribute. Where `cells_refusal` has a reason it is refused,
-/// before a byte is written. The BIOS data must be valid, and the writer must not have failed
-/// before.
+/// Writes the cells of the active page in hexadecimal, a line for each row: `row 00:`, and for each
+/// column a blank, the character and the attribute. If `cells_refusal` gives a reason, the dump is
+/// refused with it, and nothing is written. The BIOS data must be valid, and the writer must not
+/// have failed before.
 ///
-/// It fails, with `WriteFault`, only where the writer does, which then has a prefix of the text.
+/// The only error is `WriteFault`: the writer failed, and has a prefix of the text.
 pub fn dump_cells<W: Write>(
     out: &mut Tracked<W>,
     card: &Card,
@@ -97,11 +97,11 @@ pub fn dump_cells<W: Write>(
 ) -> Result<Result<(), Refusal>, Fault>
     requires writer { has_failed out.old ≡ false }
     requires data { IsValid bda.now }
-    // The text, or nothing where the dump is refused.
+    // The text is written, or nothing if the dump is refused.
     ensures written { Writes (W.contents (inner_of out.old)) (W.contents (inner_of out.new))
         (has_failed out.new) result (cells_text (cells_refusal_of bda.now.mode) card.now bda.now) }
     ensures answer { IfOk result (λ answer. answer ≡ cells_answer (cells_refusal_of bda.now.mode)) }
-    // A dump that is refused leaves the writer.
+    // If the dump is refused, the writer is unchanged.
     ensures refused { IfSome (cells_refusal_of bda.now.mode) (λ why. (result ≡ Ok (Err why))
         × (out.new ≡ out.old)) }
 {

@@ -25,10 +25,11 @@ fn entry_text(card: &Card, index: u8) -> DumpText
     text
 }
 
-/// Writes an entry of the DAC in hexadecimal, its index, red, green and blue: `entry 01: 00 00 00`
-/// and a newline. The DAC's own index and counter stay. The writer must not have failed before.
+/// Writes an entry of the DAC in hexadecimal, its index and its red, green and blue: `entry 01: 00
+/// 00 00` and a newline. The DAC's index and counter stay as they are. The writer must not have
+/// failed before.
 ///
-/// It fails, with `WriteFault`, only where the writer does, which then has a prefix of the text.
+/// The only error is `WriteFault`: the writer failed, and has a prefix of the text.
 pub fn dump_dac<W: Write>(out: &mut Tracked<W>, card: &Card, index: u8) -> Result<(), Fault>
     requires { has_failed out.old ≡ false }
     ensures { Writes (W.contents (inner_of out.old)) (W.contents (inner_of out.new))

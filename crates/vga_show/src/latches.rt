@@ -24,10 +24,10 @@ fn latches_text(card: &Card) -> DumpText
     text
 }
 
-/// Writes the four latches, from plane 0, in hexadecimal: `latches 00 00 00 00` and a newline. The
-/// writer must not have failed before.
+/// Writes the four latches in hexadecimal, from plane 0 on: `latches 00 00 00 00` and a newline.
+/// The writer must not have failed before.
 ///
-/// It fails, with `WriteFault`, only where the writer does, which then has a prefix of the text.
+/// The only error is `WriteFault`: the writer failed, and has a prefix of the text.
 pub fn dump_latches<W: Write>(out: &mut Tracked<W>, card: &Card) -> Result<(), Fault>
     requires { has_failed out.old ≡ false }
     ensures { Writes (W.contents (inner_of out.old)) (W.contents (inner_of out.new))

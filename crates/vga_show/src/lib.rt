@@ -1,4 +1,4 @@
-//! The state of the adapter as text, and a picture as a PPM.
+//! The state of the adapter as text, and pictures as PPM files.
 #![tactic(auto)]
 
 mod bda;

@@ -11,7 +11,7 @@ use vga_bits::{Fault, Tracked, write_whole};
 use vga_card::Card;
 use vga_planes::Planes;
 
-/// Puts bytes of a plane at the end of a text, from an offset on.
+/// Appends bytes of a plane, from an offset on.
 #[tactic(auto, using(crate::proofs::TextLemmas::listing))]
 fn push_bytes(text: &mut DumpText, planes: &Planes, plane: usize, offset: u16, count: u16)
     requires plane { plane < 4 }
@@ -26,7 +26,7 @@ fn push_bytes(text: &mut DumpText, planes: &Planes, plane: usize, offset: u16, c
     }
 }
 
-/// The line of some bytes of a plane.
+/// The line of bytes of a plane.
 fn plane_text(card: &Card, plane: u8, offset: u16, count: u16) -> DumpText
     requires plane { plane < 4 }
     requires count { count ≤ 256 }
@@ -44,10 +44,10 @@ fn plane_text(card: &Card, plane: u8, offset: u16, count: u16) -> DumpText
 }
 
 /// Writes bytes of a plane in hexadecimal, from an offset on: `plane 2 B8A0: 00 41` and a newline.
-/// The plane is 0 to 3, the bytes are 1 to 256 and end with the plane. The writer must not have
-/// failed before.
+/// The plane is 0 to 3. There are 1 to 256 bytes, none past the plane's end. The writer must not
+/// have failed before.
 ///
-/// It fails, with `WriteFault`, only where the writer does, which then has a prefix of the text.
+/// The only error is `WriteFault`: the writer failed, and has a prefix of the text.
 pub fn dump_plane<W: Write>(
     out: &mut Tracked<W>,
     card: &Card,

@@ -8,7 +8,7 @@ use super::text::DumpText;
 use std::io::Write;
 use vga_bits::{Fault, Tracked, write_whole};
 
-/// What stands before the dots.
+/// The header, which stands before the dots.
 #[tactic(auto, unfolding(crate::specs::Ppm::ppm_header))]
 fn header(width: u32, height: u32) -> DumpText
     ensures value { result ≡ ppm_header width height }
@@ -23,10 +23,10 @@ fn header(width: u32, height: u32) -> DumpText
     text
 }
 
-/// Writes a picture of so many dots as a Netpbm PPM, where `bytes` are the red, green and blue, 0
-/// to 63, of each dot, row by row. The writer must not have failed before.
+/// Writes a picture of `width` by `height` dots as a Netpbm PPM. `bytes` are red, green and blue of
+/// each dot, 0 to 63 each, row by row. The writer must not have failed before.
 ///
-/// It fails, with `WriteFault`, only where the writer does, which then has a prefix of the PPM.
+/// The only error is `WriteFault`: the writer failed, and has a prefix of the PPM.
 #[tactic(auto, using(vga_bits::proofs::WritingLemmas::writes_after, vga_bits::proofs::WritingLemmas::prefix_of_more))]
 pub fn write_ppm<W: Write>(
     out: &mut Tracked<W>,
@@ -42,7 +42,7 @@ pub fn write_ppm<W: Write>(
     write_whole(out, bytes)
 }
 
-/// How many bytes the PPM of a picture has, which is at most 2,304 dots wide and 1,024 high.
+/// How many bytes the PPM of a picture has. The picture is at most 2,304 dots wide and 1,024 high.
 pub fn ppm_length(width: u32, height: u32) -> u32
     requires width { width ≤ widest }
     requires height { height ≤ highest }

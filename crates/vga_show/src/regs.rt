@@ -13,7 +13,7 @@ use vga_bits::{Fault, Tracked, write_whole};
 use vga_card::{Card, Regs};
 use vga_dac::{Component, Dac};
 
-/// Puts the line of the miscellaneous output register at the end.
+/// Appends the line of the miscellaneous output register.
 #[tactic(auto, using(crate::proofs::TextLemmas::joins), unfolding(crate::specs::Regs::misc_line))]
 fn push_misc(text: &mut DumpText, misc: u8)
     requires { length text.old + 8 ≤ room }
@@ -25,7 +25,7 @@ fn push_misc(text: &mut DumpText, misc: u8)
     text.push(b"\n");
 }
 
-/// Puts the line of a group at the end: its name, its index, and what its registers hold.
+/// Appends the line of a group: its name, its index, and its registers.
 #[tactic(auto, using(crate::proofs::TextLemmas::joins))]
 fn push_group(text: &mut DumpText, name: &[u8], index: u8, registers: &[u8])
     requires { length text.old + length name.now + 3 * length registers.now + 5 ≤ room }
@@ -41,7 +41,7 @@ fn push_group(text: &mut DumpText, name: &[u8], index: u8, registers: &[u8])
     text.push(b"\n");
 }
 
-/// Puts the line of the attribute controller at the end.
+/// Appends the line of the attribute controller.
 #[tactic(auto, using(crate::proofs::TextLemmas::joins), unfolding(crate::specs::Regs::attr_line))]
 fn push_attr(text: &mut DumpText, attr: &Attr)
     requires { length text.old + 74 ≤ room }
@@ -66,7 +66,7 @@ fn component_letter(component: Component) -> u8
     }
 }
 
-/// Puts the line of the DAC at the end.
+/// Appends the line of the DAC.
 #[tactic(auto, using(crate::proofs::TextLemmas::joins), unfolding(crate::specs::Regs::dac_line))]
 fn push_dac(text: &mut DumpText, dac: &Dac)
     requires { length text.old + 18 ≤ room }
@@ -106,14 +106,14 @@ fn regs_text(card: &Card) -> DumpText
 }
 
 /// Writes all registers in hexadecimal, in six lines that begin with `misc`, `seq`, `crtc`, `gfx`,
-/// `attr` and `dac`. Behind the name stand the index of the group and, but for the DAC, a colon and
-/// the registers from 0. Before its colon the attribute controller has the kind of the next write,
-/// `i` for an index or
-/// `d` for data. The DAC has the component that is next, `r`, `g` or `b`, the mask, and the red and
-/// green that wait. No register is read through a port, so that none changes, and no flip-flop. The
-/// writer must not have failed before.
+/// `attr` and `dac`. In the lines of groups the index follows the name, then a colon and the
+/// registers from 0. The line of the attribute controller also has the kind of the next write
+/// before its colon: `i` for an index or `d` for data. The line of the DAC has the index, the
+/// component that comes next, `r`, `g` or `b`, the mask, and the red and green that wait. No
+/// register is read through a port, so nothing changes, the flip-flop included. The writer must not
+/// have failed before.
 ///
-/// It fails, with `WriteFault`, only where the writer does, which then has a prefix of the text.
+/// The only error is `WriteFault`: the writer failed, and has a prefix of the text.
 pub fn dump_regs<W: Write>(out: &mut Tracked<W>, card: &Card) -> Result<(), Fault>
     requires { has_failed out.old ≡ false }
     ensures { Writes (W.contents (inner_of out.old)) (W.contents (inner_of out.new))

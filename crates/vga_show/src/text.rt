@@ -1,4 +1,4 @@
-//! The text of a dump: words, each behind a blank.
+//! Building the text of a dump: words, each after a blank.
 ghost use Rattle.std.specs.Prelude.{◌≡◌, ◌+◌, ◌*◌, ◌≤◌, ◌++◌, length, slice_index, codes};
 ghost use Rattle.std.specs.Prelude.{decimal};
 ghost use Rattle.vga_bits.specs.Hex.{hex_byte, hex_word};
@@ -10,7 +10,7 @@ const ROOM: usize = 782;
 /// The text of a dump, or the head of a picture.
 pub(crate) type DumpText = vga_bits::TextBuffer<ROOM>;
 
-/// Puts a blank and the two digits of a byte at the end.
+/// Appends a blank and the two digits of a byte.
 pub(crate) fn push_byte(text: &mut DumpText, v: u8)
     requires { length text.old + 3 ≤ room }
     ensures items { text.new ≡ text.old ++ (codes " " ++ hex_byte v) }
@@ -20,7 +20,7 @@ pub(crate) fn push_byte(text: &mut DumpText, v: u8)
     text.push_hex_byte(v);
 }
 
-/// Puts a blank and two digits for each of some bytes at the end.
+/// Appends a blank and two digits for each byte.
 #[tactic(auto, using(crate::proofs::TextLemmas::listing))]
 pub(crate) fn push_bytes(text: &mut DumpText, bytes: &[u8])
     requires { length text.old + 3 * length bytes.now ≤ room }
@@ -33,7 +33,7 @@ pub(crate) fn push_bytes(text: &mut DumpText, bytes: &[u8])
     }
 }
 
-/// Puts a blank and the four digits of a word at the end.
+/// Appends a blank and the four digits of a word.
 pub(crate) fn push_word(text: &mut DumpText, v: u16)
     requires { length text.old + 5 ≤ room }
     ensures items { text.new ≡ text.old ++ (codes " " ++ hex_word v) }
@@ -43,7 +43,7 @@ pub(crate) fn push_word(text: &mut DumpText, v: u16)
     text.push_hex_word(v);
 }
 
-/// Puts a blank, a name, a blank and the two digits of a byte at the end.
+/// Appends a blank, a name, a blank and the two digits of a byte.
 pub(crate) fn push_byte_field(text: &mut DumpText, name: &[u8], v: u8)
     requires { length text.old + length name.now + 4 ≤ room }
     ensures items { text.new ≡ text.old ++ (codes " " ++ (name.now ++ (codes " " ++ hex_byte v))) }
@@ -54,7 +54,7 @@ pub(crate) fn push_byte_field(text: &mut DumpText, name: &[u8], v: u8)
     push_byte(text, v);
 }
 
-/// Puts a blank, a name, a blank and the four digits of a word at the end.
+/// Appends a blank, a name, a blank and the four digits of a word.
 pub(crate) fn push_word_field(text: &mut DumpText, name: &[u8], v: u16)
     requires { length text.old + length name.now + 6 ≤ room }
     ensures items { text.new ≡ text.old ++ (codes " " ++ (name.now ++ (codes " " ++ hex_word v))) }
@@ -65,7 +65,7 @@ pub(crate) fn push_word_field(text: &mut DumpText, name: &[u8], v: u16)
     push_word(text, v);
 }
 
-/// Puts a blank, a name, a blank and a number of at most ten digits in decimal at the end.
+/// Appends a blank, a name, a blank and a number of at most ten digits in decimal.
 pub(crate) fn push_decimal_field(text: &mut DumpText, name: &[u8], n: u32)
     requires { length text.old + length name.now + 12 ≤ room }
     ensures items { text.new ≡ text.old ++ (codes " " ++ (name.now ++ (codes " " ++ decimal n))) }

@@ -1,11 +1,11 @@
-//! A script whose advances are cut.
+//! Cutting the advances of a script into shorter ones.
 ghost use Rattle.std.specs.Prelude.{◌≤◌, ◌<◌};
 
 use rand_core::Rng;
 use rand_pcg::Pcg32;
 use std::alloc::{AllocError, Global};
 
-/// The most dots of a part: some more than an adapter takes at once.
+/// The most dots of a part: a few more than an adapter draws at once.
 const LONGEST_PART: u32 = 140;
 
 /// How the advances of a script are cut.
@@ -13,12 +13,12 @@ const LONGEST_PART: u32 = 140;
 pub enum Cut {
     /// Into single dots.
     SingleDots,
-    /// Into parts of some dots each, at pseudo-random places.
+    /// Into parts of pseudo-random lengths.
     Parts,
 }
 
 impl Cut {
-    /// What the advances are cut into.
+    /// The name of the parts.
     pub fn name(self) -> &'static str {
         match self {
             Cut::SingleDots => "single dots",
@@ -26,7 +26,7 @@ impl Cut {
         }
     }
 
-    /// The most dots of an advance that is cut: those of a line or two, or of a frame.
+    /// The longest advance that is cut: a line or two, or a frame.
     fn most_dots(self) -> u32 {
         match self {
             Cut::SingleDots => 1_800,
@@ -34,7 +34,7 @@ impl Cut {
         }
     }
 
-    /// How many of the dots that are left come next.
+    /// How many of the remaining dots come next.
     fn next_part(self, random: &mut Pcg32, left: u32) -> u32
         requires { 0 < left }
         ensures some { 0 < result }
@@ -46,7 +46,7 @@ impl Cut {
         }
     }
 
-    /// How many dots the step of a line advances by, if it is an advance that is cut.
+    /// The number of dots in a line, if the line is an advance that is cut.
     fn dots_of(self, line: &str) -> Option<u32> {
         let (step, _) = line.split_once(';').unwrap_or((line, ""));
         let mut words = step.split_whitespace();
@@ -61,7 +61,7 @@ impl Cut {
         }
     }
 
-    /// Puts an advance by so many dots at the text's end, cut.
+    /// Appends an advance of `dots` dots, cut into parts.
     fn push_advance(
         self,
         text: &mut String,
@@ -80,7 +80,7 @@ impl Cut {
         Ok(())
     }
 
-    /// The text with its advances cut, but for those of too many dots, if it has one that is cut.
+    /// The text with its advances cut, except those of too many dots; None if it has none to cut.
     pub fn of_text(self, alloc: Global, text: &str) -> Result<Option<String>, AllocError> {
         if !text.lines().any(|line| self.dots_of(line).is_some()) {
             return Ok(None);
@@ -97,7 +97,7 @@ impl Cut {
     }
 }
 
-/// What a line of a report answers, without the step's number.
+/// The answer in a line of a report, without the step's number.
 fn answer_of(line: &str) -> &str {
     match line.split_once(' ') {
         Some((step, answer)) if step.parse::<u32>().is_ok() => answer,
@@ -105,8 +105,7 @@ fn answer_of(line: &str) -> &str {
     }
 }
 
-/// What a report answers, without the numbers of its steps, and without those that are done and
-/// have nothing to tell.
+/// The answers of a report, without step numbers and without steps that only answer `ok`.
 pub fn answers(alloc: Global, report: &str) -> Result<String, AllocError> {
     let mut text = String::new(alloc);
     for line in report.lines() {

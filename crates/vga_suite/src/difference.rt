@@ -1,13 +1,13 @@
-//! Where a report differs from the one that is expected.
+//! Finding where a report differs from the expected one.
 
 use std::alloc::{AllocError, Global};
 use std::fmt;
 use std::str::SplitTerminator;
 
-/// What stands where a text has no more lines.
+/// Stands for the missing line at the end of a text.
 const END: &str = "the end";
 
-/// The first line of an expected text that a report does not have.
+/// The first line of an expected text that the report does not have.
 #[derive(Drop)]
 pub struct Difference {
     number: usize,
@@ -51,7 +51,7 @@ fn done_steps(line: &str) -> Option<(u64, u64)> {
     }
 }
 
-/// Takes the next line, which is to be this one.
+/// Takes the next line, which must be this one.
 fn take_line(
     alloc: Global,
     lines: &mut SplitTerminator<'_, char>,
@@ -64,7 +64,7 @@ fn take_line(
     }
 }
 
-/// Takes the next lines, which are to say that the steps from the first to the last are done.
+/// Takes the next lines, which must say that the steps from the first to the last are done.
 fn take_done_lines(
     alloc: Global,
     lines: &mut SplitTerminator<'_, char>,
@@ -82,8 +82,8 @@ fn take_done_lines(
     Ok(None)
 }
 
-/// The first line of the expected text that the report does not have, if there is one, or the line
-/// behind its last where the report goes on.
+/// The first line of the expected text that the report does not have; or the line after its last,
+/// if the report goes on.
 pub fn first_difference(
     alloc: Global,
     report: &str,

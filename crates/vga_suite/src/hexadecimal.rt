@@ -1,9 +1,9 @@
-//! Bytes that are written in hexadecimal.
+//! Reading bytes that are written in hexadecimal.
 
 use anyhow::{Context, Result};
 use std::alloc::Global;
 
-/// The byte that a word spells, and how many times: `0B`, or `0B*3`.
+/// Reads the byte that a word spells, and how many times it stands there: `0B`, or `0B*3`.
 fn byte_and_count(word: &str) -> Option<(u8, usize)> {
     let (digits, count) = match word.split_once('*') {
         Some((digits, count)) => (digits, count.parse().ok()?),
@@ -14,7 +14,7 @@ fn byte_and_count(word: &str) -> Option<(u8, usize)> {
     Some((byte[0], count))
 }
 
-/// Puts the bytes of a line at the end. What stands behind `;` is a comment.
+/// Appends the bytes of a line. What follows `;` is a comment.
 fn push_line(bytes: &mut Vec<u8>, line: &str) -> Result<()> {
     let (spelled, _) = line.split_once(';').unwrap_or((line, ""));
     for word in spelled.split_whitespace() {
@@ -26,7 +26,7 @@ fn push_line(bytes: &mut Vec<u8>, line: &str) -> Result<()> {
     Ok(())
 }
 
-/// The bytes that a text spells.
+/// Reads the bytes that a text spells.
 pub fn bytes_of(alloc: Global, text: &str) -> Result<Vec<u8>> {
     let mut bytes = Vec::new(alloc);
     for line in text.lines() {

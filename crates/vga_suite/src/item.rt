@@ -12,13 +12,13 @@ pub enum Form {
 /// A case: a script and the report that is expected of it.
 #[derive(Clone, Copy)]
 pub struct Case<'a> {
-    /// The path of its files, without their ends.
+    /// The path of its files, without their endings.
     pub name: &'a str,
     /// How its script is written.
     pub form: Form,
-    /// After how many steps the run is stopped, if it is.
+    /// After how many steps the run stops, if it stops early.
     pub until: Option<u32>,
-    /// Whether the expected report is a wrong one, from which the report is to differ.
+    /// Whether the expected report is wrong, so that the report must differ from it.
     pub is_wrong: bool,
 }
 
@@ -29,17 +29,17 @@ pub enum Item<'a> {
     Heading,
     /// The font file of the cases that follow.
     Fonts(&'a str),
-    /// The file of a text that stands before each text that follows.
+    /// The file of a text that precedes each text that follows.
     Front(&'a str),
-    /// That no text stands before those that follow.
+    /// No text precedes those that follow.
     NoFront,
     /// A case.
     Case(Case<'a>),
 }
 
 impl<'a> Case<'a> {
-    /// The case of a line: `NAME`, with `wrong`, `bytes` or both in front of it, in this order, and
-    /// perhaps `until STEPS` behind it.
+    /// The case of a line: `NAME`, with `wrong`, `bytes` or both before it, in this order, and
+    /// perhaps `until STEPS` after it.
     fn of_line(line: &'a str) -> Option<Case<'a>> {
         let (is_wrong, line) = match line.strip_prefix("wrong ") {
             Some(others) => (true, others),
@@ -61,14 +61,14 @@ impl<'a> Case<'a> {
         })
     }
 
-    /// Whether it is a text that is run to its end, with the report that is right.
+    /// Whether it is a text that is run to its end, with a correct expected report.
     pub fn is_of_whole_text(&self) -> bool {
         matches!(self.form, Form::Vga) && self.until.is_none() && !self.is_wrong
     }
 }
 
 impl<'a> Item<'a> {
-    /// What a line asks for, if it is one of a list.
+    /// What a line of a list asks for, if it is valid.
     pub fn of_line(line: &'a str) -> Option<Item<'a>> {
         if line.is_empty() || line.starts_with('#') {
             return Some(Item::Heading);

@@ -1,7 +1,7 @@
-//! Runs the cases that a list names, and compares the report of each with the one that is expected.
+//! Runs the cases of a list, and compares each report with the expected one.
 //!
-//! A case is a script beside its expected report, two files of a name. `docs/SUITE.md` tells how
-//! they are read and written.
+//! A case is a script and its expected report, two files with the same name. `docs/SUITE.md` says
+//! how they are read and written.
 #![tactic(auto)]
 
 mod cut_advances;
@@ -27,7 +27,7 @@ use std::str::from_utf8;
 use std::{env, fs};
 use vga_bits::Tally;
 
-/// The path of the list, which the command line names.
+/// The path of the list, from the command line.
 fn list_path<R: Env + AllocGlobal>(rt: &R) -> Result<String> {
     let words: Vec<String> = env::args(rt)?.collect(rt.alloc())?;
     let [_, list] = words.as_slice() else {
@@ -46,7 +46,7 @@ fn read_text<R: Files + AllocGlobal>(rt: &R, path: &str) -> Result<String> {
     fs::read_to_string(rt, path).context(format_args!("{path}"))
 }
 
-/// The text of a case, behind the front.
+/// The text of a case, after the preceding text.
 fn text_of<R: Files + AllocGlobal>(rt: &R, case: &Case, setting: &Setting) -> Result<Vec<u8>> {
     let alloc = rt.alloc();
     let text = read_bytes(rt, setting.path(alloc, case.name, ".vga")?.as_str())?;
@@ -85,8 +85,8 @@ fn difference_of<R: Files + AllocGlobal>(
     Ok(first_difference(alloc, shown.as_str(), expected.as_str())?)
 }
 
-/// Checks a case, prints whether its report is the expected one, and tells whether the case passes:
-/// a wrong one does where its report differs.
+/// Checks a case, prints the result, and returns whether the case passes. A case with a wrong
+/// expected report passes if its report differs from that.
 fn check_case<R: Files + Print + AllocGlobal>(
     rt: &R,
     case: &Case,
@@ -101,7 +101,7 @@ fn check_case<R: Files + Print + AllocGlobal>(
     Ok(difference.is_some() == case.is_wrong)
 }
 
-/// What a text answers, if it is run to its end.
+/// What the steps of a text answer, if its run comes to the end.
 fn answers_of(alloc: Global, text: &str, setting: &Setting) -> Result<Option<String>> {
     let Ok(report) = running::run_text(alloc, text.as_bytes(), setting.fonts(), None) else {
         return Ok(None);
@@ -110,8 +110,8 @@ fn answers_of(alloc: Global, text: &str, setting: &Setting) -> Result<Option<Str
     Ok(Some(answers(alloc, shown.as_str())?))
 }
 
-/// Where a text answers otherwise if its advances are cut; None where there is nothing to compare,
-/// since it has no advance for that or is no script.
+/// Where a text answers differently once its advances are cut. None if there is nothing to compare,
+/// because it has no advance that can be cut, or is no script.
 fn difference_by_cut(
     alloc: Global,
     cut: Cut,
@@ -128,7 +128,7 @@ fn difference_by_cut(
     Ok(Some(first_difference(alloc, got.as_str(), expected.as_str())?))
 }
 
-/// Cuts the advances of a case, prints whether it answers the same, and counts it.
+/// Cuts the advances of a case, prints whether it answers the same, and counts the result.
 fn check_cut<R: Files + Print + AllocGlobal>(
     rt: &R,
     case: &Case,

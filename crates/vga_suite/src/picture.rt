@@ -17,13 +17,14 @@ pub struct Picture<'a> {
     ghost has_width: { 0 < row_len },
 }
 
-/// The line of a PPM that tells its size, and its dots.
+/// Splits a PPM into the line that gives its size, and its dots.
 fn split_ppm(ppm: &[u8]) -> Option<(&[u8], &[u8])> {
     let (size, others) = split_line(ppm.strip_prefix(b"P6\n")?)?;
     Some((size, others.strip_prefix(b"63\n")?))
 }
 
-/// How many bytes a row has, where the dots are just so many rows of so many dots, and not none.
+/// How many bytes a row has, if the dots are exactly `height` rows of `width` dots, and there are
+/// some.
 fn row_len(width: &str, height: &str, dots: &[u8]) -> Option<usize>
     ensures { IfSome result (λ n. 0 < n) }
 {
@@ -37,7 +38,7 @@ fn row_len(width: &str, height: &str, dots: &[u8]) -> Option<usize>
 }
 
 impl<'a> Picture<'a> {
-    /// The picture that a PPM holds.
+    /// The picture of a PPM.
     pub fn of_ppm(ppm: &'a [u8]) -> Option<Picture<'a>> {
         let (size, dots) = split_ppm(ppm)?;
         let (width, height) = from_utf8(size).ok()?.split_once(' ')?;
@@ -51,7 +52,7 @@ impl<'a> Picture<'a> {
         })
     }
 
-    /// A line that announces the picture, with its size behind it, as in `1 picture 37 9x1`.
+    /// The line that announces the picture, with its size added, as in `1 picture 37 9x1`.
     pub fn head(&self, alloc: Global, line: &str) -> Result<String, AllocError> {
         let width = self.width;
         let height = self.height;
@@ -63,7 +64,7 @@ impl<'a> Picture<'a> {
         hex::encode(alloc, Md5::digest(self.ppm))
     }
 
-    /// Puts its rows at the text's end, one a line.
+    /// Appends its rows, one per line.
     pub fn push_rows(&self, text: &mut String) -> Result<(), AllocError> {
         for row in self.dots.chunks_exact(self.row_len) {
             push_row(text, row)?;
@@ -72,7 +73,7 @@ impl<'a> Picture<'a> {
     }
 }
 
-/// Puts dots that are alike at the text's end: red, green and blue, and how many, as in `3F0015*9`.
+/// Appends a run of equal dots: red, green and blue, and how many there are, as in `3F0015*9`.
 fn push_run(text: &mut String, run: &[[u8; 3]]) -> Result<(), AllocError> {
     let Some([red, green, blue]) = run.first() else {
         return Ok(());
@@ -84,7 +85,7 @@ fn push_run(text: &mut String, run: &[[u8; 3]]) -> Result<(), AllocError> {
     }
 }
 
-/// Puts the dots of a row at the text's end, and a newline.
+/// Appends the dots of a row, and a newline.
 fn push_row(text: &mut String, row: &[u8]) -> Result<(), AllocError> {
     let (dots, _) = row.as_chunks::<3>();
     for (i, run) in dots.chunk_by(|dot, next| dot == next).enumerate() {

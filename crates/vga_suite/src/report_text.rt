@@ -5,8 +5,7 @@ use super::picture::Picture;
 use std::alloc::{AllocError, Global};
 use std::str::from_utf8;
 
-/// The picture at the front of what stands behind a line, if the line announces one, and what
-/// follows it.
+/// The picture after a line that announces one, and what follows it.
 fn picture_behind<'a>(line: &[u8], others: &'a [u8]) -> Option<(Picture<'a>, &'a [u8])> {
     let (_, len) = from_utf8(line).ok()?.split_once(" picture ")?;
     let (ppm, others) = others.split_at_checked(len.parse().ok()?)?;
@@ -14,14 +13,14 @@ fn picture_behind<'a>(line: &[u8], others: &'a [u8]) -> Option<(Picture<'a>, &'a
     Some((Picture::of_ppm(ppm)?, others))
 }
 
-/// Puts a line at the text's end, and a newline.
+/// Appends a line and a newline.
 fn push_line(alloc: Global, text: &mut String, line: &[u8]) -> Result<(), AllocError> {
     text.push_str(String::from_utf8_lossy(alloc, line)?.as_str())?;
     text.push_str("\n")
 }
 
-/// Puts a picture at the text's end, behind the line that announces it: in rows where the expected
-/// text has that line without a digest, and else by its digest.
+/// Appends a line that announces a picture, and the picture: its rows if the expected text has this
+/// line without a digest, otherwise its digest.
 fn push_picture(
     alloc: Global,
     text: &mut String,
@@ -41,7 +40,7 @@ fn push_picture(
     text.push_str("\n")
 }
 
-/// The report as text, each of its pictures in the form that the expected text has.
+/// Shows a report as text, with each picture in the form that the expected text has.
 pub fn shown_report(alloc: Global, report: &[u8], expected: &str) -> Result<String, AllocError> {
     let mut text = String::new(alloc);
     let mut rest = report;

@@ -1,4 +1,4 @@
-//! The report of a script.
+//! Running a script for its report.
 ghost use Rattle.std.specs.Prelude.{◌≡◌, List, IfOk};
 ghost use Rattle.bios_modes.specs.Fonts.{fonts_of};
 ghost use Rattle.vga_run.specs.Report.{report_of, steps_until};
@@ -11,8 +11,8 @@ use std::alloc::{AllocError, Global};
 use vga_bits::{Fault, Tracked};
 use vga_script::assemble;
 
-/// The report of the script that some bytes spell, all of it or so many of its first steps with the
-/// last dumps, or the fault that ends the run.
+/// Runs the script that some bytes spell: all of it, or with `until` its first steps and the last
+/// dumps. Returns the report, or the fault that ends the run.
 pub fn run_bytes(
     alloc: Global,
     bytes: &[u8],
@@ -27,7 +27,7 @@ pub fn run_bytes(
     Ok(report.into_inner())
 }
 
-/// The report of the script that a text spells, as that of bytes.
+/// Runs the script that a text spells, in the same way.
 pub fn run_text(
     alloc: Global,
     text: &[u8],

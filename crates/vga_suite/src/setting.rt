@@ -1,8 +1,8 @@
-//! What holds for the cases that follow.
+//! What applies to the cases that follow.
 
 use std::alloc::{AllocError, Global};
 
-/// The folder that files are named from, the font file, and the text in front of each text.
+/// The folder of the files, the font file, and a text that precedes each text.
 #[derive(Drop)]
 pub struct Setting {
     folder: String,
@@ -11,7 +11,7 @@ pub struct Setting {
 }
 
 impl Setting {
-    /// The folder of the list at this path, a font file of no bytes, and no text in front.
+    /// The folder of the list at this path, an empty font file, and no preceding text.
     pub fn beside(alloc: Global, list: &str) -> Result<Setting, AllocError> {
         let (folder, _) = list.rsplit_once('/').unwrap_or((".", list));
         Ok(Setting {
@@ -21,7 +21,7 @@ impl Setting {
         })
     }
 
-    /// The path of the file of this name and this end of a name.
+    /// The path of the file with this name and this ending.
     pub fn path(&self, alloc: Global, name: &str, end: &str) -> Result<String, AllocError> {
         let folder = self.folder.as_str();
         format!(in alloc; "{folder}/{name}{end}")
@@ -32,17 +32,17 @@ impl Setting {
         self.fonts.as_slice()
     }
 
-    /// Takes the bytes of another font file.
+    /// Replaces the font file.
     pub fn set_fonts(&mut self, fonts: Vec<u8>) {
         self.fonts = fonts;
     }
 
-    /// Takes another text to stand in front.
+    /// Replaces the preceding text.
     pub fn set_front(&mut self, front: Vec<u8>) {
         self.front = front;
     }
 
-    /// A text behind the one in front.
+    /// The preceding text, followed by a text.
     pub fn behind_front(&self, alloc: Global, text: &[u8]) -> Result<Vec<u8>, AllocError> {
         let mut whole = Vec::from_slice(alloc, self.front.as_slice())?;
         whole.extend_from_slice(text)?;

@@ -3,7 +3,7 @@ use Rattle.std.specs.Prelude.{ℕ, ◌+◌, ◌%◌, ◌^◌}
 use Rattle.vga_card.specs.Card.{CardState}
 use Rattle.vga_card.specs.Bus.{Meaning, card_write, card_read}
 
--- the adapter, and how many cycles it has had, modulo 2 to the power of 32
+-- The adapter, and how many cycles it has had, modulo 2 to the power of 32.
 pub record Counted : Type 0 where
   pub card : CardState
   pub cycles : ℕ
@@ -12,7 +12,7 @@ pub record Counted : Type 0 where
 abbrev pub with_cycle : Counted → CardState → Counted
 with_cycle counted card = record { card = card; cycles = (counted.cycles + 1) % 2 ^ 32 }
 
--- a cycle is the adapter's
+-- each cycle is issued on the adapter, and counted
 abbrev pub counted_meaning : Meaning Counted
 counted_meaning = record {
   write = λ counted place v. (

@@ -1,4 +1,4 @@
-//! The dump of cells: refused before a byte is written, and on writers that fail.
+//! The dump of cells: how it is refused before a byte is written, and how it fails with the writer.
 ghost use Rattle.std.specs.Prelude.{◌≡◌, false};
 ghost use Rattle.vga_bits.specs.Tracked.{has_failed};
 
@@ -15,7 +15,7 @@ use vga_show::dump_cells;
 /// How many bytes the text of a page has, 25 lines of 408.
 const TEXT_LEN: usize = 25 * 408;
 
-/// BIOS data of a mode, or those before one is set.
+/// BIOS data of a mode, or of mode 0, before any mode is set.
 fn data_of(mode: u8) -> Bda {
     let mut bda = Bda::new();
     if let Some(row) = mode_row(mode) {
@@ -24,7 +24,7 @@ fn data_of(mode: u8) -> Bda {
     bda
 }
 
-/// Whether the dump is refused so in a mode, with nothing written.
+/// Whether the dump is refused with this reason in a mode, and nothing is written.
 fn is_refused(alloc: Global, card: &Card, mode: u8, why: Refusal) -> Result<bool, Fault> {
     let bda = data_of(mode);
     if !bda.valid() {
@@ -53,7 +53,7 @@ fn text_of(alloc: Global, card: &Card) -> Result<Vec<u8>, Fault> {
     Ok(out.into_inner())
 }
 
-/// Whether a writer with room for so many bytes, that then refuses so, answers so and has these.
+/// Whether a writer with room for this prefix returns this answer, and then has the prefix.
 fn takes(alloc: Global, card: &Card, prefix: &[u8], full: Full, answer: Result<(), Fault>) -> bool {
     let mut out = Sink::new(alloc, prefix.len(), full);
     let answered = write_cells(&mut out, card);
@@ -62,8 +62,7 @@ fn takes(alloc: Global, card: &Card, prefix: &[u8], full: Full, answer: Result<(
     answered == answer && failed == answer.is_err() && sink.bytes() == prefix
 }
 
-/// Whether each writer that has too little room for the cells, and then refuses so, fails and has a
-/// prefix of the text.
+/// Whether each writer with too little room for the cells fails, and has a prefix of the text.
 fn are_prefixes_taken(alloc: Global, card: &Card, text: &[u8], full: Full) -> bool {
     let fault = Err(Fault::WriteFault);
     for room in 0..text.len() {
@@ -83,7 +82,7 @@ fn check_refusals(alloc: Global, card: &Card, checks: &mut Checks) -> Result<(),
     Ok(())
 }
 
-/// Checks writers that take the cells, whose text this is, or a prefix of them.
+/// Checks writers that take all of the cells, whose text this is, or a prefix.
 fn check_writers(alloc: Global, card: &Card, text: &[u8], checks: &mut Checks) {
     for full in FULL {
         checks.note("whole cells", takes(alloc, card, text, full, Ok(())));

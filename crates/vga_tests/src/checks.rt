@@ -1,9 +1,9 @@
-//! How the checks of a group ended.
+//! Collecting the checks of a group.
 
 use std::fmt;
 
-/// How the checks of a group ended: how many passed before the first that failed, and what that one
-/// checks. The others are not counted.
+/// The checks of a group: how many passed before the first that failed, and what that one checks.
+/// Checks after a failure are not counted.
 #[derive(Clone, Copy)]
 pub struct Checks {
     passed: u32,
@@ -11,7 +11,7 @@ pub struct Checks {
 }
 
 impl Checks {
-    /// No check yet.
+    /// No checks so far.
     pub fn new() -> Checks {
         Checks {
             passed: 0,
@@ -19,7 +19,7 @@ impl Checks {
         }
     }
 
-    /// Takes how the next check ended, and what it checks.
+    /// Notes whether the next check passed, and what it checks.
     pub fn note(&mut self, what: &'static str, has_passed: bool) {
         if self.failed.is_some() {
             return;

@@ -22,12 +22,12 @@ impl Model for CountedCard {
 }
 
 impl CountedCard {
-    /// An adapter that has had no cycle.
+    /// An adapter that has had no cycles.
     pub fn new(card: Card) -> CountedCard {
         CountedCard { card, cycles: 0 }
     }
 
-    /// How many cycles it has had since this was asked last.
+    /// How many cycles it has had since the last call.
     pub fn take_cycles(&mut self) -> u32 {
         let cycles = self.cycles;
         self.cycles = 0;
@@ -35,7 +35,7 @@ impl CountedCard {
     }
 }
 
-/// A cycle is the adapter's, and counts.
+/// Each cycle is issued on the adapter, and counted.
 impl Bus for CountedCard {
     ghost use Rattle.vga_tests.specs.Counted.{counted_meaning};
 

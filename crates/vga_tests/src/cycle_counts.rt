@@ -1,4 +1,4 @@
-//! How many cycles the services have, against the counts of the services' page.
+//! Checking the number of cycles of BIOS calls against docs/SERVICES.md.
 
 use crate::checks::Checks;
 use crate::counted_card::CountedCard;
@@ -13,8 +13,8 @@ use vga_card::Card;
 /// A call: AX, BX, CX and DX, the length of its block, and how many cycles it has.
 type CountedCall = ([u16; 4], usize, u32);
 
-/// The cycles of a mode set's registers and palette; of its font; and of the memory that it clears,
-/// in text and in graphics.
+/// The cycles of a mode set: its registers and palette; its font; and the memory that it clears, in
+/// text and in graphics.
 const REGISTERS: u32 = 896;
 
 const FONT: u32 = 4_112;
@@ -23,7 +23,7 @@ const TEXT_MEMORY: u32 = 32_768;
 
 const GRAPHICS_MEMORY: u32 = 65_536;
 
-/// The cycles of a page of text of 25 rows that goes up by one.
+/// The cycles of a page of 25 rows of text that goes up by one row.
 const PAGE_UP: u32 = 7_840;
 
 /// Mode 3, its cursor, windows, characters, strings and heights.
@@ -31,7 +31,7 @@ const TEXT_CALLS: [CountedCall; 40] = [
     ([0x0003, 0, 0, 0], 0, REGISTERS + FONT + TEXT_MEMORY),
     ([0x0083, 0, 0, 0], 0, REGISTERS + FONT),
     ([0x0100, 0, 0x0607, 0], 0, 4),
-    // The cursor of the active page is shown, and no other.
+    // Only the active page's cursor is shown.
     ([0x0200, 0, 0, 0x0102], 0, 4),
     ([0x0200, 0x0100, 0, 0x0102], 0, 0),
     ([0x0300, 0, 0, 0], 0, 0),
@@ -39,9 +39,10 @@ const TEXT_CALLS: [CountedCall; 40] = [
     ([0x0500, 0, 0, 0], 0, 8),
     ([0x0601, 0x0700, 0, 0x184F], 0, PAGE_UP),
     ([0x0701, 0x0700, 0, 0x184F], 0, PAGE_UP),
-    // All of the page becomes blank; DX is cut to its last cell.
+    // The whole page becomes blank; DX is limited to the page's last cell.
     ([0x0600, 0x0700, 0, 0xFFFF], 0, 4_000),
-    // Five rows of ten columns, by two: three are copied, two become blank.
+    // A window of five rows and ten columns goes up by two: three rows are copied, two become
+    // blank.
     ([0x0602, 0x0700, 0x020A, 0x0613], 0, 4 * 10 * 3 + 2 * 10 * 2),
     ([0x0702, 0x0700, 0x020A, 0x0613], 0, 4 * 10 * 3 + 2 * 10 * 2),
     // A window without rows, and one without columns.
@@ -51,19 +52,19 @@ const TEXT_CALLS: [CountedCall; 40] = [
     ([0x0941, 0x0007, 3, 0], 0, 6),
     ([0x0A41, 0x0007, 3, 0], 0, 3),
     ([0x0941, 0x0007, 0, 0], 0, 0),
-    // Refused: text has no dots.
+    // Refused: a text mode has no pixels.
     ([0x0C01, 0, 0, 0], 0, 0),
     ([0x0E41, 0, 0, 0], 0, 5),
     ([0x0E07, 0, 0, 0], 0, 0),
     ([0x0E08, 0, 0, 0], 0, 4),
     ([0x0E0A, 0, 0, 0], 0, 4),
     ([0x0E0D, 0, 0, 0], 0, 4),
-    // From the last cell the page goes up, behind a get of the attribute there.
+    // At the last cell the page goes up, after a read of the attribute there.
     ([0x0200, 0, 0, 0x184F], 0, 4),
     ([0x0E41, 0, 0, 0], 0, 5 + 1 + PAGE_UP),
     ([0x0E0A, 0, 0, 0], 0, 4 + 1 + PAGE_UP),
     ([0x0F00, 0, 0, 0], 0, 0),
-    // Characters with their attributes, and for AL 01 the cursor behind them.
+    // Characters with their attributes; with AL 01 the cursor follows them.
     ([0x1301, 0x0007, 4, 0x0500], 4, 4 * 2 + 4),
     ([0x1302, 0, 4, 0x0500], 8, 4 * 2),
     ([0x1301, 0x0007, 0, 0x0500], 0, 4),
@@ -95,12 +96,12 @@ const COLOUR_CALLS: [CountedCall; 18] = [
     ([0x1017, 0x0007, 0, 0], 0, 1),
     ([0x1018, 0x00FF, 0, 0], 0, 1),
     ([0x1019, 0, 0, 0], 0, 1),
-    // Refused: there is no register 10, and no part 04.
+    // Refused: there is no palette register 10, and no subfunction 04.
     ([0x1000, 0x0010, 0, 0], 0, 0),
     ([0x1004, 0, 0, 0], 0, 0),
 ];
 
-/// 16 colours: mode 0D, with characters of 8 lines, and pages of modes 10 and 12 that go up by a
+/// 16 colours: mode 0D, with characters of 8 lines, and pages of modes 10 and 12 that go up by one
 /// row.
 const PLANAR_CALLS: [CountedCall; 22] = [
     ([0x000D, 0, 0, 0], 0, REGISTERS + GRAPHICS_MEMORY),
@@ -109,10 +110,10 @@ const PLANAR_CALLS: [CountedCall; 22] = [
     ([0x0501, 0, 0, 0], 0, 4),
     ([0x0601, 0, 0, 0x1827], 0, 16_008),
     ([0x0701, 0, 0, 0x1827], 0, 16_008),
-    // Five rows of ten columns, by two.
+    // A window of five rows and ten columns goes up by two.
     ([0x0602, 0, 0x020A, 0x0613], 0, 2 * 8 * 10 * 5 + 8),
     ([0x0800, 0, 0, 0], 0, 2 + 8 + 2),
-    // A character, one by XOR, and three.
+    // One character, one with XOR, and three.
     ([0x0941, 0x0007, 1, 0], 0, 2 * 8 + 4),
     ([0x0941, 0x0087, 1, 0], 0, 2 * 8 + 8),
     ([0x0A41, 0x0007, 3, 0], 0, 3 * (2 * 8 + 4)),
@@ -133,7 +134,8 @@ const PLANAR_CALLS: [CountedCall; 22] = [
 const PACKED_CALLS: [CountedCall; 9] = [
     ([0x0013, 0, 0, 0], 0, REGISTERS + GRAPHICS_MEMORY),
     ([0x0601, 0, 0, 0x1827], 0, 125_440),
-    // Five rows of ten columns, by two: three are copied, two become blank.
+    // A window of five rows and ten columns goes down by two: three rows are copied, two become
+    // blank.
     ([0x0702, 0, 0x020A, 0x0613], 0, 128 * 10 * 3 + 64 * 10 * 2),
     ([0x0800, 0, 0, 0], 0, 64),
     ([0x0941, 0x0087, 2, 0], 0, 2 * 64),
@@ -146,7 +148,7 @@ const PACKED_CALLS: [CountedCall; 9] = [
 /// The bytes of blocks.
 const BLOCK: [u8; 17] = [0x41; 17];
 
-/// How many cycles a call has on an adapter.
+/// How many cycles a call makes on an adapter.
 fn cycles_of(
     alloc: Global,
     card: &mut CountedCard,
@@ -164,7 +166,7 @@ fn cycles_of(
     card.take_cycles()
 }
 
-/// Checks that calls, one after another on an adapter, have their cycles.
+/// Checks that calls, made one after another on an adapter, have these numbers of cycles.
 fn check_calls(
     alloc: Global,
     fonts: &Fonts,
@@ -193,7 +195,7 @@ fn check_graphics(alloc: Global, fonts: &Fonts, checks: &mut Checks) -> Result<(
     check_calls(alloc, fonts, "cycles in 256 colours", &PACKED_CALLS, checks)
 }
 
-/// Checks that services have as many cycles as their page tells.
+/// Checks that BIOS calls have as many cycles as their page says.
 pub fn check_cycle_counts(alloc: Global) -> Result<Checks> {
     let mut checks = Checks::new();
     let fonts = blank_fonts(alloc)?;

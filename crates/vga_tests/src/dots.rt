@@ -1,8 +1,8 @@
-//! Pictures, the beam and input status 1 against the plain model, on pseudo-random registers,
+//! Compares pictures, the beam and input status 1 with the slow model, on pseudo-random registers,
 //! colours and memory, and with registers that change within a frame.
 ghost use Rattle.std.specs.Prelude.{◌≡◌, ◌<◌, ◌≤◌};
 
-use crate::plain_dots::PlainDots;
+use crate::dot_model::DotModel;
 use crate::random_registers::{
     DotSource, attribute_value, crtc_value, graphics_value, is_one_in, memory_byte, next_below,
     next_byte, next_crtc_register, next_source, sequencer_value,
@@ -17,19 +17,19 @@ use vga_card::{Card, Drawn};
 /// How many settings of all registers are compared, unless fewer are asked for.
 pub const SETTINGS: u32 = 2_000;
 
-/// How many frames of each are.
+/// How many frames are compared on each.
 const FRAMES: u32 = 5;
 
-/// The settings that have tall frames, and which bits of the vertical total make them so.
+/// The settings with tall frames, and the bits of the vertical total that make them so.
 const TALL: [(u32, u8); 3] = [(40, 0x01), (80, 0x20), (120, 0x21)];
 
 /// The first address of the window that memory is filled through.
 const WINDOW: u32 = 0xA0000;
 
-/// In what a card first differs from the model.
+/// What first differs between a card and the model.
 #[derive(Clone, Copy, Debug, PartialEq, Eq)]
 enum Difference {
-    /// The beam's place, or the counters of the rows of characters.
+    /// The position of the beam, or its counters.
     Beam,
     /// How many rows are drawn.
     Rows,
@@ -37,7 +37,7 @@ enum Difference {
     Status,
     /// The size of the picture, or that it is ragged.
     Shape,
-    /// The colour of the picture's dot of this number.
+    /// The colour of this dot of the picture.
     Dot(usize),
 }
 
@@ -49,7 +49,7 @@ pub struct DotsOutcome {
 }
 
 impl DotsOutcome {
-    /// Whether all was alike.
+    /// Whether nothing differs.
     pub fn is_alike(&self) -> bool {
         self.difference.is_none()
     }
@@ -65,14 +65,14 @@ impl fmt::Display for DotsOutcome {
     }
 }
 
-/// A card and the plain model, which are given the same registers, memory and dots.
+/// A card and its slow model, which get the same registers, memory and dots.
 #[derive(Drop)]
 struct Pair {
     card: Card,
-    plain: PlainDots,
+    model: DotModel,
 }
 
-/// The first dot of a picture that has another colour in the model.
+/// The first dot of a picture whose colour differs from the model's.
 fn differing_dot(bytes: &[u8], colours: &[[u8; 3]]) -> Option<usize> {
     let mut rest = bytes;
     for (i, colour) in colours.iter().enumerate() {
@@ -92,19 +92,19 @@ impl Pair {
     fn new(alloc: Global) -> Result<Pair> {
         Ok(Pair {
             card: Card::new(alloc)?,
-            plain: PlainDots::new(alloc)?,
+            model: DotModel::new(alloc)?,
         })
     }
 
     fn set_misc(&mut self, v: u8) -> Result<(), Refusal> {
-        self.plain.misc = v;
+        self.model.misc = v;
         self.card.out(0x3C2, v)
     }
 
     fn set_sequencer(&mut self, i: u8, v: u8) -> Result<(), Refusal>
         requires { i < 5 }
     {
-        self.plain.seq[i as usize] = v;
+        self.model.seq[i as usize] = v;
         self.card.out(0x3C4, i)?;
         self.card.out(0x3C5, v)
     }
@@ -112,7 +112,7 @@ impl Pair {
     fn set_graphics(&mut self, i: u8, v: u8) -> Result<(), Refusal>
         requires { i < 9 }
     {
-        self.plain.gfx[i as usize] = v;
+        self.model.gfx[i as usize] = v;
         self.card.out(0x3CE, i)?;
         self.card.out(0x3CF, v)
     }
@@ -121,7 +121,7 @@ impl Pair {
     fn crtc_port(&self) -> u16
         ensures { result < 1000 }
     {
-        if self.plain.misc & 1 == 1 {
+        if self.model.misc & 1 == 1 {
             0x3D4
         } else {
             0x3B4
@@ -132,7 +132,7 @@ impl Pair {
         requires { i < 25 }
     {
         let port = self.crtc_port();
-        self.plain.set_crtc(i as usize, v);
+        self.model.set_crtc(i as usize, v);
         self.card.out(port, i)?;
         self.card.out(port + 1, v)
     }
@@ -142,14 +142,14 @@ impl Pair {
     {
         let port = self.crtc_port() + 6;
         self.card.inp(port)?;
-        self.plain.set_attribute(i as usize, is_palette_shown, v);
+        self.model.set_attribute(i as usize, is_palette_shown, v);
         self.card
             .out(0x3C0, if is_palette_shown { i + 0x20 } else { i })?;
         self.card.out(0x3C0, v)
     }
 
     fn set_colour(&mut self, i: u8, colour: [u8; 3]) -> Result<(), Refusal> {
-        self.plain.dac[i as usize] = colour;
+        self.model.dac[i as usize] = colour;
         self.card.out(0x3C8, i)?;
         self.card.out(0x3C9, colour[0])?;
         self.card.out(0x3C9, colour[1])?;
@@ -157,18 +157,18 @@ impl Pair {
     }
 
     fn set_dac_mask(&mut self, v: u8) -> Result<(), Refusal> {
-        self.plain.dac_mask = v;
+        self.model.dac_mask = v;
         self.card.out(0x3C6, v)
     }
 }
 
 /// Memory.
 impl Pair {
-    /// Lets each byte that is written reach one plane alone, as it is.
+    /// Sets the registers so that each byte that is written reaches one plane, unchanged.
     fn open_memory(&mut self, plane: u8) -> Result<(), Refusal>
         requires { plane < 4 }
     {
-        self.set_misc(self.plain.misc | 0x02)?;
+        self.set_misc(self.model.misc | 0x02)?;
         self.set_sequencer(2, 1 << plane)?;
         self.set_sequencer(4, 0x06)?;
         self.set_graphics(1, 0x00)?;
@@ -181,7 +181,7 @@ impl Pair {
     fn put(&mut self, plane: u8, offset: u16, v: u8) -> Result<(), Refusal>
         requires { plane < 4 }
     {
-        self.plain.set_byte(plane as usize, offset, v);
+        self.model.set_byte(plane as usize, offset, v);
         self.card.put(WINDOW + offset as u32, v)
     }
 
@@ -196,15 +196,15 @@ impl Pair {
         Ok(())
     }
 
-    /// Writes a byte that is fetched near the beam, and gives the registers that this took their
-    /// values again.
+    /// Writes a byte that is fetched near the beam, and restores the registers that the write
+    /// changed.
     fn change_memory(&mut self, random: &mut Pcg32) -> Result<(), Refusal> {
-        let seq = self.plain.seq;
-        let gfx = self.plain.gfx;
+        let seq = self.model.seq;
+        let gfx = self.model.gfx;
         let plane = next_below(random, 4) as u8;
         let near = next_below(random, 16) as u16;
-        let counter = self.plain.beam.base.wrapping_add(near);
-        let offset = self.plain.fetch_address(counter);
+        let counter = self.model.beam.base.wrapping_add(near);
+        let offset = self.model.fetch_address(counter);
         let v = memory_byte(random, plane);
         self.open_memory(plane)?;
         self.put(plane, offset, v)?;
@@ -222,7 +222,7 @@ impl Pair {
 impl Pair {
     /// Puts the cursor near the first character of the frame, or of the memory.
     fn place_cursor(&mut self, random: &mut Pcg32) -> Result<(), Refusal> {
-        let start = 256 * self.plain.crtc[0x0C] as u16 + self.plain.crtc[0x0D] as u16;
+        let start = 256 * self.model.crtc[0x0C] as u16 + self.model.crtc[0x0D] as u16;
         let near = next_below(random, 24) as u16;
         let place = if is_one_in(random, 4) {
             near
@@ -233,15 +233,15 @@ impl Pair {
         self.set_crtc(0x0F, (place & 0xFF) as u8)
     }
 
-    /// Makes the frame one of 256 lines and more, by these bits of the overflow register, in narrow
+    /// Makes the frame 256 lines high or more, by these bits of the overflow register, with narrow
     /// lines.
     fn make_tall(&mut self, overflow: u8) -> Result<(), Refusal> {
         self.set_crtc(0x11, 0x00)?;
         self.set_crtc(0x00, 0x00)?;
-        self.set_crtc(0x07, self.plain.crtc[0x07] | overflow)
+        self.set_crtc(0x07, self.model.crtc[0x07] | overflow)
     }
 
-    /// Makes the frame tall where the setting is one of those that are.
+    /// Makes the frame tall if this setting is one of the tall ones.
     fn make_tall_in(&mut self, setting: u32) -> Result<(), Refusal> {
         for (tall, overflow) in TALL {
             if tall == setting {
@@ -258,7 +258,7 @@ impl Pair {
         self.set_colour(i, [red, green, blue])
     }
 
-    /// Gives the registers of the sequencer anew.
+    /// Sets the registers of the sequencer to new values.
     fn change_sequencer(&mut self, random: &mut Pcg32) -> Result<(), Refusal> {
         for i in 0..5u8 {
             self.set_sequencer(i, sequencer_value(random, i))?;
@@ -266,7 +266,7 @@ impl Pair {
         Ok(())
     }
 
-    /// Gives the registers of the CRT controller anew.
+    /// Sets the registers of the CRT controller to new values.
     fn change_crtc(&mut self, random: &mut Pcg32) -> Result<(), Refusal> {
         self.set_crtc(0x11, 0x00)?;
         for i in 0..25u8 {
@@ -275,7 +275,7 @@ impl Pair {
         self.place_cursor(random)
     }
 
-    /// Gives the registers of the graphics controller anew.
+    /// Sets the registers of the graphics controller to new values.
     fn change_graphics(&mut self, random: &mut Pcg32, dots: DotSource) -> Result<(), Refusal> {
         for i in 0..9u8 {
             self.set_graphics(i, graphics_value(random, i, dots))?;
@@ -283,7 +283,7 @@ impl Pair {
         Ok(())
     }
 
-    /// Gives the registers of the attribute controller anew.
+    /// Sets the registers of the attribute controller to new values.
     fn change_attributes(&mut self, random: &mut Pcg32) -> Result<(), Refusal> {
         for i in 0..21u8 {
             self.set_attribute(i, false, attribute_value(random, i))?;
@@ -292,7 +292,7 @@ impl Pair {
         self.set_attribute(0x13, is_palette_shown, attribute_value(random, 0x13))
     }
 
-    /// Gives the colours and their mask anew.
+    /// Sets the colours and the DAC mask to new values.
     fn change_colours(&mut self, random: &mut Pcg32) -> Result<(), Refusal> {
         for i in 0..=0xFFu8 {
             self.change_colour(random, i)?;
@@ -300,7 +300,7 @@ impl Pair {
         self.set_dac_mask(next_byte(random) | next_byte(random))
     }
 
-    /// Gives all registers and colours anew.
+    /// Sets all registers and colours to new values.
     fn change_all(&mut self, random: &mut Pcg32, dots: DotSource) -> Result<(), Refusal> {
         self.set_misc((next_byte(random) & 0xEF) | 0x02)?;
         self.change_sequencer(random)?;
@@ -310,10 +310,10 @@ impl Pair {
         self.change_colours(random)
     }
 
-    /// Gives one register, colour or byte of memory another value.
+    /// Sets one register, colour or byte of memory to another value.
     fn change_one(&mut self, random: &mut Pcg32) -> Result<(), Refusal> {
         match next_below(random, 20) {
-            0 => self.set_sequencer(1, self.plain.seq[1] ^ 0x01),
+            0 => self.set_sequencer(1, self.model.seq[1] ^ 0x01),
             1 => {
                 let i = next_below(random, 5) as u8;
                 self.set_sequencer(i, sequencer_value(random, i))
@@ -354,7 +354,7 @@ impl Pair {
 impl Pair {
     fn advance(&mut self, dots: u32) -> Result<()> {
         for _ in 0..dots {
-            self.plain.dot()?;
+            self.model.dot()?;
         }
         self.card.advance(dots)?;
         Ok(())
@@ -362,20 +362,20 @@ impl Pair {
 
     /// Advances to the last dot of a character of nine dots, or past one of eight.
     fn advance_to_last_dot(&mut self) -> Result<()> {
-        let dots = 8u8.saturating_sub(self.plain.beam.dot);
+        let dots = 8u8.saturating_sub(self.model.beam.dot);
         self.advance(dots as u32)
     }
 
     fn beam_difference(&mut self) -> Result<Option<Difference>, Refusal> {
         let (beam, rows) = self.card.beam();
-        if beam != self.plain.beam {
+        if beam != self.model.beam {
             return Ok(Some(Difference::Beam));
         }
-        if rows as usize != self.plain.rows() {
+        if rows as usize != self.model.rows() {
             return Ok(Some(Difference::Rows));
         }
         let port = self.crtc_port() + 6;
-        if self.card.inp(port)? != self.plain.status() {
+        if self.card.inp(port)? != self.model.status() {
             return Ok(Some(Difference::Status));
         }
         Ok(None)
@@ -383,11 +383,11 @@ impl Pair {
 
     /// Draws to the end of the frame.
     fn frame_difference(&mut self) -> Result<Option<Difference>> {
-        self.plain.frame()?;
-        let difference = match (self.card.frame(), self.plain.size()) {
+        self.model.frame()?;
+        let difference = match (self.card.frame(), self.model.size()) {
             (Drawn::Picture(width, height, bytes), Some(size)) => {
                 if (width, height as usize) == size {
-                    differing_dot(bytes, self.plain.colours.as_slice()).map(Difference::Dot)
+                    differing_dot(bytes, self.model.colours.as_slice()).map(Difference::Dot)
                 } else {
                     Some(Difference::Shape)
                 }
@@ -401,7 +401,7 @@ impl Pair {
         }
     }
 
-    /// One frame, with a few changes before it, and in most cases within it.
+    /// Compares a frame, with a few changes before it, and in most cases within it.
     fn compared_frame(&mut self, random: &mut Pcg32) -> Result<Option<Difference>> {
         self.change_few(random)?;
         for _ in 0..next_below(random, 3) {
@@ -419,7 +419,7 @@ impl Pair {
         self.frame_difference()
     }
 
-    /// So many frames of so many settings, up to the first difference.
+    /// Compares frames on `settings` settings, up to the first difference.
     fn outcome(
         &mut self,
         random: &mut Pcg32,
@@ -446,7 +446,8 @@ impl Pair {
     }
 }
 
-/// Compares frames of so many pseudo-random settings, with the numbers of a stream.
+/// Compares frames on `settings` pseudo-random settings. The stream gives the pseudo-random
+/// numbers.
 pub fn compare_dots(
     alloc: Global,
     dots: DotSource,

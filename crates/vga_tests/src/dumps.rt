@@ -1,4 +1,4 @@
-//! Each dump on writers that take one byte a call, and that fail.
+//! Checking each dump on writers that take one byte a call, and on writers that fail.
 ghost use Rattle.std.specs.Prelude.{◌≡◌, false};
 ghost use Rattle.vga_bits.specs.Tracked.{has_failed};
 
@@ -53,7 +53,7 @@ fn text_of(alloc: Global, dump: Dump, card: &Card) -> Result<Vec<u8>, Fault> {
     Ok(out.into_inner())
 }
 
-/// Whether a writer with room for so many bytes, that then refuses so, answers so and has these.
+/// Whether a writer with room for this prefix returns this answer, and then has the prefix.
 fn takes(
     alloc: Global,
     dump: Dump,
@@ -68,8 +68,7 @@ fn takes(
         && out.into_inner().bytes() == prefix
 }
 
-/// Whether each writer that has too little room for a dump, and then refuses so, fails and has a
-/// prefix of its text.
+/// Whether each writer with too little room for a dump fails, and has a prefix of its text.
 fn are_prefixes_taken(alloc: Global, dump: Dump, card: &Card, text: &[u8], full: Full) -> bool {
     let fault = Err(Fault::WriteFault);
     for room in 0..text.len() {
@@ -80,7 +79,7 @@ fn are_prefixes_taken(alloc: Global, dump: Dump, card: &Card, text: &[u8], full:
     true
 }
 
-/// Checks writers that take a dump, whose text this is, or a prefix of it.
+/// Checks writers that take all of a dump, whose text this is, or a prefix.
 fn check_writers(alloc: Global, dump: Dump, card: &Card, text: &[u8], checks: &mut Checks) {
     for full in FULL {
         checks.note("a whole dump", takes(alloc, dump, card, text, full, Ok(())));

@@ -1,7 +1,7 @@
-//! The host path against the plain model, on pseudo-random registers, addresses and bytes.
+//! Compares the host path with the slow model, on pseudo-random registers, addresses and bytes.
 ghost use Rattle.std.specs.Prelude.{◌≡◌, ◌<◌};
 
-use crate::plain_host::PlainHost;
+use crate::host_model::HostModel;
 use crate::random_registers::next_byte;
 use anyhow::Result;
 use rand_core::Rng;
@@ -15,7 +15,7 @@ use vga_planes::Planes;
 /// How many settings of the registers are compared, unless fewer are asked for.
 pub const SETTINGS: u32 = 40_000;
 
-/// How many cycles on each are.
+/// How many cycles are compared on each.
 const CYCLES: u32 = 8;
 
 /// The miscellaneous output register with the display memory switched on.
@@ -25,7 +25,7 @@ const SEQ_MASKS: [u8; 5] = [0x03, 0x3D, 0x0F, 0x3F, 0x0E];
 
 const GFX_MASKS: [u8; 9] = [0x0F, 0x0F, 0x0F, 0x1F, 0x03, 0x5B, 0x0F, 0x0F, 0xFF];
 
-/// In what a host path first differs from the model.
+/// What first differs between a host path and the model.
 #[derive(Clone, Copy, Debug, PartialEq, Eq)]
 enum Mismatch {
     /// The answer to a read at an address.
@@ -46,7 +46,7 @@ pub struct PathOutcome {
 }
 
 impl PathOutcome {
-    /// Whether all was alike.
+    /// Whether nothing differs.
     pub fn is_alike(&self) -> bool {
         self.mismatch.is_none()
     }
@@ -62,14 +62,14 @@ impl fmt::Display for PathOutcome {
     }
 }
 
-/// A host path and the plain model, which are given the same registers and cycles.
+/// A host path and its slow model, which get the same registers and cycles.
 #[derive(Drop)]
 struct Paths {
     host: Host,
-    plain: PlainHost,
+    model: HostModel,
 }
 
-/// An address of the adapter's 128 KiB, or one just outside; few offsets, so that they meet again.
+/// An address of the adapter's 128 KiB or just outside. There are few offsets, so that they recur.
 fn next_address(random: &mut Pcg32) -> u32 {
     let word = random.next_u32();
     0x9FFF0 + (word >> 31) * 0x10000 + ((word >> 30) & 1) * 0x8000 + (word & 0x3F)
@@ -79,30 +79,30 @@ impl Paths {
     fn new(alloc: Global) -> Result<Paths, Fault> {
         Ok(Paths {
             host: Host::new(Planes::new(alloc)?),
-            plain: PlainHost::new(alloc)?,
+            model: HostModel::new(alloc)?,
         })
     }
 
-    /// Gives both all registers anew.
+    /// Sets all registers of both to new values.
     fn set_registers(&mut self, random: &mut Pcg32) -> Result<(), Refusal> {
         for i in 0..5u8 {
             let v = next_byte(random) & SEQ_MASKS[i as usize];
             self.host.out(SEQUENCER_INDEX, i)?;
             self.host.out(SEQUENCER_DATA, v)?;
-            self.plain.seq[i as usize] = v;
+            self.model.seq[i as usize] = v;
         }
         for i in 0..9u8 {
             let v = next_byte(random) & GFX_MASKS[i as usize];
             self.host.out(GRAPHICS_INDEX, i)?;
             self.host.out(GRAPHICS_DATA, v)?;
-            self.plain.gfx[i as usize] = v;
+            self.model.gfx[i as usize] = v;
         }
         Ok(())
     }
 
     fn get_mismatch(&mut self, address: u32) -> Option<Mismatch> {
-        let wanted = match self.plain.place(address) {
-            Some(place) => Ok(self.plain.get(place)),
+        let wanted = match self.model.place(address) {
+            Some(place) => Ok(self.model.get(place)),
             None => Err(Refusal::NotDecoded),
         };
         if self.host.get(address, MEMORY_ON) == wanted {
@@ -113,8 +113,8 @@ impl Paths {
     }
 
     fn put_mismatch(&mut self, address: u32, v: u8) -> Option<Mismatch> {
-        let wanted = match self.plain.place(address) {
-            Some(place) => Ok(self.plain.put(place, v)),
+        let wanted = match self.model.place(address) {
+            Some(place) => Ok(self.model.put(place, v)),
             None => Err(Refusal::NotDecoded),
         };
         if self.host.put(address, v, MEMORY_ON) == wanted {
@@ -126,14 +126,14 @@ impl Paths {
 
     fn latch_mismatch(&self, address: u32) -> Option<Mismatch> {
         for plane in 0..4usize {
-            if self.host.latch().byte(plane) != self.plain.latches[plane] {
+            if self.host.latch().byte(plane) != self.model.latches[plane] {
                 return Some(Mismatch::Latch(plane, address));
             }
         }
         None
     }
 
-    /// A cycle, with the latches that it leaves.
+    /// Compares a cycle, and the latches that it leaves.
     fn cycle_mismatch(&mut self, random: &mut Pcg32) -> Option<Mismatch> {
         let address = next_address(random);
         let mismatch = if next_byte(random) & 1 == 0 {
@@ -148,7 +148,7 @@ impl Paths {
     fn memory_mismatch(&self) -> Option<Mismatch> {
         for offset in 0..=0xFFFFu16 {
             for plane in 0..4usize {
-                if self.host.planes().byte(plane, offset) != self.plain.planes.byte(plane, offset) {
+                if self.host.planes().byte(plane, offset) != self.model.planes.byte(plane, offset) {
                     return Some(Mismatch::Byte(plane, offset));
                 }
             }
@@ -157,7 +157,7 @@ impl Paths {
     }
 }
 
-/// Compares cycles on so many pseudo-random settings, and then the whole memory.
+/// Compares cycles on `settings` pseudo-random settings, and then the whole memory.
 pub fn compare_host_path(alloc: Global, settings: u32) -> Result<PathOutcome> {
     let mut random = Pcg32::new(0x5EED, 1);
     let mut paths = Paths::new(alloc)?;

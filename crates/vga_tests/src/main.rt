@@ -1,13 +1,13 @@
-//! Compares the adapter with plain, slow models of the register table, on pseudo-random registers,
-//! memory and colours; checks scripts, dumps, pictures and runs where no script of the suite can,
-//! as with writers that fail; and prints how each comparison and each group of checks ended. The
-//! exit status is 1 where any model differs or any check fails.
+//! Compares the adapter with slow models of the register table, on pseudo-random registers, memory
+//! and colours. Checks scripts, dumps, pictures and runs where no script of the suite can, for
+//! example on writers that fail. Prints how each comparison and each group of checks ended. The
+//! exit status is 1 if any model differs or any check fails.
 //!
-//! With the words `host N` or `dots N` it compares cycles or dots alone, on so few settings that you
-//! can try a change of the adapter within a minute.
+//! `host N` or `dots N` on the command line compares only cycles or only dots, on N settings. With
+//! few settings that takes less than a minute, so that you can try a change.
 //!
-//! With the words `memory N` it does nothing of this: it makes N allocations, and then prints how
-//! each call ends that takes memory. Whoever refuses an allocation by its number chooses the call
+//! `memory N` on the command line does none of this: it makes N allocations, and then prints how
+//! each call that allocates ends. If you make an allocation fail by its number, N chooses the call
 //! that meets it.
 #![tactic(auto)]
 
@@ -15,14 +15,14 @@ mod cell_dumps;
 mod checks;
 mod counted_card;
 mod cycle_counts;
+mod dot_model;
 mod dots;
 mod dumps;
+mod host_model;
 mod host_path;
 mod memory;
 mod names;
 mod pictures;
-mod plain_dots;
-mod plain_host;
 mod random_registers;
 mod registers;
 mod runs;
@@ -57,21 +57,21 @@ use std::rt::Env;
 use tracking::check_tracking;
 use vga_bits::Tally;
 
-/// The kinds of dots that are compared, each by its own pseudo-random numbers.
+/// The kinds of dots that are compared, each with its own stream of pseudo-random numbers.
 const KINDS: [(&str, DotSource, u64); 3] = [
     ("text", DotSource::Text, 1),
     ("16 colours", DotSource::SixteenColours, 2),
     ("256 colours", DotSource::Colours256, 3),
 ];
 
-/// Prints how the checks of a group ended, and counts the group.
-fn tell<R: Print>(rt: &R, tally: &mut Tally, group: &str, checks: Checks) -> Result<()> {
+/// Prints the result of a group of checks, and counts the group.
+fn print_checks<R: Print>(rt: &R, tally: &mut Tally, group: &str, checks: Checks) -> Result<()> {
     println!(rt; "{group}: {checks}")?;
     tally.count(checks.have_passed());
     Ok(())
 }
 
-/// Compares cycles of memory with the model, and prints how that ended.
+/// Compares memory cycles with the model, and prints the result.
 fn compare_host<R: Print + AllocGlobal>(rt: &R, tally: &mut Tally, settings: u32) -> Result<()> {
     let path = compare_host_path(rt.alloc(), settings)?;
     println!(rt; "host path: {path}")?;
@@ -79,7 +79,7 @@ fn compare_host<R: Print + AllocGlobal>(rt: &R, tally: &mut Tally, settings: u32
     Ok(())
 }
 
-/// Compares dots of each kind with the model, and prints how that ended.
+/// Compares dots of each kind with the model, and prints the result.
 fn compare_kinds<R: Print + AllocGlobal>(rt: &R, tally: &mut Tally, settings: u32) -> Result<()> {
     for (name, source, stream) in KINDS {
         let dots = compare_dots(rt.alloc(), source, stream, settings)?;
@@ -89,41 +89,41 @@ fn compare_kinds<R: Print + AllocGlobal>(rt: &R, tally: &mut Tally, settings: u3
     Ok(())
 }
 
-/// Checks what the other crates build on, and prints how each group ended.
+/// Checks what the other crates build on, and prints the result of each group.
 fn check_bases<R: Print + AllocGlobal>(rt: &R, tally: &mut Tally) -> Result<()> {
     let alloc = rt.alloc();
-    tell(
+    print_checks(
         rt,
         tally,
         "registers, bytes and text",
         check_registers(alloc)?,
     )?;
-    tell(rt, tally, "names", check_names(alloc)?)?;
-    tell(rt, tally, "readers and writers", check_tracking(alloc)?)?;
-    tell(rt, tally, "texts of scripts", check_script_texts(alloc)?)?;
-    tell(rt, tally, "bytes of scripts", check_script_bytes(alloc)?)
+    print_checks(rt, tally, "names", check_names(alloc)?)?;
+    print_checks(rt, tally, "readers and writers", check_tracking(alloc)?)?;
+    print_checks(rt, tally, "texts of scripts", check_script_texts(alloc)?)?;
+    print_checks(rt, tally, "bytes of scripts", check_script_bytes(alloc)?)
 }
 
-/// Checks what is written, and prints how each group ended.
+/// Checks what is written, and prints the result of each group.
 fn check_written<R: Print + AllocGlobal>(rt: &R, tally: &mut Tally) -> Result<()> {
     let alloc = rt.alloc();
-    tell(rt, tally, "dumps", check_dumps(alloc)?)?;
-    tell(rt, tally, "cells", check_cells(alloc)?)?;
-    tell(rt, tally, "pictures", check_pictures(alloc))?;
-    tell(rt, tally, "runs", check_runs(alloc)?)
+    print_checks(rt, tally, "dumps", check_dumps(alloc)?)?;
+    print_checks(rt, tally, "cells", check_cells(alloc)?)?;
+    print_checks(rt, tally, "pictures", check_pictures(alloc))?;
+    print_checks(rt, tally, "runs", check_runs(alloc)?)
 }
 
-/// Checks the crates, a group for each part, and prints how each ended.
+/// Checks the crates, a group for each part, and prints the result of each.
 fn check_crates<R: Print + AllocGlobal>(rt: &R, tally: &mut Tally) -> Result<()> {
     let alloc = rt.alloc();
     check_bases(rt, tally)?;
     check_written(rt, tally)?;
-    tell(rt, tally, "screens", check_screens(alloc)?)?;
-    tell(rt, tally, "cycles of services", check_cycle_counts(alloc)?)?;
-    tell(rt, tally, "memory", check_memory(alloc))
+    print_checks(rt, tally, "screens", check_screens(alloc)?)?;
+    print_checks(rt, tally, "cycles of services", check_cycle_counts(alloc)?)?;
+    print_checks(rt, tally, "memory", check_memory(alloc))
 }
 
-/// Allocates so many times, one after the other.
+/// Makes `count` allocations, one after another.
 fn allocate(alloc: Global, count: u32) -> Result<()> {
     for _ in 0..count {
         let _ = Box::new(alloc, 0u8)?;
@@ -131,8 +131,8 @@ fn allocate(alloc: Global, count: u32) -> Result<()> {
     Ok(())
 }
 
-/// Prints how each call ends that takes memory, after so many allocations.
-fn tell_endings<R: Print + AllocGlobal>(rt: &R, allocations: u32) -> Result<()> {
+/// Prints how each call that allocates ends, after `allocations` allocations.
+fn print_endings<R: Print + AllocGlobal>(rt: &R, allocations: u32) -> Result<()> {
     let alloc = rt.alloc();
     allocate(alloc, allocations)?;
     for call in CALLS {
@@ -141,19 +141,19 @@ fn tell_endings<R: Print + AllocGlobal>(rt: &R, allocations: u32) -> Result<()> 
     Ok(())
 }
 
-/// What the words ask for.
+/// What the command line asks for.
 enum Job {
     /// All comparisons and checks.
     Everything,
-    /// Cycles on so many settings.
+    /// Cycles on this many settings.
     Host(u32),
-    /// Frames of so many settings of each kind.
+    /// Frames on this many settings of each kind.
     Dots(u32),
-    /// The calls that take memory, after so many allocations.
+    /// The calls that allocate, after this many allocations.
     Memory(u32),
 }
 
-/// What the words ask for.
+/// Reads what the command line asks for.
 fn wanted_job<R: Env + AllocGlobal>(rt: &R) -> Result<Job> {
     let words: Vec<String> = env::args(rt)?.collect(rt.alloc())?;
     match words.as_slice() {
@@ -178,7 +178,7 @@ fn main(rt: HostRuntime) -> Result<ExitCode> {
         Job::Host(settings) => compare_host(&rt, &mut tally, settings)?,
         Job::Dots(settings) => compare_kinds(&rt, &mut tally, settings)?,
         Job::Memory(allocations) => {
-            tell_endings(&rt, allocations)?;
+            print_endings(&rt, allocations)?;
             return Ok(ExitCode::from(0));
         }
     }

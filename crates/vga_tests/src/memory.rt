@@ -1,5 +1,5 @@
-//! Each call that takes memory, on an example of its own. Where an allocation is refused, the call
-//! that asked for it says so, and each other answers as in its example.
+//! Each call that allocates, with an example. If an allocation fails, the call that asked for it
+//! says so, and every other call answers as in its example.
 
 use crate::checks::Checks;
 use crate::screens::{FONTS_LEN, blank_fonts, is_scrolled, screen_behind_calls};
@@ -20,7 +20,7 @@ const BYTES: [u8; 20] = *b"VGAS\x01\x01\xC4\x03\x02\x09\x13\x00\x00\x00\x00\x00\
 /// Its printed text.
 const PRINTED: &[u8] = b"out 3C4 02\nint ax=0013 bx=0000 cx=0000 dx=0000\n";
 
-/// A text whose step 7 asks for entries of the DAC as a block, which takes memory.
+/// A text whose step 7 asks for entries of the DAC as a block, which allocates.
 const TABLE_TEXT: &[u8] =
     b"int ax=0003\nint ax=1000 bx=3F07\nint ax=1007 bx=0007\nint ax=1012 bx=00FF cx=0002\n\
     int ax=1012 cx=0001 block 010203\nint ax=1015\nint ax=1017 cx=0001\nint ax=1002 block 00\n";
@@ -35,10 +35,10 @@ const TABLE_REPORT: [u8; 250] = *b"1 ax=0003 bx=0000 cx=0000 dx=0000\n\
     7 ax=1017 bx=0000 cx=0001 dx=0000 block 010203\n\
     8 E11 BadBlock\n";
 
-/// How many bytes of it are the lines before step 7.
+/// How many bytes the lines before step 7 have.
 const LINES_BEFORE_TABLE: usize = 188;
 
-/// A call that takes memory.
+/// A call that allocates.
 #[derive(Clone, Copy)]
 pub enum Call {
     BytesCopy,
@@ -74,10 +74,10 @@ pub const CALLS: [Call; 11] = [
 pub enum Ending {
     /// It answered as its example says.
     AsInExample,
-    /// It answered want of memory, and nothing is written.
+    /// It answered OutOfMemory, and nothing is written.
     OutOfMemory,
-    /// It answered want of memory in a step that takes some, and the answers of the steps before it
-    /// are written, whole.
+    /// It answered OutOfMemory in a step that allocates. The answers of the steps before it are
+    /// written, each whole.
     OutOfMemoryInStep,
     /// It answered something else.
     Otherwise,
@@ -146,13 +146,13 @@ fn is_script_printed(alloc: Global) -> Result<bool, Fault> {
     Ok(print(alloc, &script)?.as_slice() == PRINTED)
 }
 
-/// The bytes of the script whose step 7 takes memory.
+/// The bytes of the script whose step 7 allocates.
 fn table_script(alloc: Global) -> Result<Vec<u8>, Fault> {
     let script = assemble(alloc, TABLE_TEXT)?;
     encode(alloc, &script)
 }
 
-/// How a run of that script ends with this answer and report.
+/// How a run of that script ended, by its answer and its report.
 fn ending_with(answer: Result<(), Fault>, report: &[u8]) -> Ending {
     match answer {
         Ok(()) if report == TABLE_REPORT.as_slice() => Ending::AsInExample,
@@ -164,7 +164,7 @@ fn ending_with(answer: Result<(), Fault>, report: &[u8]) -> Ending {
     }
 }
 
-/// How a run of these bytes ends, into a writer that has this room.
+/// How a run of these bytes ends, into a writer over this memory.
 fn ending_in(alloc: Global, script: &[u8], fonts: &[u8], room: Vec<u8>) -> Ending {
     let mut reader = Tracked::new(script);
     let mut out = Tracked::new(room);
@@ -173,7 +173,7 @@ fn ending_in(alloc: Global, script: &[u8], fonts: &[u8], room: Vec<u8>) -> Endin
     ending_with(answer, report.as_slice())
 }
 
-/// How a run of that script ends, into a writer that has room for its report.
+/// How a run of that script ends, into a writer with room for its report.
 fn ending_of_run(alloc: Global) -> Result<Ending, Fault> {
     let script = table_script(alloc)?;
     let fonts = Bytes::zeros(alloc, FONTS_LEN)?;
@@ -192,7 +192,7 @@ fn is_screen_read(alloc: Global) -> Result<bool, Fault> {
 }
 
 impl Call {
-    /// How it ends, or its fault.
+    /// How the call ends, or its fault.
     fn answer(self, alloc: Global) -> Result<Ending, Fault> {
         let is_right = match self {
             Call::BytesCopy => Bytes::copy(alloc, &BYTES)?.as_slice() == BYTES.as_slice(),
@@ -214,7 +214,7 @@ impl Call {
         })
     }
 
-    /// How it ends.
+    /// How the call ends.
     pub fn ending(self, alloc: Global) -> Ending {
         match self.answer(alloc) {
             Ok(ending) => ending,
@@ -224,7 +224,7 @@ impl Call {
     }
 }
 
-/// Checks that each call answers as its example says, where memory is ample.
+/// Checks that each call answers as its example says, if no allocation fails.
 pub fn check_memory(alloc: Global) -> Checks {
     let mut checks = Checks::new();
     for call in CALLS {

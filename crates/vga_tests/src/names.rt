@@ -1,4 +1,4 @@
-//! The names of refusals and faults.
+//! Checking the names of refusals and faults.
 
 use crate::checks::Checks;
 use anyhow::Result;
@@ -38,19 +38,19 @@ const FAULTS: [(Fault, &str); 11] = [
     (Fault::TooMany(5), "F11 TooMany(5)"),
 ];
 
-/// Whether a refusal is printed so.
+/// Whether a refusal is printed with this name.
 fn is_refusal_printed(alloc: Global, refusal: Refusal, name: &str) -> Result<bool, AllocError> {
     let printed = format!(in alloc; "{refusal}")?;
     Ok(printed.as_str() == name)
 }
 
-/// Whether a fault is printed so.
+/// Whether a fault is printed with this name.
 fn is_fault_printed(alloc: Global, fault: Fault, name: &str) -> Result<bool, AllocError> {
     let printed = format!(in alloc; "{fault}")?;
     Ok(printed.as_str() == name)
 }
 
-/// Checks that refusals have their numbers and names, and are printed so.
+/// Checks that refusals have their numbers and names, and are printed with them.
 fn check_refusals(alloc: Global, checks: &mut Checks) -> Result<(), AllocError> {
     for (refusal, name) in REFUSALS {
         let is_printed = is_refusal_printed(alloc, refusal, name)?;
@@ -59,7 +59,7 @@ fn check_refusals(alloc: Global, checks: &mut Checks) -> Result<(), AllocError> 
     Ok(())
 }
 
-/// Checks that faults have their numbers, names and places, and are printed so.
+/// Checks that faults have their numbers, names and places, and are printed with them.
 fn check_faults(alloc: Global, checks: &mut Checks) -> Result<(), AllocError> {
     for (fault, name) in FAULTS {
         let is_printed = is_fault_printed(alloc, fault, name)?;

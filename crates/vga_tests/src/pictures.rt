@@ -1,4 +1,4 @@
-//! Pictures on writers that take one byte a call, and that fail, and the sizes of pictures.
+//! Checking pictures on writers that take one byte a call, on writers that fail, and their sizes.
 
 use crate::checks::Checks;
 use crate::sink::{FULL, Full, Sink};
@@ -12,7 +12,7 @@ const TWO_DOTS: [u8; 6] = [0x00, 0x2A, 0x3F, 0x0A, 0x20, 0x15];
 /// Its PPM.
 const TWO_DOTS_PPM: [u8; 16] = *b"P6\n2 1\n63\n\x00\x2A\x3F\x0A\x20\x15";
 
-/// Widths and heights, and the prefix of a PPM with these.
+/// Widths and heights, and the beginning of a PPM with these.
 const SIZES: [(u32, u32, &[u8]); 4] = [
     (0, 0, b"P6\n0 0\n63\n"),
     (720, 400, b"P6\n720 400\n63\n"),
@@ -26,7 +26,7 @@ fn is_size_written(alloc: Global, width: u32, height: u32, wanted: &[u8]) -> boo
     write_ppm(&mut out, width, height, b"").is_ok() && out.into_inner().as_slice() == wanted
 }
 
-/// Whether a writer with room for so many bytes, that then refuses so, answers so and has these.
+/// Whether a writer with room for this prefix returns this answer, and then has the prefix.
 fn takes(alloc: Global, prefix: &[u8], full: Full, answer: Result<(), Fault>) -> bool {
     let mut out = Sink::new(alloc, prefix.len(), full);
     write_ppm(&mut out, 2, 1, &TWO_DOTS) == answer
@@ -34,8 +34,7 @@ fn takes(alloc: Global, prefix: &[u8], full: Full, answer: Result<(), Fault>) ->
         && out.into_inner().bytes() == prefix
 }
 
-/// Whether each writer that has too little room for a picture, and then refuses so, fails and has a
-/// prefix of it.
+/// Whether each writer with too little room for a picture fails, and has a prefix of it.
 fn are_prefixes_taken(alloc: Global, full: Full) -> bool {
     let fault = Err(Fault::WriteFault);
     for room in 0..TWO_DOTS_PPM.len() {

@@ -1,10 +1,10 @@
-//! Pseudo-random values of registers: small frames, and all bits that decide colours.
+//! Pseudo-random values of registers: mostly small frames, and all bits that decide colours.
 ghost use Rattle.std.specs.Prelude.{◌≡◌, ◌<◌};
 
 use rand_core::Rng;
 use rand_pcg::Pcg32;
 
-/// What the dots of a picture come from.
+/// What the dots of a picture are made from.
 #[derive(Clone, Copy, PartialEq, Eq)]
 pub enum DotSource {
     Text,
@@ -25,7 +25,7 @@ pub fn next_below(random: &mut Pcg32, end: u32) -> u32
     (random.next_u32() >> 8) % end
 }
 
-/// One of the three.
+/// One of the three sources of dots.
 pub fn next_source(random: &mut Pcg32) -> DotSource {
     match next_below(random, 3) {
         0 => DotSource::Text,
@@ -34,14 +34,14 @@ pub fn next_source(random: &mut Pcg32) -> DotSource {
     }
 }
 
-/// Whether one of so many throws is met.
+/// True once in `throws` times, on average.
 pub fn is_one_in(random: &mut Pcg32, throws: u32) -> bool
     requires { 0 < throws }
 {
     next_below(random, throws) == 0
 }
 
-/// A byte, with these bits only in one of so many.
+/// A byte that has the rare bits only once in `throws` times.
 fn byte_with_rare(random: &mut Pcg32, rare: u8, throws: u32) -> u8
     requires { 0 < throws }
 {
@@ -53,7 +53,7 @@ fn byte_with_rare(random: &mut Pcg32, rare: u8, throws: u32) -> u8
     }
 }
 
-/// A value of a register of the sequencer: mostly the screen is on.
+/// A value for a register of the sequencer. The screen is mostly on.
 pub fn sequencer_value(random: &mut Pcg32, i: u8) -> u8 {
     match i {
         0 => next_byte(random) & 0x03,
@@ -64,7 +64,7 @@ pub fn sequencer_value(random: &mut Pcg32, i: u8) -> u8 {
     }
 }
 
-/// A value of a register of the graphics controller. Text has bit 6 of register 5 at random too.
+/// A value for a register of the graphics controller. In text bit 6 of register 5 is random too.
 pub fn graphics_value(random: &mut Pcg32, i: u8, dots: DotSource) -> u8 {
     let v = next_byte(random);
     match (i, dots) {
@@ -80,13 +80,13 @@ pub fn graphics_value(random: &mut Pcg32, i: u8, dots: DotSource) -> u8 {
     }
 }
 
-/// The bits of the overflow register: those of the vertical total are rarest, since they make large
-/// frames.
+/// A value for the overflow register. The bits of the vertical total are rarest, since they make
+/// large frames.
 fn overflow_value(random: &mut Pcg32) -> u8 {
     byte_with_rare(random, 0x21, 100) & (next_byte(random) | 0x31)
 }
 
-/// A register of the CRT controller; often one that says where lines, rows and frames end.
+/// A register of the CRT controller: often one that says where lines, rows and frames end.
 pub fn next_crtc_register(random: &mut Pcg32) -> u8
     ensures { result < 25 }
 {
@@ -102,8 +102,8 @@ pub fn next_crtc_register(random: &mut Pcg32) -> u8
     }
 }
 
-/// A value of a register of the CRT controller: few characters and lines, and frames that mostly
-/// fit them.
+/// A value for a register of the CRT controller: few characters and lines, in frames that mostly
+/// have room for them.
 pub fn crtc_value(random: &mut Pcg32, i: u8) -> u8 {
     match i {
         0x00 => byte_with_rare(random, 0xF8, 200),
@@ -125,7 +125,7 @@ pub fn crtc_value(random: &mut Pcg32, i: u8) -> u8 {
     }
 }
 
-/// A value of a register of the attribute controller.
+/// A value for a register of the attribute controller.
 pub fn attribute_value(random: &mut Pcg32, i: u8) -> u8 {
     let v = next_byte(random);
     match i {
@@ -141,8 +141,8 @@ pub fn attribute_value(random: &mut Pcg32, i: u8) -> u8 {
 /// neighbours.
 const NINE_DOT_ENDS: [u8; 4] = [0xBF, 0xC0, 0xDF, 0xE0];
 
-/// A byte of a plane. Of plane 0, where text has its characters, some are at the ends of those with
-/// a ninth dot; of plane 1, where it has its attributes, some are for underlined characters.
+/// A byte of a plane. In plane 0, which has the characters of text, some are at the ends of those
+/// whose ninth dot may repeat the eighth. In plane 1, which has the attributes, some underline.
 pub fn memory_byte(random: &mut Pcg32, plane: u8) -> u8 {
     let v = next_byte(random);
     match plane {

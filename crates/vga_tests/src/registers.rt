@@ -1,11 +1,12 @@
-//! Registers under masks, bytes, and texts with their digits, on values worked out by hand.
+//! Checking registers under masks, bytes, and texts with their digits, on values worked out by
+//! hand.
 
 use crate::checks::Checks;
 use anyhow::Result;
 use std::alloc::Global;
 use vga_bits::{Bytes, Fault, RegFile, TextBuffer, hex_digit};
 
-/// Checks a register file of which each register keeps the bits of its mask.
+/// Checks a register file, in which each register keeps the bits of its mask.
 fn check_masks(checks: &mut Checks) {
     let mut registers = RegFile::new([0x0F, 0x3D, 0xFF]);
     checks.note("a register at first", registers.read(1) == 0);
@@ -28,7 +29,7 @@ fn is_copy_set(alloc: Global) -> Result<bool, Fault> {
     Ok(copy.as_slice() == b"VCA".as_slice())
 }
 
-/// Whether there are as many zeros as are asked for.
+/// Whether there are as many zeros as asked for.
 fn are_zeros(alloc: Global, zeros: &[u8]) -> Result<bool, Fault> {
     let bytes = Bytes::zeros(alloc, zeros.len())?;
     Ok(bytes.as_slice() == zeros)
@@ -53,7 +54,7 @@ fn check_bytes(alloc: Global, checks: &mut Checks) -> Result<()> {
     Ok(())
 }
 
-/// Checks a text that grows at its end.
+/// Checks appending to a text.
 fn check_text(checks: &mut Checks) {
     let mut text: TextBuffer<52> = TextBuffer::new();
     checks.note("no text", text.len() == 0);

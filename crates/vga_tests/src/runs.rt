@@ -1,5 +1,5 @@
-//! Runs of scripts at hand, and of readers and writers that fail, that have no end, or that take
-//! one byte a call.
+//! Checking runs of scripts at hand; and runs with readers and writers that fail, that never end,
+//! or that take one byte a call.
 
 use crate::checks::Checks;
 use crate::sink::{FULL, Full, Sink};
@@ -29,13 +29,13 @@ const FIRST_PATH: [u8; 44] = *b"VGAS\x01\
 /// Its report.
 const FIRST_REPORT: [u8; 45] = *b"1 ok\n2 ok\n3 ok\n4 ok\n5 ok\n6 ok\n7 ok\n8 ok\n9 55\n";
 
-/// The text of such a script.
+/// The text of a script with the same steps.
 const FIRST_TEXT: &[u8] =
     b"out 3C2 2\nout 3C4 4\nout 3C5 6\nout 3C4 2\nout 3C5 1\nout 3CE 8\nout 3CF FF\n\
     put A0000 55\nget A0000";
 
-/// How readers fail: after calls of so many bytes, with an error that others may try to read
-/// behind, or not.
+/// How readers fail: how many bytes each call gives, and the kind of the error after them. Other
+/// code might read again after `Interrupted`.
 const READERS: [(usize, ErrorKind); 4] = [
     (1, ErrorKind::Other),
     (1, ErrorKind::Interrupted),
@@ -43,7 +43,7 @@ const READERS: [(usize, ErrorKind); 4] = [
     (7, ErrorKind::Interrupted),
 ];
 
-/// Whether bytes at hand answer so over these fonts, and what is then written.
+/// Whether bytes at hand give this answer with these fonts, and this report.
 fn is_bytes_run(
     alloc: Global,
     bytes: &[u8],
@@ -57,7 +57,7 @@ fn is_bytes_run(
     answered == answer && written.as_slice() == report
 }
 
-/// Whether steps at hand answer so over these fonts, and what is then written.
+/// Whether steps at hand give this answer with these fonts, and this report.
 fn is_script_run(
     alloc: Global,
     fonts: &[u8],
@@ -70,7 +70,7 @@ fn is_script_run(
     Ok(answered == answer && out.into_inner().as_slice() == report)
 }
 
-/// Checks scripts at hand: their reports, and that the size of the fonts is judged before the
+/// Checks scripts at hand: their reports, and that the size of the font file is checked before the
 /// bytes.
 fn check_at_hand(alloc: Global, fonts: &[u8], checks: &mut Checks) -> Result<(), Fault> {
     let font_size = Err(Fault::FontSize);
@@ -98,7 +98,7 @@ fn check_at_hand(alloc: Global, fonts: &[u8], checks: &mut Checks) -> Result<(),
     Ok(())
 }
 
-/// Whether fonts of another size are refused before anything is read or written.
+/// Whether a font file of another size is refused before anything is read or written.
 fn is_font_size_first(alloc: Global, fonts: &[u8]) -> bool {
     let mut reader = Tracked::new(Source::of(b"VGAX", 4, ErrorKind::Other));
     let mut out = Sink::new(alloc, 100, Full::Fails);
@@ -108,7 +108,8 @@ fn is_font_size_first(alloc: Global, fonts: &[u8]) -> bool {
     answer == Err(Fault::FontSize) && !is_read && !is_written
 }
 
-/// Whether a reader that fails so behind these bytes, so many a call, leaves the writer.
+/// Whether a reader that gives these bytes, `piece` a call, and then fails leaves the writer
+/// unchanged.
 fn is_writer_left(
     alloc: Global,
     fonts: &[u8],
@@ -125,8 +126,7 @@ fn is_writer_left(
         && out.into_inner().calls() == 0
 }
 
-/// Whether each reader that fails so before or behind a byte of a script, so many a call, leaves
-/// the writer.
+/// Whether that holds for each place where the reader may fail, before, in and after the script.
 fn are_writers_left(alloc: Global, fonts: &[u8], piece: usize, kind: ErrorKind) -> bool {
     for len in 0..FIRST_PATH.len() + 1 {
         if !is_writer_left(alloc, fonts, &FIRST_PATH[..len], piece, kind) {
@@ -136,7 +136,7 @@ fn are_writers_left(alloc: Global, fonts: &[u8], piece: usize, kind: ErrorKind) 
     true
 }
 
-/// Whether of a reader with no end one byte more is read than the longest script has.
+/// Whether a reader that never ends gives one byte more than the longest script has, and no more.
 fn is_endless_too_long(alloc: Global, fonts: &[u8]) -> bool {
     let mut reader = Tracked::new(Endless::new());
     let mut out = Sink::new(alloc, 100, Full::Fails);
@@ -146,8 +146,8 @@ fn is_endless_too_long(alloc: Global, fonts: &[u8]) -> bool {
         && out.into_inner().calls() == 0
 }
 
-/// Whether a run into a writer with room for so many bytes, a byte a call, that then refuses so,
-/// answers so; and whether the writer then has taken these, and was flushed so often.
+/// Whether a run into a writer that takes one byte a call, and has room for this prefix, returns
+/// this answer; and whether the writer then has the prefix and was flushed this often.
 fn takes(
     alloc: Global,
     fonts: &[u8],
@@ -168,7 +168,7 @@ fn takes(
         && sink.flushes() == flushes
 }
 
-/// Checks fonts of other sizes.
+/// Checks font files of other sizes.
 fn check_font_sizes(alloc: Global, checks: &mut Checks) -> Result<(), AllocError> {
     for len in [0, FONTS_LEN - 1, FONTS_LEN + 1] {
         let other = vec![in alloc; 0; len]?;
@@ -180,7 +180,7 @@ fn check_font_sizes(alloc: Global, checks: &mut Checks) -> Result<(), AllocError
     Ok(())
 }
 
-/// Checks readers that fail, and that have no end.
+/// Checks readers that fail, and readers that never end.
 fn check_readers(alloc: Global, fonts: &[u8], checks: &mut Checks) {
     for (piece, kind) in READERS {
         checks.note(
@@ -191,8 +191,7 @@ fn check_readers(alloc: Global, fonts: &[u8], checks: &mut Checks) {
     checks.note("a reader with no end", is_endless_too_long(alloc, fonts));
 }
 
-/// Whether each writer that has too little room for the report, and then refuses so, fails and has
-/// a prefix of it.
+/// Whether each writer with too little room for the report fails, and has a prefix of it.
 fn are_prefixes_taken(alloc: Global, fonts: &[u8], full: Full) -> bool {
     let fault = Err(Fault::WriteFault);
     for room in 0..FIRST_REPORT.len() {
@@ -203,7 +202,7 @@ fn are_prefixes_taken(alloc: Global, fonts: &[u8], full: Full) -> bool {
     true
 }
 
-/// Checks writers that take a byte a call, and that fail.
+/// Checks writers that take one byte a call, and writers that fail.
 fn check_writers(alloc: Global, fonts: &[u8], checks: &mut Checks) {
     let len = FIRST_REPORT.len();
     let fault = Err(Fault::WriteFault);

@@ -1,4 +1,4 @@
-//! Screens that are read after services.
+//! Checking screens that are read after BIOS calls.
 
 use crate::checks::Checks;
 use anyhow::Result;
@@ -85,7 +85,7 @@ const SMALL_CELL_CALLS: [Regs; 4] = [
     },
 ];
 
-/// Does services one after another, and tells whether all were accepted.
+/// Makes calls one after another, and returns whether all were accepted.
 fn serve(alloc: Global, card: &mut Card, bda: &mut Bda, fonts: &Fonts, calls: &[Regs]) -> bool {
     let mut accepted = true;
     for regs in calls {
@@ -94,7 +94,7 @@ fn serve(alloc: Global, card: &mut Card, bda: &mut Bda, fonts: &Fonts, calls: &[
     accepted
 }
 
-/// Fonts whose glyphs have no dot.
+/// Fonts whose glyphs have no dots.
 pub fn blank_fonts(alloc: Global) -> Result<Fonts, Fault> {
     let glyphs = Bytes::zeros(alloc, FONTS_LEN)?;
     Fonts::from_bytes(alloc, glyphs.as_slice())
@@ -105,7 +105,7 @@ fn is_shown(alloc: Global, card: &Card, bda: &Bda) -> Result<bool, Fault> {
     Ok(Screen::read(alloc, card, bda)?.is_some())
 }
 
-/// Does the calls, and tells whether all were accepted, and no screen was shown before them.
+/// Makes the calls, and returns whether all were accepted and no screen was shown before them.
 fn serve_first(
     alloc: Global,
     card: &mut Card,
@@ -117,7 +117,7 @@ fn serve_first(
     Ok(!was_shown && serve(alloc, card, bda, &fonts, calls))
 }
 
-/// The screen that is shown behind the calls, where one is. There must be none before them.
+/// The screen that is shown after the calls, if there is one. Before them there must be none.
 fn screen_behind(alloc: Global, calls: &[Regs]) -> Result<Option<Screen>, Fault> {
     let mut card = Card::new(alloc)?;
     let mut bda = Bda::new();
@@ -127,17 +127,17 @@ fn screen_behind(alloc: Global, calls: &[Regs]) -> Result<Option<Screen>, Fault>
     Screen::read(alloc, &card, &bda)
 }
 
-/// The screen of cells behind its calls.
+/// The text screen after its calls.
 pub fn screen_behind_calls(alloc: Global) -> Result<Option<Screen>, Fault> {
     screen_behind(alloc, &CELL_CALLS)
 }
 
-/// Whether the A went up with its row, and the row behind it has its attribute.
+/// Whether the A went up with its row, and the row below has its attribute.
 pub fn is_scrolled(screen: &Screen) -> bool {
     screen.cell(0, 23, 79) == Some((0x41, 0x1E)) && screen.cell(0, 24, 0) == Some((0x20, 0x1E))
 }
 
-/// Checks the parts of a screen of pixels that is read.
+/// Checks the parts of a graphics screen.
 fn check_pixels(screen: &Screen, checks: &mut Checks) {
     checks.note("the last pixel", screen.pixel(0, 319, 199) == Some(0xAB));
     checks.note("its neighbour", screen.pixel(0, 318, 199) == Some(0));
@@ -150,7 +150,7 @@ fn check_pixels(screen: &Screen, checks: &mut Checks) {
     checks.note("no cell of graphics", screen.cell(0, 0, 0).is_none());
 }
 
-/// Checks the parts of a screen of cells that is read.
+/// Checks the parts of a text screen.
 fn check_parts(screen: &Screen, checks: &mut Checks) {
     checks.note("cells of a page that has scrolled", is_scrolled(screen));
     let other = screen.cell(7, 0, 0) == Some((0x20, 0x07));
@@ -161,7 +161,7 @@ fn check_parts(screen: &Screen, checks: &mut Checks) {
     checks.note("no pixel of text", screen.pixel(0, 0, 0).is_none());
 }
 
-/// Checks the parts of a screen of small cells that is read: 50 rows on each of four pages.
+/// Checks the parts of a text screen of small cells: 50 rows on each of four pages.
 fn check_small_cells(screen: &Screen, checks: &mut Checks) {
     let last = screen.cell(3, 49, 79) == Some((0x41, 0x1E));
     checks.note("the last cell of the last page", last);
@@ -172,7 +172,7 @@ fn check_small_cells(screen: &Screen, checks: &mut Checks) {
     checks.note("a cursor in row 49", screen.cursor(3) == Some((49, 79)));
 }
 
-/// Checks the screen of cells behind its calls.
+/// Checks the text screen after its calls.
 fn check_cell_calls(alloc: Global, checks: &mut Checks) -> Result<(), Fault> {
     let cells = screen_behind_calls(alloc)?;
     checks.note("a screen of cells behind calls", cells.is_some());
@@ -182,7 +182,7 @@ fn check_cell_calls(alloc: Global, checks: &mut Checks) -> Result<(), Fault> {
     Ok(())
 }
 
-/// Checks the screen of small cells behind its calls.
+/// Checks the text screen of small cells after its calls.
 fn check_small_cell_calls(alloc: Global, checks: &mut Checks) -> Result<(), Fault> {
     let cells = screen_behind(alloc, &SMALL_CELL_CALLS)?;
     checks.note("a screen of small cells behind calls", cells.is_some());
@@ -192,7 +192,7 @@ fn check_small_cell_calls(alloc: Global, checks: &mut Checks) -> Result<(), Faul
     Ok(())
 }
 
-/// Checks the screen of pixels behind its calls.
+/// Checks the graphics screen after its calls.
 fn check_pixel_calls(alloc: Global, checks: &mut Checks) -> Result<(), Fault> {
     let pixels = screen_behind(alloc, &PIXEL_CALLS)?;
     checks.note("a screen of pixels behind calls", pixels.is_some());
@@ -202,7 +202,7 @@ fn check_pixel_calls(alloc: Global, checks: &mut Checks) -> Result<(), Fault> {
     Ok(())
 }
 
-/// Checks screens that are read behind calls.
+/// Checks screens that are read after calls.
 pub fn check_screens(alloc: Global) -> Result<Checks> {
     let mut checks = Checks::new();
     check_cell_calls(alloc, &mut checks)?;

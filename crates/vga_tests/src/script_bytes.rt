@@ -1,4 +1,4 @@
-//! Scripts as bytes: where a step that is cut off, or that is none, is named.
+//! Checking scripts as bytes: where a bad step, or one that is cut off, is found.
 
 use crate::checks::Checks;
 use anyhow::Result;
@@ -6,7 +6,7 @@ use std::alloc::{AllocError, Global};
 use vga_bits::Fault;
 use vga_script::{Script, decode, encode};
 
-/// How long the longest script is.
+/// The length of the longest script.
 const LIMIT: usize = 16_777_216;
 
 /// A script of one step, in 8 bytes.
@@ -35,7 +35,7 @@ const STEPS: [&[u8]; 19] = [
     b"\x0C\x05",
 ];
 
-/// How many steps a script means, or 1,000 where there are more.
+/// How many steps a script means, or 1,000 if there are more.
 pub fn step_count(script: &Script) -> usize {
     let mut steps = script.steps();
     for count in 0..1000 {
@@ -46,19 +46,19 @@ pub fn step_count(script: &Script) -> usize {
     1000
 }
 
-/// The fault of some bytes, where they have one.
+/// The fault of some bytes, if they have one.
 fn byte_fault(alloc: Global, bytes: &[u8]) -> Option<Fault> {
     decode(alloc, bytes).err()
 }
 
-/// Whether bytes are a script of two steps, and these bytes are what spells it.
+/// Whether bytes are a script of two steps, and encode as the same bytes.
 fn are_two_steps(alloc: Global, bytes: &[u8]) -> Result<bool, Fault> {
     let script = decode(alloc, bytes)?;
     let again = encode(alloc, &script)?;
     Ok(step_count(&script) == 2 && again.as_slice() == bytes)
 }
 
-/// Whether a script of two steps that is cut off within the second has its fault there.
+/// Whether a script of two steps that is cut off in the second has its fault there.
 fn is_cut_named(alloc: Global, bytes: &[u8]) -> bool {
     for len in PREFIX.len() + 1..bytes.len() {
         if byte_fault(alloc, &bytes[..len]) != Some(Fault::Truncated(8)) {
@@ -68,14 +68,14 @@ fn is_cut_named(alloc: Global, bytes: &[u8]) -> bool {
     true
 }
 
-/// Whether a zero byte behind a script has its fault there.
+/// Whether a zero byte after a script is a fault there.
 fn is_end_named(alloc: Global, bytes: &[u8]) -> Result<bool, AllocError> {
     let mut longer = Vec::from_slice(alloc, bytes)?;
     longer.push(0x00)?;
     Ok(byte_fault(alloc, longer.as_slice()) == Some(Fault::BadStep(bytes.len())))
 }
 
-/// Checks a script of which this is the second step.
+/// Checks the script whose second step this is.
 fn check_step(alloc: Global, step: &[u8], checks: &mut Checks) -> Result<()> {
     let mut bytes = Vec::from_slice(alloc, PREFIX)?;
     bytes.extend_from_slice(step)?;
@@ -86,7 +86,7 @@ fn check_step(alloc: Global, step: &[u8], checks: &mut Checks) -> Result<()> {
     Ok(())
 }
 
-/// Whether too long comes before all other faults.
+/// Whether `TooLong` comes before all other faults.
 fn is_too_long_first(alloc: Global) -> Result<bool, AllocError> {
     let mut bytes = vec![in alloc; b'?'; LIMIT]?;
     let longest = byte_fault(alloc, bytes.as_slice());

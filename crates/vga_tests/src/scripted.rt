@@ -1,4 +1,4 @@
-//! A reader and a writer whose answers are fixed.
+//! A reader and writer with given answers.
 ghost use Rattle.std.specs.Prelude.{◌≡◌, ◌≤◌, false, IfOk};
 ghost use Rattle.vga_bits.specs.Tracked.{has_failed};
 
@@ -7,14 +7,14 @@ use std::io;
 use std::io::{Read, Write};
 use vga_bits::Tracked;
 
-/// What one call answers: so many bytes at most, or an error.
+/// What one call answers: at most this many bytes, or an error.
 #[derive(Clone, Copy)]
 pub enum Answer {
     Bytes(usize),
     Error(io::ErrorKind),
 }
 
-/// A reader and a writer that answers its calls one after the other, and keeps what it was given.
+/// A reader and writer that answers its calls one after another, and keeps what it was given.
 #[derive(Drop)]
 pub struct Scripted<'a> {
     answers: &'a [Answer],
@@ -35,7 +35,7 @@ impl<'a> Scripted<'a> {
         self.answers.is_empty() && self.given.as_slice() == bytes
     }
 
-    /// The next answer, of at most so many bytes.
+    /// The next answer, of at most `most` bytes.
     fn answer(&mut self, most: usize) -> io::Result<usize>
         ensures { IfOk result (λ n. n ≤ most) }
     {

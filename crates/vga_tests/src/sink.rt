@@ -1,4 +1,4 @@
-//! A writer that takes one byte a call, and refuses the others once it is full.
+//! A writer that takes one byte a call, and refuses more once it is full.
 ghost use Rattle.std.specs.Prelude.{◌≡◌, false, IfOk};
 ghost use Rattle.vga_bits.specs.Tracked.{has_failed};
 
@@ -7,7 +7,7 @@ use std::io;
 use std::io::Write;
 use vga_bits::Tracked;
 
-/// How a writer that is full refuses bytes.
+/// How a full writer refuses bytes.
 #[derive(Clone, Copy)]
 pub enum Full {
     /// It takes none of them.
@@ -19,8 +19,8 @@ pub enum Full {
 /// Each way of refusing.
 pub const FULL: [Full; 2] = [Full::TakesNone, Full::Fails];
 
-/// A writer that takes one byte a call, so many in all, and then refuses each other. It flushes
-/// until it is full.
+/// A writer that takes one byte a call until it is full, and then refuses. It can be flushed until
+/// it is full.
 #[derive(Drop)]
 pub struct Sink {
     room: usize,
@@ -31,7 +31,7 @@ pub struct Sink {
 }
 
 impl Sink {
-    /// One with room for so many bytes, that then refuses so.
+    /// A writer with room for `room` bytes that then refuses in this way.
     pub fn new(alloc: Global, room: usize, full: Full) -> Tracked<Sink>
         ensures { has_failed result ≡ false }
     {
@@ -49,17 +49,17 @@ impl Sink {
         self.bytes.as_slice()
     }
 
-    /// How often it was to take bytes.
+    /// How many times it was asked to take bytes.
     pub fn calls(&self) -> usize {
         self.calls
     }
 
-    /// How often it was flushed.
+    /// How many times it was flushed.
     pub fn flushes(&self) -> usize {
         self.flushes
     }
 
-    /// What it answers where it is full.
+    /// What it answers once it is full.
     fn refuse(&self) -> io::Result<usize>
         ensures { IfOk result (λ n. n ≡ 0) }
     {

@@ -1,9 +1,9 @@
-//! Readers that fail, and that have no end.
+//! Readers that fail, and readers that never end.
 
 use std::io;
 use std::io::Read;
 
-/// A reader that gives these bytes, so many a call, and then fails with an error of this kind.
+/// A reader that gives these bytes, `piece` a call, and then fails with an error of this kind.
 #[derive(Drop)]
 pub struct Source<'a> {
     bytes: &'a [u8],
@@ -13,7 +13,7 @@ pub struct Source<'a> {
 }
 
 impl Source<'_> {
-    /// One of these bytes, so many a call, and of this kind of error.
+    /// A reader of these bytes, `piece` a call, and of this kind of error.
     pub fn of(bytes: &[u8], piece: usize, kind: io::ErrorKind) -> Source<'_> {
         Source {
             bytes,
@@ -23,7 +23,7 @@ impl Source<'_> {
         }
     }
 
-    /// How often it was to give bytes.
+    /// How many times it was asked for bytes.
     pub fn calls(&self) -> usize {
         self.calls
     }
@@ -43,14 +43,14 @@ impl Read for Source<'_> {
     }
 }
 
-/// A reader with no end.
+/// A reader that never ends.
 #[derive(Drop)]
 pub struct Endless {
     given: usize,
 }
 
 impl Endless {
-    /// One that has given nothing yet.
+    /// A reader that has given nothing yet.
     pub fn new() -> Endless {
         Endless { given: 0 }
     }

@@ -1,4 +1,4 @@
-//! Tracked readers and writers: that each call is passed on, and that failures are remembered.
+//! Checking tracked readers and writers: they pass each call on, and remember failures.
 
 use crate::checks::Checks;
 use crate::scripted::{Answer, Scripted};
@@ -12,7 +12,7 @@ const BROKEN: ErrorKind = ErrorKind::BrokenPipe;
 
 const FULL: ErrorKind = ErrorKind::StorageFull;
 
-/// The kind of a call's error, where it fails.
+/// The kind of a call's error, if it fails.
 fn kind_of<T: Drop>(answer: io::Result<T>) -> Option<ErrorKind> {
     match answer {
         Ok(_) => None,
@@ -20,12 +20,12 @@ fn kind_of<T: Drop>(answer: io::Result<T>) -> Option<ErrorKind> {
     }
 }
 
-/// How many bytes a read gives, where it does not fail.
+/// How many bytes a read gives, unless it fails.
 fn read_len(reader: &mut Tracked<Scripted>, buffer: &mut [u8]) -> Option<usize> {
     reader.read(buffer).ok()
 }
 
-/// How many bytes a write takes, where it does not fail.
+/// How many bytes a write takes, unless it fails.
 fn written_len(writer: &mut Tracked<Scripted>, bytes: &[u8]) -> Option<usize> {
     writer.write(bytes).ok()
 }
@@ -91,7 +91,7 @@ fn check_flushes(alloc: Global, checks: &mut Checks) {
     checks.note("the fault of a flush", answer == Err(Fault::WriteFault));
 }
 
-/// Checks that bytes are written in the pieces that are taken.
+/// Checks that bytes are written in pieces, as they are taken.
 fn check_pieces(alloc: Global, checks: &mut Checks) {
     let answers = [Answer::Bytes(1), Answer::Bytes(3), Answer::Bytes(9)];
     let mut writer = Scripted::of(alloc, &answers);
@@ -127,7 +127,7 @@ fn check_prefix(alloc: Global, checks: &mut Checks) -> Result<()> {
     Ok(())
 }
 
-/// Checks that a prefix is read in the pieces that come, and a failure behind it is a fault.
+/// Checks that a prefix is read in pieces, as they come, and that a failure after it is a fault.
 fn check_prefix_in_pieces(alloc: Global, checks: &mut Checks) -> Result<()> {
     let answers = [Answer::Bytes(1), Answer::Bytes(3), Answer::Error(BROKEN)];
     let mut reader = Scripted::of(alloc, &answers);

@@ -32,5 +32,5 @@ complete -c vga -f
 complete -c vga -n '__vga_command; or __vga_command help' -a '(__vga_commands)'
 complete -c vga -n '__vga_command asm dis run go' -F
 complete -c vga -n '__vga_command run go' -l fonts -x -k -a '(__vga_files .fnt)' -d 'The font file, of 9,728 bytes'
-complete -c vga -n '__vga_command run go' -l until -x -d 'Stops after so many steps, and shows the card'
+complete -c vga -n '__vga_command run go' -l until -x -d 'Stops after N steps, and shows the card'
 complete -c vga -n '__vga_command; or __vga_command asm dis run go' -s h -l help -d 'Print help'

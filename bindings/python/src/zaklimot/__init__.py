@@ -1,6 +1,6 @@
-"""A VGA display adapter with its video BIOS: its library for C, from Python.
+"""A VGA display adapter with its video BIOS, from Python, by its library for C.
 
-A card is opened, called and closed. Ports, addresses and registers are those of a VGA:
+You open a card, call it and close it. Ports, addresses and registers are those of a VGA:
 
     import zaklimot
 
@@ -14,22 +14,22 @@ A card is opened, called and closed. Ports, addresses and registers are those of
         print(picture.width, picture.height)     # 720 400
         open("hello.png", "wb").write(picture.png())
 
-A whole script (docs/SCRIPT.md) runs with no card:
+A whole script (docs/SCRIPT.md) runs without a card:
 
     report = zaklimot.run("int ax=13\\nput A0000 0F\\nget A0000\\nframe\\nin 60")
     print(report[2].value)                       # 15
     print(report[3].picture[0, 0].red)           # 63
     print(report[4].refusal.__name__)            # NotDecoded
 
-A program writes long scripts by loops and names, as a Script.
+For long scripts, a Script lets you use loops and names.
 
-Cycles take no time on the card: the clock runs by `advance` and by frames alone. What the adapter
-refuses raises a `Refusal`, as NotDecoded, and changes nothing. A number out of range is a
-ValueError. All exceptions of the package are below `zaklimot.Error`.
+Cycles take no time on the card: the clock runs only in `advance` and in frames. A call that the
+adapter refuses raises a `Refusal`, such as NotDecoded, and changes nothing. A number out of range
+is a ValueError. All exceptions of the package are subclasses of `zaklimot.Error`.
 
-The library is looked for as the file that ZAKLIMOT_LIBRARY names, below the folder ZAKLIMOT_DIR, in
-the package, and where `tools/vga-library install` lays it. `library()` tells which it is: the
-proved one, or the portable one, which a C compiler makes. The page docs/PYTHON.md is the guide.
+The package looks for the library as the file that ZAKLIMOT_LIBRARY names, below the folder
+ZAKLIMOT_DIR, in the package, and where `tools/vga-library install` puts it. `library()` says which
+one it is: the proved one, or the portable one, which a C compiler makes. docs/PYTHON.md is the guide.
 """
 
 from __future__ import annotations
@@ -45,7 +45,7 @@ if TYPE_CHECKING:
 
 
 def __getattr__(name: str) -> Any:
-    """What `_api` offers, which is imported at its first use. So programs that want `format` alone start quickly."""
+    """What `_api` offers. It is imported at its first use, so that programs that need only `format` start fast."""
     if not name.startswith("_") or name in ("__all__", "__version__"):
         api = import_module("._api", __name__)
         globals().update({one: getattr(api, one) for one in (*api.__all__, "__all__", "__version__")})

@@ -1,4 +1,4 @@
-"""All that the package offers, but for `zaklimot.format`."""
+"""Everything that the package offers, except `zaklimot.format`."""
 
 from __future__ import annotations
 
@@ -42,8 +42,8 @@ def library() -> Library:
 
         print(zaklimot.library().kind)       # proved
 
-    The kind is what the build wrote beside the library: in the package, or in `zaklimot.pc`. It is
-    `unknown` where nothing is written there, as beside most files that ZAKLIMOT_LIBRARY names.
+    The build wrote the kind beside the library: in the package, or in `zaklimot.pc`. If nothing is
+    written there, as beside most files that ZAKLIMOT_LIBRARY names, the kind is `unknown`.
     Raises LibraryMissing.
     """
     found = loaded()
@@ -61,14 +61,14 @@ def library_path() -> str:
 
 
 def run(script: AnyScript, fonts: Fonts = None) -> Report:
-    """Runs a whole script on a card of its own, and gives the answers of its steps.
+    """Runs a whole script on a card of its own, and returns the answers of its steps.
 
         report = zaklimot.run("int ax=13\\nframe")
         report[1].picture.width              # 640
 
-    `script` is a str, the text of docs/SCRIPT.md; or bytes, a script's bytes; or a Script. `fonts`
-    is as for Card. A step that the adapter refuses has its refusal as its answer. Raises a
-    ScriptError for what is no script, FontSize and OutOfMemory.
+    `script` is a str with the text of a script (docs/SCRIPT.md), the bytes of one, or a Script.
+    `fonts` is as for Card. A step that the adapter refuses answers its refusal. Raises a ScriptError
+    if there is a fault in the script, FontSize and OutOfMemory.
     """
     return Report(run_script(script, font_bytes(fonts)))
 

@@ -14,7 +14,7 @@ from ._structs import SIZE, U8, U16, U32
 
 
 class In:
-    """A pointer to what the call reads: so many elements as the next parameter says."""
+    """A pointer to what the call reads. The next parameter is the number of elements."""
 
 
 def _to(kind: Any) -> Any:
@@ -24,7 +24,7 @@ def _to(kind: Any) -> Any:
 
 CARD, BOOL = _to(s.zak_card), ctypes.c_bool
 BYTES, COUNT = _to(U8), _to(SIZE)
-# Room for bytes that a call writes, and where it tells how many there are.
+# Room for bytes that a call writes, its size, and where the call writes how many there are.
 ROOM = (BYTES, SIZE, COUNT)
 
 # The parameters of each call. Calls with a card have it first.
@@ -88,9 +88,9 @@ Call = Callable[..., int]
 def _bind(library: ctypes.CDLL, name: str) -> Call:
     """The function of a call.
 
-    A call that takes no size needs no argtypes: its numbers have 32 bits at most, and its pointers
-    are made by byref. Without them ctypes takes less than half the time. Card checks the range of
-    each number before.
+    A call without a size needs no argtypes: its numbers have at most 32 bits, and its pointers are
+    made by byref. Without argtypes ctypes takes less than half the time. Card checks the range of
+    each number first.
     """
     function = getattr(library, f"zak_{name}")
     function.restype = U32
@@ -103,8 +103,8 @@ def _bind(library: ctypes.CDLL, name: str) -> Call:
 def bind_all(path: str) -> Mapping[str, Call]:
     """The functions of all calls of the library at a path.
 
-    Calls with a card hold Python's global lock. So two threads that use one card at once take its
-    calls one after the other, and none of them sees it half done. Calls without a card, which take a
+    Calls with a card hold Python's global lock. If two threads use one card at once, their calls
+    come one after another, and neither sees a call half done. Calls without a card, which take a
     whole script, release the lock.
     """
     held, released = ctypes.PyDLL(path), ctypes.CDLL(path)

@@ -25,9 +25,9 @@ Bytes = Union[bytes, bytearray, memoryview]
 Fonts = Union[Bytes, str, "os.PathLike[str]", None]
 
 NO_ROOM = 25
-# The report of one step fits into this.
+# Room for the report of one step.
 STEP_ROOM = s.MOST_RGB + 100
-# The cycles of most calls fit into this.
+# Room for the cycles of most calls.
 FIRST_CYCLES = 4096
 _byref, _U8, _U16 = ctypes.byref, s.U8, s.U16
 # Code page 437 shows characters below 20 (hexadecimal) as these.
@@ -36,7 +36,7 @@ _GLYPHS = str.maketrans({code: glyph for code, glyph in enumerate(_LOW) if code}
 
 
 def font_bytes(fonts: Fonts) -> bytes:
-    """The bytes of a font file that is given as bytes or by its path; None is the project's font."""
+    """A font file's bytes, from its bytes or its path. None means the project's font."""
     if fonts is None:
         return default_fonts()
     if isinstance(fonts, (str, os.PathLike)):
@@ -45,7 +45,7 @@ def font_bytes(fonts: Fonts) -> bytes:
 
 
 def _writable(buffer: Any, size: int) -> memoryview:
-    """A buffer of the caller's as bytes. TypeError where it can't be written, ValueError by its places."""
+    """A caller's buffer as bytes. TypeError if it is read-only or not contiguous, ValueError if it is not aligned."""
     view = memoryview(buffer)
     if view.readonly or not view.c_contiguous:
         raise TypeError("a buffer is to be writable and contiguous")
@@ -58,7 +58,7 @@ def _writable(buffer: Any, size: int) -> memoryview:
 
 @lru_cache(maxsize=8)
 def _rate(dots: int, divisor: int) -> Fraction:
-    """Dots a second, of which there are few: a Fraction takes longer to make than the call."""
+    """Dots per second. There are few rates, and a Fraction takes longer to make than the call."""
     return Fraction(dots, divisor)
 
 
@@ -76,21 +76,21 @@ class Card:
     """A VGA adapter with its video BIOS, at power-on.
 
         with zaklimot.Card() as card:
-            card.int10(ax=0x0013)            # mode 13: 320 by 200, a byte a pixel
+            card.int10(ax=0x0013)            # mode 13: 320 by 200, a byte per pixel
             card.put(0xA0000, 0x0F)          # white, top left
             picture = card.frame()
             assert picture[0, 0] == (63, 63, 63)
 
-    `fonts` are the glyphs of the text modes: the bytes of a font file, or its path; None is the
-    project's font. Cycles take no time on the card: its clock runs by `advance`, `frame`,
-    `frame_xrgb` and `lines` alone.
+    `fonts` are the glyphs of the text modes: the bytes of a font file, or its path; None means the
+    project's font. Cycles take no time on the card: its clock runs only in `advance` and in the calls
+    that draw a line or a frame.
 
     A call that the adapter refuses raises a `Refusal` and changes nothing. A number out of range is
-    a ValueError and one that is no int a TypeError, before anything is done. A closed card raises
-    `Closed`. `with` closes it at its end; else `close`, or the end of the object, does.
+    a ValueError, and one that is not an int is a TypeError, before anything is done. A closed card
+    raises `Closed`. `with` closes the card at its end; otherwise `close` does, or the end of the object.
 
-    A card may go from one thread to another. Calls of two threads come one after the other, but in
-    no order that you can rely on, and what a card lends, as a picture, is written anew by either.
+    A card may move from one thread to another. Calls of two threads come one after another, but in
+    no order that you can rely on. What a card lends, such as a picture, is overwritten by either.
     """
 
     def __init__(self, fonts: Fonts = None) -> None:
@@ -102,7 +102,7 @@ class Card:
         status = calls["open"](self._card, glyphs, len(glyphs))
         if status:
             raise error_of(status)
-        # The struct is closed once: here, or by close.
+        # The struct is closed once, here or by close.
         self._end: Callable[[], Any] = weakref.finalize(self, calls["close"], self._card)
         self._put, self._put_word = calls["put"], calls["put_word"]
         self._get, self._get_word = calls["get"], calls["get_word"]
@@ -119,7 +119,7 @@ class Card:
             raise error_of(status)
 
     def _cycle(self, call: Call, *values: tuple[str, int, int]) -> None:
-        """The slow way of a cycle: it looks at each number, and raises what is wrong."""
+        """The slow path of a cycle: it checks each number, and raises what is wrong."""
         status = call(self._card, *(in_range(name, value, most) for name, value, most in values))
         if status:
             raise error_of(status)
@@ -138,7 +138,7 @@ class Card:
         return room
 
     def _transfer(self, name: str, *values: Any) -> int:
-        """Makes a call for many bytes, and tells how many addresses the adapter decodes."""
+        """Makes a call for many bytes, and returns how many addresses the adapter decodes."""
         decoded = s.SIZE()
         self._call(name, *values, _byref(decoded))
         return decoded.value
@@ -151,7 +151,7 @@ class Card:
     # Opening and closing.
 
     def close(self) -> None:
-        """Frees the card. A second close raises Closed, as every call does from here on."""
+        """Frees the card. After this every call raises Closed, a second close too."""
         if not self._struct.is_open:
             raise Closed("the card is closed")
         self._end()
@@ -176,8 +176,8 @@ class Card:
     def __repr__(self) -> str:
         return f"<Card, {'open' if self._struct.is_open else 'closed'}>"
 
-    # Cycles of ports and of display memory. What is in range goes the quick way: the call itself
-    # refuses what is no number. No call is made twice, so that its own status is raised.
+    # Cycles of ports and of display memory. Numbers in range take the fast path, on which the call
+    # itself refuses what is not a number. No call is made twice, so that its own status is raised.
 
     def out(self, port: int, value: int) -> None:
         """Writes a byte, 0 to FF, to a port, 0 to FFFF (hexadecimal).
@@ -207,7 +207,7 @@ class Card:
         self._cycle(self._out_word, ("port", port, WORD), ("value", value, WORD))
 
     def inp(self, port: int) -> int:
-        """Reads a byte from a port, 0 to FFFF (hexadecimal). `in` is a word of Python's own.
+        """Reads a byte from a port, 0 to FFFF (hexadecimal). `in` is a keyword of Python.
 
         Raises NotDecoded and NotInProfile.
         """
@@ -238,7 +238,7 @@ class Card:
     def put(self, address: int, value: int) -> None:
         """Writes a byte, 0 to FF, to display memory at one of the processor's addresses.
 
-        The registers say which of A0000 to BFFFF (hexadecimal) are decoded. Raises NotDecoded and
+        The registers decide which of A0000 to BFFFF (hexadecimal) are decoded. Raises NotDecoded and
         NotInProfile.
         """
         try:
@@ -289,26 +289,26 @@ class Card:
             pass
         return int(self._read("get_word", s.U16, in_range("address", address, LONG)).value)
 
-    # Cycles of many bytes at once. What the adapter doesn't decode is not refused: a write there
-    # changes nothing, and a read gives FF.
+    # Cycles of many bytes at once. Addresses that the adapter doesn't decode are not refused: a write
+    # there changes nothing, and a read gives FF.
 
     def put_bytes(self, address: int, data: Bytes, down: bool = False) -> int:
-        """Writes bytes to the addresses from one on, and tells how many of these the adapter decodes.
+        """Writes bytes to consecutive addresses, and returns how many of them the adapter decodes.
 
             screen = bytes(y // 8 for y in range(200) for x in range(320))
             decoded = card.put_bytes(0xA0000, screen)     # 64000 in mode 13
 
-        Each does what `put` does. `data[i]` goes to `address + i`: the first byte first, or, if `down`
-        is true, the last one first, as a processor's `rep movsb` with its direction flag set. Raises
-        BadArgument where `address + len(data)` is above FFFFFFFF (hexadecimal).
+        Each write does what `put` does. `data[i]` goes to `address + i`: the first byte first or, if
+        `down` is true, the last byte first, like `rep movsb` of a processor with its direction flag set.
+        Raises BadArgument if `address + len(data)` is above FFFFFFFF (hexadecimal).
         """
         begin, given = in_range("address", address, LONG), bytes(memoryview(data))
         return self._transfer("put_bytes", begin, given, len(given), bool(down))
 
     def fill(self, address: int, value: int, count: int, down: bool = False) -> int:
-        """Writes a byte, 0 to FF, to so many addresses, and tells how many of these the adapter decodes.
+        """Writes a byte, 0 to FF, to `count` addresses, and returns how many of them the adapter decodes.
 
-        As `put_bytes` with `count` times the same byte, and a processor's `rep stosb`.
+        Like `put_bytes` with `count` times the same byte, and like `rep stosb` of a processor.
         """
         begin, byte = in_range("address", address, LONG), in_range("value", value, BYTE)
         return self._transfer("fill_bytes", begin, byte, in_range("count", count, LONG), bool(down))
@@ -320,16 +320,16 @@ class Card:
     def get_bytes(self, address: int, count_or_buffer: Union[bytearray, memoryview], down: bool = False) -> int: ...
 
     def get_bytes(self, address: int, count_or_buffer: Any, down: bool = False) -> Any:
-        """Reads the addresses from one on: so many bytes, or as many as a writable buffer of yours has.
+        """Reads consecutive addresses: a number of bytes, or as many as your writable buffer has room for.
 
             row = card.get_bytes(0xA0000, 320)            # bytes
             row.decoded                                   # 320 in mode 13
             decoded = card.get_bytes(0xA0000, buffer)     # the same into a bytearray
 
-        Each does what `get` does, and loads the latches; one that the adapter doesn't decode reads as
-        FF. Of a count you get the bytes, whose `decoded` tells how many addresses the adapter decodes;
-        of a buffer that number. Byte i is that of `address + i`, in whichever order they are read: the
-        last one first if `down` is true. Raises BadArgument where they go past FFFFFFFF (hexadecimal).
+        Each read does what `get` does, and loads the latches; an address that the adapter doesn't decode
+        reads as FF. For a number you get the bytes, whose `decoded` says how many addresses the adapter
+        decodes; for a buffer you get that number. Byte i is that of `address + i`, even if `down` is true
+        and the last one is read first. Raises BadArgument if they go past FFFFFFFF (hexadecimal).
         """
         begin = in_range("address", address, LONG)
         try:
@@ -341,19 +341,19 @@ class Card:
         if not self._struct.is_open:
             raise Closed("the card is closed")
         if begin + in_range("count", count, LONG) > LONG:
-            # The library would refuse it too, once there were memory for so many bytes.
+            # The library would refuse it too, but only after this many bytes were allocated.
             raise error_of(BadArgument.number)
         read = (s.U8 * max(1, count))()
         decoded = self._transfer("get_bytes", begin, read, count, bool(down))
         return ReadBytes(memoryview(read)[:count], decoded)
 
     def move(self, source: int, target: int, count: int, down: bool = False) -> int:
-        """Reads so many addresses from `source` on, and writes each byte at `target`, one after the other.
+        """Reads `count` addresses from `source` on, and writes each byte from `target` on, one after another.
 
         Each read loads the latches, so in write mode 1 all four planes are copied. The first byte goes
-        first, or, if `down` is true, the last one. Tells how many of the reads and the writes together
-        the adapter decodes: 2 * count where it decodes all. Raises BadArgument where `source + count`
-        or `target + count` is above FFFFFFFF (hexadecimal).
+        first or, if `down` is true, the last byte. Returns how many of the reads and writes the adapter
+        decodes: 2 * count if it decodes all. Raises BadArgument if `source + count` or `target + count`
+        is above FFFFFFFF (hexadecimal).
         """
         places = (("source", source), ("target", target), ("count", count))
         return self._transfer("move_bytes", *(in_range(name, value, LONG) for name, value in places), bool(down))
@@ -361,7 +361,7 @@ class Card:
     # The clock, and frames.
 
     def advance(self, dots: int) -> None:
-        """Lets the clock run for so many dots, 0 to 16,777,216. Raises TooFar for more."""
+        """Lets the clock run for 0 to 16,777,216 dots. Raises TooFar for more."""
         try:
             if 0 <= dots <= LONG:
                 status = self._advance(self._card, dots)
@@ -373,12 +373,12 @@ class Card:
         self._cycle(self._advance, ("dots", dots, LONG))
 
     def clock(self) -> Timing:
-        """What the clock comes to next, if no register is written meanwhile; nothing changes.
+        """When the frame ends and input status 1 changes next, if no register is written until then.
 
             card.advance(card.clock().to_frame)           # to the first dot of the next frame
-            retrace = card.clock().to_retrace             # None where there is none
+            retrace = card.clock().to_retrace             # None if there is none
 
-        A program that polls input status 1 waits for `to_display` or `to_retrace` dots.
+        Nothing changes. If your program polls input status 1, let `to_display` or `to_retrace` dots pass.
         """
         read = self._read("clock", s.zak_timing)
         return Timing(
@@ -387,11 +387,11 @@ class Card:
         )
 
     def frame(self, into: Optional[Any] = None) -> Picture:
-        """Lets the clock run to the end of the frame under way, and gives its picture.
+        """Lets the clock run to the end of the frame under way, and returns its picture.
 
-        The picture lies in memory that the card keeps, until its next `frame` or `lines`; or in
-        `into`, a writable buffer of at least 3 * width * height bytes. Raises Ragged where two rows
-        differ in width, and NoRoom where `into` is too short; with either the frame has passed.
+        The picture lies in the card's memory, until its next `frame` or `lines`; or in `into`, a
+        writable buffer of at least 3 * width * height bytes. Raises Ragged if two rows differ in width,
+        and NoRoom if `into` is too short. With either the frame has passed.
         """
         size = s.zak_size()
         view, pointer, room = self._target(into, "rgb", s.MOST_RGB, s.U8)
@@ -400,12 +400,12 @@ class Card:
         return Picture(width, height, view[:3 * width * height])
 
     def frame_xrgb(self, into: Optional[Any] = None, pitch: int = s.WIDEST) -> XrgbPicture:
-        """Lets the clock run to the end of the frame, and gives a word 00RRGGBB a dot.
+        """Lets the clock run to the end of the frame, and returns a word 00RRGGBB per dot.
 
-        Row y begins at word `pitch * y`. The words lie in memory that the card keeps, until its next
-        `frame_xrgb`; or in `into`, a writable buffer of at least 4 * pitch * height bytes, in which
-        words beside the picture stay. Raises Ragged, and NoRoom where `into` is too short or the
-        pitch below the width; with either the frame has passed.
+        Row y begins at word `pitch * y`. The words lie in the card's memory, until its next
+        `frame_xrgb`, `frame_words` or `line`; or in `into`, a writable buffer of at least
+        4 * pitch * height bytes, in which words beside the picture are unchanged. Raises Ragged, and
+        NoRoom if `into` is too short or the pitch below the width. With either the frame has passed.
         """
         size = s.zak_size()
         in_range("pitch", pitch, s.WIDEST if into is None else LONG)
@@ -415,14 +415,14 @@ class Card:
 
     def frame_words(self, into: Optional[Any] = None, pitch: int = s.WIDEST, *, once: bool = True,
                     opaque: bool = False) -> XrgbPicture:
-        """Lets the clock run to the end of the frame, and gives a word a pixel.
+        """Lets the clock run to the end of the frame, and returns a word per pixel.
 
             picture = card.frame_words()                  # in mode 13 (hexadecimal) 320 by 200
             picture.across, picture.down                  # 2, 2: each is 2 dots wide on 2 lines
 
-        With `once` a pixel that the screen shows on several dots or lines stands once: every
-        `across`-th dot of every `down`-th line. With `opaque` the words are FFRRGGBB, and else
-        00RRGGBB. Memory, pitch and refusals are those of `frame_xrgb`.
+        With `once` a pixel that the screen shows on several dots or lines has one word: every
+        `across`-th dot of every `down`-th line. With `opaque` the words are FFRRGGBB, otherwise
+        00RRGGBB. Memory, pitch and exceptions are those of `frame_xrgb`.
         """
         told = s.zak_picture()
         in_range("pitch", pitch, s.WIDEST if into is None else LONG)
@@ -433,13 +433,13 @@ class Card:
         return XrgbPicture(told.width, told.height, pitch, words, told.across, told.down)
 
     def line(self, *, opaque: bool = False) -> ScanLine:
-        """Lets the clock run to the end of the line under way, and gives its dots as words.
+        """Lets the clock run to the end of the line under way, and returns its dots as words.
 
             while not (line := card.line()).ends_frame:
                 show(line.number, line.words)             # 32-bit numbers 00RRGGBB
 
-        With `opaque` they are FFRRGGBB. They lie in memory that the card keeps, until its next
-        `line`, `frame_xrgb` or `frame_words`.
+        With `opaque` they are FFRRGGBB. They lie in the card's memory, until its next `line`,
+        `frame_xrgb` or `frame_words`.
         """
         told, room = s.zak_scan_line(), self._room(4 * s.WIDEST * s.HIGHEST, "xrgb")
         pointer = ctypes.cast(room.pointer, ctypes.POINTER(s.U32))
@@ -448,18 +448,18 @@ class Card:
         return ScanLine(told.number, told.ends_frame, words)
 
     def lines(self) -> Lines:
-        """Lets the clock run to the end of the frame, and gives its dots line by line.
+        """Lets the clock run to the end of the frame, and returns its dots line by line.
 
-        It does so also where lines differ in width, and `frame` would raise Ragged. The dots lie in
-        memory that the card keeps, until its next `frame` or `lines`.
+        The lines may differ in width, for which `frame` raises Ragged. The dots lie in the card's
+        memory, until its next `frame` or `lines`.
         """
         room, widths, used = self._room(s.MOST_RGB, "rgb"), (s.U32 * s.HIGHEST)(), s.SIZE()
         self._call("frame_lines", widths, room.pointer, room.size, _byref(used))
-        # A memoryview hands over all numbers at once, which ctypes does one by one.
+        # A memoryview hands over all numbers at once; ctypes does so one by one.
         return Lines(tuple(memoryview(widths).cast("B").cast("I").tolist()), room.view[:used.value])
 
     def _target(self, into: Optional[Any], name: str, size: int, kind: Any) -> tuple[memoryview, Any, int]:
-        """Where a picture goes: the memory as bytes, a pointer to it, and how many bytes it has."""
+        """Where a picture goes: the memory as bytes, a pointer to it, and its length in bytes."""
         if into is None:
             room = self._room(size, name)
             return room.view, ctypes.cast(room.pointer, ctypes.POINTER(kind)), room.size
@@ -470,11 +470,11 @@ class Card:
     # The video BIOS.
 
     def block(self, ax: int, bx: int = 0, cx: int = 0, dx: int = 0) -> Source:
-        """What `int10` with these registers reads of the caller's memory; nothing changes.
+        """What `int10` with these registers reads from the caller's memory. Nothing changes.
 
             card.block(0x1301, cx=5)                      # Source(len=5, is_at_dx=False)
 
-        With a block of just `len` bytes `int10` never raises BadBlock.
+        With a block of exactly `len` bytes `int10` never raises BadBlock.
         """
         read = self._read("block", s.zak_source, _byref(_registers(ax, bx, cx, dx)))
         return Source(read.len, read.is_at_dx)
@@ -482,9 +482,9 @@ class Card:
     def int10(self, ax: int, bx: int = 0, cx: int = 0, dx: int = 0, block: Bytes = b"") -> Answer:
         """Calls the video BIOS, interrupt 10 (hexadecimal), with these registers, 0 to FFFF each.
 
-        `block` is what memory has at ES:BP or ES:DX, for functions that read some. The answer has the
-        registers afterwards, and as `table` what a function writes at ES:DX. docs/SERVICES.md has the
-        functions. Raises NoMode to BadBlock, and BadHeight.
+        `block` is what memory contains at ES:BP or ES:DX, for functions that read it. The answer has the
+        registers afterwards, and in `table` what a function writes at ES:DX. docs/SERVICES.md describes
+        the functions. Raises NoMode to BadBlock, and BadHeight.
         """
         regs = _registers(ax, bx, cx, dx)
         given, table, length = bytes(memoryview(block)), (s.U8 * s.MOST_TABLE)(), s.SIZE()
@@ -492,13 +492,13 @@ class Card:
         return Answer(regs.ax, regs.bx, regs.cx, regs.dx, bytes(table[:length.value]))
 
     def cycles(self, ax: int, bx: int = 0, cx: int = 0, dx: int = 0, block: Bytes = b"") -> bytes:
-        """The script of the cycles that `int10` with these registers would make now; nothing changes.
+        """The script of the cycles that `int10` with these registers would make now. Nothing changes.
 
             print(zaklimot.disassemble(card.cycles(0x0E41)))      # what printing an A writes
 
         The script has a step `out`, `in`, `put` or `get` for each cycle, in order. A card that runs it
-        gets the registers and the memory that `int10` leaves; its BIOS data stay. Raises what `int10`
-        raises, and TooLong for more than 16,777,216 bytes.
+        gets the registers and the memory that `int10` leaves, but keeps its BIOS data. Raises what
+        `int10` raises, and TooLong for more than 16,777,216 bytes.
         """
         regs, given = _registers(ax, bx, cx, dx), bytes(memoryview(block))
         length, size = s.SIZE(), FIRST_CYCLES
@@ -512,7 +512,7 @@ class Card:
                 raise error_of(status)
             size = length.value
 
-    # The state. Nothing of it changes, also no index, latch or flip-flop.
+    # The state. Nothing of it changes, not even an index, a latch or the flip-flop.
 
     def registers(self) -> Registers:
         """All registers, as they are."""
@@ -523,13 +523,13 @@ class Card:
         return Registers(**{**values, "attr_is_data": bool(read.attr_is_data)})
 
     def beam(self) -> Beam:
-        """Where the next dot is."""
+        """The beam: where the next dot is."""
         read = self._read("read_beam", s.zak_beam)
         values = {name: getattr(read, name) for name in Beam._fields}
         return Beam(**{**values, "half": bool(read.half), "split": bool(read.split)})
 
     def colour(self, entry: int) -> Colour:
-        """The colour of an entry of the DAC, 0 to 255: six bits a component."""
+        """The colour of an entry of the DAC, 0 to 255: six bits per component."""
         read = self._read("read_colour", s.zak_colour, in_range("entry", entry, BYTE))
         return Colour(read.red, read.green, read.blue)
 
@@ -544,7 +544,7 @@ class Card:
     def plane(self, plane: int, offset: int = 0, count: Optional[int] = None) -> bytes:
         """Bytes of a plane, 0 to 3, from an offset on: `count` of them, or all up to the plane's end at 65,536.
 
-        Raises BadArgument where they go past the end.
+        Raises BadArgument if they go past the end.
         """
         begin = in_range("offset", offset, WORD)
         room = in_range("count", 65_536 - begin if count is None else count, 65_536)
@@ -558,18 +558,18 @@ class Card:
         values = {name: getattr(read, name) for name in BiosData._fields if name != "cursors"}
         return BiosData(**values, cursors=tuple(Position(*divmod(place, 256)) for place in read.cursor_places))
 
-    # The plain screen, as programs see it that use the video BIOS alone.
+    # The plain screen, as programs that use only the video BIOS see it.
 
     def screen(self) -> Screen:
-        """The plain screen that the adapter shows. Raises NoScreen where it shows none."""
+        """The plain screen that the adapter shows. Raises NoScreen if it shows none."""
         read = self._read("screen_read", s.zak_screen)
         values = {name: getattr(read, name) for name in Screen._fields}
         return Screen(**{**values, "is_text": bool(read.is_text)})
 
     def cell(self, row: int, column: int, page: int = 0) -> Cell:
-        """A cell of text. Raises NoScreen, and BadArgument where there is no such page, row or column.
+        """A cell of text. Raises NoScreen, and BadArgument if there is no such page, row or column.
 
-        A call reads the whole screen; `cells` gives all of them at once.
+        Each call reads the whole screen; `cells` returns all cells at once.
         """
         places = (("page", page), ("row", row), ("column", column))
         read = self._read("screen_cell", s.zak_cell, *(in_range(name, value, BYTE) for name, value in places))
@@ -578,7 +578,7 @@ class Card:
     def pixel(self, x: int, y: int, page: int = 0) -> int:
         """The number of a pixel's colour in a graphics mode: x from the left, y from the top.
 
-        Raises NoScreen, and BadArgument where there is no such page, x or y.
+        Raises NoScreen, and BadArgument if there is no such page, x or y.
         """
         numbers = (in_range("page", page, BYTE), in_range("x", x, WORD), in_range("y", y, WORD))
         return int(self._read("screen_pixel", s.U8, *numbers).value)
@@ -589,7 +589,7 @@ class Card:
         return Position(read.row, read.column)
 
     def cells(self) -> list[list[Cell]]:
-        """The cells of the active page, row by row, as they stand in display memory.
+        """The cells of the active page, row by row, as display memory contains them.
 
         Raises NoMode before a mode is set, and WrongKind in a graphics mode.
         """
@@ -599,7 +599,7 @@ class Card:
     def text(self) -> list[str]:
         """The characters of the active page as lines of text, by code page 437; 0 is a blank.
 
-        Blanks at a line's end are left out. Raises as `cells` does.
+        Blanks at a line's end are left out. Raises what `cells` raises.
         """
         rows = (bytes(cell.character or 0x20 for cell in row) for row in self.cells())
         return [row.decode("cp437").translate(_GLYPHS).rstrip(" ") for row in rows]
@@ -611,7 +611,7 @@ class Card:
         return self._text("show_regs")
 
     def show_beam(self) -> str:
-        """Where the next dot is."""
+        """The beam: where the next dot is."""
         return self._text("show_beam")
 
     def show_latches(self) -> str:
@@ -623,7 +623,7 @@ class Card:
         return self._text("show_bda")
 
     def show_cells(self) -> str:
-        """The cells of the active page, a line a row. Raises NoMode, and WrongKind in a graphics mode."""
+        """The cells of the active page, one row per line. Raises NoMode, and WrongKind in a graphics mode."""
         return self._text("show_cells")
 
     def show_dac(self, entry: int) -> str:
@@ -631,53 +631,53 @@ class Card:
         return self._text("show_dac", in_range("entry", entry, BYTE))
 
     def show_plane(self, plane: int, offset: int, count: int) -> str:
-        """So many bytes, 1 to 256, of plane 0 to 3 from an offset on. Raises BadArgument past the plane's end."""
+        """1 to 256 bytes of plane 0 to 3 from an offset on. Raises BadArgument if they go past the plane's end."""
         numbers = (("plane", plane, 3, 0), ("offset", offset, WORD, 0), ("count", count, 256, 1))
         return self._text("show_plane", *(in_range(*number) for number in numbers))
 
     # Snapshots, and steps of a script.
 
     def save(self) -> bytes:
-        """The state of the card, from which this card or another goes on as if nothing had been.
+        """The state of the card, from which this card or another can go on as if it had never stopped.
 
-        265,086 bytes at the first dot of a frame, and three more for each dot drawn since
-        (docs/STATE.md). The fonts are not among them.
+        It has 265,086 bytes at the first dot of a frame, and three more for each dot drawn since
+        (docs/STATE.md). It does not contain the fonts.
         """
         room, length = self._room(s.MOST_STATE, "state"), s.SIZE()
         self._call("save", room.pointer, room.size, _byref(length))
         return bytes(room.view[:length.value])
 
     def save_size(self) -> int:
-        """How many bytes `save` would give now."""
+        """How many bytes the state has now."""
         length = s.SIZE()
         self._call("save_size", _byref(length))
         return length.value
 
     def restore(self, state: Bytes) -> None:
-        """Goes on from a state that was saved. Raises a StateError for other bytes, and stays as it was."""
+        """Restores a saved state. For other bytes it raises a StateError, and the card is unchanged."""
         given = bytes(memoryview(state))
         self._call("restore", given, len(given))
 
     def save_fixed(self, length: int) -> bytes:
-        """The state in `length` bytes, with zeros and a checksum after it: always of one size.
+        """The state in `length` bytes: the state, zeros and a checksum, so that all states have one size.
 
-        Raises NoRoom where they are too few; 7,342,978 are always enough.
+        Raises NoRoom if they are too few; 7,342,978 are always enough.
         """
         into = (s.U8 * max(1, in_range("length", length, LONG)))()
         self._call("save_fixed", into, length)
         return bytes(into)[:length]
 
     def restore_fixed(self, state: Bytes) -> None:
-        """Goes on from what `save_fixed` gave. Raises StateChecksum, or another StateError, and stays as it was."""
+        """Restores a state of `save_fixed`. For other bytes it raises a StateError, and the card is unchanged."""
         given = bytes(memoryview(state))
         self._call("restore_fixed", given, len(given))
 
     def run_on(self, script: Any, first: int = 0, most: int = LONG) -> Report:
-        """Takes at most `most` steps of a script, after the first `first`, which are passed over.
+        """Skips the first `first` steps of a script, and takes at most `most` steps after them.
 
-        `script` is as for `zaklimot.run`. The steps are numbered from first + 1 on; fewer than
-        `most` are taken only where the script ends. Raises a ScriptError before any step is taken.
-        After OutOfMemory the card is as it was, but with `most` 1, where its step may have been taken.
+        `script` is as for `zaklimot.run`. The steps are numbered from first + 1 on. Fewer than `most`
+        are taken only if the script ends. Raises a ScriptError before any step is taken. After
+        OutOfMemory the card is as it was before; but if `most` is 1, the step may have been taken.
         """
         code = script_bytes(script)
         numbers = (in_range("first", first, LONG), in_range("most", most, LONG))
@@ -686,7 +686,7 @@ class Card:
         return self._slice(code, numbers, self._room(STEP_ROOM, "report"), self.save())
 
     def _slice(self, code: bytes, numbers: tuple[int, int], room: Room, state: Optional[bytes]) -> Report:
-        """The report of a slice. Where its room is too small, the card takes the steps again from its state."""
+        """The report of a slice. If the room is too small, the card is restored and takes the steps again."""
         length, taken, place = s.SIZE(), s.SIZE(), s.SIZE()
         told = (_byref(length), _byref(taken), _byref(place))
         status = self._calls["run_on"](self._card, code, len(code), *numbers, room.pointer, room.size, *told)

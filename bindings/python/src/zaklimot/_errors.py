@@ -1,4 +1,4 @@
-"""What a call raises that is not done: one class for each status of include/zaklimot.h.
+"""The exceptions of calls that fail: one class for each status of include/zaklimot.h.
 
 tests/test_header.py compares names and numbers with the header.
 """
@@ -11,9 +11,9 @@ from .format import FAULTS
 
 
 class Error(Exception):
-    """A call that is not done. `number` is its status in zaklimot.h, `place` where a script is bad.
+    """A call failed. `number` is its status in zaklimot.h, `place` the place of a fault in a script.
 
-    The card is as it was before, unless the class says otherwise.
+    The card is unchanged, unless the class says otherwise.
     """
 
     number: int = 0
@@ -21,7 +21,7 @@ class Error(Exception):
 
 
 class LibraryMissing(Error, OSError):
-    """The library, or its font file, is not there, or it is not one that this package can use."""
+    """The library or its font file is missing, or this package can't use it."""
 
 
 class Refusal(Error):
@@ -47,7 +47,7 @@ class NoMode(Refusal):
 
 
 class BadFunction(Refusal):
-    """The video BIOS has no such function, or not this part of it."""
+    """The video BIOS has no such function or subfunction."""
 
     number = 4
 
@@ -77,7 +77,7 @@ class Outside(Refusal):
 
 
 class CountPast(Refusal):
-    """A count of characters past the page's last cell, or of glyphs past the last character."""
+    """Characters past the page's last cell, or glyphs past the last character."""
 
     number = 9
 
@@ -119,25 +119,25 @@ class OpenAlready(Error):
 
 
 class FontSize(Error, ValueError):
-    """The font file has not 9,728 bytes."""
+    """The font file does not have 9,728 bytes."""
 
     number = 22
 
 
 class OutOfMemory(Error, MemoryError):
-    """There is not enough memory. After `Card.run_on` some of the first steps may have been taken."""
+    """An allocation failed. After `Card.run_on` with `most` 1 the step may have been taken."""
 
     number = 23
 
 
 class Ragged(Error):
-    """Two rows of the frame differ in width: it has no picture, and has passed. `Card.lines` shows one."""
+    """Two rows of the frame differ in width, so it has no picture. It has passed. `Card.lines` gives its dots."""
 
     number = 24
 
 
 class NoRoom(Error, ValueError):
-    """The buffer that you gave is too short: nothing was written there. A frame has passed all the same."""
+    """Your buffer is too short: nothing was written there. A frame has passed."""
 
     number = 25
 
@@ -163,19 +163,19 @@ class NoScreen(Error):
 class Broken(Error):
     """The portable library was compiled wrongly, and the card is closed.
 
-    It did what the proofs exclude. Try another compiler, or a lower level of optimisation. The
-    proved library never raises it.
+    It did what the proofs exclude. Try another compiler, or a lower level of optimisation. With the
+    proved library you never get this exception.
     """
 
     number = 29
 
 
 class StateError(Error, ValueError):
-    """The bytes can't be restored. The card is as it was."""
+    """The bytes can't be restored. The card is unchanged."""
 
 
 class StateMagic(StateError):
-    """The bytes are no saved state."""
+    """The bytes are not a saved state."""
 
     number = 30
 
@@ -193,7 +193,7 @@ class StateLength(StateError):
 
 
 class StatePart(StateError):
-    """A saved state with a part out of its bounds."""
+    """A part of the saved state is out of its bounds."""
 
     number = 33
 
@@ -205,7 +205,7 @@ class StateChecksum(StateError):
 
 
 class ScriptError(Error, ValueError):
-    """The bytes or the text are no script. `place` is the offset of the bad step, or the bad line's number."""
+    """A script, or its text, has a fault. `place` is the offset of the bad step, or the number of the bad line."""
 
 
 class BadMagic(ScriptError):
@@ -221,7 +221,7 @@ class BadVersion(ScriptError):
 
 
 class BadStep(ScriptError):
-    """There is no step here, or one out of range.
+    """Here stands no step, or a step out of range.
 
     `place` is its offset in the script.
     """
@@ -254,7 +254,7 @@ class BadLine(ScriptError):
 
 
 class TooMany(ScriptError):
-    """With the block or the step here, the script means more than 16,777,216 steps.
+    """The block or step here makes the script mean more than 16,777,216 steps.
 
     `place` is its offset in the script.
     """
@@ -262,12 +262,12 @@ class TooMany(ScriptError):
     number = 111
 
 
-# What the place of a fault counts, by its name in the table of the format.
+# The unit of a fault's place, by its name in the table of the format.
 _COUNTED = {"line": "line", "at": "offset"}
 
 
 def _below(kind: type[Error]) -> list[type[Error]]:
-    """All classes below one."""
+    """All subclasses of a class."""
     return [found for one in kind.__subclasses__() for found in (one, *_below(one))]
 
 
@@ -275,7 +275,7 @@ BY_NUMBER: dict[int, type[Error]] = {kind.number: kind for kind in _below(Error)
 
 
 def error_of(status: int, place: Optional[int] = None) -> Error:
-    """The exception that a status is raised as. It has the place only if its class has one."""
+    """The exception of a status. It has a place only if its class has one."""
     kind = BY_NUMBER.get(status)
     if kind is None:
         return Error(f"the library answers the status {status}, which this package doesn't know")

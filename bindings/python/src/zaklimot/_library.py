@@ -1,4 +1,4 @@
-"""Finds the library and the font file, and keeps the one library of this process."""
+"""Finding the library and the font file, and keeping the one library of this process."""
 
 from __future__ import annotations
 
@@ -20,7 +20,7 @@ SONAME = {"darwin": f"libzaklimot.{API_MAJOR}.dylib", "win32": FILE}.get(
 # What a wheel carries.
 CARRIED = Path(__file__).resolve().parent / "carried"
 USUAL_PREFIXES = ("/usr/local", "/usr")
-# So many folders above this file the repository begins, for who uses the package from its sources.
+# How many folders above this file the repository begins, if the package is used from its sources.
 LEVELS = 4
 
 HOW = """`pip install bindings/python` builds a package that has it. Or compile it, at the top of
@@ -34,7 +34,7 @@ Or install that by `tools/vga-library install`."""
 
 
 class Loaded(NamedTuple):
-    """The library that is loaded: its file, its calls by their names without `zak_`, and its version."""
+    """The loaded library: its file, its calls by their names without `zak_`, and its version."""
 
     path: str
     calls: Mapping[str, Call]
@@ -42,13 +42,13 @@ class Loaded(NamedTuple):
 
 
 def _below(prefix: Path) -> Iterator[Path]:
-    """The library's files below a prefix: in lib, or in a folder of the machine's kind in it."""
+    """The library's files below a prefix: in lib, or in its folder for this kind of machine."""
     yield from (path for path in (prefix / "lib" / FILE, prefix / "lib64" / FILE) if path.is_file())
     yield from sorted((prefix / "lib").glob(f"*-linux-gnu/{FILE}"))
 
 
 def _named() -> Optional[Path]:
-    """The file that the environment names. It is taken or refused: no other is looked for."""
+    """The file that the environment names. It is used or refused; no other is looked for."""
     file, folder = os.environ.get("ZAKLIMOT_LIBRARY"), os.environ.get("ZAKLIMOT_DIR")
     if file:
         if not os.path.isfile(file):
@@ -63,7 +63,7 @@ def _named() -> Optional[Path]:
 
 
 def _found() -> str:
-    """The path of the library, or its name where the system's loader is to find it."""
+    """The path of the library, or only its name if the system's loader has to find it."""
     named = _named()
     if named is not None:
         return str(named.absolute())
@@ -73,7 +73,7 @@ def _found() -> str:
 
 
 def _fits(version: int) -> bool:
-    """Whether a library of this version has all that the package calls."""
+    """Whether a library of this version has all calls that the package makes."""
     return version // 65536 == API_MAJOR and version % 65536 >= API_MINOR
 
 
@@ -81,7 +81,7 @@ def _fits(version: int) -> bool:
 def loaded() -> Loaded:
     """The library, loaded at the first call.
 
-    Raises LibraryMissing where there is none, or one of another version.
+    Raises LibraryMissing if there is none, or only one of another version.
     """
     path = _found()
     try:
@@ -101,12 +101,12 @@ def loaded() -> Loaded:
 
 
 def _in_sources(own: Path) -> list[Path]:
-    """The repository's font, by the place of this file. Near the root of the system there is none."""
+    """The repository's font, relative to this file. Near the root of the system there is none."""
     return [top / "fonts" / FONTS for top in list(own.parents)[LEVELS:LEVELS + 1]]
 
 
 def _font_places() -> Iterator[Path]:
-    """Where the project's font may lie."""
+    """The places where the project's font may be."""
     for above in list(Path(loaded().path).absolute().parents)[1:3]:
         yield above / "share" / "zaklimot" / FONTS
     yield CARRIED / FONTS
@@ -116,7 +116,7 @@ def _font_places() -> Iterator[Path]:
 
 
 def read_fonts(path: Path) -> bytes:
-    """The bytes of a font file, one more at most than it may have."""
+    """The bytes of a font file, at most one more than it may have."""
     with open(path, "rb") as file:
         return file.read(FONTS_SIZE + 1)
 

@@ -8,12 +8,12 @@ import mmap
 from ._errors import OutOfMemory
 
 
-# Elsewhere than on Windows a process that forks gets memory of its own by these.
+# With these flags a process that forks gets memory of its own. Windows has no fork.
 PRIVATE = {"flags": mmap.MAP_PRIVATE | mmap.MAP_ANONYMOUS} if hasattr(mmap, "MAP_PRIVATE") else {}
 
 
 class Room:
-    """So many bytes, which cost nothing until they are written. A process that forks has its own."""
+    """Memory of a given size, which costs nothing until it is written. A process that forks gets its own."""
 
     def __init__(self, size: int) -> None:
         try:

@@ -6,7 +6,7 @@ from enum import Enum
 
 
 class Indexed(Enum):
-    """Registers behind an index. `port` is the index's, and data goes to the next one."""
+    """Registers with an index. `port` is the port of the index; the next port takes the data."""
 
     @property
     def port(self) -> int:
@@ -15,7 +15,7 @@ class Indexed(Enum):
 
     @property
     def word(self) -> int:
-        """What a word's low byte is that sets the index: the register's number."""
+        """The low byte of a word that sets the index: the register's number."""
         return int(self.value)
 
 
@@ -44,7 +44,7 @@ class GFX(Indexed):
 
 
 class CRTC(Indexed):
-    """The CRT controller, ports 3D4 and 3D5 (hexadecimal), where it stands in the modes of colours."""
+    """The CRT controller at ports 3D4 and 3D5 (hexadecimal), which it has in the colour modes."""
 
     HORIZONTAL_TOTAL = 0x00
     HORIZONTAL_DISPLAY_ENABLE_END = 0x01

@@ -1,4 +1,4 @@
-"""Pictures: of frames that a card lends, and of reports."""
+"""Pictures: those of frames, which a card lends, and those of reports."""
 
 from __future__ import annotations
 
@@ -8,7 +8,7 @@ from typing import Any, Iterator, NamedTuple
 
 from ._structs import HIGHEST
 
-# A component of six bits as one of eight, so that 63 is white.
+# A component of six bits widened to eight, so that 63 is white.
 _WIDENED = bytes(4 * (value & 63) + (value & 63) // 16 for value in range(256))
 
 
@@ -25,7 +25,7 @@ def _chunk(kind: bytes, data: bytes) -> bytes:
 
 
 def _png(width: int, height: int, rgb: bytes) -> bytes:
-    """A PNG of three bytes a dot, eight bits a component."""
+    """A PNG of three bytes per dot, eight bits per component."""
     pitch = 3 * width
     rows = b"".join(b"\0" + rgb[pitch * y:pitch * (y + 1)] for y in range(height))
     head = struct.pack(">IIBBBBB", width, height, 8, 2, 0, 0, 0)
@@ -34,7 +34,7 @@ def _png(width: int, height: int, rgb: bytes) -> bytes:
 
 
 class Picture:
-    """The picture of a frame: `height` rows of `width` dots, three bytes a dot, 0 to 63 each.
+    """The picture of a frame: `height` rows of `width` dots, three bytes per dot, 0 to 63 each.
 
     `data` is a memoryview of 3 * width * height bytes, rows from the top, dots from the left, red,
     green and blue. `pixels` is the same memory with the shape (height, width, 3), so
@@ -72,7 +72,7 @@ class Picture:
             yield self.data[pitch * y:pitch * (y + 1)]
 
     def copy(self) -> Picture:
-        """The same picture in memory of its own, which stays as it is."""
+        """A copy of the picture in memory of its own."""
         return Picture(self.width, self.height, memoryview(bytes(self.data)))
 
     def __eq__(self, other: object) -> bool:
@@ -90,14 +90,14 @@ class Picture:
         return b"P6\n%d %d\n63\n" % (self.width, self.height) + self.data
 
     def png(self) -> bytes:
-        """The picture as a PNG of eight bits a component, in which 63 is 255."""
+        """The picture as a PNG of eight bits per component, in which 63 becomes 255."""
         return _png(self.width, self.height, bytes(self.data).translate(_WIDENED))
 
 
 class XrgbPicture:
-    """The picture of a frame: a word 00RRGGBB or FFRRGGBB a pixel, eight bits a component.
+    """The picture of a frame: a word 00RRGGBB or FFRRGGBB per pixel, eight bits per component.
 
-    Each stands for `across` dots of a line and `down` scan lines, which are 1 in `frame_xrgb`.
+    Each word stands for `across` dots of a line and `down` scan lines. Both are 1 in `frame_xrgb`.
 
     `words` is a memoryview of 32-bit numbers; row y begins at `words[pitch * y]` and has `width` of
     them. With numpy, `numpy.asarray(picture)` has the shape (height, width), without a copy.
@@ -143,7 +143,7 @@ class ScanLine(NamedTuple):
 
 
 class Lines:
-    """The dots of a frame line by line, also of one whose lines differ in width.
+    """The dots of a frame line by line, even if its lines differ in width.
 
     `widths[y]` is how many dots line y has, 0 to 2,304, for y from 0 to 1,023. Iterating gives a
     memoryview of 3 * widths[y] bytes for each line that has dots; `line(y)` gives one by its number.

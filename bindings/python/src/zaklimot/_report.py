@@ -1,4 +1,4 @@
-"""The reports that `run` and `Card.run_on` give (docs/REPORT.md), step by step."""
+"""The reports of `run` and `Card.run_on` (docs/REPORT.md), step by step."""
 
 from __future__ import annotations
 
@@ -14,7 +14,7 @@ from .format.report import READ
 
 
 class Step(NamedTuple):
-    """The answer of one step: its number, counted from 1, its text, and its picture where it has one."""
+    """The answer of one step: its number, counted from 1, its text, and its picture if it has one."""
 
     number: int
     answer: str
@@ -37,28 +37,28 @@ class Step(NamedTuple):
 
     @property
     def refusal(self) -> Optional[type[Error]]:
-        """The class of the refusal, as `zaklimot.NotDecoded`, or None."""
+        """The class of the refusal, such as `zaklimot.NotDecoded`, or None."""
         return BY_NUMBER.get(format.Answer(self.number, 0, self.answer).refusal)
 
 
 def _picture(read: Union[format.Picture, format.Digest, None]) -> Optional[Picture]:
-    """A picture of the report, over its dots as they lie there."""
+    """A picture of the report, over the report's own bytes."""
     if not isinstance(read, format.Picture):
         return None
     return Picture(read.width, read.height, memoryview(read.ppm)[-3 * read.width * read.height:])
 
 
 def read_steps(raw: bytes) -> Iterator[Step]:
-    """The steps of a report one after the other, from whichever number on it begins."""
+    """The steps of a report one after another. It may begin with any number."""
     front, stream = raw[:20].partition(b" ")[0], io.BufferedReader(io.BytesIO(raw))  # type: ignore[arg-type]
     for answer in format.Report(stream, first=int(front) if front.isdigit() else 1).answers():
         yield Step(answer.number, "\n".join(answer.lines), _picture(answer.picture))
 
 
 class Report(Sequence[Step]):
-    """The steps of a run, in their order. `raw` is the report as bytes.
+    """The steps of a run, in order. `raw` is the report as bytes.
 
-    `report[0]` is the answer of step 1. `taken` is how many steps there are.
+    `report[0]` is the answer of the first step. `taken` is how many steps there are.
     """
 
     def __init__(self, raw: bytes) -> None:
@@ -90,7 +90,7 @@ class Report(Sequence[Step]):
 
     @property
     def pictures(self) -> list[Picture]:
-        """The pictures, in their order."""
+        """The pictures, in order."""
         return [step.picture for step in self._steps if step.picture is not None]
 
     def __repr__(self) -> str:

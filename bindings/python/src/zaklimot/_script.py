@@ -1,4 +1,4 @@
-"""A script that a program writes: by loops, names and numbers."""
+"""A script that a program builds, with loops, names and numbers."""
 
 from __future__ import annotations
 
@@ -23,13 +23,13 @@ TELETYPE = 0x0E00
 
 
 class Script:
-    """A script, step by step. Its methods have the names and ranges of Card's, and take nothing yet.
+    """A script, built step by step. Its methods have the names and ranges of Card's, but only add steps.
 
         from zaklimot import GFX, SEQ, Script
 
         script = Script()
         script.int10(ax=0x12)
-        script.out(SEQ.MAP_MASK, 0x0F)           # a register by its name, in one word
+        script.out(SEQ.MAP_MASK, 0x0F)           # a register by its name, as one word
         with script.repeat(8):
             script.put(0xA0000, 0xFF)
             script.frame()
@@ -48,7 +48,7 @@ class Script:
         self._lines.append(printed(Step(STEPS[name], values, block), is_short=True))
 
     def out(self, port: Union[int, Indexed], value: int) -> None:
-        """Writes a byte to a port; or to a register by its name, as one word to its index and data."""
+        """Writes a byte to a port; or to a register by its name, as one word to its index and its data."""
         if isinstance(port, Indexed):
             self._add("out_word", port.port, in_range("value", value, BYTE) << 8 | port.word)
         else:
@@ -87,24 +87,25 @@ class Script:
         self._add("get_word", in_range("address", address, LONG))
 
     def advance(self, dots: int) -> None:
-        """Lets the clock run for so many dots."""
+        """Lets the clock run for `dots` dots."""
         self._add("advance", in_range("dots", dots, LONG))
 
     def frame(self) -> None:
-        """Lets it run to the end of the frame, and answers its picture."""
+        """Lets the clock run to the end of the frame. The answer is its picture."""
         self._add("frame")
 
     def int10(self, ax: int, bx: int = 0, cx: int = 0, dx: int = 0, block: bytes = b"") -> None:
-        """Calls the video BIOS, with at most 65,535 bytes of a block."""
+        """Calls the video BIOS, with a block of at most 65,535 bytes."""
         given = bytes(memoryview(block))
         in_range("the length of the block", len(given), MOST_BLOCK)
         names = (("ax", ax), ("bx", bx), ("cx", cx), ("dx", dx))
         self._add("int10", *(in_range(name, value, WORD) for name, value in names), block=given)
 
     def type(self, text: Union[str, bytes], colour: int = 7) -> None:
-        """Types a text by the BIOS's teletype function, a step a character. A str goes by code page 437.
+        """Types a text by the BIOS's teletype function, one step per character. A str is encoded in code page 437.
 
-        `colour` counts in graphics alone, 0 to 255. Raises UnicodeEncodeError for what it lacks.
+        `colour`, 0 to 255, matters only in graphics. Raises UnicodeEncodeError for characters that the
+        code page lacks.
         """
         in_range("colour", colour, BYTE)
         for letter in text.encode("cp437") if isinstance(text, str) else bytes(memoryview(text)):
@@ -142,9 +143,9 @@ class Script:
 
     @contextmanager
     def repeat(self, times: int) -> Iterator[None]:
-        """Takes the steps that are written within `with` so many times, 1 to 65,535.
+        """Repeats the steps that are added within `with`, 1 to 65,535 times.
 
-        A block has no other block: that raises a ValueError.
+        A block can't contain another block: that raises a ValueError.
         """
         if self._is_in_block:
             raise ValueError("a block has no other block")
@@ -157,7 +158,7 @@ class Script:
             self._lines.append(END)
 
     def text(self) -> str:
-        """The script's text, with a line a step. A script with blocks begins with `version 2`."""
+        """The script's text, with one line per step. A script with blocks begins with `version 2`."""
         lines = [FIRST_LINE, *self._lines] if self._has_blocks else self._lines
         return "".join(f"{line}\n" for line in lines)
 

@@ -1,4 +1,4 @@
-"""Scripts with no card: their two forms, and whole runs."""
+"""Scripts without a card: their two forms, and whole runs."""
 
 from __future__ import annotations
 
@@ -11,14 +11,14 @@ from ._library import loaded
 from ._memory import Room
 
 NO_ROOM = 25
-# Room for a run's report, of which the system gives what is written. A longer one is made again.
+# Room for a run's report; the system gives memory only for what is written. A longer report is made again.
 FIRST_ROOM = 1 << 25
-# What a script may be given as: its text, its bytes, or an object that spells itself as text.
+# The forms of a script: its text, its bytes, or an object with a method `text`.
 AnyScript = Union[str, bytes, bytearray, memoryview, Any]
 
 
 def script_bytes(script: AnyScript) -> bytes:
-    """The bytes of a script: a str is its text, bytes are its bytes, and a Script spells itself."""
+    """The bytes of a script that is given as its text, as its bytes, or as a Script."""
     text = getattr(script, "text", None)
     if isinstance(script, str):
         return assemble(script)
@@ -28,7 +28,7 @@ def script_bytes(script: AnyScript) -> bytes:
 
 
 def _other_form(name: str, given: bytes) -> bytes:
-    """What a call makes of a text, or of a script. The first time it tells how long that is."""
+    """Assembles or disassembles, by two calls: the first says how long the result is."""
     call, length, place = loaded().calls[name], s.SIZE(), s.SIZE()
     told = (ctypes.byref(length), ctypes.byref(place))
     made = (s.U8 * 1)()
@@ -42,7 +42,7 @@ def _other_form(name: str, given: bytes) -> bytes:
 
 
 def assemble(text: Union[str, bytes]) -> bytes:
-    """The bytes of the script that a text spells (docs/SCRIPT.md).
+    """Assembles a text into the bytes of a script (docs/SCRIPT.md).
 
         zaklimot.assemble("frame")          # b"VGAS\\x01\\x0b"
 
@@ -54,9 +54,9 @@ def assemble(text: Union[str, bytes]) -> bytes:
 
 
 def disassemble(script: Union[bytes, bytearray, memoryview]) -> str:
-    """The text that spells a script's bytes: a line for each step, every number at full width.
+    """Disassembles a script: one line per step, every number at full width.
 
-    Raises a ScriptError for bytes that are no script.
+    Raises a ScriptError if the bytes are not a script.
     """
     return _other_form("print", bytes(memoryview(script))).decode("ascii")
 
@@ -64,7 +64,7 @@ def disassemble(script: Union[bytes, bytearray, memoryview]) -> str:
 def run_script(script: AnyScript, fonts: bytes) -> bytes:
     """The report of a whole run, on a card of its own."""
     code, size = script_bytes(script), FIRST_ROOM
-    # The library takes no two pointers into the same bytes.
+    # Two pointers of a call must not overlap.
     glyphs = bytes(bytearray(fonts)) if fonts is code else fonts
     length, place = s.SIZE(), s.SIZE()
     told = (ctypes.byref(length), ctypes.byref(place))

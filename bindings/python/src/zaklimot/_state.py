@@ -1,4 +1,4 @@
-"""The state of a card as objects with named fields, those of include/zaklimot.h."""
+"""The state of a card as objects, whose fields have the names of include/zaklimot.h."""
 
 from __future__ import annotations
 
@@ -36,7 +36,7 @@ class Registers(NamedTuple):
 
 
 class Beam(NamedTuple):
-    """Where the next dot is."""
+    """The beam: where the next dot is."""
 
     line: int
     """0 to 1,024"""
@@ -59,9 +59,9 @@ class Beam(NamedTuple):
 
 
 class Timing(NamedTuple):
-    """What the clock comes to next, if no register is written meanwhile, and how fast it is.
+    """When the frame ends and input status 1 changes next, and how fast dots come.
 
-    After so many dots, and after no fewer, it has come.
+    It holds if no register is written until then. Each `to_` is an exact number of dots.
     """
 
     to_frame: int
@@ -81,7 +81,7 @@ class Timing(NamedTuple):
 
 
 class Source(NamedTuple):
-    """What a call of the video BIOS reads of the caller's memory."""
+    """What a call of the video BIOS reads from the caller's memory."""
 
     len: int
     """how many bytes; 0 where it reads none"""
@@ -90,7 +90,7 @@ class Source(NamedTuple):
 
 
 class ReadBytes(bytes):
-    """Bytes of display memory. `decoded` is how many of their addresses the adapter decodes; others read as FF."""
+    """Bytes of display memory. `decoded` is how many of their addresses the adapter decodes. Others read as FF."""
 
     decoded: int
 
@@ -124,7 +124,7 @@ class BiosData(NamedTuple):
 
 
 class Position(NamedTuple):
-    """A place in text: row and column, each from 0."""
+    """A position in text: row and column, each from 0."""
 
     row: int
     column: int

@@ -1,4 +1,4 @@
-"""The structs of include/zaklimot.h, by the names that they have there.
+"""The structs of include/zaklimot.h, under the same names.
 
 tests/test_header.py compares them with the header, field by field.
 """

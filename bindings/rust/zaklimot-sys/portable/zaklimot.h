@@ -54,10 +54,10 @@ enum {
     ZAK_OUT_OF_MEMORY = 23,  /* malloc failed; nothing has changed, but see zak_run_on */
     ZAK_RAGGED = 24,         /* two rows of the frame differ in width: there is no picture */
     ZAK_NO_ROOM = 25,        /* the caller's buffer is too short, and nothing was written there */
-    ZAK_BAD_ARGUMENT = 26,   /* an argument is not in the range that the call names */
+    ZAK_BAD_ARGUMENT = 26,   /* an argument is out of the range that the call names */
     ZAK_BAD_CARD = 27,       /* corrupt BIOS data: the card's memory was overwritten */
     ZAK_NO_SCREEN = 28,      /* the adapter shows no plain screen (docs/SCREENS.md) */
-    ZAK_BROKEN = 29,         /* of portable/zaklimot.c alone: it was compiled wrongly; see there */
+    ZAK_BROKEN = 29,         /* only from portable/zaklimot.c: it was compiled wrongly; see there */
     ZAK_STATE_MAGIC = 30,    /* of zak_restore: the bytes are no saved state */
     ZAK_STATE_VERSION = 31,  /* the state has another version of the format */
     ZAK_STATE_LENGTH = 32,   /* the state is cut off, or bytes follow it */
@@ -74,11 +74,11 @@ enum {
 
 #define ZAK_FONTS_SIZE 9728u                           /* bytes of a font file */
 #define ZAK_MOST_DOTS 16777216u                        /* dots of one zak_advance */
-#define ZAK_NEVER 0xFFFFFFFFu                          /* zak_clock: no dots change the bit */
+#define ZAK_NEVER 0xFFFFFFFFu                          /* zak_clock: the bit never changes */
 #define ZAK_WIDEST 2304u                               /* dots in a row of a picture */
 #define ZAK_HIGHEST 1024u                              /* rows of a picture */
 #define ZAK_MOST_RGB (3u * ZAK_WIDEST * ZAK_HIGHEST)   /* bytes of a picture */
-#define ZAK_MOST_TABLE 768u                            /* bytes that an int10 answers */
+#define ZAK_MOST_TABLE 768u                            /* bytes of a table of zak_int10 */
 #define ZAK_MOST_TEXT 32768u                           /* bytes of a zak_show_.. */
 #define ZAK_OPAQUE 1u                                  /* zak_frame_words: words FFRRGGBB */
 #define ZAK_ONCE 2u                                    /* zak_frame_words: each pixel once */
@@ -99,9 +99,9 @@ typedef struct zak_card {
 uint32_t zak_version(void);
 
 /* Opens a machine in its power-on state, with the glyphs of a font file, such as
- * fonts/zaklimot.fnt. It allocates 7.4 MB by malloc, which zak_close frees. Of the other calls only
- * zak_show_.., zak_screen_.., zak_run, zak_run_on, zak_assemble, zak_print, zak_cycles and zak_int10
- * with AX = 1017 (hexadecimal) allocate memory, which they free before they return. Answers
+ * fonts/zaklimot.fnt. It allocates 7.4 MB with malloc, which zak_close frees. Few other calls
+ * allocate memory: zak_show_.., zak_screen_.., zak_run, zak_run_on, zak_assemble, zak_print,
+ * zak_cycles, and zak_int10 with AX = 1017 (hexadecimal). They free it before they return. Answers
  * ZAK_OPEN_ALREADY, ZAK_FONT_SIZE, ZAK_OUT_OF_MEMORY. */
 zak_status zak_open(zak_card *card, const uint8_t *fonts, size_t fonts_len);
 zak_status zak_close(zak_card *card);
@@ -118,14 +118,14 @@ zak_status zak_put_word(zak_card *card, uint32_t address, uint16_t value);
 zak_status zak_get(zak_card *card, uint32_t address, uint8_t *value);
 zak_status zak_get_word(zak_card *card, uint32_t address, uint16_t *value);
 
-/* Cycles of a byte at len or count addresses that follow one another: the first address first, or,
- * if down is true, the last one first, as an 8086 moves strings. Each does what the single call
- * does: a cycle that the adapter does not decode changes nothing, and reads FF. bytes[i] is the
- * byte of address + i, in either direction. zak_move_bytes reads from + i and then writes to + i,
- * for each i in turn. *decoded is the number of addresses that the adapter decodes; for
- * zak_move_bytes reads and writes count, 2 * count if it decodes all. Words and doublewords that go
- * up are one call over all their bytes. If they go down, make a call for each, since the bytes of
- * each go up. ZAK_BAD_ARGUMENT: address, from or to, plus the length, is above 0xFFFFFFFF. */
+/* Make a byte cycle at each of len or count consecutive addresses: from the first up or, if down is
+ * true, from the last down, as an 8086 moves strings. Each cycle does what the single call does;
+ * one that the adapter does not decode changes nothing, and reads FF. bytes[i] is the byte of
+ * address + i, in either direction. zak_move_bytes reads from + i and then writes to + i, for each
+ * i in turn. *decoded is the number of addresses that the adapter decodes; zak_move_bytes counts
+ * reads and writes, 2 * count if it decodes all. Words and doublewords that go up are one call over
+ * all their bytes. If they go down, make a call for each, since the bytes of each go up.
+ * ZAK_BAD_ARGUMENT: address, from or to, plus the length, is above 0xFFFFFFFF. */
 zak_status zak_put_bytes(zak_card *card, uint32_t address, const uint8_t *bytes, size_t len,
                          bool down, size_t *decoded);
 zak_status zak_fill_bytes(zak_card *card, uint32_t address, uint8_t value, size_t count, bool down,
@@ -140,30 +140,29 @@ zak_status zak_move_bytes(zak_card *card, uint32_t from, uint32_t to, size_t cou
  * draws them all: a call of a few dots costs little. */
 zak_status zak_advance(zak_card *card, uint32_t dots);
 
-/* Tells what the clock comes to next, if no register is written meanwhile. After to_frame dots the
- * frame under way ends. After to_display dots, and no fewer, bit 0 of input status 1 changes (it is
- * 1 where no dot is displayed). After to_retrace dots, and no fewer, bit 3 changes (it is 1 in the
- * vertical retrace). ZAK_NEVER: no number of dots changes the bit. rate / rate_divisor is the
- * number of dots a second: 25,175,000 or 28,322,000 by the clock select bits of the miscellaneous
+/* Says when the frame ends and when input status 1 changes next, if no register is written until
+ * then. The frame under way ends after to_frame dots. Bit 0 of input status 1 changes after exactly
+ * to_display dots (it is 1 where no dot is displayed), and bit 3 after exactly to_retrace dots (it
+ * is 1 in the vertical retrace). ZAK_NEVER: the bit never changes. rate / rate_divisor is the
+ * number of dots per second: 25,175,000 or 28,322,000 by the clock select bits of the miscellaneous
  * output register, divided by 2 if the sequencer halves the clock (clocking mode, bit 3). */
 typedef struct zak_timing {
     uint32_t to_frame, to_display, to_retrace; /* dots; the last two may be ZAK_NEVER */
     uint32_t line_dots, frame_dots, lines;     /* dots of a line and of a frame; lines of a frame */
-    uint32_t rate, rate_divisor;               /* dots a second */
+    uint32_t rate, rate_divisor;               /* dots per second */
 } zak_timing;
 
 zak_status zak_clock(zak_card *card, zak_timing *timing);
 
 typedef struct zak_size { uint32_t width, height; } zak_size; /* dots in a row, and rows */
 
-/* Lets the clock run to the end of the frame under way, by at least one dot, and gives the frame's
- * picture, rows from the top, each from the left. zak_frame gives three bytes a dot, red, green and
- * blue, 0 to 63 each. zak_frame_xrgb gives a word 00RRGGBB a dot, of eight bits a colour (a
- * component c of six bits is 4 * c + c / 16). Row y begins at pixels[pitch * y], the pitch counts
- * words, and words beside the picture stay as they are. ZAK_RAGGED: *size stays. ZAK_NO_ROOM:
- * rgb_len is below 3 * width * height, or the pitch below width, or pixels_len below
- * pitch * height; *size is the size of the picture. With either status the frame has passed all the
- * same. */
+/* Let the clock run to the end of the frame under way, by at least one dot, and write the frame's
+ * picture, rows from the top, each from the left. zak_frame writes three bytes per dot: red, green
+ * and blue, 0 to 63 each. zak_frame_xrgb writes a word 00RRGGBB per dot, with eight bits per colour
+ * (a component c of six bits becomes 4 * c + c / 16). Row y begins at pixels[pitch * y], the pitch
+ * counts words, and words beside the picture are unchanged. ZAK_RAGGED: *size is unchanged.
+ * ZAK_NO_ROOM: rgb_len is below 3 * width * height, or the pitch below width, or pixels_len below
+ * pitch * height; *size is the size of the picture. With either status the frame has passed. */
 zak_status zak_frame(zak_card *card, zak_size *size, uint8_t *rgb, size_t rgb_len);
 zak_status zak_frame_xrgb(zak_card *card, zak_size *size, uint32_t *pixels, size_t pixels_len,
                           size_t pitch);
@@ -174,21 +173,21 @@ typedef struct zak_picture {
 } zak_picture;
 
 /* Does what zak_frame_xrgb does, in the form that flags ask for: 0, or a sum of ZAK_OPAQUE and
- * ZAK_ONCE. With ZAK_ONCE a pixel that the screen shows several times is given once. The screen of
- * mode 13 (hexadecimal) then has 320 by 200 words, each for 2 dots on 2 lines. The screen of mode D
- * has 320 by 200, each for 1 dot on 2 lines. The words are every across-th dot of every down-th
- * line of the picture that zak_frame gives, from the first on. across is 2 in 256 colours with
- * characters of eight dots, and else 1. In graphics down is the number of scan lines of a row of
- * characters, and in text 1; it is doubled if the CRT controller shows each line twice. Both follow
- * from the registers at the call. ZAK_NO_ROOM and ZAK_RAGGED: as zak_frame_xrgb. ZAK_BAD_ARGUMENT:
- * flags are above 3, and no dot has passed. */
+ * ZAK_ONCE. With ZAK_ONCE a pixel that the screen shows several times is written once. The screen
+ * of mode 13 (hexadecimal) then has 320 by 200 words, each for 2 dots on 2 lines. The screen of
+ * mode D has 320 by 200, each for 1 dot on 2 lines. The words are every across-th dot of every
+ * down-th line of the picture that zak_frame writes, from the first on. across is 2 in 256 colours
+ * with characters of eight dots, otherwise 1. down is 1 in text; in graphics it is the number of
+ * scan lines of a row of characters. It is doubled if the CRT controller shows each line twice.
+ * Both follow from the registers at the call. ZAK_NO_ROOM and ZAK_RAGGED: as for zak_frame_xrgb.
+ * ZAK_BAD_ARGUMENT: flags are above 3, and no dot has passed. */
 zak_status zak_frame_words(zak_card *card, uint32_t flags, zak_picture *picture, uint32_t *pixels,
                            size_t pixels_len, size_t pitch);
 
 /* Lets the clock run to the end of the line under way, by at least one dot, for a core that shows
  * each line as it ends. pixels[x] is the word of the line's dot x: 00RRGGBB, or FFRRGGBB with
- * ZAK_OPAQUE in flags. ZAK_NO_ROOM: pixels_len is below the width; the line has passed all the
- * same, and *line is written. ZAK_BAD_ARGUMENT: flags are above 1, and no dot has passed. */
+ * ZAK_OPAQUE in flags. ZAK_NO_ROOM: pixels_len is below the width; the line has passed, and *line
+ * is written. ZAK_BAD_ARGUMENT: flags are above 1, and no dot has passed. */
 typedef struct zak_scan_line {
     uint32_t number; /* the line's number in the frame, from 0; lines without a dot count too */
     uint32_t width;  /* dots, at most ZAK_WIDEST; 0 for a line with none */
@@ -198,11 +197,11 @@ typedef struct zak_scan_line {
 zak_status zak_line(zak_card *card, uint32_t flags, zak_scan_line *line, uint32_t *pixels,
                     size_t pixels_len);
 
-/* Lets the clock run to the end of the frame under way, and gives the frame's dots line by line,
- * also if it is ragged. widths[y], for y from 0 to ZAK_HIGHEST - 1, is the number of dots of line
- * y, at most ZAK_WIDEST, and 0 for a line with none. rgb gets three bytes a dot: line 0 from the
+/* Lets the clock run to the end of the frame under way, and writes the frame's dots line by line,
+ * even if it is ragged. widths[y], for y from 0 to ZAK_HIGHEST - 1, is the number of dots of line
+ * y, at most ZAK_WIDEST, and 0 for a line with none. rgb gets three bytes per dot: line 0 from the
  * left, then line 1, and so on. *rgb_used is the number of bytes. ZAK_NO_ROOM: widths and *rgb_used
- * are written all the same, and rgb is not. */
+ * are written, but rgb is not. */
 zak_status zak_frame_lines(zak_card *card, uint32_t widths[ZAK_HIGHEST], uint8_t *rgb,
                            size_t rgb_len, size_t *rgb_used);
 
@@ -211,14 +210,14 @@ typedef struct zak_regs { uint16_t ax, bx, cx, dx; } zak_regs;
 /* Calls interrupt 10 (hexadecimal). *regs are the processor's registers, and afterwards the answer.
  * block is what the caller's memory contains at ES:BP or ES:DX, for functions that read it. table
  * is room for what a function writes there, at most ZAK_MOST_TABLE bytes; *table_len is their
- * number. Refused with ZAK_NO_MODE to ZAK_BAD_BLOCK, and ZAK_BAD_HEIGHT. ZAK_NO_ROOM: the service
- * is done, *regs and *table_len are written, and the table is not. */
+ * number. Refused with ZAK_NO_MODE to ZAK_BAD_BLOCK, and ZAK_BAD_HEIGHT. ZAK_NO_ROOM: the call is
+ * done, *regs and *table_len are written, but the table is not. */
 zak_status zak_int10(zak_card *card, zak_regs *regs, const uint8_t *block, size_t block_len,
                      uint8_t *table, size_t table_cap, size_t *table_len);
 
-/* Tells what a call of zak_int10 with these registers reads of the caller's memory: len bytes, 0
- * for none, at ES:DX if is_at_dx is true, and else at ES:BP. With a block of exactly len bytes
- * zak_int10 never answers ZAK_BAD_BLOCK. With another number it is refused, if len is not 0. */
+/* Says what a call of zak_int10 with these registers reads from the caller's memory: len bytes, 0
+ * for none, at ES:DX if is_at_dx is true, otherwise at ES:BP. With a block of exactly len bytes
+ * zak_int10 never answers ZAK_BAD_BLOCK. With another length it is refused, unless len is 0. */
 typedef struct zak_source {
     size_t len; /* 0 to 16,711,425 */
     bool is_at_dx;
@@ -229,19 +228,20 @@ zak_status zak_block(zak_card *card, const zak_regs *regs, zak_source *source);
 /* Lists the cycles that zak_int10 with these registers and this block would make on the card as it
  * is, in order, and leaves the card as it is: for debuggers, and for drivers that do without the
  * BIOS. The list is a script of version 1 in bytes, with a step out, in, put or get for each cycle,
- * which zak_print prints. If you take its steps, the card gets the registers and the memory that
- * zak_int10 leaves; the BIOS data stay. A cycle that the card refuses stands in the list too.
- * Refused as zak_int10 is. ZAK_NO_ROOM: *script_len is the number of bytes needed, and script is
- * unchanged. ZAK_TOO_LONG: the list would have more than 16,777,216 bytes. The call allocates 8 MB
- * and script_cap bytes, which it frees before it returns. ZAK_OUT_OF_MEMORY, ZAK_BAD_CARD. */
+ * which zak_print disassembles. If you run it with zak_run_on, the card gets the registers and the
+ * memory that zak_int10 leaves, but the BIOS data stay as they are. Cycles that the card refuses
+ * are in the list too. Refused as zak_int10 is. ZAK_NO_ROOM: *script_len is the number of bytes
+ * needed, and script is unchanged. ZAK_TOO_LONG: the list would have more than 16,777,216 bytes.
+ * The call allocates 8 MB and script_cap bytes, which it frees before it returns.
+ * ZAK_OUT_OF_MEMORY, ZAK_BAD_CARD. */
 zak_status zak_cycles(zak_card *card, const zak_regs *regs, const uint8_t *block, size_t block_len,
                       uint8_t *script, size_t script_cap, size_t *script_len);
 
-/* Gives the state as the text of the script's step `show` (docs/REPORT.md), with a newline and no 0
+/* Dump the state as the text of the script's step `show` (docs/REPORT.md), with a newline and no 0
  * after it. ZAK_MOST_TEXT bytes are always enough. ZAK_NO_ROOM: *text_len is the number of bytes
- * needed. zak_show_cells is refused with ZAK_NO_MODE and ZAK_WRONG_KIND. zak_show_plane shows count
- * bytes, 1 to 256, of plane 0 to 3 from an offset on, to the plane's end at most; else it answers
- * ZAK_BAD_ARGUMENT. */
+ * needed. zak_show_cells is refused with ZAK_NO_MODE and ZAK_WRONG_KIND. zak_show_plane dumps count
+ * bytes, 1 to 256, of plane 0 to 3 from an offset on, none past the plane's end. Any other count,
+ * plane or offset is ZAK_BAD_ARGUMENT. */
 zak_status zak_show_regs(zak_card *card, uint8_t *text, size_t text_cap, size_t *text_len);
 zak_status zak_show_beam(zak_card *card, uint8_t *text, size_t text_cap, size_t *text_len);
 zak_status zak_show_latches(zak_card *card, uint8_t *text, size_t text_cap, size_t *text_len);
@@ -267,7 +267,7 @@ typedef struct zak_registers {
 typedef struct zak_colour { uint8_t red, green, blue; } zak_colour; /* 0 to 63 each */
 
 typedef struct zak_beam {
-    uint16_t line, character, dot;        /* where the next dot is: 0 to 1024, 0 to 259, 0 to 8 */
+    uint16_t line, character, dot;        /* the next dot's: 0 to 1024, 0 to 259, 0 to 8 */
     uint16_t base;                        /* counter of the row's first character */
     uint16_t scan;                        /* scan line of the row of characters, 0 to 31 */
     uint16_t rows;                        /* rows of this frame with a dot so far */
@@ -279,7 +279,7 @@ typedef struct zak_beam {
 typedef struct zak_latches { uint8_t plane[4]; } zak_latches;
 
 typedef struct zak_bda {                  /* the BIOS data; all 0 until a mode is set */
-    uint16_t columns, size, start;        /* of a row; bytes of a page; active page's first */
+    uint16_t columns, size, start;        /* of a row; bytes of a page; first of the active page */
     uint16_t cursor_places[8];            /* cursor positions: 256 * row + column */
     uint16_t cursor_type;                 /* 256 * first scan line + last */
     uint16_t crtc_address, height;        /* the CRT controller's port; lines of a character */
@@ -292,16 +292,17 @@ zak_status zak_read_beam(zak_card *card, zak_beam *beam);
 zak_status zak_read_latches(zak_card *card, zak_latches *latches);
 zak_status zak_read_bda(zak_card *card, zak_bda *bda);
 
-/* Reads bytes_len bytes of plane 0 to 3 from an offset on, to the plane's end at 65,536 at most.
- * ZAK_BAD_ARGUMENT: there is no such plane, or the bytes go past its end. */
+/* Reads bytes_len bytes of plane 0 to 3 from an offset on. ZAK_BAD_ARGUMENT: there is no such
+ * plane, or the bytes go past its end at 65,536. */
 zak_status zak_read_plane(zak_card *card, uint8_t plane, uint16_t offset, uint8_t *bytes,
                           size_t bytes_len);
 
-/* Read the plain screen, if the adapter shows one: cells of text or pixels, page after page, as
- * programs that use only the video BIOS see it. Else they answer ZAK_NO_SCREEN. A call reads the
- * whole screen, into up to 0.8 MB that it allocates and frees. ZAK_BAD_ARGUMENT: there is no such
- * page, row, column, x or y, or a cell is asked for in graphics, or a pixel in text. The BIOS keeps
- * a cursor position for each of pages 0 to 7 in every mode: zak_screen_cursor takes these pages. */
+/* Read the plain screen that the adapter shows: cells of text or pixels, page after page, as
+ * programs that use only the video BIOS see it. If it shows none, they answer ZAK_NO_SCREEN. A call
+ * reads the whole screen, into up to 0.8 MB that it allocates and frees. ZAK_BAD_ARGUMENT: there is
+ * no such page, row, column, x or y, or you ask for a cell in graphics, or for a pixel in text. The
+ * BIOS keeps a cursor position for each of pages 0 to 7 in every mode: zak_screen_cursor takes
+ * these pages. */
 typedef struct zak_screen {
     uint32_t width, height;               /* in pixels; 0 in text, which has none */
     uint16_t columns, rows;               /* in characters */
@@ -318,58 +319,58 @@ zak_status zak_screen_cell(zak_card *card, uint8_t page, uint8_t row, uint8_t co
 zak_status zak_screen_pixel(zak_card *card, uint8_t page, uint16_t x, uint16_t y, uint8_t *pixel);
 zak_status zak_screen_cursor(zak_card *card, uint8_t page, zak_place *place);
 
-/* Save the state of a card as bytes, and restore it, on this card or on another, which then goes on
+/* Save the state of a card as bytes, and restore it on this card or on another, which then goes on
  * as if it had never stopped. The state is the BIOS data and the adapter, with three bytes for each
  * dot drawn of the frame under way, and without the fonts (docs/STATE.md). At the first dot of a
- * frame it has ZAK_FIRST_STATE bytes. zak_save: *len is the number of bytes, as with zak_save_size,
- * also with ZAK_NO_ROOM. zak_restore takes the bytes of a state, each part within its bounds. It
- * refuses others with one of ZAK_STATE_.., and leaves the card. */
+ * frame it has ZAK_FIRST_STATE bytes. zak_save: *len is the number of bytes, as zak_save_size gives
+ * it, even with ZAK_NO_ROOM. zak_restore takes the bytes of a state with each part within its
+ * bounds. It refuses others with one of ZAK_STATE_.., and the card is unchanged. */
 zak_status zak_save_size(zak_card *card, size_t *len);
 zak_status zak_save(zak_card *card, uint8_t *bytes, size_t bytes_cap, size_t *len);
 zak_status zak_restore(zak_card *card, const uint8_t *bytes, size_t bytes_len);
 
-/* Save and restore the state in a number of bytes that you choose, for a core whose states have one
- * size: the bytes of zak_save, then zeros, and in the last four bytes the Adler-32 checksum of all
- * before them, the lowest byte first. ZAK_MOST_STATE + 4 bytes are always enough. ZAK_NO_ROOM:
- * there are fewer bytes than the state and its checksum take. zak_restore_fixed takes all of these
- * bytes; those between the state and the checksum may be any. It answers ZAK_STATE_CHECKSUM if the
- * checksum is wrong, else what zak_restore answers. */
+/* Save and restore the state in a number of bytes that you choose, for a core whose states all have
+ * one size: the bytes of zak_save, then zeros, and in the last four bytes the Adler-32 checksum of
+ * everything before it, low byte first. ZAK_MOST_STATE + 4 bytes are always enough. ZAK_NO_ROOM:
+ * bytes_len is too short for the state and its checksum. zak_restore_fixed takes all of these
+ * bytes; it ignores those between the state and the checksum, but the checksum covers them. It
+ * answers ZAK_STATE_CHECKSUM if the checksum is wrong, otherwise what zak_restore answers. */
 zak_status zak_save_fixed(zak_card *card, uint8_t *bytes, size_t bytes_len);
 zak_status zak_restore_fixed(zak_card *card, const uint8_t *bytes, size_t bytes_len);
 
-/* Makes a whole run with no card: the bytes of a script in (docs/SCRIPT.md), its report out
- * (docs/REPORT.md). ZAK_NO_ROOM: *report_len is the number of bytes needed. ZAK_BAD_STEP,
- * ZAK_TRUNCATED, ZAK_TOO_MANY: *place is the offset in the script, in bytes, of the step or repeat.
- * ZAK_FONT_SIZE, ZAK_OUT_OF_MEMORY, ZAK_BAD_MAGIC, ZAK_BAD_VERSION, ZAK_TOO_LONG have no place. If
- * a run fails, no report is written. */
+/* Makes a whole run without a card: a script in (docs/SCRIPT.md), its report out (docs/REPORT.md).
+ * ZAK_NO_ROOM: *report_len is the number of bytes needed. ZAK_BAD_STEP, ZAK_TRUNCATED,
+ * ZAK_TOO_MANY: *place is the offset of the step or repeat in the script, in bytes. ZAK_FONT_SIZE,
+ * ZAK_OUT_OF_MEMORY, ZAK_BAD_MAGIC, ZAK_BAD_VERSION and ZAK_TOO_LONG have no place. If a run fails,
+ * no report is written. */
 zak_status zak_run(const uint8_t *script, size_t script_len, const uint8_t *fonts, size_t fonts_len,
                    uint8_t *report, size_t report_cap, size_t *report_len, size_t *place);
 
-/* Takes steps of a script on an open card: it passes over the first `first` steps, and takes at
- * most `most` steps after them. The steps of a `repeat` count each time that they are taken. The
- * report contains the lines of zak_run for the steps that were taken, numbered from first + 1 on.
- * *taken is their number: fewer than `most` only if the script ends. A step that is refused says so
- * in its line, and the call answers ZAK_OK. You can take a script in slices, with other calls
- * between them. Each call decodes the whole script and walks over the first `first` steps.
- * ZAK_NO_ROOM: the steps are taken all the same; *report_len and *taken are written, and the report
- * is not. The report of a single step has at most ZAK_MOST_RGB + 100 bytes. The faults of zak_run,
- * with *place: no step is taken, whichever were asked for. ZAK_OUT_OF_MEMORY: some of the first of
- * the steps may have been taken, each as a whole, and nothing tells how many; restore a saved
- * state. ZAK_BAD_CARD: no step is taken. */
+/* Takes steps of a script on an open card: it skips the first `first` steps, and takes at most
+ * `most` steps after them. The steps of a `repeat` count each time they are taken. The report
+ * contains the lines of zak_run for the steps that were taken, numbered from first + 1 on. *taken
+ * is their number: fewer than `most` only if the script ends. A refused step says so in its line,
+ * and the call answers ZAK_OK. You can take a script in slices, with other calls between them. Each
+ * call decodes the whole script and walks over the first `first` steps. ZAK_NO_ROOM: the steps are
+ * taken; *report_len and *taken are written, but the report is not. The report of a single step has
+ * at most ZAK_MOST_RGB + 100 bytes. The faults of zak_run, with *place: no step is taken, even if
+ * the fault is not in the steps that you asked for. ZAK_OUT_OF_MEMORY: some of the first of the
+ * steps may have been taken, each as a whole, and nothing says how many; restore a saved state.
+ * ZAK_BAD_CARD: no step is taken. */
 zak_status zak_run_on(zak_card *card, const uint8_t *script, size_t script_len, uint32_t first,
                       uint32_t most, uint8_t *report, size_t report_cap, size_t *report_len,
                       size_t *taken, size_t *place);
 
-/* Gives the bytes of the script that a text spells (docs/SCRIPT.md). ZAK_NO_ROOM: *script_len is
- * the number of bytes needed; a first call with a script_cap of 0 tells how much room to get.
- * ZAK_BAD_LINE: *line is the number of the first bad line, from 1. ZAK_TOO_LONG: the text or the
- * script has more than 16,777,216 bytes. */
+/* Assembles a text into a script (docs/SCRIPT.md). ZAK_NO_ROOM: *script_len is the number of bytes
+ * needed; a first call with a script_cap of 0 says how much room to get. ZAK_BAD_LINE: *line is the
+ * number of the first bad line, from 1. ZAK_TOO_LONG: the text or the script has more than
+ * 16,777,216 bytes. */
 zak_status zak_assemble(const uint8_t *text, size_t text_len, uint8_t *script, size_t script_cap,
                         size_t *script_len, size_t *line);
 
-/* Gives the text that spells the script of some bytes: a line for each step, with every number at
- * full width, and for each `version 2`, `repeat` and `end`. Comments are not in the bytes.
- * ZAK_NO_ROOM: *text_len is the number of bytes needed. The faults of zak_run, with *place. */
+/* Disassembles a script into text: a line for each step, with every number at full width, and for
+ * each `version 2`, `repeat` and `end`. A script contains no comments. ZAK_NO_ROOM: *text_len is
+ * the number of bytes needed. The faults of zak_run, with *place. */
 zak_status zak_print(const uint8_t *script, size_t script_len, uint8_t *text, size_t text_cap,
                      size_t *text_len, size_t *place);
 

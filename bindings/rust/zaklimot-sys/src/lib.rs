@@ -1,24 +1,24 @@
-//! The declarations of `zaklimot.h`, as they stand there: a VGA display adapter with its video
+//! The declarations of `zaklimot.h`, under the same names: a VGA display adapter with its video
 //! BIOS, as a library. The crate `zaklimot` makes them safe.
 //!
-//! What each call does, and what it owes, stands in the header and in `docs/LIBRARY.md` of the
-//! repository. `tests/header.rs` compares these declarations with the header.
+//! The header and `docs/LIBRARY.md` of the repository say what each call does, and what it requires
+//! of its caller. `tests/header.rs` compares these declarations with the header.
 #![no_std]
 #![allow(non_camel_case_types, missing_docs)]
 
 use core::ffi::c_void;
 
-/// Of which kind the library is that this crate was built with: `proved`, `portable`, or `unknown`
-/// where nothing beside it told.
+/// The kind of library that this crate was built with: `proved`, `portable`, or `unknown` if no
+/// file beside the library says it.
 pub const KIND: &str = match option_env!("ZAKLIMOT_KIND") {
     Some(kind) => kind,
     None => "unknown",
 };
 
-/// What a call answers.
+/// The status that a call returns.
 pub type zak_status = u32;
 
-/// `zak_card` of the header. It is closed once, so it is not copied.
+/// `zak_card` of the header. It must be closed only once, so you can't copy it.
 #[repr(C)]
 #[derive(Debug)]
 pub struct zak_card {

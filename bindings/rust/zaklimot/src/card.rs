@@ -1,4 +1,4 @@
-//! A card that can be called in no wrong way.
+//! A card with a safe interface.
 
 use std::cell::Cell as Unshared;
 use std::marker::PhantomData;
@@ -17,17 +17,17 @@ use crate::{fonts, HIGHEST, WIDEST};
 const MOST_RGB: usize = sys::ZAK_MOST_RGB as usize;
 const MOST_TABLE: usize = sys::ZAK_MOST_TABLE as usize;
 const MOST_TEXT: usize = sys::ZAK_MOST_TEXT as usize;
-/// The report of one step fits into this.
+/// Room for the report of one step.
 const STEP_ROOM: usize = MOST_RGB + 100;
-/// The cycles of most calls fit into this.
+/// Room for the cycles of most calls.
 const FIRST_CYCLES: usize = 4096;
 
-/// What came of steps of a script: their report, and how many were taken.
+/// What steps of a script answered: their report, and how many were taken.
 #[derive(Clone, Debug, PartialEq, Eq)]
 pub struct Slice {
     /// The lines of the report for these steps (`docs/REPORT.md`).
     pub report: Vec<u8>,
-    /// How many steps it tells of.
+    /// How many steps were taken.
     pub taken: usize,
 }
 
@@ -42,7 +42,7 @@ pub struct Slice {
 /// # Ok::<(), zaklimot::Error>(())
 /// ```
 ///
-/// A card may go to another thread, and takes one call at a time:
+/// A card may move to another thread, and takes one call at a time:
 ///
 /// ```
 /// fn goes<T: Send>() {}
@@ -56,18 +56,18 @@ pub struct Slice {
 #[derive(Debug)]
 pub struct Card {
     raw: sys::zak_card,
-    // Memory for frames, taken at the first one.
+    // Memory for frames, allocated at the first one.
     rgb: Vec<u8>,
     xrgb: Vec<u32>,
     widths: Vec<u32>,
     _not_sync: PhantomData<Unshared<()>>,
 }
 
-// SAFETY: all that a card has lies behind its pointer and is its own, and the library keeps no
-// state; so it may go to another thread, as the header says.
+// SAFETY: a card owns everything that its pointer leads to, and the library keeps no other state.
+// So a card may move to another thread, as the header says.
 unsafe impl Send for Card {}
 
-/// A slice of so many elements, made at the first call. The system gives its memory as it is written.
+/// A slice of `len` elements, made at the first call. The system gives its memory as it is written.
 fn kept<T: Clone + Default>(room: &mut Vec<T>, len: usize) -> &mut [T] {
     if room.is_empty() {
         *room = vec![T::default(); len];
@@ -83,7 +83,8 @@ fn size_of(raw: sys::zak_size) -> Size {
 macro_rules! read {
     ($card:expr, $call:ident $(, $place:expr)*) => {{
         let mut value = Default::default();
-        // SAFETY: the card is the caller's alone, and `value` is of the type that the call writes.
+        // SAFETY: the caller borrows the card mutably, and `value` is of the type that the call
+        // writes.
         done(unsafe { sys::$call(&mut $card.raw $(, $place)*, &mut value) })?;
         Ok(value.into())
     }};
@@ -93,7 +94,7 @@ macro_rules! read {
 macro_rules! text {
     ($card:expr, $call:ident $(, $place:expr)*) => {{
         let (mut text, mut len) = (vec![0; MOST_TEXT], 0);
-        // SAFETY: `text` has as many bytes as is said.
+        // SAFETY: `text` has as many bytes as its length says.
         done(unsafe {
             sys::$call(&mut $card.raw $(, $place)*, text.as_mut_ptr(), text.len(), &mut len)
         })?;
@@ -119,7 +120,7 @@ impl Card {
     /// [`Error::FontSize`], [`Error::OutOfMemory`].
     pub fn open(fonts: &[u8]) -> Result<Card, Error> {
         let mut raw = sys::zak_card { is_open: false, owed: 0, machine: null_mut() };
-        // SAFETY: a card whose bytes are 0 is one that is not open.
+        // SAFETY: a zero-filled card is a closed card.
         done(unsafe { sys::zak_open(&mut raw, fonts.as_ptr(), fonts.len()) })?;
         let (rgb, xrgb, widths) = (Vec::new(), Vec::new(), Vec::new());
         Ok(Card { raw, rgb, xrgb, widths, _not_sync: PhantomData })
@@ -131,7 +132,7 @@ impl Card {
     ///
     /// [`Error::NotDecoded`], [`Error::NotInProfile`].
     pub fn out(&mut self, port: u16, value: u8) -> Result<(), Error> {
-        // SAFETY: here and below the card is borrowed by this call alone.
+        // SAFETY: here and below, only this call borrows the card.
         done(unsafe { sys::zak_out(&mut self.raw, port, value) })
     }
 
@@ -144,7 +145,7 @@ impl Card {
         done(unsafe { sys::zak_out_word(&mut self.raw, port, value) })
     }
 
-    /// Reads a byte from a port. `in` is a word of Rust's own.
+    /// Reads a byte from a port. `in` is a keyword of Rust.
     ///
     /// # Errors
     ///
@@ -198,8 +199,8 @@ impl Card {
         read!(self, zak_get_word, address)
     }
 
-    /// Writes bytes to the addresses from one on, and tells how many of these the adapter decodes; a
-    /// write to another changes nothing. `bytes[i]` goes to `address + i`, in either direction.
+    /// Writes bytes to consecutive addresses, and returns how many of them the adapter decodes. A
+    /// write to any other changes nothing. `bytes[i]` goes to `address + i`, in either direction.
     ///
     /// ```
     /// use zaklimot::{Card, Direction::Up, Regs};
@@ -212,8 +213,7 @@ impl Card {
     ///
     /// # Errors
     ///
-    /// [`Error::BadArgument`] where `address` and the length together are above FFFFFFFF
-    /// (hexadecimal).
+    /// [`Error::BadArgument`] if `address` plus the length is above FFFFFFFF (hexadecimal).
     pub fn put_bytes(
         &mut self,
         address: u32,
@@ -221,12 +221,12 @@ impl Card {
         direction: Direction,
     ) -> Result<usize, Error> {
         let (from, len, down, mut decoded) = (bytes.as_ptr(), bytes.len(), direction.is_down(), 0);
-        // SAFETY: `bytes` has as many bytes as is said.
+        // SAFETY: `bytes` has as many bytes as its length says.
         done(unsafe { sys::zak_put_bytes(&mut self.raw, address, from, len, down, &mut decoded) })?;
         Ok(decoded)
     }
 
-    /// Writes a byte to so many addresses from one on, and tells how many of these the adapter
+    /// Writes a byte to `count` consecutive addresses, and returns how many of them the adapter
     /// decodes.
     ///
     /// # Errors
@@ -246,9 +246,9 @@ impl Card {
         Ok(decoded)
     }
 
-    /// Reads as many addresses from one on as `bytes` has bytes, which loads the latches, and tells
-    /// how many of these the adapter decodes; another reads as FF. `bytes[i]` is the byte of
-    /// `address + i`, in either direction.
+    /// Reads consecutive addresses into `bytes`, which loads the latches, and returns how many of
+    /// them the adapter decodes. Any other reads as FF. `bytes[i]` is the byte of `address + i`, in
+    /// either direction.
     ///
     /// # Errors
     ///
@@ -261,14 +261,14 @@ impl Card {
     ) -> Result<usize, Error> {
         let (to, len, down, mut decoded) =
             (bytes.as_mut_ptr(), bytes.len(), direction.is_down(), 0);
-        // SAFETY: `bytes` has as many bytes as is said.
+        // SAFETY: `bytes` has as many bytes as its length says.
         done(unsafe { sys::zak_get_bytes(&mut self.raw, address, to, len, down, &mut decoded) })?;
         Ok(decoded)
     }
 
-    /// Reads so many addresses from one on, and writes each byte at another, one after the other. Each
-    /// read loads the latches, so in write mode 1 all four planes are copied. Tells how many of the
-    /// reads and the writes together the adapter decodes: `2 * count` where it decodes all.
+    /// Reads `count` consecutive addresses, and writes each byte to another address, one after
+    /// another. Each read loads the latches, so in write mode 1 all four planes are copied. Returns
+    /// how many of the reads and writes the adapter decodes: `2 * count` if it decodes all.
     ///
     /// # Errors
     ///
@@ -285,7 +285,8 @@ impl Card {
         Ok(decoded)
     }
 
-    /// What the clock comes to next, if no register is written meanwhile. Nothing changes.
+    /// When the frame ends and input status 1 changes next, if no register is written until then.
+    /// Nothing changes.
     ///
     /// ```
     /// let mut card = zaklimot::Card::new()?;
@@ -298,12 +299,12 @@ impl Card {
     ///
     /// # Errors
     ///
-    /// None that a card of this crate answers.
+    /// A card of this crate never returns one.
     pub fn clock(&mut self) -> Result<Timing, Error> {
         read!(self, zak_clock)
     }
 
-    /// Lets the clock run for so many dots, at most [`MOST_DOTS`](crate::MOST_DOTS).
+    /// Lets the clock run for `dots` dots, at most [`MOST_DOTS`](crate::MOST_DOTS).
     ///
     /// # Errors
     ///
@@ -313,51 +314,52 @@ impl Card {
     }
 
     /// Lets the clock run to the end of the frame under way, and lends its picture, which lies in
-    /// memory that the card keeps.
+    /// the card's memory.
     ///
     /// # Errors
     ///
-    /// [`Error::Ragged`] where two rows differ in width; the frame has passed.
+    /// [`Error::Ragged`] if two rows differ in width. The frame has passed.
     pub fn frame(&mut self) -> Result<Picture<'_>, Error> {
         let rgb = kept(&mut self.rgb, MOST_RGB);
         let size = frame_into(&mut self.raw, rgb)?;
         Ok(Picture::new(size, rgb))
     }
 
-    /// The same, into the caller's bytes: three a dot, rows from the top, each from the left.
+    /// The same, into the caller's bytes: three per dot, rows from the top, each from the left.
     ///
     /// # Errors
     ///
-    /// [`Error::Ragged`], and [`Error::NoRoom`] where they are too few; the frame has passed.
+    /// [`Error::Ragged`], and [`Error::NoRoom`] if they are too few. With either the frame has
+    /// passed.
     pub fn frame_into(&mut self, rgb: &mut [u8]) -> Result<Size, Error> {
         frame_into(&mut self.raw, rgb)
     }
 
-    /// Lets the clock run to the end of the frame under way, and lends its picture of a word
-    /// `00RRGGBB` a dot, eight bits a component.
+    /// Lets the clock run to the end of the frame under way, and lends its picture: a word
+    /// `00RRGGBB` per dot, eight bits per component.
     ///
     /// # Errors
     ///
-    /// [`Error::Ragged`] where two rows differ in width; the frame has passed.
+    /// [`Error::Ragged`] if two rows differ in width. The frame has passed.
     pub fn frame_xrgb(&mut self) -> Result<XrgbPicture<'_>, Error> {
         let pixels = kept(&mut self.xrgb, WIDEST * HIGHEST);
         let size = frame_xrgb_into(&mut self.raw, pixels, WIDEST)?;
         Ok(XrgbPicture::new(WordSize { size, across: 1, down: 1 }, pixels))
     }
 
-    /// The same, into the caller's words: row y begins at `pixels[pitch * y]`, and words beside the
-    /// picture stay.
+    /// The same, into the caller's words. Row y begins at `pixels[pitch * y]`, and words beside the
+    /// picture are unchanged.
     ///
     /// # Errors
     ///
-    /// [`Error::Ragged`], and [`Error::NoRoom`] where there are too few or the pitch is below the
-    /// width; the frame has passed.
+    /// [`Error::Ragged`], and [`Error::NoRoom`] if there are too few or the pitch is below the
+    /// width. With either the frame has passed.
     pub fn frame_xrgb_into(&mut self, pixels: &mut [u32], pitch: usize) -> Result<Size, Error> {
         frame_xrgb_into(&mut self.raw, pixels, pitch)
     }
 
-    /// Lets the clock run to the end of the frame under way, and lends its picture of a word a
-    /// pixel, in a form.
+    /// Lets the clock run to the end of the frame under way, and lends its picture: a word per
+    /// pixel, in the form that you ask for.
     ///
     /// ```
     /// use zaklimot::{Card, Form, Regs};
@@ -373,19 +375,19 @@ impl Card {
     ///
     /// # Errors
     ///
-    /// [`Error::Ragged`] where two rows differ in width; the frame has passed.
+    /// [`Error::Ragged`] if two rows differ in width. The frame has passed.
     pub fn frame_words(&mut self, form: Form) -> Result<XrgbPicture<'_>, Error> {
         let pixels = kept(&mut self.xrgb, WIDEST * HIGHEST);
         let words = frame_words_into(&mut self.raw, form, pixels, WIDEST)?;
         Ok(XrgbPicture::new(words, pixels))
     }
 
-    /// The same, into the caller's words, as [`frame_xrgb_into`](Card::frame_xrgb_into) has it.
+    /// The same, into the caller's words, as for [`frame_xrgb_into`](Card::frame_xrgb_into).
     ///
     /// # Errors
     ///
-    /// [`Error::Ragged`], and [`Error::NoRoom`] where there are too few or the pitch is below the
-    /// width; the frame has passed.
+    /// [`Error::Ragged`], and [`Error::NoRoom`] if there are too few or the pitch is below the
+    /// width. With either the frame has passed.
     pub fn frame_words_into(
         &mut self,
         form: Form,
@@ -395,8 +397,8 @@ impl Card {
         frame_words_into(&mut self.raw, form, pixels, pitch)
     }
 
-    /// Lets the clock run to the end of the line under way, and writes a word of each of its dots
-    /// to the front of the caller's: `FFRRGGBB` if `opaque` is true, and else `00RRGGBB`.
+    /// Lets the clock run to the end of the line under way, and writes a word for each of its dots
+    /// to the beginning of the caller's: `FFRRGGBB` if `opaque` is true, otherwise `00RRGGBB`.
     ///
     /// ```
     /// use zaklimot::{Card, Regs, WIDEST};
@@ -415,27 +417,27 @@ impl Card {
     ///
     /// # Errors
     ///
-    /// [`Error::NoRoom`] where there are fewer words than dots; the line has passed.
+    /// [`Error::NoRoom`] if there are fewer words than dots. The line has passed.
     pub fn line(&mut self, opaque: bool, words: &mut [u32]) -> Result<ScanLine, Error> {
         let mut line = sys::zak_scan_line::default();
         let flags = if opaque { sys::ZAK_OPAQUE } else { 0 };
         let (to, len) = (words.as_mut_ptr(), words.len());
-        // SAFETY: there are as many words as is said.
+        // SAFETY: there are as many words as the length says.
         done(unsafe { sys::zak_line(&mut self.raw, flags, &mut line, to, len) })?;
         let sys::zak_scan_line { number, width, ends_frame } = line;
         Ok(ScanLine { number, width: width as usize, ends_frame })
     }
 
-    /// Lets the clock run to the end of the frame under way, and lends its dots line by line, also
-    /// where lines differ in width.
+    /// Lets the clock run to the end of the frame under way, and lends its dots line by line, even
+    /// if lines differ in width.
     ///
     /// # Errors
     ///
-    /// None that a card of this crate answers.
+    /// A card of this crate never returns one.
     pub fn lines(&mut self) -> Result<Lines<'_>, Error> {
         let rgb = kept(&mut self.rgb, MOST_RGB);
         let (widths, mut used) = (kept(&mut self.widths, HIGHEST), 0);
-        // SAFETY: there are ZAK_HIGHEST widths, and as many bytes as is said.
+        // SAFETY: there are ZAK_HIGHEST widths, and as many bytes as the length says.
         done(unsafe {
             sys::zak_frame_lines(
                 &mut self.raw,
@@ -448,8 +450,8 @@ impl Card {
         Ok(Lines::new(widths, &rgb[..used]))
     }
 
-    /// What [`int10`](Card::int10) reads of the caller's memory with these registers. With a block
-    /// of just `len` bytes it never answers [`Error::BadBlock`].
+    /// What [`int10`](Card::int10) with these registers reads from the caller's memory. With a
+    /// block of exactly `len` bytes it never returns [`Error::BadBlock`].
     ///
     /// ```
     /// use zaklimot::{Card, Regs, Source};
@@ -461,20 +463,20 @@ impl Card {
     ///
     /// # Errors
     ///
-    /// None that a card of this crate answers.
+    /// A card of this crate never returns one.
     pub fn block(&mut self, regs: Regs) -> Result<Source, Error> {
         read!(self, zak_block, &regs.into())
     }
 
-    /// Calls the video BIOS, interrupt 10 (hexadecimal). `block` is what memory has at ES:BP or
-    /// ES:DX, for functions that read some (`docs/SERVICES.md`).
+    /// Calls the video BIOS, interrupt 10 (hexadecimal). `block` is what memory contains at ES:BP
+    /// or ES:DX, for functions that read it (`docs/SERVICES.md`).
     ///
     /// # Errors
     ///
     /// [`Error::NoMode`] to [`Error::BadBlock`], [`Error::BadHeight`], [`Error::OutOfMemory`].
     pub fn int10(&mut self, regs: Regs, block: &[u8]) -> Result<Answer, Error> {
         let (mut regs, mut table, mut len) = (regs.into(), [0; MOST_TABLE], 0);
-        // SAFETY: each pointer is to as many elements as is said.
+        // SAFETY: each pointer is to as many elements as its length says.
         done(unsafe {
             sys::zak_int10(
                 &mut self.raw,
@@ -489,9 +491,9 @@ impl Card {
         Ok(Answer { regs: regs.into(), table: table[..len].to_vec() })
     }
 
-    /// The script of the cycles that [`int10`](Card::int10) with these registers would make now;
-    /// nothing changes. It has a step `out`, `in`, `put` or `get` for each cycle, in order. A card
-    /// that runs it gets the registers and the memory that `int10` leaves; its BIOS data stay.
+    /// The script of the cycles that [`int10`](Card::int10) with these registers would make now.
+    /// Nothing changes. It has a step `out`, `in`, `put` or `get` for each cycle, in order. A card
+    /// that runs it gets the registers and the memory that `int10` leaves, but keeps its BIOS data.
     ///
     /// ```
     /// use zaklimot::{Card, Regs};
@@ -510,7 +512,7 @@ impl Card {
         let regs: sys::zak_regs = regs.into();
         let (mut script, mut len) = (vec![0; FIRST_CYCLES], 0);
         loop {
-            // SAFETY: each pointer is to as many elements as is said.
+            // SAFETY: each pointer is to as many elements as its length says.
             let status = unsafe {
                 sys::zak_cycles(
                     &mut self.raw,
@@ -533,17 +535,17 @@ impl Card {
         }
     }
 
-    /// All registers, as they are. Nothing changes here or in what is read below, also no latch or
+    /// All registers, as they are. This and the reads below change nothing, not even a latch or the
     /// flip-flop.
     ///
     /// # Errors
     ///
-    /// None that a card of this crate answers; so it is with the next four.
+    /// A card of this crate never returns one, here and in the next four calls.
     pub fn registers(&mut self) -> Result<Registers, Error> {
         read!(self, zak_read_registers)
     }
 
-    /// The colour of an entry of the DAC: six bits a component.
+    /// The colour of an entry of the DAC: six bits per component.
     ///
     /// # Errors
     ///
@@ -552,7 +554,7 @@ impl Card {
         read!(self, zak_read_colour, entry)
     }
 
-    /// Where the next dot is.
+    /// The beam: where the next dot is.
     ///
     /// # Errors
     ///
@@ -579,14 +581,14 @@ impl Card {
         read!(self, zak_read_bda)
     }
 
-    /// Reads as many bytes as `bytes` has, of plane 0 to 3 from an offset on.
+    /// Reads bytes of plane 0 to 3, from an offset on, until `bytes` is full.
     ///
     /// # Errors
     ///
-    /// [`Error::BadArgument`] where they go past the plane's end at 65,536, or there is no such plane.
+    /// [`Error::BadArgument`] if they go past the plane's end at 65,536, or there is no such plane.
     pub fn plane(&mut self, plane: u8, offset: u16, bytes: &mut [u8]) -> Result<(), Error> {
         let (to, len) = (bytes.as_mut_ptr(), bytes.len());
-        // SAFETY: `bytes` has as many bytes as is said.
+        // SAFETY: `bytes` has as many bytes as its length says.
         done(unsafe { sys::zak_read_plane(&mut self.raw, plane, offset, to, len) })
     }
 
@@ -594,26 +596,26 @@ impl Card {
     ///
     /// # Errors
     ///
-    /// [`Error::NoScreen`] where it shows none, [`Error::OutOfMemory`].
+    /// [`Error::NoScreen`] if it shows none, [`Error::OutOfMemory`].
     pub fn screen(&mut self) -> Result<Screen, Error> {
         read!(self, zak_screen_read)
     }
 
-    /// A cell of text. A call reads the whole screen.
+    /// A cell of text. Each call reads the whole screen.
     ///
     /// # Errors
     ///
-    /// [`Error::NoScreen`], [`Error::BadArgument`] where there is no such page, row or column,
+    /// [`Error::NoScreen`], [`Error::BadArgument`] if there is no such page, row or column,
     /// [`Error::OutOfMemory`].
     pub fn cell(&mut self, page: u8, row: u8, column: u8) -> Result<Cell, Error> {
         read!(self, zak_screen_cell, page, row, column)
     }
 
-    /// The number of a pixel's colour in a graphics mode. A call reads the whole screen.
+    /// The number of a pixel's colour in a graphics mode. Each call reads the whole screen.
     ///
     /// # Errors
     ///
-    /// [`Error::NoScreen`], [`Error::BadArgument`] where there is no such page, x or y,
+    /// [`Error::NoScreen`], [`Error::BadArgument`] if there is no such page, x or y,
     /// [`Error::OutOfMemory`].
     pub fn pixel(&mut self, page: u8, x: u16, y: u16) -> Result<u8, Error> {
         read!(self, zak_screen_pixel, page, x, y)
@@ -632,12 +634,12 @@ impl Card {
     ///
     /// # Errors
     ///
-    /// [`Error::OutOfMemory`]; so it is with the dumps below.
+    /// [`Error::OutOfMemory`], here and in the dumps below.
     pub fn show_regs(&mut self) -> Result<String, Error> {
         text!(self, zak_show_regs)
     }
 
-    /// Where the next dot is, as text.
+    /// The beam as text.
     ///
     /// # Errors
     ///
@@ -664,7 +666,7 @@ impl Card {
         text!(self, zak_show_bda)
     }
 
-    /// The cells of the active page as text, a line a row.
+    /// The cells of the active page as text, one row per line.
     ///
     /// # Errors
     ///
@@ -682,7 +684,7 @@ impl Card {
         text!(self, zak_show_dac, entry)
     }
 
-    /// So many bytes, 1 to 256, of plane 0 to 3 from an offset on, as text.
+    /// 1 to 256 bytes of plane 0 to 3, from an offset on, as text.
     ///
     /// # Errors
     ///
@@ -691,31 +693,31 @@ impl Card {
         text!(self, zak_show_plane, plane, offset, count)
     }
 
-    /// The state of the card, from which this card or another goes on as if nothing had been
-    /// (`docs/STATE.md`). The fonts are not in it.
+    /// The state of the card, from which this card or another can go on as if it had never stopped
+    /// (`docs/STATE.md`). It does not contain the fonts.
     ///
     /// # Errors
     ///
-    /// None that a card of this crate answers.
+    /// A card of this crate never returns one.
     pub fn save(&mut self) -> Result<Vec<u8>, Error> {
         let mut len = 0;
         done(unsafe { sys::zak_save_size(&mut self.raw, &mut len) })?;
         let mut state = vec![0; len];
-        // SAFETY: `state` has as many bytes as is said.
+        // SAFETY: `state` has as many bytes as its length says.
         done(unsafe { sys::zak_save(&mut self.raw, state.as_mut_ptr(), state.len(), &mut len) })?;
         Ok(state)
     }
 
-    /// Goes on from a state that was saved.
+    /// Restores a saved state.
     ///
     /// # Errors
     ///
-    /// [`Error::StateMagic`] to [`Error::StatePart`] for other bytes; the card is as it was.
+    /// [`Error::StateMagic`] to [`Error::StatePart`] for other bytes. The card is then unchanged.
     pub fn restore(&mut self, state: &[u8]) -> Result<(), Error> {
         done(unsafe { sys::zak_restore(&mut self.raw, state.as_ptr(), state.len()) })
     }
 
-    /// The state in all of the caller's bytes, with zeros and a checksum after it: always of one
+    /// Fills the caller's bytes with the state, zeros and a checksum, so that all states have one
     /// size.
     ///
     /// ```
@@ -732,29 +734,30 @@ impl Card {
     ///
     /// # Errors
     ///
-    /// [`Error::NoRoom`] where they are too few.
+    /// [`Error::NoRoom`] if they are too few.
     pub fn save_fixed(&mut self, state: &mut [u8]) -> Result<(), Error> {
         done(unsafe { sys::zak_save_fixed(&mut self.raw, state.as_mut_ptr(), state.len()) })
     }
 
-    /// Goes on from what [`save_fixed`](Card::save_fixed) wrote.
+    /// Restores a state that [`save_fixed`](Card::save_fixed) wrote.
     ///
     /// # Errors
     ///
-    /// [`Error::StateChecksum`], and those of [`restore`](Card::restore); the card is as it was.
+    /// [`Error::StateChecksum`], and those of [`restore`](Card::restore). The card is then
+    /// unchanged.
     pub fn restore_fixed(&mut self, state: &[u8]) -> Result<(), Error> {
         done(unsafe { sys::zak_restore_fixed(&mut self.raw, state.as_ptr(), state.len()) })
     }
 
-    /// Takes at most `most` steps of a script's bytes, after the first `first`, which are passed
-    /// over. Fewer are taken only where the script ends.
+    /// Skips the first `first` steps of a script, and takes at most `most` steps after them. Fewer
+    /// are taken only if the script ends.
     ///
     /// # Errors
     ///
-    /// The faults of a script, before any step is taken. [`Error::OutOfMemory`]: the card is as it
-    /// was.
+    /// The faults of a script, before any step is taken. After [`Error::OutOfMemory`] the card is
+    /// as it was before.
     pub fn run_on(&mut self, script: &[u8], first: u32, most: u32) -> Result<Slice, Error> {
-        // Where there is too little room, the steps are taken all the same: so they are taken again.
+        // With too little room the steps are taken, but have no report. So they are taken again.
         let (state, mut report) = (self.save()?, vec![0; STEP_ROOM]);
         loop {
             let (len, taken, status) = self.slice(script, first, most, &mut report);
@@ -770,7 +773,8 @@ impl Card {
         }
     }
 
-    /// One call of `zak_run_on`: the length of the report, how many steps were taken, and the status.
+    /// One call of `zak_run_on`: the length of the report, how many steps were taken, and the
+    /// status.
     fn slice(
         &mut self,
         script: &[u8],
@@ -779,7 +783,8 @@ impl Card {
         report: &mut [u8],
     ) -> (usize, usize, Result<(), Error>) {
         let (mut len, mut taken, mut place) = (0, 0, 0);
-        // SAFETY: each pointer is to as many elements as is said, and `report` is borrowed alone.
+        // SAFETY: each pointer is to as many elements as its length says, and `report` is borrowed
+        // alone.
         let status = unsafe {
             sys::zak_run_on(
                 &mut self.raw,
@@ -800,7 +805,7 @@ impl Card {
 
 fn frame_into(raw: &mut sys::zak_card, rgb: &mut [u8]) -> Result<Size, Error> {
     let mut size = sys::zak_size::default();
-    // SAFETY: `rgb` has as many bytes as is said.
+    // SAFETY: `rgb` has as many bytes as its length says.
     done(unsafe { sys::zak_frame(raw, &mut size, rgb.as_mut_ptr(), rgb.len()) })?;
     Ok(size_of(size))
 }
@@ -812,7 +817,7 @@ fn frame_xrgb_into(
 ) -> Result<Size, Error> {
     let mut size = sys::zak_size::default();
     let (to, len) = (pixels.as_mut_ptr(), pixels.len());
-    // SAFETY: `pixels` has as many words as is said.
+    // SAFETY: `pixels` has as many words as its length says.
     done(unsafe { sys::zak_frame_xrgb(raw, &mut size, to, len, pitch) })?;
     Ok(size_of(size))
 }
@@ -827,7 +832,7 @@ fn frame_words_into(
     let once = if form.once { sys::ZAK_ONCE } else { 0 };
     let flags = once + if form.opaque { sys::ZAK_OPAQUE } else { 0 };
     let (to, len) = (pixels.as_mut_ptr(), pixels.len());
-    // SAFETY: `pixels` has as many words as is said.
+    // SAFETY: `pixels` has as many words as its length says.
     done(unsafe { sys::zak_frame_words(raw, flags, &mut picture, to, len, pitch) })?;
     let sys::zak_picture { width, height, across, down } = picture;
     let size = size_of(sys::zak_size { width, height });
@@ -836,7 +841,7 @@ fn frame_words_into(
 
 impl Drop for Card {
     fn drop(&mut self) {
-        // SAFETY: it is open, and closed once.
+        // SAFETY: the card is open, and only closed here.
         unsafe { sys::zak_close(&mut self.raw) };
     }
 }

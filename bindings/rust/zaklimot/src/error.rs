@@ -1,10 +1,10 @@
-//! Why a call is not done.
+//! Why a call failed.
 
 use std::fmt;
 
 use zaklimot_sys as sys;
 
-/// Why a call is not done. The card is as it was before, unless the variant says otherwise.
+/// Why a call failed. The card is unchanged, unless the variant says otherwise.
 #[derive(Clone, Copy, Debug, PartialEq, Eq, Hash)]
 #[non_exhaustive]
 pub enum Error {
@@ -14,7 +14,7 @@ pub enum Error {
     NotInProfile,
     /// No mode is set yet.
     NoMode,
-    /// The video BIOS has no such function, or not this part of it.
+    /// The video BIOS has no such function or subfunction.
     BadFunction,
     /// There is no such mode.
     BadMode,
@@ -24,7 +24,7 @@ pub enum Error {
     BadPage,
     /// A pixel or a cursor position outside the screen.
     Outside,
-    /// A count of characters past the page's last cell, or of glyphs past the last character.
+    /// Characters past the page's last cell, or glyphs past the last character.
     CountPast,
     /// There is no such palette or DAC register.
     BadRegister,
@@ -34,35 +34,35 @@ pub enum Error {
     TooFar,
     /// Glyphs of another height than 8, 14 or 16 scan lines.
     BadHeight,
-    /// The card is not open: a call on it answered [`Error::Broken`].
+    /// The card is not open: an earlier call on it returned [`Error::Broken`].
     NoCard,
-    /// The card is open already. No call of [`Card`](crate::Card) answers it.
+    /// The card is open already. No call of [`Card`](crate::Card) returns it.
     OpenAlready,
-    /// The font file has not [`FONTS_SIZE`](crate::FONTS_SIZE) bytes.
+    /// The font file does not have [`FONTS_SIZE`](crate::FONTS_SIZE) bytes.
     FontSize,
-    /// There is not enough memory. After [`Card::run_on`](crate::Card::run_on) see there.
+    /// An allocation failed. [`Card::run_on`](crate::Card::run_on) says what then holds.
     OutOfMemory,
-    /// Two rows of the frame differ in width: it has no picture, and has passed.
+    /// Two rows of the frame differ in width, so it has no picture. It has passed.
     Ragged,
-    /// The buffer is too short. Nothing was written there; a frame has passed all the same.
+    /// The buffer is too short: nothing was written there. A frame has passed.
     NoRoom,
-    /// There is no such page, row, column, x, y or plane; or bytes go past the plane's end, or past the
-    /// last address.
+    /// There is no such page, row, column, x, y or plane; or bytes go past the plane's end, or past
+    /// the last address.
     BadArgument,
     /// Corrupt BIOS data: the card's memory was overwritten.
     BadCard,
     /// The adapter shows no plain screen (`docs/SCREENS.md`).
     NoScreen,
     /// The portable library was compiled wrongly: it did what the proofs exclude, and the card is
-    /// closed. The proved library never answers it.
+    /// closed. The proved library never returns it.
     Broken,
-    /// The bytes are no saved state.
+    /// The bytes are not a saved state.
     StateMagic,
     /// A saved state of another version of the format.
     StateVersion,
     /// A saved state that is cut off or too long.
     StateLength,
-    /// A saved state with a part out of its bounds.
+    /// A part of the saved state is out of its bounds.
     StatePart,
     /// A state of a fixed length whose checksum is wrong.
     StateChecksum,
@@ -78,13 +78,13 @@ pub enum Error {
     TooLong,
     /// This line of the text, counted from 1, is bad.
     BadLine(usize),
-    /// With the block or the step at this offset the script means more than 16,777,216 steps.
+    /// The block or step at this offset makes the script mean more than 16,777,216 steps.
     TooMany(usize),
-    /// A status that this crate doesn't know.
+    /// Another status, which this crate doesn't know.
     Unknown(u32),
 }
 
-/// What each status is, by its name in the header; those of scripts take a place.
+/// The status of each variant, by its name in the header. Faults of scripts have a place.
 macro_rules! statuses {
     ($($status:ident $name:ident $(($place:ident))?),* $(,)?) => {
         impl Error {
@@ -126,7 +126,8 @@ statuses! {
 }
 
 impl Error {
-    /// Whether the adapter refused the call, and nothing changed: `E1` to `E13` of `docs/REPORT.md`.
+    /// Whether the adapter refused the call, and nothing changed: `E1` to `E13` of
+    /// `docs/REPORT.md`.
     pub fn is_refusal(self) -> bool {
         (sys::ZAK_NOT_DECODED..=sys::ZAK_BAD_HEIGHT).contains(&self.number())
     }
@@ -150,12 +151,12 @@ impl fmt::Display for Error {
 
 impl std::error::Error for Error {}
 
-/// What a status says: done, or why not.
+/// A status as a result.
 pub(crate) fn done(status: u32) -> Result<(), Error> {
     done_at(status, 0)
 }
 
-/// The same, where a call tells the place of a fault.
+/// The same for a call that gives the place of a fault.
 pub(crate) fn done_at(status: u32, place: usize) -> Result<(), Error> {
     if status == sys::ZAK_OK {
         Ok(())
@@ -170,7 +171,7 @@ mod tests {
 
     const HEADER: &str = include_str!("../../../../include/zaklimot.h");
 
-    /// A status's name in the header as a name of Rust.
+    /// The Rust name of a status that has this name in the header.
     fn camel(name: &str) -> String {
         let parts = name.split('_').map(|part| {
             let (first, rest) = part.split_at(1);

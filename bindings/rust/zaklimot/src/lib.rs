@@ -1,6 +1,6 @@
-//! A VGA display adapter with its video BIOS: its library for C, made safe.
+//! A VGA display adapter with its video BIOS: a safe interface to its library for C.
 //!
-//! A card is opened, called, and closed where it is dropped. Ports, addresses and registers are
+//! You open a card and call it; it is closed when you drop it. Ports, addresses and registers are
 //! those of a VGA:
 //!
 //! ```
@@ -20,10 +20,10 @@
 //! # Ok::<(), Error>(())
 //! ```
 //!
-//! Cycles take no time on the card: the clock runs by [`Card::advance`] and by frames alone. What
-//! the adapter refuses is an [`Error`], and changes nothing. [`library()`] tells whether the
-//! library is the proved one, or the portable one, which a C compiler makes. `docs/RUST.md` of the
-//! repository is the guide, and `docs/LIBRARY.md` tells what is proved.
+//! Cycles take no time on the card: the clock runs only in [`Card::advance`] and in frames. A call
+//! that the adapter refuses returns an [`Error`], and changes nothing. [`library()`] says whether
+//! the library is the proved one, or the portable one, which a C compiler makes. `docs/RUST.md` of
+//! the repository is the guide, and `docs/LIBRARY.md` says what is proved.
 #![warn(missing_docs)]
 
 mod card;
@@ -45,7 +45,7 @@ use zaklimot_sys as sys;
 
 /// Bytes of a font file.
 pub const FONTS_SIZE: usize = sys::ZAK_FONTS_SIZE as usize;
-/// Dots of one [`Card::advance`].
+/// Dots of one [`Card::advance`], at most.
 pub const MOST_DOTS: u32 = sys::ZAK_MOST_DOTS;
 /// Dots in a row of a picture, at most.
 pub const WIDEST: usize = sys::ZAK_WIDEST as usize;
@@ -53,7 +53,7 @@ pub const WIDEST: usize = sys::ZAK_WIDEST as usize;
 pub const HIGHEST: usize = sys::ZAK_HIGHEST as usize;
 
 /// The project's font, [`FONTS_SIZE`] bytes: the glyphs of the text modes in 8, 14 and 16 scan
-/// lines. It lay beside the library when the crate was built.
+/// lines. It was beside the library when the crate was built.
 pub fn fonts() -> &'static [u8] {
     FONTS
 }
@@ -67,16 +67,16 @@ const FONTS: &[u8] = &[];
 #[derive(Clone, Copy, Debug, PartialEq, Eq, Hash)]
 #[non_exhaustive]
 pub enum Library {
-    /// The proved one.
+    /// The proved library.
     Proved,
-    /// The one that a C compiler made of `portable/zaklimot.c`: tested, and not proved.
+    /// The library that a C compiler made of `portable/zaklimot.c`: tested, but not proved.
     Portable,
-    /// One beside which nothing tells its kind.
+    /// No file beside the library says its kind.
     Unknown,
 }
 
-/// Which library the crate was built with, as the build found it. A program that is linked with a
-/// shared library may meet another one when it runs.
+/// Which library the crate was built with, as the build found it. If your program links a shared
+/// library, it may find another one when it runs.
 ///
 /// ```
 /// println!("{:?}", zaklimot::library()); // Portable
@@ -89,13 +89,13 @@ pub fn library() -> Library {
     }
 }
 
-/// The version of the library that is linked: its major and its minor number.
+/// The version of the linked library: its major and its minor number.
 ///
 /// ```
 /// assert_eq!(zaklimot::version().0, 1);
 /// ```
 pub fn version() -> (u32, u32) {
-    // SAFETY: it takes nothing.
+    // SAFETY: the call takes no arguments.
     let version = unsafe { sys::zak_version() };
     (version >> 16, version & 0xFFFF)
 }

@@ -1,10 +1,10 @@
-//! The pictures of frames, in memory that the card keeps.
+//! The pictures of frames, in the card's memory.
 
 use std::slice::ChunksExact;
 
 use crate::WIDEST;
 
-/// How large a picture is: dots of a row, and rows.
+/// The size of a picture: dots of a row, and rows.
 #[derive(Clone, Copy, Debug, Default, PartialEq, Eq)]
 pub struct Size {
     /// Dots of a row.
@@ -13,17 +13,17 @@ pub struct Size {
     pub height: usize,
 }
 
-/// How [`Card::frame_words`](crate::Card::frame_words) gives a picture.
+/// The form of a picture of [`Card::frame_words`](crate::Card::frame_words).
 #[derive(Clone, Copy, Debug, Default, PartialEq, Eq)]
 pub struct Form {
-    /// Whether a pixel that the screen shows on several dots or lines stands once.
+    /// Whether a pixel that the screen shows on several dots or lines has one word.
     pub once: bool,
-    /// Whether words are `FFRRGGBB`, and not `00RRGGBB`.
+    /// Whether words are `FFRRGGBB` rather than `00RRGGBB`.
     pub opaque: bool,
 }
 
-/// A picture in words: how large it is, and how many dots of a line, 1 or 2, and scan lines, 1 to
-/// 64, each word stands for.
+/// The size of a picture in words, and how many dots of a line, 1 or 2, and scan lines, 1 to 64,
+/// each word stands for.
 #[derive(Clone, Copy, Debug, PartialEq, Eq)]
 pub struct WordSize {
     /// Words in a row, and rows.
@@ -34,7 +34,7 @@ pub struct WordSize {
     pub down: usize,
 }
 
-/// A picture that the card lends: three bytes a dot, red, green and blue, 0 to 63 each.
+/// A picture that the card lends: three bytes per dot, red, green and blue, 0 to 63 each.
 #[derive(Clone, Copy, Debug, PartialEq, Eq)]
 pub struct Picture<'a> {
     size: Size,
@@ -61,7 +61,7 @@ impl<'a> Picture<'a> {
         self.rgb
     }
 
-    /// The rows from the top, three bytes a dot.
+    /// The rows from the top, three bytes per dot.
     pub fn rows(&self) -> ChunksExact<'a, u8> {
         self.rgb.chunks_exact(3 * self.size.width.max(1))
     }
@@ -70,7 +70,7 @@ impl<'a> Picture<'a> {
     ///
     /// # Panics
     ///
-    /// Where the dot is outside the picture.
+    /// If the dot is outside the picture.
     pub fn dot(&self, x: usize, y: usize) -> [u8; 3] {
         assert!(x < self.size.width && y < self.size.height, "({x}, {y}) is outside the picture");
         let at = 3 * (self.size.width * y + x);
@@ -85,7 +85,8 @@ impl<'a> Picture<'a> {
     }
 }
 
-/// A picture that the card lends: a word `00RRGGBB` or `FFRRGGBB` a pixel, eight bits a component.
+/// A picture that the card lends: a word `00RRGGBB` or `FFRRGGBB` per pixel, eight bits per
+/// component.
 #[derive(Clone, Copy, Debug, PartialEq, Eq)]
 pub struct XrgbPicture<'a> {
     size: Size,
@@ -100,7 +101,7 @@ impl<'a> XrgbPicture<'a> {
         XrgbPicture { size, across, down, pixels: &pixels[..WIDEST * size.height] }
     }
 
-    /// Dots of a line that a word stands for: 1, or 2.
+    /// Dots of a line that a word stands for, 1 or 2.
     pub fn across(&self) -> usize {
         self.across
     }
@@ -120,13 +121,13 @@ impl<'a> XrgbPicture<'a> {
         self.size.height
     }
 
-    /// Words from the beginning of a row to that of the next.
+    /// Words from the beginning of a row to the beginning of the next.
     pub fn pitch(&self) -> usize {
         WIDEST
     }
 
-    /// The words of all rows, each of [`pitch`](XrgbPicture::pitch) words of which the first
-    /// `width` are the picture's.
+    /// The words of all rows. Each row has [`pitch`](XrgbPicture::pitch) words, and the first
+    /// `width` of them are the picture's.
     pub fn pixels(&self) -> &'a [u32] {
         self.pixels
     }
@@ -141,7 +142,7 @@ impl<'a> XrgbPicture<'a> {
 /// A line of a frame, as it ends.
 #[derive(Clone, Copy, Debug, Default, PartialEq, Eq)]
 pub struct ScanLine {
-    /// Of the frame, from 0; lines without a dot are counted too.
+    /// Its number in the frame, from 0. Lines without a dot count too.
     pub number: u32,
     /// Dots, at most [`WIDEST`]; 0 for a line with none.
     pub width: usize,
@@ -149,7 +150,7 @@ pub struct ScanLine {
     pub ends_frame: bool,
 }
 
-/// The dots of a frame line by line, also of one whose lines differ in width.
+/// The dots of a frame line by line, even if its lines differ in width.
 #[derive(Clone, Copy, Debug, PartialEq, Eq)]
 pub struct Lines<'a> {
     widths: &'a [u32],
@@ -171,7 +172,7 @@ impl<'a> Lines<'a> {
         self.rgb
     }
 
-    /// The dots of all 1,024 lines, in their order; none for a line without dots.
+    /// The dots of all 1,024 lines, in order; empty for a line without dots.
     pub fn iter(&self) -> impl Iterator<Item = &'a [u8]> + 'a {
         let mut rest = self.rgb;
         self.widths.iter().map(move |width| {

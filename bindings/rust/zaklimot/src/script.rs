@@ -1,4 +1,4 @@
-//! Scripts with no card: their two forms, and whole runs.
+//! Scripts without a card: their two forms, and whole runs.
 
 use zaklimot_sys as sys;
 
@@ -10,11 +10,12 @@ const FIRST_ROOM: usize = 1 << 20;
 type OtherForm =
     unsafe extern "C" fn(*const u8, usize, *mut u8, usize, *mut usize, *mut usize) -> u32;
 
-/// What a call makes of a script's text, or of its bytes. The first time it tells how long that is.
+/// Assembles or disassembles, by two calls: the first says how long the result is.
 fn other_form(call: OtherForm, given: &[u8]) -> Result<Vec<u8>, Error> {
     let (mut made, mut len, mut place) = (Vec::new(), 0, 0);
     loop {
-        // SAFETY: each pointer is to as many elements as is said, and `made` is its own memory.
+        // SAFETY: each pointer is to as many elements as its length says, and `made` is its own
+        // memory.
         let status = unsafe {
             call(given.as_ptr(), given.len(), made.as_mut_ptr(), made.len(), &mut len, &mut place)
         };
@@ -25,7 +26,7 @@ fn other_form(call: OtherForm, given: &[u8]) -> Result<Vec<u8>, Error> {
     }
 }
 
-/// The bytes of the script that a text spells (`docs/SCRIPT.md`).
+/// Assembles a text into the bytes of a script (`docs/SCRIPT.md`).
 ///
 /// ```
 /// assert_eq!(zaklimot::assemble("frame")?, b"VGAS\x01\x0b");
@@ -40,7 +41,7 @@ pub fn assemble(text: impl AsRef<[u8]>) -> Result<Vec<u8>, Error> {
     other_form(sys::zak_assemble, text.as_ref())
 }
 
-/// The text that spells a script's bytes: a line for each step, every number at full width.
+/// Disassembles a script: one line per step, every number at full width.
 ///
 /// ```
 /// assert_eq!(zaklimot::disassemble(b"VGAS\x01\x0b")?, "frame\n");
@@ -55,13 +56,13 @@ pub fn disassemble(script: &[u8]) -> Result<String, Error> {
     Ok(String::from_utf8_lossy(&text).into_owned())
 }
 
-/// Whether two slices have bytes in common, which no two pointers of a call may.
+/// Whether two slices overlap, which two pointers of a call must not.
 fn overlap(one: &[u8], other: &[u8]) -> bool {
     let (first, second) = (one.as_ptr_range(), other.as_ptr_range());
     first.start < second.end && second.start < first.end
 }
 
-/// Runs a whole script on a card of its own: its bytes in, its report out (`docs/REPORT.md`).
+/// Runs a whole script on a card of its own, and returns its report (`docs/REPORT.md`).
 ///
 /// ```
 /// let script = zaklimot::assemble("int ax=13\nput A0000 0F\nget A0000")?;
@@ -80,7 +81,7 @@ pub fn run(script: &[u8], fonts: &[u8]) -> Result<Vec<u8>, Error> {
     }
     let (mut report, mut len, mut place) = (vec![0; FIRST_ROOM], 0, 0);
     loop {
-        // SAFETY: each pointer is to as many elements as is said, and none overlap.
+        // SAFETY: each pointer is to as many elements as its length says, and none overlap.
         let status = unsafe {
             sys::zak_run(
                 script.as_ptr(),

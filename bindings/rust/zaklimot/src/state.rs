@@ -1,8 +1,8 @@
-//! The state of a card, with named fields, those of `zaklimot.h`.
+//! The state of a card, in structs whose fields have the names of `zaklimot.h`.
 
 use zaklimot_sys as sys;
 
-/// A field as the library has it, or a flag of it.
+/// A field of the library's struct, or a flag.
 trait Taken<T> {
     fn taken(self) -> T;
 }
@@ -90,7 +90,7 @@ read! {
 }
 
 read! {
-    /// Where the next dot is.
+    /// The beam: where the next dot is.
     Beam of zak_beam {
         /// 0 to 1,024.
         line: u16,
@@ -106,7 +106,7 @@ read! {
         rows: u16,
         /// Number of the frame modulo 32.
         frame: u8,
-        /// In the second line of two under double scan.
+        /// On the second line of two under double scan.
         half: bool,
         /// Line compare was reached in this frame.
         split: bool,
@@ -114,15 +114,16 @@ read! {
 }
 
 read! {
-    /// What the clock comes to next, if no register is written meanwhile, and how fast it is. After
-    /// so many dots, and after no fewer, it has come.
+    /// When the frame ends and input status 1 changes next, if no register is written until then,
+    /// and how fast dots come. Each number of dots is exact.
     Timing of zak_timing {
         /// Dots to the end of the frame under way.
         to_frame: u32,
-        /// Dots until bit 0 of input status 1 changes, 1 where no dot is displayed; `None` where none
-        /// change it.
+        /// Dots until bit 0 of input status 1 changes, which is 1 where no dot is displayed; `None`
+        /// if it never changes.
         to_display: Option<u32>,
-        /// Dots until bit 3 of it changes, 1 in the vertical retrace; `None` where none change it.
+        /// Dots until bit 3 changes, which is 1 in the vertical retrace; `None` if it never
+        /// changes.
         to_retrace: Option<u32>,
         /// Dots of a line, displayed or not.
         line_dots: u32,
@@ -132,20 +133,20 @@ read! {
         lines: u32,
         /// Dots of [`rate_divisor`](Timing::rate_divisor) seconds: 25,175,000 or 28,322,000.
         rate: u32,
-        /// 2 where the sequencer halves the clock, else 1.
+        /// 2 if the sequencer halves the clock, otherwise 1.
         rate_divisor: u32,
     }
 }
 
 impl Timing {
-    /// How many dots a second has; it is exact.
+    /// The exact number of dots per second.
     pub fn dots_per_second(&self) -> f64 {
         f64::from(self.rate) / f64::from(self.rate_divisor)
     }
 }
 
-/// The order in which the cycles of many bytes are made, as a processor's direction flag says. It
-/// decides nothing about where a byte lies.
+/// The order in which the cycles of many bytes are made, like a processor's direction flag. It does
+/// not change which byte goes to which address.
 #[derive(Clone, Copy, Debug, Default, PartialEq, Eq, Hash)]
 pub enum Direction {
     /// The first address first.
@@ -156,7 +157,7 @@ pub enum Direction {
 }
 
 impl Direction {
-    /// As the library takes it.
+    /// The form that the library takes.
     pub(crate) fn is_down(self) -> bool {
         self == Direction::Down
     }
@@ -165,7 +166,7 @@ impl Direction {
 read! {
     /// The latches of planes 0 to 3.
     Latches of zak_latches {
-        /// By the plane.
+        /// Indexed by the plane.
         plane: [u8; 4],
     }
 }
@@ -209,7 +210,7 @@ read! {
         rows: u16,
         /// The mode's number.
         mode: u8,
-        /// Whether it is one of text.
+        /// Whether it is a text mode.
         is_text: bool,
         /// The active page.
         page: u8,
@@ -229,7 +230,7 @@ read! {
 }
 
 read! {
-    /// A place in text.
+    /// A position in text.
     Position of zak_place {
         /// From 0.
         row: u8,
@@ -252,7 +253,7 @@ pub struct Regs {
 }
 
 impl Regs {
-    /// These registers with AX alone; the others are 0.
+    /// Registers with this AX; the others are 0.
     pub fn ax(ax: u16) -> Regs {
         Regs { ax, ..Regs::default() }
     }
@@ -271,12 +272,12 @@ impl From<Regs> for sys::zak_regs {
     }
 }
 
-/// What a call of the video BIOS reads of the caller's memory.
+/// What a call of the video BIOS reads from the caller's memory.
 #[derive(Clone, Copy, Debug, Default, PartialEq, Eq)]
 pub struct Source {
-    /// How many bytes; 0 where it reads none.
+    /// How many bytes; 0 if it reads none.
     pub len: usize,
-    /// Whether they lie at ES:DX. Else they lie at ES:BP.
+    /// Whether they lie at ES:DX. Otherwise they lie at ES:BP.
     pub is_at_dx: bool,
 }
 

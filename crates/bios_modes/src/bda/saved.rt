@@ -8,7 +8,7 @@ ghost use Rattle.bios_modes.specs.Saved.{saved_prefix, saved_back, saved_bda, bd
 use super::{Bda, PAGES};
 use vga_bits::{high_byte, low_byte, put_bytes, put_word, word_at};
 
-/// Puts the places of the cursor into a slice from place `at` on, and gives the place behind them.
+/// Puts the cursor positions into a slice from index `at` on, and gives the index after them.
 fn put_places(out: &mut [u8], at: usize, places: &[u16; PAGES]) -> usize
     requires { at + 16 ≤ length out.old }
     ensures put { IsPut out.old out.new at result (flat_map word_bytes places.now) }
@@ -21,7 +21,7 @@ fn put_places(out: &mut [u8], at: usize, places: &[u16; PAGES]) -> usize
     next
 }
 
-/// The places of the cursor that have the first sixteen bytes.
+/// The cursor positions that the first sixteen bytes spell.
 fn places_from(bytes: &[u8]) -> [u16; PAGES]
     requires { 16 ≤ length bytes.now }
     ensures { result ≡ words_in 8 bytes.now }
@@ -37,7 +37,7 @@ impl Bda {
     /// How many bytes BIOS data have when they are saved.
     pub const SAVED_LEN: usize = 31;
 
-    /// The bytes before the places of the cursor.
+    /// The bytes before the cursor positions.
     fn prefix(&self) -> [u8; 7]
         ensures { result ≡ saved_prefix self.now }
     {
@@ -52,7 +52,7 @@ impl Bda {
         ]
     }
 
-    /// The bytes behind the places of the cursor.
+    /// The bytes after the cursor positions.
     fn back(&self) -> [u8; 8]
         ensures { result ≡ saved_back self.now }
     {
@@ -68,8 +68,8 @@ impl Bda {
         ]
     }
 
-    /// Puts the bytes of the BIOS data into a slice from place `at` on, and gives the place behind
-    /// them: all fields in the order of their offsets, of words the low byte first.
+    /// Puts the bytes of the BIOS data into a slice from index `at` on, and gives the index after
+    /// them: all fields in the order of their offsets, with the low byte of a word first.
     #[tactic(auto, unfolding(crate::specs::Saved::saved_bda))]
     pub fn save(&self, out: &mut [u8], at: usize) -> usize
         requires { at + 31 ≤ length out.old }
@@ -81,7 +81,7 @@ impl Bda {
         put_bytes(out, at, &self.back())
     }
 
-    /// The BIOS data that have these 31 bytes.
+    /// The BIOS data that these 31 bytes spell.
     #[tactic(auto, unfolding(crate::specs::Saved::bda_from))]
     fn from_saved(bytes: &[u8]) -> Bda
         requires { length bytes.now ≡ 31 }
@@ -103,14 +103,14 @@ impl Bda {
         }
     }
 
-    /// Whether some bytes are those of valid BIOS data.
+    /// Whether the bytes are those of valid BIOS data.
     pub fn is_saved(bytes: &[u8]) -> bool
         ensures { IsTrue result ↔ IsSavedBda bytes.now }
     {
         bytes.len() == Bda::SAVED_LEN && Bda::from_saved(bytes).valid()
     }
 
-    /// Takes all fields from the bytes of BIOS data.
+    /// Replaces all fields by those that the bytes of BIOS data spell.
     pub fn restore(&mut self, bytes: &[u8])
         requires { IsSavedBda bytes.now }
         ensures { self.new ≡ bda_from bytes.now }
@@ -118,8 +118,8 @@ impl Bda {
         *self = Bda::from_saved(bytes);
     }
 
-    /// What is saved is restored, whole, and the bytes of valid data are such. The clauses are for
-    /// proofs: nothing runs.
+    /// Saved data are restored completely, and the bytes of valid data are valid. The clauses are
+    /// for proofs: the function does nothing.
     #[tactic(auto, using(crate::proofs::SavedLemmas::bda_is_saved, crate::proofs::SavedLemmas::bda_is_back, crate::proofs::SavedLemmas::bda_len))]
     pub fn saves_whole(&self)
         ensures saved { IsValid self.now → IsSavedBda (saved_bda self.now) }

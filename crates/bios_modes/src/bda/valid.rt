@@ -1,4 +1,4 @@
-//! Whether BIOS data are those of the adapter.
+//! Whether BIOS data are valid.
 ghost use Rattle.std.specs.Prelude.{◌≡◌, ◌↔◌, IsTrue};
 ghost use Rattle.bios_modes.specs.Bda.{power_on_data};
 ghost use Rattle.bios_modes.specs.Valid.{IsOf, IsValid};
@@ -37,10 +37,10 @@ impl Bda {
             && self.start as u32 == self.size as u32 * self.page as u32
     }
 
-    /// Whether the data are all 0, or those of one mode, in text with characters of 8, 14 or 16
-    /// scan lines: its columns, size of a page, last row, height of a character and port of the CRT
-    /// controller; the active page is one of the mode's, and begins at its number times the size.
-    /// The cursor's places and type may be any.
+    /// Whether the data are all 0, or those of one mode, in text at a height of 8, 14 or 16 scan
+    /// lines: its columns, size of a page, last row, height of a character and port of the CRT
+    /// controller. The active page is one of the mode's, and begins at its number times the size.
+    /// The cursor's positions and type may be any.
     pub fn valid(&self) -> bool
         ensures { IsTrue result ↔ IsValid self.now }
     {

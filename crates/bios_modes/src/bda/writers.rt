@@ -34,8 +34,8 @@ impl Bda {
         self.start = start;
     }
 
-    /// Sets the place of the cursor on a page, 0 to 7: the row as the high byte, the column as the
-    /// low one.
+    /// Sets the cursor position on a page, 0 to 7: the row is the high byte, the column the low
+    /// one.
     pub fn set_cursor_place(&mut self, page: usize, place: u16)
         requires { page < 8 }
         ensures { self.new ≡ record self.old {

@@ -21,13 +21,13 @@ some_bytes Text = omega arith
 some_bytes Planar = omega arith
 some_bytes Packed = omega arith
 
--- a window of a page in a memory of so many cells from an address on: the page has `rows` rows of characters from cell `start`
--- on, and the window has the band's cells of each line, so many for a column
+-- a window of a page in a memory of `size` cells from an address on: the page has `rows` rows of characters from cell `start`
+-- on, and the window has the band's cells of each line, a fixed number for a column
 pub record IsWindow (base size : ℕ) (band : Band) (start rows : ℕ) (window : Window) : Type 0 where
   pub address : band.start ≡ base + start
   pub memory : start + band.pitch * (band.lines * rows) ≤ size
   pub below : window.top + window.height ≤ rows
-  pub behind : band.left + band.width ≤ band.pitch
+  pub after : band.left + band.width ≤ band.pitch
   pub left : band.left ≡ column_bytes band.kind * window.left
   pub width : band.width ≡ column_bytes band.kind * window.width
   pub wide : 0 < band.pitch
@@ -58,15 +58,15 @@ module _ (S X : Type 0) (m : Meaning S) (base size : ℕ) (band : Band) (start r
   within row line i lr ll li =
       let a = ends_before band.lines row rows lr in
       let b = ends_before band.pitch (band.lines * row + line) (band.lines * rows) (omega arith) in
-      let c = w.behind in
+      let c = w.after in
       let e = w.memory in
       omega arith
 
-  -- two cells are one only where row and line are
+  -- two cells are equal only if their rows and lines are
   same_line : (r a i s b j : ℕ) → a < band.lines → b < band.lines → i < band.width → j < band.width → place r a i ≡ place s b j → (r ≡ s) × (a ≡ b)
   same_line r a i s b j la lb li lj h =
       let q : band.pitch * (band.lines * r + a) + (band.left + i) ≡ band.pitch * (band.lines * s + b) + (band.left + j) = omega arith in
-      let z = w.behind in
+      let z = w.after in
       same_place band.lines r a s b la lb (same_place band.pitch (band.lines * r + a) (band.left + i) (band.lines * s + b) (band.left + j) (omega arith)
       (omega arith) q).0
 
@@ -82,7 +82,7 @@ module _ (S X : Type 0) (m : Meaning S) (base size : ℕ) (band : Band) (start r
 
   -- ---- rows are copied
 
-  -- rows that go down by n, by the rows that take them
+  -- rows that move down by n, by the rows that get them
   by_target : (first count n : ℕ) (f g : ℕ → X) → Moved X (Turn (λ _. Line) first (first + count)) (λ h. place h.turn h.place.turn h.place.place.turn)
       (λ h. place (h.turn + n) h.place.turn h.place.place.turn) f g → Moved X (Turn (λ _. Line) (first + n) (first + n + count))
       (λ h. place (h.turn - n) h.place.turn h.place.place.turn) (λ h. place h.turn h.place.turn h.place.place.turn) f g
@@ -128,7 +128,7 @@ module _ (S X : Type 0) (m : Meaning S) (base size : ℕ) (band : Band) (start r
         (λ x y g h lb lo hi. rows_apart from to (of_line y hi h) (of_line x (omega arith) g) o)
         band.lines 0 s f (omega arith) (omega arith) t
 
-    -- the rows that take another's contents are those from `first_moved` on
+    -- the rows that get another row's contents are those from `first_moved` on
     abbrev LeavesMoved : Direction → ℕ → S → (ℕ → X) → Type 0
     LeavesMoved direction n s f = Leaves S X R (run m (move_rows band direction n window.top (window.height - n)) s).0
         (Moved X (Turn (λ _. Line) (first_moved direction window n) (first_moved direction window n + (window.height - n)))
@@ -158,7 +158,7 @@ module _ (S X : Type 0) (m : Meaning S) (base size : ℕ) (band : Band) (start r
         count top s f (omega arith) (omega arith) t in
         record { cells = down.cells; shown = down.shown; fact = by_target top count n f down.cells down.fact }
 
-  -- ---- rows are filled, where a byte makes of a cell another
+  -- ---- rows are filled, if a byte changes a cell
 
   module _ (R : S → (ℕ → X) → Type 0) (made : ℕ → X → X) (stored : (j v : ℕ) (s : S) (f : ℕ → X) → j < size → v < 256 → R s f →
       R (run m (put (base + j) v) s).0 (set_cell f j (made v (f j)))) (filling : Filling) (even : filling.even < 256) (odd : filling.odd < 256) where

@@ -5,7 +5,7 @@ use Rattle.std.proofs.lemmas.Bool.{cases_lt}
 use Rattle.std.proofs.lemmas.Nat.{div-mul-add, mod-mul-add, mul-add-lt, mul-le}
 use Rattle.bios_screen.proofs.Base.Places.{rows_further, row_and_column}
 
--- the cell of strip b of a page, of which w make a line, and the line there, where a character has h lines
+-- the cell of strip b of a page, of which w make a line, and the line in that cell, if a character has h lines
 abbrev pub cell_of : ℕ → ℕ → ℕ → ℕ
 cell_of w h b = w * (b / w / h) + b % w
 
@@ -48,7 +48,7 @@ line_of_strip w h q r lw lr = ap (λ n. n % h) (line_over w h q r lw) ∙ rest h
 pub same_line : (w h q r v : ℕ) → 0 < w → r < h → v < h → strip_at w h q r ≡ strip_at w h q v → r ≡ v
 same_line w h q r v lw lr lv e = sym (line_of_strip w h q r lw lr) ∙ ap (line_of w h) e ∙ line_of_strip w h q v lw lv
 
--- a cell of a page of so many rows has its strips there
+-- the strips of a cell of a page lie on that page
 pub strip_within : (w h rows q r : ℕ) → 0 < w → r < h → q < w * rows → strip_at w h q r < w * (h * rows)
 strip_within w h rows q r lw lr lq =
     let row : q / w < rows = ⊎_elim (λ (a : q / w < rows). a) (λ (a : rows ≤ q / w). let e = row_and_column w q lw in let g =
@@ -103,7 +103,7 @@ moved_within w h rows b n lw lh l =
     let e = mul-le w (h * (first + n)) w (h * rows) (omega arith) (mul-le h (first + n) h rows (omega arith) (omega arith)) in
     omega arith
 
--- as many rows as lie above a strip are no more strips than its number
+-- the rows above a strip have no more strips than its number
 pub rows_above : (w h b n : ℕ) → 0 < w → 0 < h → n ≤ b / w / h → w * (h * n) ≤ b
 rows_above w h b n lw lh l =
     let y = row_and_column h (b / w) lh in

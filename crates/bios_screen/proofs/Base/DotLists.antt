@@ -32,7 +32,7 @@ collected_lines f line (suc n) =
     let e : suc n * line ≡ n * line + line = omega arith in
     ap (collect f) e ∙ collected_split f (n * line) line ∙ ap (λ l. l ++ collect (λ x. f (n * line + x)) line) (collected_lines f line n)
 
--- of n the first a, where the others are nothing
+-- the first a of n, if the others are nothing
 pub collected_prefix : (f : ℕ → List Dot) (a n : ℕ) → a ≤ n → ((i : ℕ) → a ≤ i → i < n → f i ≡ []) → collect f n ≡ collect f a
 collected_prefix f a n le h =
     let e : n ≡ a + (n - a) = omega arith in

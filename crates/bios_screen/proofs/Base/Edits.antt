@@ -24,7 +24,7 @@ module _ (S X : Type 0) (m : Meaning S) (f : ℕ → Plan (Unit {0})) (R : ℕ �
     (F : (r : ℕ) → H r → X → X) (apart : (j k : ℕ) (g : H j) (h : H k) → b ≤ j → j < k → k < e → at j g ≢ at k h)
     (later : (j k : ℕ) (g : H j) (h : H k) → b ≤ j → j < k → k < e → from k h ≢ at j g)
     (turn : (r : ℕ) (s : S) (c : ℕ → X) → b ≤ r → r < e → R r s c → Leaves S X (R (r + 1)) (run m (f r) s).0 (Changed X (H r) (from r) (at r) (F r) c)) where
-  -- the turns from i on, n of them, none before b, where what a later one takes no earlier one has changed
+  -- n turns from i on, none before b, if no earlier turn changes what a later one reads
   pub changes : (n i : ℕ) (s : S) (c : ℕ → X) → b ≤ i → i + n ≡ e → R i s c → Leaves S X (R e) (run m (each f n i) s).0
       (Changed X (Turn H i e) (λ h. from h.turn h.place) (λ h. at h.turn h.place) (λ h. F h.turn h.place) c)
   changes zero i s c lb l r =
@@ -62,7 +62,7 @@ module _ (S X : Type 0) (m : Meaning S) (f : ℕ → Plan (Unit {0})) (R : ℕ �
       subst (λ t. Leaves S X (R e) t.0 Changes)
       (sym (run_bind m (f i) (λ _. each f n (i + 1)) s)) all
 
--- where each turn takes what it changes
+-- turns that each read what they change
 module _ (S X : Type 0) (m : Meaning S) (f : ℕ → Plan (Unit {0})) (R : ℕ → S → (ℕ → X) → Type 0) (b e : ℕ) (H : ℕ → Type 0) (at : (r : ℕ) → H r → ℕ)
     (F : (r : ℕ) → H r → X → X) (apart : (j k : ℕ) (g : H j) (h : H k) → b ≤ j → j < k → k < e → at j g ≢ at k h)
     (turn : (r : ℕ) (s : S) (c : ℕ → X) → b ≤ r → r < e → R r s c → Leaves S X (R (r + 1)) (run m (f r) s).0 (Edited X (H r) (at r) (F r) c)) where

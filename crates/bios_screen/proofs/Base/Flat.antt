@@ -24,7 +24,7 @@ list_put true l a v o h = ⊎_elim
     (cases_eq o a)
 list_put false l a v o h = refl
 
--- each place `at h` has what F h makes of what `from h` had, and no other cell has changed
+-- each place `at h` contains what F h makes of the contents of `from h`, and no other cell has changed
 pub record Changed (X H : Type 0) (from at : H → ℕ) (F : H → X → X) (old new : ℕ → X) : Type 0 where
   pub inside : (h : H) → new (at h) ≡ F h (old (from h))
   pub outside : (x : ℕ) → ((h : H) → x ≢ at h) → new x ≡ old x
@@ -33,7 +33,7 @@ pub record Changed (X H : Type 0) (from at : H → ℕ) (F : H → X → X) (old
 abbrev pub Edited : (X H : Type 0) → (H → ℕ) → (H → X → X) → (ℕ → X) → (ℕ → X) → Type 0
 Edited X H at F = Changed X H at at F
 
--- each place `to h` has what `from h` had
+-- each place `to h` contains what `from h` contained
 abbrev pub Moved : (X H : Type 0) → (H → ℕ) → (H → ℕ) → (ℕ → X) → (ℕ → X) → Type 0
 Moved X H from to = Changed X H from to (λ _ x. x)
 
@@ -44,7 +44,7 @@ pub record Turn (H : ℕ → Type 0) (i e : ℕ) : Type 0 where
   pub before : turn < e
   pub place : H turn
 
--- what a plan leaves: a state that shows some cells, of which a fact holds
+-- what a plan leaves: a state that shows some cells, for which a fact holds
 pub record Leaves (S X : Type 0) (R : S → (ℕ → X) → Type 0) (s : S) (P : (ℕ → X) → Type 0) : Type 0 where
   pub cells : ℕ → X
   pub shown : R s cells

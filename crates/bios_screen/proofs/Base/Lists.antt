@@ -1,4 +1,4 @@
--- Lists by a function of the number.
+-- Lists whose elements a function gives by their numbers.
 use Rattle.std.proofs.Common.{◌≡◌, ◌≢◌, ℕ, zero, suc, ◌+◌, ◌<◌, ⊎_elim, refl, sym, ap, ◌∙◌, arith, List, ◌∷◌, length, get_or, replicate}
 use Rattle.std.specs.Prelude.{slice_index, set}
 use Rattle.std.proofs.lemmas.Bool.{cases_eq}
@@ -42,7 +42,7 @@ listing_at f i (suc n) (suc q) d l = let z : i + 1 + q ≡ i + suc q = omega ari
 pub listed_at : {Y : Type 0} (f : ℕ → Y) (n q : ℕ) (d : Y) → q < n → get_or (listing f 0 n) q d ≡ f q
 listed_at f n q d l = let z : 0 + q ≡ q = omega arith in listing_at f 0 n q d l ∙ ap f z
 
--- a list of n numbers is spelled out where n is a numeral
+-- a list of n numbers is spelled out if n is a numeral
 pub spelled : (l : List ℕ) (n : ℕ) → length l ≡ n → l ≡ listing (slice_index l) 0 n
 spelled l n e = same_number_lists l (listing (slice_index l) 0 n) (e ∙ sym (length_listing (slice_index l) 0 n))
     (λ k h. sym (listed_at (slice_index l) n k 0 (omega arith)))

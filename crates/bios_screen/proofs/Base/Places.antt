@@ -11,7 +11,7 @@ twice h p = omega arith
 pub ends_before : (a j p : ℕ) → j < p → a * j + a ≤ a * p
 ends_before a j p l = column_fits a j a p l (omega arith)
 
--- half of what a page of twice as many bytes begins with
+-- half of the number at which a page of twice as many bytes begins
 pub half_start : (size half p : ℕ) → size ≡ 2 * half → size * p / 2 ≡ half * p
 half_start size half p e = let z = twice half p in ap (λ n. n * p / 2) e ∙ ap (λ n. n / 2) z ∙ halved (half * p)
   where
@@ -22,7 +22,7 @@ half_start size half p e = let z = twice half p in ap (λ n. n * p / 2) e ∙ ap
 pub few_cells : (columns place : ℕ) → columns ≤ 80 → place < 65536 → columns * (place / 256) + place % 256 ≤ 20655
 few_cells columns place l h = let m = mul-le columns (place / 256) 80 255 l (omega arith) in omega arith
 
--- two places of rows that are not longer than `w` are one only where row and column are
+-- two places in rows no longer than `w` are equal only if their rows and columns are
 pub same_place : (w r c s e : ℕ) → c < w → e < w → w * r + c ≡ w * s + e → (r ≡ s) × (c ≡ e)
 same_place w r c s e lc le h = ⊎_elim
     (λ (l : r < s). let z = ends_before w r s l in absurd (omega arith))

@@ -8,7 +8,7 @@ use Rattle.bios_services.specs.Plan.{out}
 use Rattle.bios_services.specs.Cycles.{crtc, expect_index}
 use Rattle.bios_screen.proofs.Base.Plans.{run_bind}
 
--- what they reach
+-- the registers that the ports reach
 record Reached (misc : ℕ) : Type 0 where
   index : port_of misc (crtc_port misc) ≡ Some CrtcIndex
   value : port_of misc (crtc_port misc + 1) ≡ Some CrtcData
@@ -29,7 +29,7 @@ crtc_runs c i v =
     ap (λ p. (run card_meaning (out (crtc_port c.misc + 1) v) (out_at c p i).0).0) (reached c.misc).index
     ∙ ap (λ p. (out_at (out_at c (Some CrtcIndex) i).0 p v).0) (reached c.misc).value
 
--- the next write to the attribute controller is made an index, and then a plan goes on
+-- the attribute controller is made to expect an index, and then a plan goes on
 pub expected_runs : {A : Type 0} (rest : Plan A) (c : CardState) → run card_meaning (expect_index (crtc_port c.misc) >> rest) c
     ≡ run card_meaning rest (record c { attr = record c.attr { is_data = false } })
 unfolding inp_reached

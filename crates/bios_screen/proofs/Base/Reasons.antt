@@ -1,14 +1,14 @@
--- What is known where there is no reason to refuse.
+-- What is known if there is no reason to refuse.
 use Rattle.std.proofs.Common.{◌≡◌, ℕ, ◌+◌, ◌<◌, ◌≤◌, None}
-use Rattle.std.specs.Prelude.{◌==◌, nat_lt, nat_le}
-use Rattle.vga_bits.specs.declared.refusal.Refusal.TheVariants.{BadPage, Outside, CountPast, BadBlock}
+use Rattle.std.specs.Prelude.{nat_lt, nat_le}
+use Rattle.vga_bits.specs.declared.refusal.Refusal.TheVariants.{BadPage, Outside, CountPast}
 use Rattle.bios_services.specs.Cursor.{row_of, column_of}
-use Rattle.bios_services.specs.Reasons.{◌or◌, no_page, outside_cells, outside_page, past_cells, wrong_block}
-pub use Rattle.bios_services.proofs.ReasonLemmas.{neither, holds}
-use Rattle.bios_screen.proofs.Base.Tests.{both_true, lt_is, le_is, same}
+use Rattle.bios_services.specs.Reasons.{◌or◌, no_page, outside_cells, outside_page, past_cells}
+pub use Rattle.bios_services.proofs.ReasonLemmas.{neither, holds, wrong_or, block_fits}
+use Rattle.bios_screen.proofs.Base.Tests.{both_true, lt_is, le_is}
 use Rattle.bios_screen.proofs.Base.TypedPlaces.{Inside}
 
--- the page is one, the place is within it, and the block is whole
+-- the mode has the page, and the position is on it
 pub page_allowed : (pages page : ℕ) → no_page pages page ≡ None → page < pages
 page_allowed pages page e = lt_is page pages (holds (nat_lt page pages) BadPage e)
 
@@ -17,10 +17,7 @@ place_allowed rows columns place e =
     let both = both_true (nat_lt (row_of place) rows) (nat_lt (column_of place) columns) (holds _ Outside e) in
     record { row = lt_is (row_of place) rows both.0; column = lt_is (column_of place) columns both.1 }
 
-pub block_allowed : (size len : ℕ) → wrong_block size len ≡ None → len ≡ size
-block_allowed size len e = same (holds (len == size) BadBlock e)
-
--- a cell of a page is one of so many, and so are some from it on
+-- the page has the cell, and the cells of a run from it on
 pub cell_allowed : (pages page at cells : ℕ) → (no_page pages page or outside_cells cells at) ≡ None → (page < pages) × (at < cells)
 cell_allowed pages page at cells e =
     let both = neither (no_page pages page) (outside_cells cells at) e in

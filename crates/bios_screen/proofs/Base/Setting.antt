@@ -1,11 +1,11 @@
--- The registers that a cycle of memory looks at, and what it does where they are known.
+-- The registers that a memory cycle depends on, and what it does if they are known.
 use Rattle.std.proofs.Common.{◌≡◌, ℕ, ◌+◌, ◌-◌, ◌%◌, ◌<◌, List, Bool, true, sym, ap, ◌∙◌, arith}
 use Rattle.std.specs.Prelude.{◌&&◌, nat_le, nat_lt}
 use Rattle.std.proofs.lemmas.Bool.Decides.{nat_tests}
 use Rattle.bios_screen.proofs.Prelude.{Four, HostState, card_meaning, CardState, run, put, get}
-use Rattle.vga_host.specs.Address.{is_decoded, window_offset}
-use Rattle.vga_host.specs.MemoryWrite.{memory_after_put, after_put}
-use Rattle.vga_host.specs.MemoryRead.{loaded, read_byte, after_get}
+use Rattle.vga_host.specs.Memory.Address.{is_decoded, window_offset}
+use Rattle.vga_host.specs.Memory.Write.{memory_after_put, after_put}
+use Rattle.vga_host.specs.Memory.Read.{loaded, read_byte, after_get}
 use Rattle.vga_card.specs.Adapter.{adapter_of}
 use Rattle.vga_card.specs.Cycles.{written, answered, where_decoded}
 use Rattle.bios_services.specs.Plan.{byte_of}
@@ -30,7 +30,7 @@ card_at c s = record c { host = host_at c.host s; misc = s.misc }
 abbrev pub with_memory : CardState → Four (List ℕ) → CardState
 with_memory c m = record c { host = record c.host { memory = m } }
 
--- an address of graphics is decoded where memory is enabled, and is so far from the first one
+-- an address of graphics is decoded if memory is enabled, and its offset is its distance from the first
 pub reached : (enabled : Bool) (a : ℕ) → enabled ≡ true → a < 65536 → (enabled && (nat_le 0xA0000 (0xA0000 + a) && nat_lt (0xA0000 + a) 0xB0000)) ≡ true
 reached enabled a on l = ap (λ b. b && (nat_le 0xA0000 (0xA0000 + a) && nat_lt (0xA0000 + a) 0xB0000)) on ∙ grind (arith, nat_tests)
 

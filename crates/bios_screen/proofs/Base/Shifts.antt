@@ -43,7 +43,7 @@ module _ (X : Type 0) (base size : ℕ) (band : Band) (start rows : ℕ) (window
   abbrev pub at : {first e : ℕ} → Rows first e → ℕ
   at h = place h.turn h.place.turn h.place.place.turn
 
-  -- whether the window has cell b of the page
+  -- whether cell b of the page lies in the window
   abbrev pub has_cell : ℕ → Bool
   has_cell b = in_window window (b / band.pitch / band.lines) (b % band.pitch / column_bytes band.kind)
 
@@ -51,7 +51,7 @@ module _ (X : Type 0) (base size : ℕ) (band : Band) (start rows : ℕ) (window
     above : window.top ≤ row b
     below : row b < window.top + window.height
     before : band.left ≤ column b
-    behind : column b < band.left + band.width
+    after : column b < band.left + band.width
 
   abbrev unit : ℕ
   unit = column_bytes band.kind
@@ -61,10 +61,10 @@ module _ (X : Type 0) (base size : ℕ) (band : Band) (start rows : ℕ) (window
       let u = some_bytes band.kind in
       let i = inside_of window (row b) (column b / unit) t in
       let low = (le-div_iff_mul-le u).0 i.before in
-      let high = (div-lt_iff_lt-mul u).0 i.behind in
+      let high = (div-lt_iff_lt-mul u).0 i.after in
       let l = w.left in
       let v = w.width in
-      record { above = i.above; below = i.below; before = omega arith; behind = omega arith }
+      record { above = i.above; below = i.below; before = omega arith; after = omega arith }
 
   place_of : (b : ℕ) → band.left ≤ column b → place (row b) (line b) (column b - band.left) ≡ start + b
   place_of b l =
@@ -78,11 +78,11 @@ module _ (X : Type 0) (base size : ℕ) (band : Band) (start rows : ℕ) (window
   cell h = W * (H * h.turn + h.place.turn) + (band.left + h.place.place.turn)
 
   row_of : {first e : ℕ} (h : Rows first e) → row (cell h) ≡ h.turn
-  row_of h = let l = h.place.place.before in let z = w.behind in
+  row_of h = let l = h.place.place.before in let z = w.after in
       ap (λ n. n / H) (over W (H * h.turn + h.place.turn) (band.left + h.place.place.turn) (omega arith)) ∙ over H h.turn h.place.turn h.place.before
 
   column_of : {first e : ℕ} (h : Rows first e) → column (cell h) ≡ band.left + h.place.place.turn
-  column_of h = let l = h.place.place.before in let z = w.behind in
+  column_of h = let l = h.place.place.before in let z = w.after in
       rest W (H * h.turn + h.place.turn) (band.left + h.place.place.turn) (omega arith)
 
   in_turn : {first e : ℕ} (h : Rows first e) → window.top ≤ first → e ≤ window.top + window.height → has_cell (cell h) ≡ true
@@ -95,12 +95,12 @@ module _ (X : Type 0) (base size : ℕ) (band : Band) (start rows : ℕ) (window
       let l = w.left in
       let g = w.width in
       let before : window.left * unit ≤ column (cell h) = omega arith in
-      let behind : column (cell h) < (window.left + window.width) * unit = omega arith in
+      let after : column (cell h) < (window.left + window.width) * unit = omega arith in
       inside_test window (row (cell h)) (column (cell h) / unit) (record {
         above = omega arith;
         below = omega arith;
         before = (le-div_iff_mul-le (some_bytes band.kind)).1 before;
-        behind = (div-lt_iff_lt-mul (some_bytes band.kind)).1 behind;
+        after = (div-lt_iff_lt-mul (some_bytes band.kind)).1 after;
       })
 
   elsewhere : {first e : ℕ} (h : Rows first e) (o : ℕ) → window.top ≤ first → e ≤ window.top + window.height →
@@ -109,7 +109,7 @@ module _ (X : Type 0) (base size : ℕ) (band : Band) (start rows : ℕ) (window
 
   -- the turn of a cell
   turn_of : (first e b : ℕ) → first ≤ row b → row b < e → IsIn b → Rows first e
-  turn_of first e b a k i = let l = i.before in let m = i.behind in record {
+  turn_of first e b a k i = let l = i.before in let m = i.after in record {
     turn = row b;
     from = a;
     before = k;
@@ -124,7 +124,7 @@ module _ (X : Type 0) (base size : ℕ) (band : Band) (start rows : ℕ) (window
   shift : (r l i n : ℕ) → place (r + n) l i ≡ place r l i + W * (H * n)
   shift r l i n = omega arith
 
-  -- the place of what a cell takes
+  -- the number of the cell whose contents a cell gets
   source_of : (direction : Direction) (b n : ℕ) → band.left ≤ column b → has_source direction window n (row b) ≡ true →
       place (source direction (row b) n) (line b) (column b - band.left) ≡ start + source direction b (W * (H * n))
   source_of Up b n l t = let a = place_of b l in let s = shift (row b) (line b) (column b - band.left) n in omega arith
@@ -151,14 +151,14 @@ module _ (X : Type 0) (base size : ℕ) (band : Band) (start rows : ℕ) (window
     pub under : X
     pub is : x ≡ B (b % band.pitch - band.left) under
 
-  -- the window has gone by n rows
+  -- the window has moved by n rows
   pub record IsScrolled (direction : Direction) (n : ℕ) (B : ℕ → X → X) (f g : ℕ → X) : Type 0 where
     pub moved : (b : ℕ) → has_cell b ≡ true → has_source direction window n (b / band.pitch / band.lines) ≡ true →
         g (start + b) ≡ f (start + source direction b (band.pitch * (band.lines * n)))
     pub filled : (b : ℕ) → has_cell b ≡ true → has_source direction window n (b / band.pitch / band.lines) ≡ false → IsFilled B b (g (start + b))
     pub outside : (o : ℕ) → ((b : ℕ) → start + b ≡ o → has_cell b ≡ false) → g o ≡ f o
 
-  -- rows that take another's contents, and new ones
+  -- rows that get another row's contents, and new ones
   abbrev pub Taking : Direction → ℕ → Type 0
   Taking direction n = Rows (first_moved direction window n) (first_moved direction window n + (window.height - n))
 
@@ -197,7 +197,7 @@ pub record IsRead (S : Type 0) (m : Meaning S) (R : S → (ℕ → ℕ) → Type
   pub answer : (run m (get address) s).1 ≡ v
   pub small : v < 256
 
--- where cells are bytes, and one filling makes new rows, whatever stood there
+-- cells that are bytes: one filling makes new rows, whatever was there
 module _ (S : Type 0) (m : Meaning S) (base size : ℕ) (band : Band) (start rows : ℕ) (window : Window) (w : IsWindow base size band start rows window)
     (R : S → (ℕ → ℕ) → Type 0) (read : (i : ℕ) (s : S) (f : ℕ → ℕ) → i < size → R s f → IsRead S m R (base + i) s f (f i))
     (stored : (j v : ℕ) (s : S) (f : ℕ → ℕ) → j < size → v < 256 → R s f → R (run m (put (base + j) v) s).0 (set_cell f j v))

@@ -1,4 +1,4 @@
--- What is typed within a page leaves a place within it.
+-- Typing within a page leaves a position within it.
 use Rattle.std.proofs.Common.{◌≡◌, ℕ, ◌+◌, ◌-◌, ◌<◌, ◌≤◌, refl, sym, ap, subst, arith, Bool, true, false}
 use Rattle.std.specs.Prelude.{◌==◌, nat_lt, if◌then◌else◌}
 use Rattle.std.proofs.lemmas.Bool.Decides.{nat_tests}
@@ -8,7 +8,7 @@ use Rattle.bios_services.specs.Teletype.{line_start}
 use Rattle.bios_screen.specs.Step.{last_colour, page_up, line_feed, cursor_advance, put_character, type_character}
 use Rattle.bios_screen.proofs.Base.Tests.{lt_is}
 
--- a place is one of a page of so many rows and columns
+-- a position lies on a page of these rows and columns
 pub record Inside (rows columns place : ℕ) : Type 0 where
   pub row : row_of place < rows
   pub column : column_of place < columns
@@ -21,8 +21,8 @@ module _ (rows columns : ℕ) (narrow : columns ≤ 80) where
   below_inside : (place : ℕ) → row_of place < rows - 1 → Inside rows columns place → Inside rows columns (place + 256)
   below_inside place l i = let c = i.column in record { row = omega arith; column = omega arith }
 
-  behind_inside : (place : ℕ) → column_of place + 1 < columns → Inside rows columns place → Inside rows columns (place + 1)
-  behind_inside place l i = let r = i.row in record { row = omega arith; column = omega arith }
+  next_inside : (place : ℕ) → column_of place + 1 < columns → Inside rows columns place → Inside rows columns (place + 1)
+  next_inside place l i = let r = i.row in record { row = omega arith; column = omega arith }
 
   start_inside : (place : ℕ) → Inside rows columns place → Inside rows columns (line_start place)
   start_inside place i = let r = i.row in let c = i.column in record { row = omega arith; column = omega arith }
@@ -58,7 +58,7 @@ module _ (rows columns : ℕ) (narrow : columns ≤ 80) where
 
       by_test : (b : Bool) → nat_lt (column_of place + 1) s.layout.columns ≡ b → Inside rows columns (cursor_advance s p place).1
       by_test true t = let a = lt_is (column_of place + 1) s.layout.columns t in subst (Inside rows columns) (sym (ap either t))
-          (behind_inside place (omega arith) i)
+          (next_inside place (omega arith) i)
       by_test false t = subst (Inside rows columns) (sym (ap either t)) (start_inside (line_feed s p place).1 (fed_inside s p place e i))
 
   pub typed_inside : (fonts : FontSet) (s : Screen) (p place v : ℕ) (colouring : Colouring) → s.layout.rows ≡ rows → s.layout.columns ≡ columns →

@@ -1,4 +1,4 @@
--- The rows and columns of a window: where it is cut, what lies in it, and which of its rows take another's contents.
+-- The rows and columns of a window: where it is cut, what lies in it, and which of its rows get another row's contents.
 use Rattle.std.proofs.Common.{◌≡◌, ℕ, ◌+◌, ◌-◌, ◌<◌, ◌≤◌, refl, sym, ap, ◌∙◌, arith, Bool, true, false, Some}
 use Rattle.std.specs.Prelude.{◌==◌, ◌&&◌, ◌||◌, nat_lt, nat_le, if◌then◌else◌, min}
 use Rattle.std.proofs.lemmas.Bool.Decides.{nat_tests}
@@ -22,9 +22,9 @@ cut_on_page rows columns asked w e =
     let height = ap (λ (x : Window). x.height) a.1 in
     let left = ap (λ (x : Window). x.left) a.1 in
     let width = ap (λ (x : Window). x.width) a.1 in
-    record { below = omega arith; behind = omega arith; some = omega arith }
+    record { below = omega arith; after = omega arith; some = omega arith }
 
--- it goes by no more rows than it has, and by one at least
+-- a window moves by no more rows than it has, and by at least one
 pub few_lines : (w : Window) (asked : ℕ) → lines_of w asked ≤ w.height
 few_lines w asked = by_tests (asked == 0) (nat_lt w.height asked) refl
   where
@@ -47,7 +47,7 @@ pub record IsInside (w : Window) (row column : ℕ) : Type 0 where
   pub above : w.top ≤ row
   pub below : row < w.top + w.height
   pub before : w.left ≤ column
-  pub behind : column < w.left + w.width
+  pub after : column < w.left + w.width
 
 pub inside_of : (w : Window) (row column : ℕ) → in_window w row column ≡ true → IsInside w row column
 inside_of w row column t =
@@ -58,28 +58,28 @@ inside_of w row column t =
       above = le_is w.top row b.0;
       below = lt_is row (w.top + w.height) e.0;
       before = le_is w.left column g.0;
-      behind = lt_is column (w.left + w.width) g.1;
+      after = lt_is column (w.left + w.width) g.1;
     }
 
 pub inside_test : (w : Window) (row column : ℕ) → IsInside w row column → in_window w row column ≡ true
 inside_test w row column i =
     both_are (nat_le w.top row) _ (le_test w.top row i.above)
     (both_are (nat_lt row (w.top + w.height)) _ (lt_test row (w.top + w.height) i.below)
-    (both_are (nat_le w.left column) _ (le_test w.left column i.before) (lt_test column (w.left + w.width) i.behind)))
+    (both_are (nat_le w.left column) _ (le_test w.left column i.before) (lt_test column (w.left + w.width) i.after)))
 
 pub contrary : {Y : Type 0} (b : Bool) → b ≡ true → b ≡ false → Y
 contrary b t f = let e = sym t ∙ f in absurd (cc)
 
--- what stands at a place of a page once a window has gone, by its two tests
+-- the contents of a cell of a page after a window has moved, by its two tests
 pub by_both_tests : {Y : Type 0} (inside moved : Bool) (new source blank old : Y) → (inside ≡ true → moved ≡ true → new ≡ source) →
     (inside ≡ true → moved ≡ false → new ≡ blank) → (inside ≡ false → new ≡ old) → new ≡ (if inside then (if moved then source else blank) else old)
 by_both_tests true true new source blank old t b o = t refl refl
 by_both_tests true false new source blank old t b o = b refl refl
 by_both_tests false moved new source blank old t b o = o refl
 
--- ---- which of its rows take another's contents, and which are new
+-- ---- which of its rows get another row's contents, and which are new
 
--- the first of the rows that take another's contents, where it goes by n
+-- the first of the rows that get another row's contents, if the window moves by n
 abbrev pub first_moved : Direction → Window → ℕ → ℕ
 first_moved Up w n = w.top
 first_moved Down w n = w.top + n

@@ -7,7 +7,8 @@ use Rattle.std.proofs.lemmas.Nat.{and_mask}
 use Rattle.bios_screen.proofs.Prelude.{is_set, CrtcState, is_palette_shown, IsCard, CardState, ModeRow, BiosData, shows_attribute, shade}
 use Rattle.vga_bits.specs.Bits.{field}
 use Rattle.vga_bits.proofs.BitLemmas.{is_set_and}
-use Rattle.vga_host.specs.Fields.{is_screen_off, is_256_colours}
+use Rattle.vga_host.specs.Sequencer.{is_screen_off}
+use Rattle.vga_host.specs.Graphics.{is_256_colours}
 use Rattle.vga_attr.specs.Attr.{AttrState, IsAttr}
 use Rattle.vga_attr.specs.Fields.{is_colour_select_wide}
 use Rattle.vga_attr.specs.Colour.{picked, colour_index}
@@ -48,7 +49,7 @@ off_right : (b : Bool) → (b && true) ≡ b
 off_right true = refl
 off_right false = refl
 
--- a bit of mode control, but for blinking
+-- a bit of mode control other than blinking
 pub control_bit : (v n i : ℕ) → bit_and v 0xF7 ≡ n → is_set 0xF7 i ≡ true → is_set v i ≡ is_set n i
 control_bit v n i e one = sym (off_right (is_set v i)) ∙ ap (λ b. is_set v i && b) (sym one) ∙ sym (is_set_and v 0xF7 i) ∙ ap (λ m. is_set m i) e
 

@@ -2,7 +2,7 @@
 use Rattle.std.proofs.Common.{◌≡◌, ℕ, ◌+◌, ◌-◌, ◌%◌, ◌<◌, sym, ap, subst, ◌∙◌, arith, false}
 use Rattle.std.specs.Prelude.{◌&&◌, if◌then◌else◌, slice_index}
 use Rattle.bios_screen.proofs.Prelude.{is_set, Beam, CrtcState, first_counter, regular_beam, IsCard, CardState, ModeRow, BiosData, start_address, Raster}
-use Rattle.vga_host.specs.Fields.{character_width as host_width}
+use Rattle.vga_host.specs.Sequencer.{character_width as host_width}
 use Rattle.vga_crtc.specs.Raster.{IsRegular}
 use Rattle.vga_attr.specs.Fields.{is_panning_reset, panning}
 use Rattle.vga_dots.specs.declared.source_dot.SourceDot.{SourceDot}

@@ -4,7 +4,8 @@ use Rattle.std.specs.Prelude.{if◌then◌else◌, ◌&&◌, slice_index}
 use Rattle.bios_screen.proofs.Prelude.{is_set, is_palette_shown, IsCard, CardState, bytes_320_by_200, is_packed, BiosData, planar_pixel, packed_pixel}
 use Rattle.bios_screen.proofs.Prelude.{pixel_screen, shade, Draws}
 use Rattle.vga_planes.specs.Planes.{byte_at}
-use Rattle.vga_host.specs.Fields.{is_screen_off, is_256_colours}
+use Rattle.vga_host.specs.Sequencer.{is_screen_off}
+use Rattle.vga_host.specs.Graphics.{is_256_colours}
 use Rattle.vga_dots.specs.SourceDot.{source_dot, fetch_address}
 use Rattle.vga_dots.specs.Graphics.{packed_byte}
 use Rattle.vga_dots.specs.Colour.{colour_number, dot_colour}

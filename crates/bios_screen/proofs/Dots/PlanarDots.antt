@@ -6,7 +6,7 @@ use Rattle.std.proofs.lemmas.Nat.{div-mul-add, mod-mul-add}
 use Rattle.std.proofs.lemmas.Nat.Bits.{bit_at-lt}
 use Rattle.bios_screen.proofs.Prelude.{is_set, HostState, IsCard, CardState, ModeRow, BiosData, planar_pixel, pixel_screen, shade, Draws}
 use Rattle.vga_planes.specs.Planes.{byte_at}
-use Rattle.vga_host.specs.Fields.{is_graphics}
+use Rattle.vga_host.specs.Graphics.{is_graphics}
 use Rattle.vga_dots.specs.Graphics.{plane_bits, planar_nibble}
 use Rattle.vga_dots.specs.Colour.{nibble}
 use Rattle.bios_screen.specs.Picture.{tint, pixel_height, pixel_dot}

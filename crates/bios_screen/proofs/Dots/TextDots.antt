@@ -7,7 +7,8 @@ use Rattle.bios_screen.proofs.Prelude.{is_set, Beam, CrtcState, regular_beam, Is
 use Rattle.bios_screen.proofs.Prelude.{shade}
 use Rattle.vga_bits.specs.Bits.{field}
 use Rattle.vga_planes.specs.Planes.{byte_at}
-use Rattle.vga_host.specs.Fields.{character_map_a, character_map_b, is_graphics}
+use Rattle.vga_host.specs.Sequencer.{character_map_a, character_map_b}
+use Rattle.vga_host.specs.Graphics.{is_graphics}
 use Rattle.vga_crtc.specs.Fields.{cursor_start, is_cursor_off, cursor_end, cursor_location, underline_location}
 use Rattle.vga_attr.specs.Fields.{is_monochrome, is_line_graphics}
 use Rattle.vga_dots.specs.declared.source_dot.SourceDot.{SourceDot}
@@ -17,7 +18,7 @@ use Rattle.vga_dots.specs.Text.{cell_at, map_start, glyph_row as row_of_glyph, i
 use Rattle.vga_dots.specs.Text.{is_blinked_away as is_cell_blinked, is_cursor_at, is_foreground as is_cell_foreground, text_nibble}
 use Rattle.vga_dots.specs.Colour.{nibble as dot_nibble, dot_colour}
 use Rattle.bios_services.specs.Registers.{high, low}
-use Rattle.bios_services.specs.Cursor.{cursor_address, cell_number, place_of}
+use Rattle.bios_services.specs.Cursor.{cursor_address, cell_number, position_of}
 use Rattle.bios_screen.specs.Screen.{cursor_cell}
 use Rattle.bios_screen.specs.Shown.{glyph_byte, glyphs_in}
 use Rattle.bios_screen.specs.Step.{cell_on}
@@ -239,7 +240,7 @@ module _ (c : CardState) (d : BiosData) (h : IsShown c d) (z : IsCard c) (g : �
       let e = (lies c d h).even d.page in
       let n = d.size / 2 * d.page in
       let halved : d.size * d.page / 2 ≡ n = omega arith in
-      ap (λ a. a + cell_number d (place_of d d.page)) halved
+      ap (λ a. a + cell_number d (position_of d d.page)) halved
 
   cursor_is : (n v x k : ℕ) → is_cursor_at (placed v x k) n ≡ is_cursor s n (v % height)
   unfolding is_cursor_at

@@ -52,7 +52,7 @@ two : take_dots 2 (at (small 0 0) 0) ≡ record { screen = small 0 0; dot = 2; p
 unfolding take_dots take_dot dots_a_frame text_dot nibble is_foreground
 two = refl
 
--- a value of the palette that is set between two dots is that of the second
+-- a palette value that is set between two dots shows at the second
 coloured_between : (take_dot (after (Colours (SetRegister 1 3)) (take_dot (at (small 0 0) 0)))).picture ≡ 12 ∷ 22 ∷ 32 ∷ 13 ∷ 23 ∷ 33 ∷ []
 unfolding take_dot dots_a_frame text_dot nibble is_foreground next with_colours
 coloured_between = refl
@@ -88,7 +88,7 @@ one_glyph = record { height = 8; first = 1; count = 1; is_block = true }
 abbrev cut_anew : Screen
 cut_anew = load_glyphs no_fonts (small 1 0) one_glyph (0x80 ∷ 0 ∷ 0 ∷ 0 ∷ 0 ∷ 0 ∷ 0 ∷ 0 ∷ [])
 
--- a height that comes at dot 0 is that of the whole frame: page 0 is shown, and the second row of cells begins on line 8
+-- a height that is set at dot 0 holds for the whole frame: page 0 is shown, and the second row of cells begins on line 8
 first_row_anew : take_dots 2 (at cut_anew 0) ≡ record { screen = cut_anew; dot = 2; page = 0; picture = 12 ∷ 22 ∷ 32 ∷ 11 ∷ 21 ∷ 31 ∷ [] }
 unfolding take_dots take_dot dots_a_frame text_dot nibble is_foreground load_glyphs
 first_row_anew = refl

@@ -41,7 +41,7 @@ ninth_dot : nibble (shown 3 0x1E 0 true 0) 0 0 8 ≡ 1
 unfolding nibble is_foreground
 ninth_dot = refl
 
--- the ninth dot repeats the eighth for the line-drawing characters alone
+-- the ninth dot repeats the eighth only for the line-drawing characters
 before_lines : is_glyph_dot 0xBF 0x01 8 ≡ false
 before_lines = refl
 
@@ -51,10 +51,10 @@ first_line = refl
 last_line : is_glyph_dot 0xDF 0x01 8 ≡ true
 last_line = refl
 
-behind_lines : is_glyph_dot 0xE0 0x01 8 ≡ false
-behind_lines = refl
+after_lines : is_glyph_dot 0xE0 0x01 8 ≡ false
+after_lines = refl
 
--- attribute bit 7 is of the background where nothing blinks, and else blinks
+-- attribute bit 7 belongs to the background if nothing blinks, and else blinks
 bright : nibble (shown 3 0x9E 0 false 16) 0 0 1 ≡ 9
 unfolding nibble is_foreground
 bright = refl
@@ -67,7 +67,7 @@ blinked_away : nibble (shown 3 0x9E 0 true 16) 0 0 0 ≡ 1
 unfolding nibble is_foreground
 blinked_away = refl
 
--- the underline is in the last row, in monochrome alone; blink comes after it
+-- the underline is in the last row, only in monochrome; blink comes after it
 underline : nibble (shown 7 0 0x01 true 0) 1 15 4 ≡ 1
 unfolding nibble is_foreground
 underline = refl

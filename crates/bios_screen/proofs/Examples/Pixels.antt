@@ -116,7 +116,7 @@ turned : pixels (next fonts (shown 0x10) (WritePixel 0 1 0 0x83) []) ≡ (1 ∷ 
 unfolding next
 turned = refl
 
--- a character takes the colour where its glyph has dots, and all else of its cell is 0
+-- a character has the colour where its glyph has dots, and all else in its cell is 0
 abbrev character : ℕ → CellRun
 character colour = record { page = 0; character = 0; colouring = record { colour = colour; is_attribute = true }; count = 1 }
 
@@ -193,15 +193,15 @@ paged mode page0 place0 page1 place1 = record (shown mode) {
 }
 
 -- a character of 16 colours at the end of a row, and one by XOR
-typed_plain : next fonts (paged 0x0D whole 0 whole 0x0001) (Teletype 0 0x15) [] ≡ paged 0x0D whole 0 (eight 1 (dots 5 0 (eight 3 (eight 4 [])))) 0x0100
+typed_opaque : next fonts (paged 0x0D whole 0 whole 0x0001) (Teletype 0 0x15) [] ≡ paged 0x0D whole 0 (eight 1 (dots 5 0 (eight 3 (eight 4 [])))) 0x0100
 unfolding next type_character
-typed_plain = refl
+typed_opaque = refl
 
 typed_over : next fonts (paged 0x0D whole 0 whole 0x0100) (Teletype 0 0x87) [] ≡ paged 0x0D whole 0 (eight 1 (eight 2 (dots 4 3 (eight 4 [])))) 0x0101
 unfolding next type_character
 typed_over = refl
 
--- behind the last column of the last row the page goes up, with a row of colour 0
+-- after the last column of the last row the page goes up, with a row of colour 0
 typed_last : next fonts (paged 0x0D whole 0 whole 0x0101) (Teletype 0 0x05) [] ≡ paged 0x0D whole 0 (eight 3 (dots 5 0 (eight 0 (eight 0 [])))) 0x0100
 unfolding next type_character
 typed_last = refl
@@ -231,7 +231,7 @@ last_packed = refl
 -- a string over the end of a page that is not shown: the first character is there before the page goes up, the second is by XOR
 string_typed : next fonts (paged 0x0D whole 0x0001 whole 0) (WriteString (record {
   page = 0;
-  place = 0x0101;
+  position = 0x0101;
   colour = 0;
   count = 2;
   has_attributes = true;

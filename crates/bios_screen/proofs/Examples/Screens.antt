@@ -10,11 +10,10 @@ use Rattle.bios_services.specs.declared.call.Service.{Service}
 use Rattle.bios_services.specs.declared.call.Service.TheVariants.{SetCursor, SelectPage, ScrollUp, ScrollDown, WriteCells, WritePixel, Teletype, Colours}
 use Rattle.bios_services.specs.declared.call.Service.TheVariants.{WriteString}
 use Rattle.bios_screen.specs.Screen.{Cell, Cells, Screen}
-use Rattle.bios_services.specs.Colours.{colour_refusal}
 use Rattle.bios_screen.specs.Colours.{with_colours as colours_after, table_answer}
 use Rattle.bios_screen.specs.Step.{refusal_on, next, type_character, cells_on}
 
--- a page of these cells, with the cursor at this place
+-- a page of these cells, with the cursor at this position
 abbrev small : List Cell → ℕ → Screen
 small cells place = record {
   mode = 3;
@@ -34,7 +33,7 @@ small cells place = record {
 abbrev six : List Cell
 six = (1, 11) ∷ (2, 12) ∷ (3, 13) ∷ (4, 14) ∷ (5, 15) ∷ (6, 16) ∷ (7, 17) ∷ (8, 18) ∷ []
 
--- so many cells of a character in this colour, which is an attribute or is not
+-- a run of cells with a character in this colour, which is the attribute or is not
 abbrev run : ℕ → ℕ → Bool → ℕ → CellRun
 run character colour is_attribute count = record {
   page = 0;
@@ -55,9 +54,9 @@ coloured_write : after (small six 1) (WriteCells (run 65 30 true 2)) ≡ (1, 11)
 unfolding next
 coloured_write = refl
 
-plain_write : after (small six 256) (WriteCells (run 65 30 false 3)) ≡ (1, 11) ∷ (2, 12) ∷ (3, 13) ∷ (65, 14) ∷ (65, 15) ∷ (65, 16) ∷ (7, 17) ∷ (8, 18) ∷ []
+character_write : after (small six 256) (WriteCells (run 65 30 false 3)) ≡ (1, 11) ∷ (2, 12) ∷ (3, 13) ∷ (65, 14) ∷ (65, 15) ∷ (65, 16) ∷ (7, 17) ∷ (8, 18) ∷ []
 unfolding next
-plain_write = refl
+character_write = refl
 
 -- four cells from the second row on are past the page's last
 long_write : refusal_on (small six 256) (WriteCells (run 65 30 false 4)) 0 ≡ Some CountPast
@@ -109,7 +108,7 @@ carriage_return : next no_fonts (small six 258) (Teletype 0x0D 9) [] ≡ small s
 unfolding next type_character
 carriage_return = refl
 
--- with one page every page that is named is meant, but another page can't be shown
+-- with one page, any number means that page, but another page can't be shown
 page_named : refusal_on (small six 0) (SetCursor 5 0) 0 ≡ None
 unfolding refusal_on
 page_named = refl
@@ -124,7 +123,7 @@ typed_outside = refl
 
 -- a string with attributes over the end of a row, which moves the cursor or leaves it
 abbrev string : Bool → Service
-string moves = WriteString (record { page = 0; place = 2; colour = 0; count = 2; has_attributes = true; moves_cursor = moves })
+string moves = WriteString (record { page = 0; position = 2; colour = 0; count = 2; has_attributes = true; moves_cursor = moves })
 
 abbrev two : List ℕ
 two = 65 ∷ 30 ∷ 66 ∷ 31 ∷ []
@@ -165,22 +164,22 @@ value_set : (next no_fonts coloured (Colours (SetRegister 1 0xC5)) []).palette.v
 unfolding next colours_after
 value_set = refl
 
--- entries from one on take three bytes each
+-- entries from entry 1 on get three bytes each
 entries_set : (next no_fonts coloured (Colours (SetEntries 1 2)) (1 ∷ 2 ∷ 3 ∷ 4 ∷ 5 ∷ 0x46 ∷ [])).palette
     ≡ record coloured.palette { reds = 10 ∷ 1 ∷ 4 ∷ []; greens = 20 ∷ 2 ∷ 5 ∷ []; blues = 30 ∷ 3 ∷ 6 ∷ [] }
 unfolding next colours_after
 entries_set = refl
 
--- a block that is too short, and a register that there is not
+-- a block that is too short, and a register that does not exist
 short_entries : refusal_on coloured (Colours (SetEntries 1 2)) 5 ≡ Some BadBlock
-unfolding refusal_on colour_refusal
+unfolding refusal_on
 short_entries = refl
 
 no_register : refusal_on coloured (Colours (SetRegister 16 0)) 0 ≡ Some BadRegister
-unfolding refusal_on colour_refusal
+unfolding refusal_on
 no_register = refl
 
--- the palette is answered with the overscan behind it, and entries with three bytes each
+-- the palette is answered with the overscan after it, and entries with three bytes each
 palette_table : table_answer (record coloured { overscan = 7 }) ReadPalette ≡ PaletteTable (1 ∷ 2 ∷ 7 ∷ [])
 palette_table = refl
 

@@ -28,11 +28,11 @@ colour_of l = record { red = slice_index l 0; green = slice_index l 1; blue = sl
 abbrev pub kept_colour : Colour → Colour
 kept_colour x = record { red = bit_and x.red 0x3F; green = bit_and x.green 0x3F; blue = bit_and x.blue 0x3F }
 
--- an entry of the three lists
+-- an entry, from the three lists
 abbrev pub entry_at : DacState → ℕ → Colour
 entry_at d k = record { red = slice_index d.reds k; green = slice_index d.greens k; blue = slice_index d.blues k }
 
--- all of an adapter but its DAC entries and what the DAC waits for
+-- all of an adapter except its DAC entries and what the DAC waits for
 abbrev pub without_entries : CardState → CardState
 without_entries c = record c { dac = record c.dac { reds = []; greens = []; blues = []; index = 0; component = Red; waiting_red = 0; waiting_green = 0 } }
 
@@ -109,7 +109,7 @@ before_entry c i z l = record {
   others = refl;
 }
 
--- so many colours from entry i on
+-- n colours from entry i on
 pub entries_written : (rest : CardState) (colour : ℕ → List ℕ) (i n : ℕ) (s : CardState) (c : ℕ → Colour) → i + n ≤ 256 → HasEntries rest i s c →
     Leaves CardState Colour (HasEntries rest (i + n)) (run card_meaning (each (λ r. colour_plan (colour r)) n 0) s).0
     (Edited Colour (Turn (λ _. Unit {0}) 0 n) (λ h. i + h.turn) (λ h x. kept_colour (colour_of (colour h.turn))) c)
@@ -126,7 +126,7 @@ entries_written rest colour i n s c l t =
 abbrev pub keeps_entries : Palette → ℕ → Type 0
 keeps_entries palette n = (k : ℕ) → k < n → kept_colour (colour_of (palette_entry palette k)) ≡ colour_of (palette_entry palette k)
 
--- where that is so of each component, which is computed
+-- if that holds for each component, which is computed
 abbrev is_kept : List ℕ → Bool
 is_kept l = (bit_and (slice_index l 0) 0x3F == slice_index l 0)
     && ((bit_and (slice_index l 1) 0x3F == slice_index l 1) && (bit_and (slice_index l 2) 0x3F == slice_index l 2))

@@ -24,7 +24,7 @@ use Rattle.bios_screen.proofs.Modes.Entries.{Colour as Entry, colour_of, entry_a
 
 -- ---- the DAC
 
--- states that agree but for entries are one but for those
+-- states that differ only in entries are equal with the same entries
 but_entries : (x y : CardState) → without_entries x ≡ without_entries y → x ≡ record y { dac = record x.dac { mask = y.dac.mask } }
 but_entries x y e = ap (λ s. let r : CardState = record s { dac = record x.dac { mask = s.dac.mask } } in r) e
 

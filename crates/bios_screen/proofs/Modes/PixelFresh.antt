@@ -7,7 +7,7 @@ use Rattle.vga_bits.specs.Bits.{byte_of}
 use Rattle.bios_screen.proofs.Prelude.{Four, bytes_at, IsCard, card_meaning, CardState, ModeRow, data_of_mode, bytes_320_by_200, Plan, run, put, Screen}
 use Rattle.bios_screen.proofs.Prelude.{planar_pixel, packed_pixel, pixel_in, shown}
 use Rattle.vga_bits.specs.Four.{four}
-use Rattle.vga_host.specs.MemoryWrite.{written_bit, combined_bit}
+use Rattle.vga_host.specs.Memory.Write.{written_bit, combined_bit}
 use Rattle.bios_modes.specs.Kinds.{kind_in, is_text_kind}
 use Rattle.bios_services.specs.ModeSet.{clear_plan, text_plan, memory_plan, mode_set_plan}
 use Rattle.bios_screen.specs.Screen.{Pixels, Palette}

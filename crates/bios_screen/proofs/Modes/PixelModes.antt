@@ -1,4 +1,4 @@
--- The rows of the mode table that are graphics. What a row says is certified here once, by computing; all other rooms take a row with what it says.
+-- The rows of the mode table that are graphics. What a row says is computed here once; all other rooms cite it.
 use Rattle.std.proofs.Common.{◌≡◌, ℕ, ◌+◌, ◌*◌, ◌/◌, ◌%◌, ◌<◌, ◌≤◌, refl, arith, true, false, Some}
 use Rattle.std.specs.Prelude.{slice_index, IsTrue, ◌&&◌, nat_lt, nat_le}
 use Rattle.std.proofs.lemmas.Bool.Decides.{nat_tests}
@@ -23,7 +23,7 @@ use Rattle.bios_screen.proofs.Modes.Frames.{IsFrame, computed_frame, HasShades, 
 use Rattle.bios_screen.proofs.Modes.Registers.{in_mode, IsSet}
 use Rattle.bios_screen.proofs.Planar.Settings.{drawing, at_rest}
 
--- the registers that memory cycles look at
+-- the registers that memory cycles depend on
 abbrev pub setting_of : ModeRow → Setting
 setting_of row = record { misc = row.misc; seq = row.sequencer; gfx = row.graphics }
 

@@ -56,7 +56,7 @@ blanked disp rest c m n l t =
     })
     n 0 c m (omega arith) (omega arith) t
 
--- states that agree but for glyphs are one but for those
+-- states that differ only in glyphs are equal with the same glyphs
 pub but_glyphs : (x y : CardState) → without_glyphs x ≡ without_glyphs y → x ≡ record y {
   host =
       record y.host { memory = record y.host.memory { plane2 = x.host.memory.plane2 } };

@@ -44,7 +44,7 @@ text_graphics k = 0x00 ∷ 0x00 ∷ 0x00 ∷ 0x00 ∷ 0x00 ∷ 0x10 ∷ window_o
 abbrev pub text_setting : Display → Setting
 text_setting k = record { misc = misc_of k; seq = text_sequencer; gfx = text_graphics k }
 
--- what a row of text has of its display: the registers of memory, and the port
+-- what a row of text says by its display: the registers of memory, and the port
 pub record IsOfDisplay (k : Display) (mode : ℕ) (row : ModeRow) : Type 0 where
   pub misc : row.misc ≡ misc_of k
   pub sequencer : row.sequencer ≡ text_sequencer

@@ -7,9 +7,9 @@ use Rattle.vga_bits.proofs.BitLemmas.{byte_bits}
 use Rattle.bios_screen.proofs.Prelude.{Four, bytes_at, HostState, card_meaning, CardState, bytes_320_by_200, run, put, packed_pixel}
 use Rattle.vga_bits.specs.Four.{of_plane}
 use Rattle.vga_bits.proofs.FourLemmas.{by_plane}
-use Rattle.vga_host.specs.Address.{is_decoded, window_offset}
-use Rattle.vga_host.specs.MemoryWrite.{written_bit, combined_bit, written_byte, memory_after_put}
-use Rattle.vga_host.specs.MemoryRead.{read_bit, read_byte}
+use Rattle.vga_host.specs.Memory.Address.{is_decoded, window_offset}
+use Rattle.vga_host.specs.Memory.Write.{written_bit, combined_bit, written_byte, memory_after_put}
+use Rattle.vga_host.specs.Memory.Read.{read_bit, read_byte}
 use Rattle.bios_screen.proofs.Base.Flat.{set_cell, list_put}
 use Rattle.bios_screen.proofs.Base.Setting.{setting, host_at, with_memory, put_decoded}
 use Rattle.bios_screen.proofs.Modes.PixelModes.{setting_of}

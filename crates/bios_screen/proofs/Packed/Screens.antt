@@ -83,7 +83,7 @@ module _ (c : CardState) (d : BiosData) (t : IsPacked c d) (z : IsCard c) where
       page_renewed bytes_320_by_200 c y d (t.there d.height) t.text t.tests (h.mode ∙ sym setting_is) h.others 0 change (omega arith)
       (λ k l. pixel_by y.host.memory k ∙ h.cell k ∙ inside k l) (λ g k lg w l. absurd (w (omega arith)))
 
-  -- and where all pixels are as they were, the screen stays
+  -- and if all pixels are as they were, the screen stays
   pub stays : (y : CardState) → IsFlat (without_host c) y (packed_pixel c.host.memory) → shown y d ≡ Some s
   stays y h = pixels_stay bytes_320_by_200 c y d (t.there d.height) t.text t.tests (h.mode ∙ sym setting_is) h.others (λ g k lg _.
       let first : g ≡ 0 = omega arith in

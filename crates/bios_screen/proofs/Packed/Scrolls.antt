@@ -1,9 +1,9 @@
--- A window of 256 colours goes up or down, from the screen to the next.
+-- A window of 256 colours moves up or down, from the screen to the next.
 use Rattle.std.proofs.Common.{◌≡◌, ℕ, ◌+◌, ◌-◌, ◌*◌, ◌/◌, ◌%◌, ◌<◌, ◌≤◌, refl, sym, ap, ◌∙◌, subst, arith, Some, false}
 use Rattle.bios_screen.proofs.Prelude.{IsCard, card_meaning, CardState, bytes_320_by_200, BiosData, Band, Direction, Window, page_base, kind_of, run, Screen}
 use Rattle.bios_screen.proofs.Prelude.{packed_pixel, page_pixels, pixel_screen, shown, pixel_of, with_pixels}
 use Rattle.bios_modes.specs.declared.kind.Kind.TheVariants.{Packed}
-use Rattle.bios_services.specs.Bands.{filling_byte, plain, fill_plan, scroll_rows, band_by}
+use Rattle.bios_services.specs.Bands.{filling_byte, uniform, fill_plan, scroll_rows, band_by}
 use Rattle.bios_services.specs.Scroll.{IsOnPage, window_plan}
 use Rattle.bios_screen.specs.Step.{pixel_row, pixel_column, in_window, has_source, source, row_pixels, fill_pixel, scroll_pixels}
 use Rattle.bios_screen.specs.Step.{scroll_window}
@@ -13,7 +13,7 @@ use Rattle.bios_screen.proofs.Base.Bands.{IsWindow}
 use Rattle.bios_screen.proofs.Base.Shifts as shifts
 use Rattle.bios_screen.proofs.Dots.PackedDots.{IsPacked}
 use Rattle.bios_screen.proofs.Planar.Settings.{without_host}
-use Rattle.bios_screen.proofs.Planar.Windows.{filled_plain}
+use Rattle.bios_screen.proofs.Planar.Windows.{filled_uniform}
 use Rattle.bios_screen.proofs.Packed.Screens as screens
 use Rattle.bios_screen.proofs.Packed.Screens.{IsFlat, put_flat, get_flat}
 
@@ -40,7 +40,7 @@ module _ (c : CardState) (d : BiosData) (t : IsPacked c d) (z : IsCard c) (p : �
         ∙ (let none : d.size * 0 ≡ 0 = omega arith in ap (λ x. 0xA0000 + x) none);
     memory = let a = screens.all_pixels c d t z in omega arith;
     below = on.below;
-    behind = let a = on.behind in omega arith;
+    after = let a = on.after in omega arith;
     left = refl;
     width = refl;
     wide = let a = t.has.columns in omega arith;
@@ -48,7 +48,7 @@ module _ (c : CardState) (d : BiosData) (t : IsPacked c d) (z : IsCard c) (p : �
   }
 
   abbrev IsScrolled : (ℕ → ℕ) → (ℕ → ℕ) → Type 0
-  IsScrolled = shifts.IsScrolled ℕ 0xA0000 65536 band 0 (d.last_row + 1) w window direction n (λ i _. filling_byte (plain colour) i)
+  IsScrolled = shifts.IsScrolled ℕ 0xA0000 65536 band 0 (d.last_row + 1) w window direction n (λ i _. filling_byte (uniform colour) i)
 
   abbrev old : ℕ → ℕ
   old = packed_pixel c.host.memory
@@ -57,7 +57,7 @@ module _ (c : CardState) (d : BiosData) (t : IsPacked c d) (z : IsCard c) (p : �
       (run card_meaning (scroll_rows band direction w.top w.height n colour) c).0 (IsScrolled old)
   unfolding scroll_rows fill_plan
   scrolls some few = shifts.filled_once CardState card_meaning 0xA0000 65536 band 0 (d.last_row + 1) w window (IsFlat (without_host c))
-      (pixel_read (without_host c)) (λ j v y f lj lv u. put_flat (without_host c) j v y f lj lv u) (plain colour) lc lc direction n c old
+      (pixel_read (without_host c)) (λ j v y f lj lv u. put_flat (without_host c) j v y f lj lv u) (uniform colour) lc lc direction n c old
       some few (screens.begins c d t z)
 
   -- ---- the pixels
@@ -75,7 +75,7 @@ module _ (c : CardState) (d : BiosData) (t : IsPacked c d) (z : IsCard c) (p : �
       ap f (sym (none k)) ∙ is.moved k u m ∙ ap old (none far)
       ∙ sym (screens.pixel_is c d t z far (shifts.source_within ℕ 0xA0000 65536 band 0 (d.last_row + 1) w window direction k n u m)))
       (λ u m.
-      ap f (sym (none k)) ∙ (is.filled k u m).is ∙ filled_plain colour (k % band.pitch - band.left)
+      ap f (sym (none k)) ∙ (is.filled k u m).is ∙ filled_uniform colour (k % band.pitch - band.left)
       ∙ sym (ap (λ i. fill_pixel i colour) t.number))
       (λ u.
       is.outside k (λ b q. let same : k ≡ b = omega arith in subst (λ i. in_window w (pixel_row s i) (pixel_column s i) ≡ false) same u)

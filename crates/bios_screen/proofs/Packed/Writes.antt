@@ -1,4 +1,4 @@
--- Characters in 256 colours at some cells of the page, from the screen to the next.
+-- Characters in 256 colours in a run of cells of the page, from the screen to the next.
 use Rattle.std.proofs.Common.{◌≡◌, ℕ, ◌+◌, ◌-◌, ◌*◌, ◌/◌, ◌%◌, ◌<◌, ◌≤◌, refl, sym, ap, ◌∙◌, subst, arith, Some, Bool, true, false}
 use Rattle.std.specs.Prelude.{if◌then◌else◌}
 use Rattle.bios_screen.proofs.Prelude.{is_set, IsCard, card_meaning, CardState, bytes_320_by_200, BiosData, FontSet, Band, Colouring, page_base, cells_of}

@@ -1,4 +1,4 @@
--- Where a service changes pixels alone: from pixels that are known one by one to the next screen.
+-- If a service changes only pixels: from pixels that are known one by one to the next screen.
 use Rattle.std.proofs.Common.{◌≡◌, ◌≢◌, ℕ, ◌+◌, ◌*◌, ◌<◌, sym, ap, ◌∙◌, arith, List, [], length, get_or, Some, false}
 use Rattle.std.specs.Prelude.{set}
 use Rattle.bios_screen.proofs.Prelude.{Four, CardState, ModeRow, row_at, BiosData, is_text, listing, Screen, shows_attribute, pixel_in, page_pixels}
@@ -58,7 +58,7 @@ module _ (row : ModeRow) (c y : CardState) (d : BiosData) (e : row_at d.mode d.h
       (λ g lg w. same_from_0 (pixel c.host.memory g) (pixel y.host.memory g) n (λ k l. outside g k lg w l)) in
       redrawn ∙ ap (λ x. Some (screen_by row c d 0 (Pixels x) [])) (pages ∙ ap (λ i. set old p (listing (change (pixel_of s p)) 0 i)) (sym long))
 
-  -- and where all pixels are as they were, the screen stays
+  -- and if all pixels are as they were, the screen stays
   pub pixels_stay : ((g k : ℕ) → g < row.pages → k < n → pixel y.host.memory g k ≡ pixel c.host.memory g k) → shown y d ≡ Some s
   unfolding pixel_pages pixels_in
   pixels_stay stay =

@@ -1,4 +1,4 @@
--- Characters at some cells of a page of pixels, from the screen to the next, however memory has the pixels.
+-- Characters in a run of cells of a page of pixels, from the screen to the next, however the pixels lie in memory.
 use Rattle.std.proofs.Common.{◌≡◌, ◌≢◌, ℕ, ◌+◌, ◌-◌, ◌*◌, ◌/◌, ◌%◌, ◌<◌, ◌≤◌, sym, ap, ◌∙◌, arith, Some}
 use Rattle.std.proofs.Math.Nat.{mod-lt}
 use Rattle.bios_screen.proofs.Prelude.{is_set, card_meaning, CardState, ModeRow, BiosData, FontSet, Band, Colouring, cells_of, run, Screen, page_pixels}

@@ -8,7 +8,7 @@ use Rattle.std.proofs.lemmas.Nat.Bits.{bit_at-lt}
 use Rattle.vga_bits.specs.Bits.{byte_of}
 use Rattle.vga_bits.specs.Four.{Four, of_plane}
 use Rattle.vga_bits.proofs.FourLemmas.{by_plane}
-use Rattle.vga_host.specs.MemoryWrite.{written_bit, combined_bit, written_byte}
+use Rattle.vga_host.specs.Memory.Write.{written_bit, combined_bit, written_byte}
 use Rattle.bios_screen.proofs.Planar.Settings.{Hand, drawing, bare, stored}
 
 -- ---- a number of four bits, one of each plane
@@ -75,7 +75,7 @@ one_bit j k hj hk =
     ap (λ x. bit_at (0x80 / 2 ^ x) j == 0) (sym a) ∙ ap (λ y. bit_at (0x80 / 2 ^ (n / 8)) y == 0) (sym b) ∙ t
     ∙ ap (λ x. if 7 - x == n % 8 then false else true) a ∙ ap (λ y. if 7 - k == y then false else true) b
 
--- ---- a Put in write mode 2 under a mask of one bit, plain or by XOR
+-- ---- a Put in write mode 2 under a mask of one bit, directly or by XOR
 
 abbrev pub dot_hand : Bool → ℕ → Hand
 dot_hand b k = record { mask = 0x0F; turn = if b then 0x18 else 0x00; mode = 0x02; bits = 0x80 / 2 ^ k }

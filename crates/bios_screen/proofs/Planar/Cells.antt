@@ -6,7 +6,7 @@ use Rattle.std.proofs.lemmas.Bool.Decides.{nat_tests}
 use Rattle.bios_screen.proofs.Prelude.{is_set, Four, bytes_at, HostState, IsCard, card_meaning, CardState, ModeRow, BiosData, FontSet, Planar, Regs, cells_of}
 use Rattle.bios_screen.proofs.Prelude.{graphics, run, Screen, page_pixels, pixel_screen, pixel_of}
 use Rattle.vga_bits.specs.Bits.{byte_of}
-use Rattle.vga_host.specs.MemoryRead.{read_bit, read_byte}
+use Rattle.vga_host.specs.Memory.Read.{read_bit, read_byte}
 use Rattle.bios_services.specs.CharacterReading.{line_plan}
 use Rattle.bios_services.specs.Cursor.{cursor_cell}
 use Rattle.bios_screen.specs.Step.{cell_line}

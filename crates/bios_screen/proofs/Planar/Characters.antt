@@ -1,4 +1,4 @@
--- A character in sixteen colours, plain and by XOR: what its lines leave of four bytes each, and what that is to the pixels.
+-- A character in sixteen colours, opaque and by XOR: what its lines leave of four bytes each, and what that is to the pixels.
 use Rattle.std.proofs.Common.{◌≡◌, ◌≢◌, ℕ, zero, suc, ◌+◌, ◌-◌, ◌%◌, ◌<◌, refl, sym, ap, ◌∙◌, subst, arith, Bool, true, false}
 use Rattle.std.specs.Prelude.{◌==◌, if◌then◌else◌, bit_xor}
 use Rattle.std.specs.Int.{bit_at}
@@ -7,7 +7,7 @@ use Rattle.std.proofs.lemmas.Nat.Bits.{bit_at-lt}
 use Rattle.bios_screen.proofs.Prelude.{is_set, Four, card_meaning, CardState, graphics, Plan, run, put, get, each, ◌>>◌}
 use Rattle.vga_bits.specs.Bits.{byte_of}
 use Rattle.vga_bits.specs.Four.{four, of_plane}
-use Rattle.vga_host.specs.MemoryWrite.{written_bit, combined_bit}
+use Rattle.vga_host.specs.Memory.Write.{written_bit, combined_bit}
 use Rattle.bios_services.specs.Cycles.{sequencer}
 use Rattle.bios_services.specs.Drawing.{put_over}
 use Rattle.bios_screen.proofs.Base.Flat.{Edited, Turn, Leaves, set_cell}
@@ -33,7 +33,7 @@ xor_byte a b = byte_of (λ i. (bit_at a i + bit_at b i) % 2)
 abbrev pub turned : ℕ → ℕ → Four ℕ → Four ℕ
 turned mask v old = four (λ p. if is_set mask p then xor_byte v (of_plane old p) else of_plane old p)
 
--- a line of a glyph, plain over zeros or by XOR
+-- a line of a glyph, opaque over zeros or by XOR
 abbrev pub lined : Bool → ℕ → ℕ → Four ℕ → Four ℕ
 lined b mask v old = if b then turned mask v old else put_in_planes mask v (put_in_planes 0x0F 0x00 old)
 
@@ -41,8 +41,8 @@ lined b mask v old = if b then turned mask v old else put_in_planes mask v (put_
 abbrev pub dotted_by : Bool → ℕ → Bool → ℕ → ℕ
 dotted_by b mask is_dot old = if is_dot then (if b then bit_xor old mask else mask) else if b then old else 0
 
-pixel_plain : (mask v i : ℕ) (old : Four ℕ) → mask < 16 → nibble_of (put_in_planes mask v (put_in_planes 0x0F 0x00 old)) i ≡ (if is_set v (7 - i) then mask else 0)
-pixel_plain mask v i old l =
+pixel_opaque : (mask v i : ℕ) (old : Four ℕ) → mask < 16 → nibble_of (put_in_planes mask v (put_in_planes 0x0F 0x00 old)) i ≡ (if is_set v (7 - i) then mask else 0)
+pixel_opaque mask v i old l =
     same_nibble (λ p. bit_at (if is_set mask p then byte v else byte 0x00) (7 - i)) (λ p. if is_set mask p then bit_at v (7 - i) else 0)
     (λ p _. chosen (is_set mask p))
     ∙ at_bit (bit_at v (7 - i)) (bit_at-lt v (7 - i))
@@ -101,7 +101,7 @@ pixel_turned mask v i old l =
 pub pixel_lined : (b : Bool) (mask v i : ℕ) (old : Four ℕ) → mask < 16 → i < 8 → nibble_of (lined b mask v old) i
     ≡ dotted_by b mask (is_set v (7 - i)) (nibble_of old i)
 pixel_lined true mask v i old l li = pixel_turned mask v i old l
-pixel_lined false mask v i old l li = pixel_plain mask v i old l
+pixel_lined false mask v i old l li = pixel_opaque mask v i old l
 
 -- ---- the plans, by the places of the lines
 
@@ -110,8 +110,8 @@ pub record Drawn (rest : CardState) (e d : ℕ) (h : Hand) (c : CardState) (f : 
   pub latches : Four ℕ
   pub is : Loaded rest e d h c f latches
 
-abbrev plain : ℕ → Hand
-plain mask = record { mask = mask; turn = 0x00; mode = 0x00; bits = 0xFF }
+abbrev opaque : ℕ → Hand
+opaque mask = record { mask = mask; turn = 0x00; mode = 0x00; bits = 0xFF }
 
 abbrev turning : ℕ → Hand
 turning mask = record { mask = mask; turn = 0x18; mode = 0x00; bits = 0xFF }
@@ -122,8 +122,8 @@ lines_plan at g n = each (λ r. put (at r) (g r)) n 0
 abbrev pub turns_plan : (ℕ → ℕ) → (ℕ → ℕ) → ℕ → Plan (Unit {0})
 turns_plan at g n = each (λ r. put_over (at r) (g r)) n 0
 
-abbrev pub plain_by : (ℕ → ℕ) → (ℕ → ℕ) → ℕ → ℕ → Plan (Unit {0})
-plain_by at g n mask = do
+abbrev pub opaque_by : (ℕ → ℕ) → (ℕ → ℕ) → ℕ → ℕ → Plan (Unit {0})
+opaque_by at g n mask = do
   lines_plan at (λ r. 0x00) n
   sequencer 2 mask
   lines_plan at g n
@@ -138,7 +138,7 @@ turned_by at g n mask = do
   graphics 3 0x00
 
 abbrev pub glyph_by : Bool → (ℕ → ℕ) → (ℕ → ℕ) → ℕ → ℕ → Plan (Unit {0})
-glyph_by b at g n mask = if b then turned_by at g n mask else plain_by at g n mask
+glyph_by b at g n mask = if b then turned_by at g n mask else opaque_by at g n mask
 
 module _ (rest : CardState) (e d : ℕ) (on : is_set e 1 ≡ true) (at : ℕ → ℕ) (height : ℕ) (within : (r : ℕ) → r < height → at r < 65536)
     (apart : (j k : ℕ) → j < k → k < height → at j ≢ at k) where
@@ -146,28 +146,28 @@ module _ (rest : CardState) (e d : ℕ) (on : is_set e 1 ≡ true) (at : ℕ →
   Line = Turn (λ _. Unit {0}) 0 height
 
   -- what is stored, by hand
-  plainly : (v mask : ℕ) (q old : Four ℕ) → stored (drawing e d (plain mask)) mask v q old ≡ put_in_planes mask v old
+  stores_byte : (v mask : ℕ) (q old : Four ℕ) → stored (drawing e d (opaque mask)) mask v q old ≡ put_in_planes mask v old
   unfolding byte_of written_bit combined_bit
-  plainly v mask q old = refl
+  stores_byte v mask q old = refl
 
   by_xor : (mask v : ℕ) (q : Four ℕ) → stored (drawing e d (turning mask)) mask v q q ≡ turned mask v q
   unfolding byte_of written_bit combined_bit
   by_xor mask v q = refl
 
-  lines_put : (mask : ℕ) (g : ℕ → ℕ) (c : CardState) (f : ℕ → Four ℕ) → Drawn rest e d (plain mask) c f →
-      Leaves CardState (Four ℕ) (Drawn rest e d (plain mask)) (run card_meaning (lines_plan (λ r. 0xA0000 + at r) g height) c).0
+  lines_put : (mask : ℕ) (g : ℕ → ℕ) (c : CardState) (f : ℕ → Four ℕ) → Drawn rest e d (opaque mask) c f →
+      Leaves CardState (Four ℕ) (Drawn rest e d (opaque mask)) (run card_meaning (lines_plan (λ r. 0xA0000 + at r) g height) c).0
       (Edited (Four ℕ) Line (λ h. at h.turn) (λ h x. put_in_planes mask (g h.turn) x) f)
   lines_put mask g c f t =
-      edits CardState (Four ℕ) card_meaning (λ r. put (0xA0000 + at r) (g r)) (λ _. Drawn rest e d (plain mask)) 0 height (λ _. Unit {0}) (λ r _. at r)
+      edits CardState (Four ℕ) card_meaning (λ r. put (0xA0000 + at r) (g r)) (λ _. Drawn rest e d (opaque mask)) 0 height (λ _. Unit {0}) (λ r _. at r)
       (λ r _ x. put_in_planes mask (g r) x)
       (λ j k _ _ lb lo hi. apart j k lo hi)
       (λ r s x lb l u.
-      let new = stored (drawing e d (plain mask)) mask (g r) u.latches (x (at r)) in
+      let new = stored (drawing e d (opaque mask)) mask (g r) u.latches (x (at r)) in
       let one = one_edit (at r) new x in
       record {
         cells = set_cell x (at r) new;
-        shown = record { latches = u.latches; is = put_draws rest e d (at r) (g r) (plain mask) u.latches s x on u.is (within r l) };
-        fact = record { inside = λ h. one.inside h ∙ plainly (g r) mask u.latches (x (at r)); outside = one.outside };
+        shown = record { latches = u.latches; is = put_draws rest e d (at r) (g r) (opaque mask) u.latches s x on u.is (within r l) };
+        fact = record { inside = λ h. one.inside h ∙ stores_byte (g r) mask u.latches (x (at r)); outside = one.outside };
       })
       height 0 c f (omega arith) (omega arith) t
 
@@ -204,15 +204,15 @@ module _ (rest : CardState) (e d : ℕ) (on : is_set e 1 ≡ true) (at : ℕ →
       let c1 = (run card_meaning p1 c).0 in
       let m1 = lines_put 0x0F (λ r. 0x00) c f t in
       let c2 = (run card_meaning (sequencer 2 mask) c1).0 in
-      let m2 : Drawn rest e d (plain mask) c2 m1.cells = record {
+      let m2 : Drawn rest e d (opaque mask) c2 m1.cells = record {
         latches = m1.shown.latches;
-        is = mask_set rest e d mask (plain 0x0F) m1.shown.latches c1 m1.cells lm m1.shown.is;
+        is = mask_set rest e d mask (opaque 0x0F) m1.shown.latches c1 m1.cells lm m1.shown.is;
       } in
       let c3 = (run card_meaning p3 c2).0 in
       let m3 = lines_put mask g c2 m1.cells m2 in
       let all : Leaves CardState (Four ℕ) (Drawn rest e d at_rest) (run card_meaning p4 c3).0 (Lined false g mask f) = record {
         cells = m3.cells;
-        shown = record { latches = m3.shown.latches; is = mask_set rest e d 0x0F (plain mask) m3.shown.latches c3 m3.cells (omega arith) m3.shown.is };
+        shown = record { latches = m3.shown.latches; is = mask_set rest e d 0x0F (opaque mask) m3.shown.latches c3 m3.cells (omega arith) m3.shown.is };
         fact = edited_twice (λ (h : Line). at h.turn) (λ h x. put_in_planes 0x0F 0x00 x) (λ h x. put_in_planes mask (g h.turn) x) f m1.cells m3.cells m1.fact m3.fact;
       } in
       let e1 = run_bind card_meaning p1 (λ _. sequencer 2 mask >> (p3 >> p4)) c in

@@ -9,7 +9,7 @@ use Rattle.vga_bits.proofs.BitLemmas.{byte_bits}
 use Rattle.vga_bits.specs.Four.{four}
 use Rattle.vga_bits.proofs.FourLemmas.{by_plane}
 use Rattle.vga_planes.specs.Planes.{byte_at}
-use Rattle.vga_host.specs.MemoryRead.{read_bit, read_byte}
+use Rattle.vga_host.specs.Memory.Read.{read_bit, read_byte}
 use Rattle.vga_card.specs.Port.{port_of}
 use Rattle.vga_card.specs.Cycles.{out_reached}
 use Rattle.bios_services.specs.Pixels.{pixel_address, read_dot_plan, read_pixel_plan}
@@ -20,7 +20,7 @@ use Rattle.bios_screen.proofs.Dots.PlanarDots.{IsPlanar}
 use Rattle.bios_screen.proofs.Planar.Screens as screens
 use Rattle.bios_screen.proofs.Pixels.Reads.{IsSeen}
 
--- ---- one plane is picked, and read
+-- ---- one plane is selected and read
 
 abbrev picking : ℕ → ℕ → ℕ → Setting
 picking misc clocking p = record {
@@ -29,7 +29,7 @@ picking misc clocking p = record {
   gfx = 0x00 ∷ 0x00 ∷ 0x00 ∷ 0x00 ∷ p ∷ 0x00 ∷ 0x05 ∷ 0x0F ∷ 0xFF ∷ [];
 }
 
--- all of an adapter but what a read moves
+-- all of an adapter except what a read changes
 abbrev without_reads : CardState → CardState
 without_reads c = record c { host = record c.host { latches = four (λ p. 0); seq = []; gfx = []; gfx_index = 0 } }
 

@@ -80,7 +80,7 @@ module _ (row : ModeRow) (c : CardState) (d : BiosData) (t : IsPlanar row c d) (
       (λ g k _ w l. pixel_by y.host.memory g k ∙ ap (λ (x : Four ℕ). nibble_of x (k % 8)) (h.cell (d.size * g + k / 8)
       ∙ outside (d.size * g + k / 8) (apart p g (k / 8) (λ v. w (sym v)) (room k l))) ∙ sym (pixel_by c.host.memory g k))
 
-  -- and where all its bytes are as they were, the screen stays
+  -- and if all its bytes are as they were, the screen stays
   pub stays : (y : CardState) (f : ℕ → Four ℕ) (q : Four ℕ) → Loaded (without_host c) misc clocking at_rest y f q →
       ((o : ℕ) → f o ≡ bytes_at c.host.memory o) → shown y d ≡ Some s
   stays y f q h same = pixels_stay row c y d (t.there d.height) t.text t.tests (h.mode ∙ sym setting_is) h.others (λ g k _ _.

@@ -1,4 +1,4 @@
--- A window of sixteen colours goes up or down, from the screen to the next.
+-- A window of sixteen colours moves up or down, from the screen to the next.
 use Rattle.std.proofs.Common.{◌≡◌, ℕ, ◌+◌, ◌-◌, ◌*◌, ◌/◌, ◌%◌, ◌<◌, ◌≤◌, ◌⊎◌, ⊎_elim, refl, sym, ap, ◌∙◌, subst, arith, Some, Bool, true, false}
 use Rattle.std.specs.Prelude.{slice_index, ◌==◌, if◌then◌else◌}
 use Rattle.bios_screen.proofs.Prelude.{Four, bytes_at, IsCard, card_meaning, CardState, ModeRow, BiosData, Band, Planar, Direction, Up, Down, Window, run}
@@ -61,7 +61,7 @@ module _ (row : ModeRow) (c : CardState) (d : BiosData) (t : IsPlanar row c d) (
         let g = t.room.bytes in
         omega arith;
     below = on.below;
-    behind = on.behind;
+    after = on.after;
     left = omega arith;
     width = omega arith;
     wide = writes.wide row c d t z;
@@ -96,7 +96,7 @@ module _ (row : ModeRow) (c : CardState) (d : BiosData) (t : IsPlanar row c d) (
           let g = (screens.strip_small row c d t z b (within_rows W H rows b window.wide window.high (omega arith))).1 in
           ⊎_elim (λ (a : o < d.size * p). absurd (omega arith)) (λ (a : d.size * p + d.size ≤ o). absurd (omega arith)) out
 
-  -- the strip of what a pixel takes
+  -- the strip of the pixel whose value a pixel gets
   record IsTaken (way : Direction) (k : ℕ) : Type 0 where
     strip : source way k (row_pixels s n) / 8 ≡ source way (k / 8) (W * (H * n))
     dot : source way k (row_pixels s n) % 8 ≡ k % 8

@@ -7,9 +7,9 @@ use Rattle.std.proofs.lemmas.List.{get_or-set_same, get_or-set_other}
 use Rattle.bios_screen.proofs.Prelude.{is_set, Four, bytes_at, HostState, IsCard, card_meaning, CardState, Plan, run, put, get, graphics}
 use Rattle.vga_bits.specs.Four.{four, of_plane}
 use Rattle.vga_bits.proofs.FourLemmas.{by_plane, same_four}
-use Rattle.vga_host.specs.Address.{is_decoded, window_offset}
-use Rattle.vga_host.specs.MemoryWrite.{written_bit, combined_bit, written_byte, memory_after_put}
-use Rattle.vga_host.specs.MemoryRead.{loaded}
+use Rattle.vga_host.specs.Memory.Address.{is_decoded, window_offset}
+use Rattle.vga_host.specs.Memory.Write.{written_bit, combined_bit, written_byte, memory_after_put}
+use Rattle.vga_host.specs.Memory.Read.{loaded}
 use Rattle.vga_card.specs.Port.{port_of}
 use Rattle.vga_card.specs.Adapter.{adapter_of}
 use Rattle.vga_card.specs.Cycles.{written, unless_refused, out_reached}
@@ -47,7 +47,7 @@ stored_in s mask v latches old p = if is_set mask p then written_byte (bare s la
 abbrev pub stored : Setting → ℕ → ℕ → Four ℕ → Four ℕ → Four ℕ
 stored s mask v latches old = four (stored_in s mask v latches old)
 
--- all of an adapter but what drawing moves
+-- all of an adapter except what drawing changes
 abbrev pub without_host : CardState → CardState
 without_host c = record c { host = record { memory = four (λ p. []); latches = four (λ p. 0); seq = []; gfx = []; seq_index = 0; gfx_index = 0 } }
 

@@ -6,8 +6,8 @@ use Rattle.vga_bits.specs.Bits.{byte_of}
 use Rattle.vga_bits.specs.Four.{of_plane}
 use Rattle.vga_bits.proofs.BitLemmas.{byte_bits}
 use Rattle.vga_bits.proofs.FourLemmas.{by_plane}
-use Rattle.vga_host.specs.MemoryWrite.{written_bit, combined_bit}
-use Rattle.bios_services.specs.Bands.{filling_byte, plain, fill_rows, move_rows, fill_plan, scroll_rows}
+use Rattle.vga_host.specs.Memory.Write.{written_bit, combined_bit}
+use Rattle.bios_services.specs.Bands.{filling_byte, uniform, fill_rows, move_rows, fill_plan, scroll_rows}
 use Rattle.bios_services.specs.Cycles.{sequencer}
 use Rattle.bios_services.specs.Plan.{move}
 use Rattle.bios_screen.proofs.Base.Flat.{Leaves, set_cell}
@@ -37,9 +37,9 @@ latched e d v q old h = rw (
   byte_bits q.plane3 (h 3 (omega arith)),
 ) refl
 
-plainly : (e d v mask : ℕ) (q old : Four ℕ) → stored (drawing e d (planes_of mask)) mask v q old ≡ put_in_planes mask v old
+stores_byte : (e d v mask : ℕ) (q old : Four ℕ) → stored (drawing e d (planes_of mask)) mask v q old ≡ put_in_planes mask v old
 unfolding byte_of written_bit combined_bit
-plainly e d v mask q old = refl
+stores_byte e d v mask q old = refl
 
 -- a move is a move of four bytes
 cell_moved : (rest : CardState) (e d : ℕ) → is_set e 1 ≡ true → (a b : ℕ) (c : CardState) (f : ℕ → Four ℕ) → a < 65536 → b < 65536 →
@@ -64,11 +64,11 @@ cell_put : (rest : CardState) (e d mask : ℕ) → is_set e 1 ≡ true → (j v 
 cell_put rest e d mask on j v c f lj lv t = record {
   latches = t.latches;
   is = subst (λ x. Loaded rest e d (planes_of mask) (run card_meaning (put (0xA0000 + j) v) c).0 (set_cell f j x) t.latches)
-      (plainly e d v mask t.latches (f j)) (put_draws rest e d j v (planes_of mask) t.latches c f on t.is lj);
+      (stores_byte e d v mask t.latches (f j)) (put_draws rest e d j v (planes_of mask) t.latches c f on t.is lj);
 }
 
-pub filled_plain : (v i : ℕ) → filling_byte (plain v) i ≡ v
-filled_plain v i = by_test (i % 2 == 0)
+pub filled_uniform : (v i : ℕ) → filling_byte (uniform v) i ≡ v
+filled_uniform v i = by_test (i % 2 == 0)
   where
     by_test : (b : Bool) → (let x : ℕ = (if b then v else v) in x) ≡ v
     by_test true = refl
@@ -81,9 +81,9 @@ module _ (rest : CardState) (e d : ℕ) (on : is_set e 1 ≡ true) (first_byte p
     band = record { kind = Planar; start = first_byte; pitch = pitch; lines = lines; left = left; width = width }
 
     -- the colour as four bytes
-    filling_is : (mask i : ℕ) (q : Four ℕ) → put_in_planes mask (filling_byte (plain 0xFF) i) (put_in_planes 0x0F (filling_byte (plain 0x00) i) q) ≡ lined false mask 0xFF q
-    filling_is mask i q = ap (λ v. put_in_planes mask v (put_in_planes 0x0F (filling_byte (plain 0x00) i) q)) (filled_plain 0xFF i)
-        ∙ ap (λ v. put_in_planes mask 0xFF (put_in_planes 0x0F v q)) (filled_plain 0x00 i)
+    filling_is : (mask i : ℕ) (q : Four ℕ) → put_in_planes mask (filling_byte (uniform 0xFF) i) (put_in_planes 0x0F (filling_byte (uniform 0x00) i) q) ≡ lined false mask 0xFF q
+    filling_is mask i q = ap (λ v. put_in_planes mask v (put_in_planes 0x0F (filling_byte (uniform 0x00) i) q)) (filled_uniform 0xFF i)
+        ∙ ap (λ v. put_in_planes mask 0xFF (put_in_planes 0x0F v q)) (filled_uniform 0x00 i)
 
     abbrev IsScrolled : Direction → ℕ → ℕ → (ℕ → Four ℕ) → (ℕ → Four ℕ) → Type 0
     IsScrolled direction n mask = shifts.IsScrolled (Four ℕ) 0xA0000 65536 band start rows window w direction n (λ _. lined false mask 0xFF)
@@ -97,8 +97,8 @@ module _ (rest : CardState) (e d : ℕ) (on : is_set e 1 ≡ true) (first_byte p
         let mask = colour % 16 in
         let new = first_new direction window n in
         let p1 = move_rows band direction n window.top (window.height - n) in
-        let p2 = fill_rows band (plain 0x00) new n in
-        let p3 = fill_rows band (plain 0xFF) new n in
+        let p2 = fill_rows band (uniform 0x00) new n in
+        let p3 = fill_rows band (uniform 0xFF) new n in
         let fits = (parts direction window n few).new_below in
         let c1 = (run card_meaning (graphics 5 0x01) c).0 in
         let t1 : Drawn rest e d copying c1 f = record { latches = t.latches; is = mode_set rest e d 0x01 at_rest t.latches c f refl refl t.is } in
@@ -111,7 +111,7 @@ module _ (rest : CardState) (e d : ℕ) (on : is_set e 1 ≡ true) (first_byte p
           is = mode_set rest e d 0x00 copying m1.shown.latches c2 m1.cells refl refl m1.shown.is;
         } in
         let m2 = bands.rows_filled CardState (Four ℕ) card_meaning 0xA0000 65536 band start rows window w (Drawn rest e d (planes_of 0x0F)) (put_in_planes 0x0F)
-        (cell_put rest e d 0x0F on) (plain 0x00) (omega arith) (omega arith) new n c3 m1.cells fits t3 in
+        (cell_put rest e d 0x0F on) (uniform 0x00) (omega arith) (omega arith) new n c3 m1.cells fits t3 in
         let c4 = (run card_meaning p2 c3).0 in
         let c5 = (run card_meaning (sequencer 2 mask) c4).0 in
         let t5 : Drawn rest e d (planes_of mask) c5 m2.cells = record {
@@ -119,7 +119,7 @@ module _ (rest : CardState) (e d : ℕ) (on : is_set e 1 ≡ true) (first_byte p
           is = mask_set rest e d mask (planes_of 0x0F) m2.shown.latches c4 m2.cells (omega arith) m2.shown.is;
         } in
         let m3 = bands.rows_filled CardState (Four ℕ) card_meaning 0xA0000 65536 band start rows window w (Drawn rest e d (planes_of mask)) (put_in_planes mask)
-        (cell_put rest e d mask on) (plain 0xFF) (omega arith) (omega arith) new n c5 m2.cells fits t5 in
+        (cell_put rest e d mask on) (uniform 0xFF) (omega arith) (omega arith) new n c5 m2.cells fits t5 in
         let c6 = (run card_meaning p3 c5).0 in
         let e1 = run_bind card_meaning p1 (λ _. graphics 5 0x00 >> (p2 >> (sequencer 2 mask >> (p3 >> sequencer 2 0x0F)))) c1 in
         let e2 = run_bind card_meaning p2 (λ _. sequencer 2 mask >> (p3 >> sequencer 2 0x0F)) c3 in
@@ -131,8 +131,8 @@ module _ (rest : CardState) (e d : ℕ) (on : is_set e 1 ≡ true) (first_byte p
             is = mask_set rest e d 0x0F (planes_of mask) m3.shown.latches c6 m3.cells (omega arith) m3.shown.is;
           };
           fact = shifts.is_scrolled (Four ℕ) 0xA0000 65536 band start rows window w direction n few (λ _. lined false mask 0xFF) (λ h q.
-              put_in_planes mask (filling_byte (plain 0xFF) h.place.place.turn) (put_in_planes 0x0F (filling_byte (plain 0x00) h.place.place.turn) q)) (λ h q.
+              put_in_planes mask (filling_byte (uniform 0xFF) h.place.place.turn) (put_in_planes 0x0F (filling_byte (uniform 0x00) h.place.place.turn) q)) (λ h q.
               filling_is mask h.place.place.turn q) f m1.cells m3.cells m1.fact (edited_twice _ (λ h q.
-              put_in_planes 0x0F (filling_byte (plain 0x00) h.place.place.turn) q) (λ h q. put_in_planes mask (filling_byte (plain 0xFF) h.place.place.turn) q) m1.cells
+              put_in_planes 0x0F (filling_byte (uniform 0x00) h.place.place.turn) q) (λ h q. put_in_planes mask (filling_byte (uniform 0xFF) h.place.place.turn) q) m1.cells
               m2.cells m3.cells m2.fact m3.fact);
         })

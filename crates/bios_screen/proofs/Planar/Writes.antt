@@ -1,10 +1,10 @@
--- Characters in sixteen colours at some cells of a page, from the screen to the next.
+-- Characters in sixteen colours in a run of cells of a page, from the screen to the next.
 use Rattle.std.proofs.Common.{◌≡◌, ℕ, ◌+◌, ◌-◌, ◌*◌, ◌/◌, ◌%◌, ◌<◌, ◌≤◌, ⊎_elim, refl, sym, ap, ◌∙◌, subst, arith, Some, Bool}
 use Rattle.std.specs.Prelude.{slice_index, ◌==◌, ◌&&◌, nat_le, nat_lt, min, not, if◌then◌else◌}
 use Rattle.bios_screen.proofs.Prelude.{is_set, Four, bytes_at, IsCard, card_meaning, CardState, ModeRow, BiosData, FontSet, Band, Colouring, Planar, cells_of}
 use Rattle.bios_screen.proofs.Prelude.{run, Screen, pixel_screen, shown}
 use Rattle.bios_services.specs.Bands.{address_in, fill_line, fill_row}
-use Rattle.bios_services.specs.Drawing.{put_glyph, put_glyph_over, plain_plan, xor_plan, planar_plan, character_by, character_plan, characters_plan}
+use Rattle.bios_services.specs.Drawing.{put_glyph, put_glyph_over, opaque_plan, xor_plan, planar_plan, character_by, character_plan, characters_plan}
 use Rattle.bios_services.specs.Glyphs.{glyph_line}
 use Rattle.bios_screen.specs.Step.{glyph_pixel, put_characters}
 use Rattle.bios_screen.proofs.Base.Flat.{Edited, Turn, Leaves}
@@ -29,7 +29,7 @@ address_sum start w h row r left =
 -- a band of one byte
 plan_is : (band : Band) (row : ℕ) (fonts : FontSet) (character colour : ℕ) → planar_plan (record band { width = 1 }) row fonts character colour
     ≡ glyph_by (is_set colour 7) (λ r. address_in band row r 0) (glyph_line fonts band.lines character) band.lines (colour % 16)
-unfolding planar_plan plain_plan xor_plan put_glyph put_glyph_over fill_row fill_line
+unfolding planar_plan opaque_plan xor_plan put_glyph put_glyph_over fill_row fill_line
 plan_is band row fonts character colour = refl
 
 module _ (row : ModeRow) (c : CardState) (d : BiosData) (t : IsPlanar row c d) (z : IsCard c) where
@@ -76,7 +76,7 @@ module _ (row : ModeRow) (c : CardState) (d : BiosData) (t : IsPlanar row c d) (
       ∙ plan_is band row fonts character colouring.colour
       ∙ ap (λ a. glyph_by (is_set colouring.colour 7) a lines h (colouring.colour % 16)) (λ j r. address_is p q r j)
 
-  -- the place lies in memory, and behind no other page
+  -- the byte lies in memory, and in no other page
   pub within : (p q r : ℕ) → p < row.pages → q < cells_of d → r < h → (strip_at w h q r < d.size) × (place p q r < 65536)
   within p q r lp lq lr =
       let b = strip_at w h q r in

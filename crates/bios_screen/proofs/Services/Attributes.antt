@@ -96,7 +96,7 @@ abbrev pub with_palette : List ℕ → List ℕ → ℕ → List ℕ
 with_palette l values v = listing (λ i. six_bits (slice_index values i)) 0 16 ++ slice_index l 16 ∷ bit_and v 0xFF ∷ slice_index l 18 ∷ slice_index l 19
     ∷ slice_index l 20 ∷ []
 
--- where the registers are spelled out
+-- if the registers are spelled out
 sixteen_by : (c : CardState) (values : List ℕ) (v : ℕ) → (let l = c.attr.registers in
     (run card_meaning (sixteen (crtc_port c.misc) values v) (with_attr c (listing (slice_index l) 0 21) c.attr.index false)).0
     ≡ with_attr c (with_palette l values v) 0x20 false)
@@ -151,7 +151,7 @@ value_read : (s : CardState) (l : List ℕ) (i : ℕ) → Reads i → run card_m
     ≡ (with_attr s l (0x20 + i) true, slice_index l i)
 value_read s l i n = value_read_by s l (0x20 + i) ∙ rw (n.number, n.there) refl
 
--- where the next write is an index, and is again afterwards
+-- if the attribute controller expects an index, it does so again afterwards
 pub value_of_register : (c : CardState) (l : List ℕ) (j i : ℕ) → i < 18 →
     run card_meaning (register_plan (crtc_port c.misc) i) (with_attr c l j false) ≡ (with_attr c l (0x20 + i) false, slice_index l i)
 unfolding register_plan reached_by out_reached

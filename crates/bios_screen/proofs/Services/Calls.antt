@@ -59,7 +59,7 @@ asked_is_served r w =
     (choose ((high r.ax == 0x13) && nat_lt (low r.ax) 4) _ _ (served.write_string (string_of r) (low_small r.bx))
     (choose ((high r.ax == 0x1A) && (low r.ax == 0x00)) (Some ReadDisplay) None (served.read_display) tt)))))))))))))))
 
--- what is said of a call: the service that it asks for, if it does, is served
+-- the service that a call asks for, if it does, is served
 abbrev IsServedCall : Option Call → Type 0
 IsServedCall (Some (InMode service)) = Serves service
 IsServedCall call = Unit {0}
@@ -157,7 +157,7 @@ unknown_refused fonts r block c d s old e =
     ap (λ (q : Option Call). run card_meaning (call_plan q fonts d r block) c) e
     ∙ ap (λ b. let y : CardState × Answered = (c, (Err (if b then NoMode else BadFunction), d)) in y) (mode_of_shown c d s old).set
 
--- and so is one for a mode that there is not
+-- and so is a call for a mode that does not exist
 pub mode_refused : (mode : ℕ) (keeps : Bool) (fonts : FontSet) (r : Regs) (block : List ℕ) (c : CardState) (d : BiosData) →
     call_of r ≡ Some (SetMode mode keeps) → mode_row mode ≡ None → after_call fonts r block c d ≡ (c, (Err BadMode, d))
 unfolding set_mode_plan

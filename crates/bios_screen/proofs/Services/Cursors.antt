@@ -13,13 +13,13 @@ use Rattle.bios_modes.specs.Bounds.{IsBda}
 use Rattle.bios_services.specs.declared.call.Service.TheVariants.{SetCursorType, SetCursor, SelectPage}
 use Rattle.bios_services.specs.Registers.{high, low}
 use Rattle.bios_services.specs.Cycles.{crtc}
-use Rattle.bios_services.specs.Cursor.{word_plan, cursor_plan, page_plan, cursor_address, place_of, with_place, with_page, move_cursor_plan}
+use Rattle.bios_services.specs.Cursor.{word_plan, cursor_plan, page_plan, cursor_address, position_of, with_position, with_page, move_cursor_plan}
 use Rattle.bios_services.specs.Cursor.{cursor_type_plan}
 use Rattle.bios_services.specs.Reasons.{no_page}
 use Rattle.bios_services.specs.Refusals.{refusal_in_mode}
 use Rattle.bios_services.specs.Service.{plan_of}
 use Rattle.bios_screen.specs.Shown.{location_shown, shows_data, screen_of, shown_by}
-use Rattle.bios_screen.specs.Step.{refusal_on, next, answer_on, with_place as placed_on}
+use Rattle.bios_screen.specs.Step.{refusal_on, next, answer_on, with_position as placed_on}
 use Rattle.bios_screen.proofs.Base.Plans.{run_bind, then_runs}
 use Rattle.bios_screen.proofs.Base.Ports.{crtc_runs}
 use Rattle.bios_screen.proofs.Base.Places.{few_cells}
@@ -201,7 +201,7 @@ module _ (c : CardState) (d : BiosData) (h : IsAny c d) where
         beam = plan_beam (crtc d.crtc_address 0x0A (high type) >> crtc d.crtc_address 0x0B (low type)) c;
       }
 
-  -- no location of a cursor is past 65535
+  -- no cursor location is above 65535
   location_small : (p place : ℕ) → is_text d.mode ≡ true → p < h.row.pages → place < 65536 →
       d.size * p / 2 + (d.columns * (place / 256) + place % 256) < 65536
   location_small p place t lp l =
@@ -216,10 +216,10 @@ module _ (c : CardState) (d : BiosData) (h : IsAny c d) where
       (let x = run card_meaning (move_cursor_plan d p place) c in shown x.0 x.1) ≡ Some (placed_on s p place)
   unfolding move_cursor_plan
   moved_shown p place bda lp l =
-      let e = with_place d p place in
+      let e = with_position d p place in
       let few = h.pages in
       let eight = bda.places in
-      let new : place_of e p ≡ place = get_or-set_same d.cursor_places p place 0 (omega arith) in
+      let new : position_of e p ≡ place = get_or-set_same d.cursor_places p place 0 (omega arith) in
       let at : cursor_address e p ≡ d.size * p / 2 + (d.columns * (place / 256) + place % 256) =
       ap (λ k. d.size * p / 2 + (d.columns * (k / 256) + k % 256)) new in
       let runs = cursor_set c h.row d.cursor_type start location h.tests.crtc e p h.port (λ b.
@@ -262,7 +262,7 @@ module _ (c : CardState) (d : BiosData) (h : IsAny c d) where
       ap (λ q. (run card_meaning (word_plan q 0x0C n) c).0) h.port
       ∙ start_set c h.row d.cursor_type start location h.tests.crtc n (h.starts page lp) in
       let runs = cursor_set c1 h.row d.cursor_type n location refl e page h.port (λ b.
-      location_small page (place_of d page) (both_true (is_text d.mode) (page == page) b).0 lp (bda.words page)) in
+      location_small page (position_of d page) (both_true (is_text d.mode) (page == page) b).0 lp (bda.words page)) in
       let done : Plan BiosData = Done e in
       let cursor : Plan BiosData = cursor_plan e page >> done in
       ap (λ x. shown x.0 x.1) (run_bind card_meaning (word_plan d.crtc_address 0x0C n) (λ _. cursor) c)

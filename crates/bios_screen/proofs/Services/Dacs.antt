@@ -41,14 +41,14 @@ colours_are block (suc n) j c =
     let count : 3 * suc n ≡ suc (suc (suc (3 * n))) = omega arith in
     let first : 3 * j ≡ 3 * j + 0 = omega arith in
     let third : 3 * j + 1 + 1 ≡ 3 * j + 2 = omega arith in
-    let behind : 3 * j + 1 + 1 + 1 ≡ 3 * (j + 1) = omega arith in
+    let after : 3 * j + 1 + 1 + 1 ≡ 3 * (j + 1) = omega arith in
     let c3 = (run card_meaning (colour_plan (triple block j)) c).0 in
     ap (λ m. run card_meaning (each (byte block) m (3 * j)) c) count
     ∙ ap (λ k. run card_meaning (out 0x3C9 (slice_index block k) >> (out 0x3C9 (slice_index block (3 * j + 1))
     >> (out 0x3C9 (slice_index block (3 * j + 1 + 1)) >> each (byte block) (3 * n) (3 * j + 1 + 1 + 1)))) c) first
     ∙ ap (λ k. run card_meaning (out 0x3C9 (slice_index block (3 * j + 0)) >> (out 0x3C9 (slice_index block (3 * j + 1))
     >> (out 0x3C9 (slice_index block k) >> each (byte block) (3 * n) (3 * j + 1 + 1 + 1)))) c) third
-    ∙ ap (λ k. run card_meaning (each (byte block) (3 * n) k) c3) behind
+    ∙ ap (λ k. run card_meaning (each (byte block) (3 * n) k) c3) after
     ∙ colours_are block n (j + 1) c3
 
 -- ---- entries are set

@@ -1,6 +1,6 @@
--- Calls that load glyphs, whole: refused, or led to the screen with them.
+-- Whole calls that load glyphs: they are refused, or lead to the screen with these glyphs.
 use Rattle.std.proofs.Common.{◌≡◌, ℕ, ◌+◌, ◌≤◌, refl, sym, ap, ◌∙◌, arith, List, length, Option, Some, None, Bool, true, false, if◌then◌else◌}
-use Rattle.std.specs.Prelude.{◌==◌, nat_le}
+use Rattle.std.specs.Prelude.{◌==◌}
 use Rattle.std.proofs.lemmas.Bool.Decides.{nat_tests}
 use Rattle.bios_screen.proofs.Prelude.{Refusal, IsCard, card_meaning, CardState, ModeRow, row_at, BiosData, data_of_mode, AreBytes, FontSet, Regs, Plan, Done}
 use Rattle.bios_screen.proofs.Prelude.{run, ◌>>◌, is_text, Screen, shown}
@@ -11,15 +11,15 @@ use Rattle.bios_modes.specs.Bounds.{AreFonts}
 use Rattle.bios_services.specs.declared.glyph_load.GlyphLoad.{GlyphLoad}
 use Rattle.bios_services.specs.declared.call.Call.{Call}
 use Rattle.bios_services.specs.declared.call.Call.TheVariants.{LoadGlyphs}
-use Rattle.bios_services.specs.Reasons.{◌or◌, refuse_unless, wrong_block}
-use Rattle.bios_services.specs.GlyphLoads.{AreThere, glyphs_len, load_refusal, load_plan}
+use Rattle.bios_services.specs.Reasons.{◌or◌, refuse_unless}
+use Rattle.bios_services.specs.GlyphLoads.{AreThere, glyphs_block, glyphs_len, load_reason, load_refusal, load_plan}
 use Rattle.bios_services.specs.Calls.{call_of}
 use Rattle.bios_services.specs.Service.{Answered, answer_of, call_plan, refuse, load_at, load_unless, load_in_mode_plan}
 use Rattle.bios_screen.specs.AfterCall.{after_call}
 use Rattle.bios_screen.specs.Called.{reply_unless, screen_unless, IsLoaded}
 use Rattle.bios_screen.specs.Loaded.{height_refusal_on, load_at_height, load_glyphs}
 use Rattle.bios_screen.proofs.Base.Tests.{le_is}
-use Rattle.bios_screen.proofs.Base.Reasons.{neither, holds, block_allowed}
+use Rattle.bios_screen.proofs.Base.Reasons.{neither, holds, wrong_or}
 use Rattle.bios_screen.proofs.Base.Plans.{then_runs, then_answers}
 use Rattle.bios_services.proofs.CardLemmas.{plan_beam}
 use Rattle.bios_screen.proofs.Modes.TextModes.{Display, Height, row_of, row_with, lines_of, number_of}
@@ -66,7 +66,7 @@ rows_agree Monochrome height = refl
 
 -- ---- why a load is refused
 
--- glyphs that are not refused are of text, of characters up to FF, and whole in their block
+-- a load that is not refused is of text, of characters up to FF, and has all its glyphs in the block
 record IsAllowed (load : GlyphLoad) (mode len : ℕ) : Type 0 where
   text : is_text mode ≡ true
   last : load.first + load.count ≤ 256
@@ -74,17 +74,13 @@ record IsAllowed (load : GlyphLoad) (mode len : ℕ) : Type 0 where
 
 allowed_of : (load : GlyphLoad) (mode len : ℕ) → load_refusal load mode len ≡ None → IsAllowed load mode len
 allowed_of load mode len e =
-    let text = neither (refuse_unless (is_text mode) WrongKind) _ e in
-    let last = neither (refuse_unless (nat_le (load.first + load.count) 256) CountPast) _ text.1 in
+    let block = wrong_or (load_reason load mode) (glyphs_block load) len e in
+    let reason = neither (refuse_unless (is_text mode) WrongKind) _ block.0 in
     record {
-      text = holds (is_text mode) WrongKind text.0;
-      last = le_is (load.first + load.count) 256 (holds _ CountPast last.0);
-      whole = by_block load.is_block last.1;
+      text = holds (is_text mode) WrongKind reason.0;
+      last = le_is (load.first + load.count) 256 (holds _ CountPast reason.1);
+      whole = λ z. block.1 (glyphs_len load) (ap (λ (b : Bool). let x : Option ℕ = (if b then Some (glyphs_len load) else None) in x) z);
     }
-  where
-    by_block : (k : Bool) → (if k then wrong_block (glyphs_len load) len else None) ≡ None → k ≡ true → len ≡ glyphs_len load
-    by_block true h z = block_allowed (glyphs_len load) len h
-    by_block false h z = absurd (cc)
 
 -- ---- the call
 
@@ -97,7 +93,7 @@ module _ (fonts : FontSet) (load : GlyphLoad) (r : Regs) (block : List ℕ) (byt
   abbrev new : Screen
   new = load_glyphs fonts s load block
 
-  -- glyphs that are allowed, where there is a row of their height
+  -- glyphs that are allowed, if there is a row of their height
   row_leads : (a : IsAllowed load d.mode (length block)) (text : TextRow) → text_row d.mode load.height ≡ Some text →
       Leads None r s (load_at_height (Some text) fonts s load block) (run card_meaning (load_at (row_at d.mode load.height) load fonts d r block) c)
   unfolding load_at
@@ -125,7 +121,7 @@ module _ (fonts : FontSet) (load : GlyphLoad) (r : Regs) (block : List ℕ) (byt
             ∙ ap (λ q. Some (load_at_height (Some text) fonts q load block)) x.screen;
       }
 
-  -- where there is none it is refused
+  -- if there is none, the call is refused
   height_leads : (a : IsAllowed load d.mode (length block)) (q : Option TextRow) → text_row d.mode load.height ≡ q →
       Leads (height_refusal_on q) r s (load_at_height q fonts s load block) (run card_meaning (load_at (row_at d.mode load.height) load fonts d r block) c)
   unfolding load_at

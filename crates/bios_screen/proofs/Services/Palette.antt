@@ -25,7 +25,7 @@ use Rattle.bios_services.specs.Colours.{colour_refusal, has_entries, no_register
 use Rattle.bios_services.specs.Refusals.{refusal_in_mode}
 use Rattle.bios_services.specs.Service.{plan_of}
 use Rattle.bios_screen.specs.Colours.{six_bits, with_value, with_block, with_entries, with_colours, colours_answer}
-use Rattle.bios_screen.proofs.Base.Reasons.{neither, holds, block_allowed}
+use Rattle.bios_screen.proofs.Base.Reasons.{neither, holds, block_fits}
 use Rattle.bios_screen.specs.Step.{refusal_on, next, answer_on}
 use Rattle.bios_screen.specs.AfterCall.{FitsBytes}
 use Rattle.bios_screen.proofs.Base.Plans.{run_bind, then_runs, then_answers}
@@ -62,7 +62,7 @@ module _ (c : CardState) (d : BiosData) (h : IsAny c d) where
 
   -- ---- the attribute controller
 
-  -- the test looks at bits of mode control, and at the registers behind the overscan
+  -- the test depends on bits of mode control, and on the registers after the overscan
   rest_is : ((bit_and (slice_index registers 0x10) 0xF7 == bit_and (slice_index h.row.attribute 0x10) 0xF7)
       && bytes_eq (drop 0x12 registers) (drop 0x12 h.row.attribute)) ≡ true
   rest_is = (both_true (is_palette_shown c.attr) _ h.tests.attribute).1
@@ -206,13 +206,13 @@ module _ (c : CardState) (d : BiosData) (h : IsAny c d) where
 
   pub is_coloured : (service : ColourService) (r : Regs) (block : List ℕ) → FitsBytes service → AreBytes block → IsCard c →
       colour_refusal service (length block) ≡ None → IsColoured service r block c d s
-  unfolding colour_refusal colours_plan with_colours colours_answer
+  unfolding colours_plan with_colours colours_answer
   is_coloured (SetRegister i v) r block fits bytes z e = setting_served (SetRegister i v) r block (λ p. set_register_plan p i v) refl refl
       (value_shown i v (register_allowed i e))
   is_coloured (SetOverscan v) r block fits bytes z e = setting_served (SetOverscan v) r block (λ p. set_register_plan p 0x11 v) refl refl
       (overscan_shown v fits z)
   is_coloured SetPalette r block fits bytes z e = setting_served SetPalette r block (λ p. set_palette_plan p block) refl refl
-      (palette_shown block bytes z (block_allowed 17 (length block) e))
+      (palette_shown block bytes z (block_fits 17 (length block) e))
   is_coloured (SetBlinking b) r block fits bytes z e = setting_served (SetBlinking b) r block (λ p. set_blinking_plan p b) refl refl
       (blink_shown b (blink_allowed b e) z)
   is_coloured (ReadRegister i) r block fits bytes z e =
@@ -234,7 +234,7 @@ module _ (c : CardState) (d : BiosData) (h : IsAny c d) where
       let a = entries_allowed first count there.0 in
       setting_served (SetEntries first count) r block (λ p. set_entries_plan first block) refl refl
       (loaded_shown (run card_meaning (set_entries_plan first block) c).0 first count block (entries_loaded c first count block z.dac a.all a.begin
-      (block_allowed (3 * count) (length block) there.1)))
+      (block_fits (3 * count) (length block) there.1)))
   is_coloured (ReadEntry entry) r block fits bytes z e =
       let runs = entry_read c entry r in
       record { answer = ap (λ x. x.1) runs; shows = ap (λ x. shown x.0 d) runs ∙ dac_shown (record c.dac { index = (entry + 1) % 256; component = Red }) }

@@ -13,7 +13,7 @@ use Rattle.bios_services.specs.Strings.{string_len, character_at, colouring_at, 
 use Rattle.bios_services.specs.Reasons.{◌or◌, no_page, outside_page, wrong_block}
 use Rattle.bios_services.specs.Refusals.{refusal_in_mode}
 use Rattle.bios_services.specs.Service.{plan_of}
-use Rattle.bios_screen.specs.Step.{refusal_on, next, answer_on, type_character, type_characters, type_string, with_place as placed_on}
+use Rattle.bios_screen.specs.Step.{refusal_on, next, answer_on, type_character, type_characters, type_string, with_position as placed_on}
 use Rattle.bios_screen.proofs.Base.Plans.{run_bind}
 use Rattle.bios_services.proofs.CardLemmas.{plan_bounds, plan_beam}
 use Rattle.bios_screen.proofs.Base.Reasons.{neither, page_allowed, place_allowed}
@@ -59,23 +59,23 @@ module _ (fonts : FontSet) (d : BiosData) (p : ℕ) (lp : p < pages_of d) (call 
         inside = rest.inside;
       }
 
-  string_shown : (c : CardState) (s : Screen) → shown c d ≡ Some s → IsCard c → IsBda d → Inside (d.last_row + 1) d.columns call.place →
+  string_shown : (c : CardState) (s : Screen) → shown c d ≡ Some s → IsCard c → IsBda d → Inside (d.last_row + 1) d.columns call.position →
       (let x = run card_meaning (string_plan fonts d there block) c in shown x.0 x.1) ≡ Some (type_string fonts s p call block)
   unfolding string_plan type_string_plan
   string_shown c s e z bda l = ap (λ y. shown y.0 y.1) (run_bind card_meaning (type_string_plan fonts d there block) cursor c)
       ∙ ap (λ k. let y = run card_meaning (cursor k) c1 in shown y.0 y.1) all.leads.answer ∙ by_test call.moves_cursor
     where
       after : Screen × ℕ
-      after = type_characters fonts call block p call.count 0 (s, call.place)
+      after = type_characters fonts call block p call.count 0 (s, call.position)
 
       cursor : ℕ → Plan BiosData
       cursor place = if call.moves_cursor then move_cursor_plan d p place else Done d
 
       c1 : CardState
-      c1 = (run card_meaning (fold one call.count 0 call.place) c).0
+      c1 = (run card_meaning (fold one call.count 0 call.position) c).0
 
-      all : LeadsInside (fold one call.count 0 call.place) c d after
-      all = all_typed call.count 0 call.place c s e z l
+      all : LeadsInside (fold one call.count 0 call.position) c d after
+      all = all_typed call.count 0 call.position c s e z l
 
       by_test : (b : Bool) → (let q : Plan BiosData = (if b then move_cursor_plan d p after.1 else Done d) in
           shown (run card_meaning q c1).0 (run card_meaning q c1).1) ≡ Some (if b then placed_on after.0 p after.1 else after.0)
@@ -88,12 +88,12 @@ record StringAllowed (pages p rows columns place : ℕ) : Type 0 where
   page : p < pages
   inside : Inside rows columns place
 
-string_allowed : (pages p rows columns place : ℕ) (wrong : Option Refusal) → (no_page pages p or outside_page rows columns place or wrong) ≡ None →
+string_allowed : (pages p rows columns place : ℕ) (wrong : Option Refusal) → ((no_page pages p or outside_page rows columns place) or wrong) ≡ None →
     StringAllowed pages p rows columns place
 string_allowed pages p rows columns place wrong e =
-    let page = neither (no_page pages p) (outside_page rows columns place or wrong) e in
-    let inside = neither (outside_page rows columns place) wrong page.1 in
-    record { page = page_allowed pages p page.0; inside = place_allowed rows columns place inside.0 }
+    let reason = neither (no_page pages p or outside_page rows columns place) wrong e in
+    let both = neither (no_page pages p) (outside_page rows columns place) reason.0 in
+    record { page = page_allowed pages p both.0; inside = place_allowed rows columns place both.1 }
 
 pub write_string : (call : StringCall) (fonts : FontSet) (r : Regs) (block : List ℕ) (c : CardState) (d : BiosData) (h : IsAny c d) →
     AreBytes block → call.colour < 256 → IsCard c → IsBda d → IsServed (WriteString call) fonts r block c d (any_screen c d h c)
@@ -104,12 +104,12 @@ write_string call fonts r block c d h bytes colour z bda =
     let q = page_meant s call.page in
     let runs = data_runs (string_plan fonts d (record call { page = p }) block) r c in
     record {
-      refusal = ap (λ n. no_page n (page_among n call.page) or outside_page (d.last_row + 1) d.columns call.place
+      refusal = ap (λ n. (no_page n (page_among n call.page) or outside_page (d.last_row + 1) d.columns call.position)
           or wrong_block (string_len call) (length block))
           (pages_are h.row d h.mode);
       answer = λ _. ap (λ x. x.1.0) runs;
       shows = λ allowed.
-          let a = string_allowed h.row.pages q (d.last_row + 1) d.columns call.place (wrong_block (string_len call) (length block)) allowed in
+          let a = string_allowed h.row.pages q (d.last_row + 1) d.columns call.position (wrong_block (string_len call) (length block)) allowed in
           ap (λ x. shown x.0 x.1.1) runs
           ∙ ap (λ n. let x = run card_meaning (string_plan fonts d (record call { page = n }) block) c in shown x.0 x.1) (any_meant c d h call.page)
           ∙ string_shown fonts d q (page_of h.row d q h.mode a.page) call block bytes colour c s (still_any c d h) z bda a.inside;

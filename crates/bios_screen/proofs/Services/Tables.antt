@@ -42,7 +42,7 @@ values_of l = take 16 l ++ slice_index l 0x11 ∷ []
 abbrev with_byte : ℕ → List ℕ → Plan (List ℕ)
 with_byte x l = Done (x ∷ l)
 
--- the index that so many values leave, from one on
+-- the index after n values, from index i on
 abbrev index_after : ℕ → ℕ → ℕ → ℕ
 index_after zero i j = j
 index_after (suc n) i j = index_after n (i + 1) (0x20 + palette_register i)
@@ -95,7 +95,7 @@ entry_by : (c : CardState) (n i k : ℕ) → run card_meaning (gather next_byte 
 unfolding reached_by inp_reached
 entry_by c n i k = refl
 
--- so many entries from one on
+-- n entries from entry k on
 entries_by : (c : CardState) (n i k : ℕ) → k + n ≤ 256 → run card_meaning (gather next_byte (3 * n) i) (at_entry c (k % 256))
     ≡ (at_entry c ((k + n) % 256), entries_from (palette_in c) k n)
 entries_by c zero i k l = let z : k ≡ k + 0 = omega arith in ap (λ j. let p : CardState × List ℕ = (at_entry c (j % 256), []) in p) z
@@ -198,7 +198,7 @@ tables_read service fonts r block c d s z old e =
     let x = any_is c d s old in
     subst (IsRead service fonts r block c d) x.screen (call_read service fonts r block c d x.is z (old ∙ ap Some (sym x.screen)) e)
 
--- where there is no memory nothing has changed
+-- if memory is refused, nothing has changed
 pub memory_wanted : (fonts : FontSet) (r : Regs) (block : List ℕ) (c y : CardState) (d after : BiosData) (s : Screen) → shown c d ≡ Some s →
     WantsMemory fonts r block c d y after → IsLeft c s y after
 memory_wanted fonts r block c y d after s old h = record { shows = ap (λ x. shown x after) h.0 ∙ ap (shown c) h.1 ∙ old; beam = ap (λ x. x.crtc.beam) h.0 }

@@ -4,11 +4,11 @@ use Rattle.std.specs.Prelude.{◌==◌, if◌then◌else◌}
 use Rattle.bios_screen.proofs.Prelude.{IsCard, card_meaning, CardState, BiosData, FontSet, Regs, pages_of, Plan, run, Done, ◌>>=◌, Screen, shown, IsServed}
 use Rattle.bios_modes.specs.Bounds.{IsBda}
 use Rattle.bios_services.specs.declared.call.Service.TheVariants.{Teletype}
-use Rattle.bios_services.specs.Cursor.{place_of, move_cursor_plan}
+use Rattle.bios_services.specs.Cursor.{position_of, move_cursor_plan}
 use Rattle.bios_services.specs.Teletype.{dots_in, type_plan, teletype_plan}
 use Rattle.bios_services.specs.Refusals.{refusal_in_mode}
 use Rattle.bios_services.specs.Service.{plan_of}
-use Rattle.bios_screen.specs.Step.{refusal_on, next, answer_on, type_character, type_at_cursor, with_place as placed_on}
+use Rattle.bios_screen.specs.Step.{refusal_on, next, answer_on, type_character, type_at_cursor, with_position as placed_on}
 use Rattle.bios_screen.proofs.Base.Plans.{run_bind}
 use Rattle.bios_services.proofs.CardLemmas.{plan_beam}
 use Rattle.bios_screen.proofs.Base.Reasons.{place_allowed}
@@ -35,7 +35,7 @@ module _ (v colour : ℕ) (lv : v < 256) (la : colour < 256) (fonts : FontSet) (
   s = any_screen c d h c
 
   abbrev at : ℕ
-  at = place_of d d.page
+  at = position_of d d.page
 
   typed_at : d.page < pages_of d → Inside (d.last_row + 1) d.columns at → (let x = run card_meaning (teletype_plan fonts d v colour) c in shown x.0 x.1)
       ≡ Some (type_at_cursor fonts s v colour)

@@ -22,7 +22,7 @@ use Rattle.bios_screen.proofs.Text.Writes.{attribute_read}
 use Rattle.bios_screen.proofs.Services.Characters.{characters_shown}
 use Rattle.bios_screen.proofs.Services.Windows.{page_raised}
 
--- ---- plans that lead to a screen and a place
+-- ---- plans that lead to a screen and a position
 
 -- a plan leads to a state that shows a screen, and answers a place on it
 pub record Leads (p : Plan ℕ) (c : CardState) (d : BiosData) (to : Screen × ℕ) : Type 0 where
@@ -59,9 +59,9 @@ leads_after p q c d y second = record {
   shows = ap (λ x. shown x d) (then_runs p q c) ∙ second.shows;
 }
 
--- ---- what typing stands on
+-- ---- what typing depends on
 
--- a page goes up by a row that is filled as a line feed asks
+-- a page goes up by a row, which is filled as a line feed does
 abbrev pub rise_plan : BiosData → ℕ → ℕ → Plan ℕ
 rise_plan d p place = line_feed_fill d p place >>= λ colour. (page_up_plan d p colour >> Done place)
 

@@ -34,7 +34,7 @@ module _ (c : CardState) (d : BiosData) (s : Screen) (z : IsCard c) (e : shown c
       ≡ Some (page_up s p colour)
   page_raised p colour lp lc =
       let cut = cut_is c d s e in
-      window_shown p lp (whole_page (d.last_row + 1) d.columns) (record { below = omega arith; behind = omega arith; some = omega arith }) Up 1 colour
+      window_shown p lp (whole_page (d.last_row + 1) d.columns) (record { below = omega arith; after = omega arith; some = omega arith }) Up 1 colour
       (omega arith) (omega arith) lc
       ∙ ap (λ n. Some (scroll_window s p (whole_page n d.columns) Up 1 colour)) (sym cut.rows)
       ∙ ap (λ n. Some (scroll_window s p (whole_page s.layout.rows n) Up 1 colour)) (sym cut.columns)

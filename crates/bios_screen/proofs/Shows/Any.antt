@@ -61,7 +61,7 @@ any_shown c y d h s e a = shown_by_row y d h.row h.mode (same_tests h.row c y d 
 pub still_any : (c : CardState) (d : BiosData) (h : IsAny c d) → shown c d ≡ Some (any_screen c d h c)
 still_any c d h = any_shown c c d h refl refl h.tests.attribute
 
--- mode control, but for blinking, is the row's
+-- mode control is the row's, except for blinking
 pub any_control : (c : CardState) (d : BiosData) (h : IsAny c d) → bit_and (slice_index c.attr.registers 0x10) 0xF7
     ≡ bit_and (slice_index h.row.attribute 0x10) 0xF7
 any_control c d h =
@@ -132,7 +132,7 @@ any_is c d s h = by_kind (is_text d.mode) refl
           screen = x.screen;
         }
 
--- how the data say that the page of a screen is cut
+-- the layout of a page, by the data
 pub record IsCut (d : BiosData) (s : Screen) : Type 0 where
   pub columns : s.layout.columns ≡ d.columns
   pub rows : s.layout.rows ≡ d.last_row + 1

@@ -1,4 +1,4 @@
--- What services leave of a plain screen: its mode, and how it is cut.
+-- Services leave the mode and the layout of a plain screen.
 use Rattle.std.proofs.Common.{◌≡◌, ℕ, zero, suc, ◌+◌, ◌-◌, refl, ◌∙◌, Bool, true, false, List, Option, Some, None}
 use Rattle.std.specs.Prelude.{◌==◌, nat_lt, if◌then◌else◌}
 use Rattle.bios_screen.proofs.Prelude.{Refusal, FontSet, Colouring, Direction, Up, Down, Window, Screen, page_meant}
@@ -14,13 +14,13 @@ use Rattle.bios_services.specs.Scroll.{window_among}
 use Rattle.bios_services.specs.Teletype.{line_start, dots_in}
 use Rattle.bios_services.specs.Strings.{character_at, colouring_at}
 use Rattle.bios_services.specs.Cursor.{row_of, column_of}
-use Rattle.bios_screen.specs.Screen.{cursor_place}
+use Rattle.bios_screen.specs.Screen.{cursor_position}
 use Rattle.bios_screen.specs.Colours.{with_colours}
 use Rattle.bios_screen.specs.Called.{screen_unless}
 use Rattle.bios_screen.specs.Step.{scroll_asked, last_colour, page_up, line_feed, cursor_advance, put_character, type_character, type_characters}
-use Rattle.bios_screen.specs.Step.{with_place, next}
+use Rattle.bios_screen.specs.Step.{with_position, next}
 
--- t has the mode of s, and is cut as s is
+-- t has the mode and the layout of s
 pub record IsCutAs (s t : Screen) : Type 0 where
   pub mode : t.mode ≡ s.mode
   pub layout : t.layout ≡ s.layout
@@ -101,17 +101,17 @@ next_cut fonts s (WriteCells cells) block = record { mode = refl; layout = refl 
 next_cut fonts s (WritePixel page x y colour) block = record { mode = refl; layout = refl }
 next_cut fonts s (ReadPixel page x y) block = uncut s
 next_cut fonts s (Teletype character colour) block =
-    let after = type_character fonts s s.page (cursor_place s s.page) character (dots_in colour) in
-    let is : IsCutAs s after.0 = typed_cut fonts s s.page (cursor_place s s.page) character (dots_in colour) in
-    cut_either s (character == 0x07) s (with_place after.0 s.page after.1) (uncut s) (record { mode = is.mode; layout = is.layout })
+    let after = type_character fonts s s.page (cursor_position s s.page) character (dots_in colour) in
+    let is : IsCutAs s after.0 = typed_cut fonts s s.page (cursor_position s s.page) character (dots_in colour) in
+    cut_either s (character == 0x07) s (with_position after.0 s.page after.1) (uncut s) (record { mode = is.mode; layout = is.layout })
 next_cut fonts s ReadMode block = uncut s
 next_cut fonts s (Colours service) block = coloured_cut s service block
 next_cut fonts s ReadAdapter block = uncut s
 next_cut fonts s (WriteString call) block =
     let page = page_meant s call.page in
-    let after = type_characters fonts call block page call.count 0 (s, call.place) in
-    let is : IsCutAs s after.0 = string_cut fonts call block page call.count 0 (s, call.place) in
-    cut_either s call.moves_cursor (with_place after.0 page after.1) after.0 (record { mode = is.mode; layout = is.layout }) is
+    let after = type_characters fonts call block page call.count 0 (s, call.position) in
+    let is : IsCutAs s after.0 = string_cut fonts call block page call.count 0 (s, call.position) in
+    cut_either s call.moves_cursor (with_position after.0 page after.1) after.0 (record { mode = is.mode; layout = is.layout }) is
 next_cut fonts s ReadDisplay block = uncut s
 
 pub unless_cut : (why : Option Refusal) (fonts : FontSet) (s : Screen) (service : Service) (block : List ℕ) →

@@ -123,12 +123,12 @@ page_pixel_is mode l cells pixels p k t lp lk =
     ap (λ b. let x : Contents = (if b then Cells cells else Pixels (cut_pages pixels (pixel_count l) l.pages)) in page_pixel x p k) t
     ∙ ap (λ (n : ℕ). Some n) (cut_at pixels (pixel_count l) l.pages p k lp lk)
 
--- what is there where three tests hold
+-- a value that is there if three tests hold
 there_if : {Y : Type 0} (a b g : Bool) (x y : Y) → a ≡ true → b ≡ true → g ≡ true → (if a && (b && g) then x else y) ≡ x
 there_if a b g x y ea eb eg =
     ap (λ t. if t && (b && g) then x else y) ea ∙ ap (λ t. if t && g then x else y) eb ∙ ap (λ t. if t then x else y) eg
 
--- a cell of a page, where there is one
+-- a cell of a page, if there is one
 pub cell_there : (mode : ℕ) (l : Layout) (cells : List Cell) (pixels : List ℕ) (page row column : ℕ) (x : Cell) → is_text mode ≡ true → page < l.pages →
     row < l.rows → column < l.columns → l.distance * page + (l.columns * row + column) < length cells →
     x ≡ get_or cells (l.distance * page + (l.columns * row + column)) x
@@ -141,11 +141,11 @@ cell_there mode l cells pixels page row column x t lp lr lc within e =
     there_if (nat_lt page l.pages) (nat_lt row l.rows) (nat_lt column l.columns) q None (lt_test page l.pages lp) (lt_test row l.rows lr)
     (lt_test column l.columns lc) ∙ text_cell_is mode l cells pixels k t)
 
--- a pixel's place is in a list of so many
+-- a pixel's number is below the length of the list
 abbrev pub pixels_within : Layout → ℕ → ℕ → ℕ → ℕ → Type 0
 pixels_within l page x y n = pixel_count l * page + (8 * l.columns * y + x) < n
 
--- a pixel of a page, where there is one
+-- a pixel of a page, if there is one
 pub pixel_there : (mode : ℕ) (l : Layout) (cells : List Cell) (pixels : List ℕ) (page x y n : ℕ) → is_text mode ≡ false → page < l.pages → x < 8 * l.columns →
     y < l.height * l.rows → pixels_within l page x y (length pixels) → n ≡ get_or pixels (pixel_count l * page + (8 * l.columns * y + x)) n
     → Some n ≡ (if nat_lt page l.pages && (nat_lt x (8 * l.columns) && nat_lt y (l.height * l.rows))
@@ -229,7 +229,7 @@ pixel_screen_is row c d cells pixels s t e h =
     ∙ ap (λ l. screen_by row c d 0 (Pixels (cut_pages l n row.pages)) []) e
     ∙ ap (λ l. screen_by row c d 0 (Pixels l) []) (pages_are d.mode c.host.memory d.size n row.pages)
 
--- the registers that show the active page are those of the mode but for six
+-- the registers that show the active page are those of the mode except for six
 abbrev pub set_registers : List ℕ → ℕ → ℕ → ℕ → List ℕ
 set_registers l type start location =
     slice_set (slice_set (slice_set (slice_set (slice_set (slice_set l 0x0A (bit_and (type / 256) 0x3F)) 0x0B (bit_and (type % 256) 0x7F)) 0x0C (start / 256))

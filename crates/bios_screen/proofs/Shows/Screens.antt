@@ -28,7 +28,7 @@ pub record HasData (row : ModeRow) (d : BiosData) : Type 0 where
   pub start : d.start ≡ d.size * d.page
   pub page : d.page < row.pages
 
--- how many pages a mode has with this row, those that it has, and the page that a call names there
+-- how many pages a mode has by its row, and the page that a call means there
 pub pages_are : (row : ModeRow) (d : BiosData) → row_at d.mode d.height ≡ Some row → pages_of d ≡ row.pages
 pages_are row d e = ap pages_in e
 
@@ -97,7 +97,7 @@ pub shown_by_row : (c : CardState) (d : BiosData) (row : ModeRow) → row_at d.m
 shown_by_row c d row e t =
     ap (λ x. shown_by x c d) e ∙ ap (λ b. if b then Some (screen_of row c d) else None) (shows_by row c d t)
 
--- the test gives the registers that memory cycles look at
+-- the test gives the registers that memory cycles depend on
 pub setting_by : (row : ModeRow) (c : CardState) → shows_memory row c ≡ true → setting c ≡ record { misc = row.misc; seq = row.sequencer; gfx = row.graphics }
 setting_by row c h =
     let a = both_true (c.misc == row.misc) (bytes_eq c.host.seq row.sequencer && bytes_eq c.host.gfx row.graphics) h in
@@ -230,7 +230,7 @@ kind_is c d h = by_kind (kind_of d.mode) h.tests.is_text
     by_kind Planar t = absurd (cc)
     by_kind Packed t = absurd (cc)
 
--- mode control, but for blinking, is the mode's
+-- mode control is the mode's, except for blinking
 pub control_is : (c : CardState) (d : BiosData) (h : IsShown c d) → bit_and (slice_index c.attr.registers 0x10) 0xF7 ≡ control_of h.display
 control_is c d h =
     let a = both_true (is_palette_shown c.attr) _ h.tests.attribute in

@@ -62,7 +62,7 @@ row_shown c d s e =
           ∙ sym (ap (λ m. if is_text m then h.row.size * g / 2 else h.row.size * g) is);
     }
 
--- two states that show screens of one mode, cut alike, have the same frames, and their pages begin alike
+-- two states that show screens of the same mode and layout have the same frames, and their pages begin at the same numbers
 pub record SameFrames (c : CardState) (d : BiosData) (y : CardState) (after : BiosData) : Type 0 where
   pub beam : (a f n : ℕ) → beam_at (character_width c) c.crtc.registers a f n ≡ beam_at (character_width y) y.crtc.registers a f n
   pub begins : (g : ℕ) → start_address d g ≡ start_address after g

@@ -6,8 +6,8 @@ use Rattle.std.proofs.lemmas.List.{length-set}
 use Rattle.vga_bits.specs.Bits.{byte_of}
 use Rattle.vga_bits.proofs.BitLemmas.{byte_bits}
 use Rattle.bios_screen.proofs.Prelude.{Four, HostState, card_meaning, CardState, run, put}
-use Rattle.vga_host.specs.Address.{is_decoded, window_offset}
-use Rattle.vga_host.specs.MemoryWrite.{written_bit, combined_bit, written_byte, memory_after_put}
+use Rattle.vga_host.specs.Memory.Address.{is_decoded, window_offset}
+use Rattle.vga_host.specs.Memory.Write.{written_bit, combined_bit, written_byte, memory_after_put}
 use Rattle.bios_services.specs.ModeSet.{glyph_plan, glyphs_plan}
 use Rattle.bios_screen.proofs.Base.Flat.{Edited, Turn, Leaves, set_cell, list_put}
 use Rattle.bios_screen.proofs.Base.Edits.{one_edit, edits}
@@ -19,11 +19,11 @@ use Rattle.bios_screen.proofs.Modes.TextModes.Display.{Colour, Monochrome}
 abbrev pub glyph_setting : Display → Setting
 glyph_setting disp = record { misc = misc_of disp; seq = 3 ∷ 0 ∷ 4 ∷ 0 ∷ 6 ∷ []; gfx = 0 ∷ 0 ∷ 0 ∷ 0 ∷ 0 ∷ 0 ∷ 4 ∷ 0 ∷ 0xFF ∷ [] }
 
--- all of an adapter but the plane of glyphs
+-- all of an adapter except the plane of glyphs
 abbrev pub without_glyphs : CardState → CardState
 without_glyphs c = record c { host = record c.host { memory = record c.host.memory { plane2 = [] } } }
 
--- an adapter that takes glyphs, its plane 2 by offset
+-- an adapter that is loading glyphs, its plane 2 by offset
 pub record IsLoading (disp : Display) (rest : CardState) (c : CardState) (g : ℕ → ℕ) : Type 0 where
   pub mode : setting c ≡ glyph_setting disp
   pub size2 : length c.host.memory.plane2 ≡ 65536
@@ -82,7 +82,7 @@ glyph_loaded disp rest c g line height ch lc lh small t =
     })
     height 0 c g (omega arith) (omega arith) t
 
--- the lines of n characters from one on
+-- the lines of n characters, from the first on
 pub glyphs_loaded : (disp : Display) (rest c : CardState) (g : ℕ → ℕ) (line : ℕ → ℕ → ℕ) (height n first : ℕ) → first + n ≤ 256 → height ≤ 16 →
     ((ch r : ℕ) → line ch r < 256) → IsLoading disp rest c g
     → Leaves CardState ℕ (IsLoading disp rest) (run card_meaning (glyphs_plan line height n first) c).0

@@ -8,8 +8,8 @@ use Rattle.std.specs.Int.{bit_at}
 use Rattle.vga_bits.specs.Bits.{byte_of}
 use Rattle.vga_bits.proofs.BitLemmas.{byte_bits}
 use Rattle.bios_screen.proofs.Prelude.{Four, HostState, card_meaning, CardState, run, put}
-use Rattle.vga_host.specs.Address.{is_decoded, window_offset}
-use Rattle.vga_host.specs.MemoryWrite.{written_bit, combined_bit, written_byte, memory_after_put}
+use Rattle.vga_host.specs.Memory.Address.{is_decoded, window_offset}
+use Rattle.vga_host.specs.Memory.Write.{written_bit, combined_bit, written_byte, memory_after_put}
 use Rattle.bios_screen.proofs.Base.Flat.{set_cell, set_same, set_other, list_put}
 use Rattle.bios_screen.proofs.Base.Setting.{setting, host_at, with_memory, put_decoded}
 use Rattle.bios_screen.proofs.Modes.TextModes.{Display, misc_of, base_of, text_setting}
@@ -19,7 +19,7 @@ use Rattle.bios_screen.proofs.Modes.TextModes.Display.{Colour, Monochrome}
 abbrev pub bits_of : ℕ → ℕ
 bits_of b = byte_of (bit_at b)
 
--- all of an adapter but the planes of characters and attributes, and the latches
+-- all of an adapter except the planes of characters and attributes, and the latches
 abbrev pub without_text : CardState → CardState
 without_text c = record c {
   host = record c.host {

@@ -1,4 +1,4 @@
--- Where a service changes cells alone: from cells that are known one by one to the next screen.
+-- If a service changes only cells: from cells that are known one by one to the next screen.
 use Rattle.std.proofs.Common.{◌≡◌, ℕ, ◌<◌, sym, ap, ◌∙◌, List, Some}
 use Rattle.bios_screen.proofs.Prelude.{CardState, BiosData, ModeRow, listing, Cell, cell_in, all_cells, shown}
 use Rattle.bios_screen.specs.Screen.{no_cell, cell_of}
@@ -15,12 +15,12 @@ pub cells_at : (p0 p1 : List ℕ) (n k : ℕ) → k < n → cell_of (cells_in p0
 unfolding cells_in
 cells_at p0 p1 n k l = listed_at (cell_in p0 p1) n k no_cell l
 
--- the test looks at nothing that is text
+-- the test does not depend on text
 pub test_stays : (row : ModeRow) (c y : CardState) (d : BiosData) → without_text y ≡ without_text c → shows row y d ≡ shows row c d
 unfolding shows
 test_stays row c y d e = ap (λ x. shows row x d) e
 
--- where text alone has changed, the screen around the cells that are then in memory
+-- if only text has changed, the screen has the cells that are then in memory
 cells_shown : (c y : CardState) (d : BiosData) (h : IsShown c d) → without_text y ≡ without_text c →
     shown y d ≡ Some (screen_with h.row c d (cells_in y.host.memory.plane0 y.host.memory.plane1 all_cells))
 cells_shown c y d h others =
@@ -39,7 +39,7 @@ renewed_shown disp rest c y d h new g others t e =
     (same_from_0 cells (cell_in y.host.memory.plane0 y.host.memory.plane1) all_cells (λ k l. cells_are disp rest y g k l t ∙ e k l)
     ∙ ap (listing cells 0) (sym (length_listing (cell_in m.plane0 m.plane1) 0 all_cells)))
 
--- where nothing of it has changed, the same screen is shown
+-- if no cell has changed, the same screen is shown
 pub same_shown : (disp : Display) (rest c y : CardState) (d : BiosData) (h : IsShown c d) (g : ℕ → Cell) → without_text y ≡ without_text c →
     IsCells disp rest y g → ((k : ℕ) → k < 16384 → g k ≡ cell_in c.host.memory.plane0 c.host.memory.plane1 k) → shown y d ≡ Some (screen_shown c d h)
 unfolding cells_in

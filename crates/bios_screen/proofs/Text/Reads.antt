@@ -5,8 +5,8 @@ use Rattle.vga_bits.specs.Bits.{byte_of}
 use Rattle.vga_bits.proofs.BitLemmas.{byte_bits}
 use Rattle.vga_bits.specs.Four.{of_plane}
 use Rattle.bios_screen.proofs.Prelude.{bytes_at, HostState, card_meaning, CardState, run, get}
-use Rattle.vga_host.specs.Address.{plane_offset}
-use Rattle.vga_host.specs.MemoryRead.{read_bit, read_byte, loaded}
+use Rattle.vga_host.specs.Memory.Address.{plane_offset}
+use Rattle.vga_host.specs.Memory.Read.{read_bit, read_byte, loaded}
 use Rattle.bios_screen.proofs.Base.Setting.{host_at, get_decoded}
 use Rattle.bios_screen.proofs.Modes.TextModes.{Display, base_of, text_setting}
 use Rattle.bios_screen.proofs.Modes.TextModes.Display.{Colour, Monochrome}

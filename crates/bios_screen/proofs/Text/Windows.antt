@@ -57,7 +57,7 @@ module _ (c : CardState) (d : BiosData) (h : IsShown c d) (p : ℕ) (lp : p < h.
         let e = ap (λ n. 2 * d.columns * n) one ∙ twice d.columns (d.last_row + 1) in
         omega arith;
     below = on.below;
-    behind = let a = on.behind in omega arith;
+    after = let a = on.after in omega arith;
     left = refl;
     width = refl;
     wide = let a = some_columns in omega arith;
@@ -110,15 +110,15 @@ module _ (c : CardState) (d : BiosData) (h : IsShown c d) (p : ℕ) (lp : p < h.
       let half : byte_of k j % (2 * d.columns) / 2 ≡ column_on s p k = let q = byte_column k j l in omega arith in
       ap (in_window w (byte_of k j / (2 * d.columns) / 1)) half ∙ ap (λ r. in_window w r (column_on s p k)) (byte_row k j l)
 
-  -- the bytes of so many rows
+  -- the bytes of the rows of a page
   rows_bytes : 2 * d.columns * (1 * n) ≡ 2 * (d.columns * n)
   rows_bytes = let one : 1 * n ≡ n = omega arith in ap (λ x. 2 * d.columns * x) one ∙ twice d.columns n
 
-  -- what a cell takes, byte by byte, and in the page
-  byte_taken : (way : Direction) (k j : ℕ) → first ≤ k → has_source way w n (row_on s p k) ≡ true →
+  -- the contents that a cell gets, byte by byte, and in the page
+  byte_source : (way : Direction) (k j : ℕ) → first ≤ k → has_source way w n (row_on s p k) ≡ true →
       d.size * p + source way (byte_of k j) (2 * d.columns * (1 * n)) ≡ 2 * source way k (d.columns * n) + j
-  byte_taken Up k j low t = let a = page_bytes in let b = rows_bytes in omega arith
-  byte_taken Down k j low t =
+  byte_source Up k j low t = let a = page_bytes in let b = rows_bytes in omega arith
+  byte_source Down k j low t =
       let a = page_bytes in
       let b = rows_bytes in
       let l = le_is (w.top + n) (row_on s p k) t in
@@ -128,10 +128,10 @@ module _ (c : CardState) (d : BiosData) (h : IsShown c d) (p : ℕ) (lp : p < h.
       let x = row_and_column d.columns (k - first) some_columns in
       omega arith
 
-  cell_taken : (k : ℕ) → first ≤ k → in_window w (row_on s p k) (column_on s p k) ≡ true → has_source direction w n (row_on s p k) ≡ true →
+  cell_source : (k : ℕ) → first ≤ k → in_window w (row_on s p k) (column_on s p k) ≡ true → has_source direction w n (row_on s p k) ≡ true →
       source direction k (d.columns * n) < 16384
-  cell_taken k low u m =
-      let a = byte_taken direction k 0 low m in
+  cell_source k low u m =
+      let a = byte_source direction k 0 low m in
       let b = shifts.source_within ℕ (base_of h.display) 32768 band (d.size * p) (d.last_row + 1) w window direction (byte_of k 0) n
       (byte_test k 0 (omega arith) ∙ u) (ap (has_source direction w n) (byte_row k 0 (omega arith)) ∙ m) in
       let e = window.memory in
@@ -153,8 +153,8 @@ module _ (c : CardState) (d : BiosData) (h : IsShown c d) (p : ℕ) (lp : p < h.
       let low = le_is first k both.0 in
       same_cell g f k (source direction k (d.columns * n)) (λ j lj.
       ap g (sym (byte_at k j low)) ∙ is.moved (byte_of k j) (byte_test k j lj ∙ both.1) (ap (has_source direction w n) (byte_row k j lj) ∙ m)
-      ∙ ap f (byte_taken direction k j low m))
-      ∙ sym (old (source direction k (d.columns * n)) (cell_taken k low both.1 m)))
+      ∙ ap f (byte_source direction k j low m))
+      ∙ sym (old (source direction k (d.columns * n)) (cell_source k low both.1 m)))
       (λ t m.
       let both = both_true (nat_le first k) within t in
       let low = le_is first k both.0 in

@@ -1,7 +1,7 @@
 //! Dots of the adapter's clock.
 ghost use Rattle.std.specs.Prelude.{◌≡◌, ◌<◌, ◌≤◌, ◌↔◌, ◌⊎◌, ◌+◌, ◌-◌, ◌*◌, ◌++◌, min};
 ghost use Rattle.std.specs.Prelude.{IsOk, OnOk, IfErr, IfSome};
-ghost use Rattle.vga_host.specs.Fields.{character_width as host_width};
+ghost use Rattle.vga_host.specs.Sequencer.{character_width as host_width};
 ghost use Rattle.vga_crtc.specs.Beam.{after_start, after_dot};
 ghost use Rattle.vga_crtc.specs.Fields.{horizontal_display_end};
 ghost use Rattle.vga_crtc.specs.Raster.{IsLineStart, IsInLine, dot_number, dots_in_line};

@@ -1,7 +1,7 @@
 //! Cycles of a word: its low byte at the port or address, then its high byte at the next, or
 //! neither.
 ghost use Rattle.std.specs.Prelude.{◌≡◌, ◌+◌, ◌*◌, ◌/◌, ◌%◌, ◌<◌, ◌&&◌, IsOk};
-ghost use Rattle.vga_host.specs.Address.{is_decoded};
+ghost use Rattle.vga_host.specs.Memory.Address.{is_decoded};
 ghost use Rattle.vga_card.specs.Cycles.{out_cycle, inp_cycle};
 ghost use Rattle.vga_card.specs.Port.{crtc_port};
 ghost use Rattle.vga_card.specs.WordCycles.{IsQuiet, out_bytes, inp_bytes, out_word_cycle};

@@ -1,6 +1,6 @@
 //! How many dots lead to a line, a frame, or a change of a bit of input status 1. `registers` are
 //! the CRT controller's, and a character is `cw` dots wide, 8 or 9.
-ghost use Rattle.std.specs.Prelude.{◌≡◌, ◌<◌, ◌≤◌, ◌⊎◌, IfSome, MatchOption, false};
+ghost use Rattle.std.specs.Prelude.{◌≡◌, ◌+◌, if◌then◌else◌, ◌<◌, ◌≤◌, ◌⊎◌, IfSome, MatchOption, false};
 ghost use Rattle.vga_crtc.specs.Beam.{IsBeam};
 ghost use Rattle.vga_crtc.specs.Raster.{dots_in_line, dots_in_frame};
 ghost use Rattle.vga_crtc.specs.Status.{is_display, is_retrace};
@@ -25,6 +25,25 @@ impl Beam {
     {
         self.character <= registers.horizontal_display_end() as u16
             && self.line <= registers.vertical_display_end()
+    }
+
+    /// Input status 1: bit 0 is 0 at a display dot and else 1, bit 3 is 1 in the vertical retrace,
+    /// and the others are 0.
+    pub(crate) fn status(self, registers: &Registers) -> u8
+        ensures { result ≡ (if is_display registers.now self then 0 else 1)
+            + (if is_retrace registers.now self then 8 else 0) }
+    {
+        let display = if self.is_display(registers) {
+            0x00
+        } else {
+            0x01
+        };
+        let retrace = if self.is_retrace(registers) {
+            0x08
+        } else {
+            0x00
+        };
+        display + retrace
     }
 
     /// How many dots, at least one, lead to the next line.

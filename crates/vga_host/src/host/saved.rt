@@ -4,8 +4,9 @@ ghost use Rattle.vga_bits.specs.Saved.{IsPut};
 ghost use Rattle.vga_host.specs.Saved.{saved_latches, latches_from, saved_host, IsSavedHost};
 ghost use Rattle.vga_host.specs.Saved.{host_from};
 
-use super::ports::{GRAPHICS_INDEX_MASK, SEQUENCER_INDEX_MASK};
-use super::{GFX_MASKS, Host, SEQ_MASKS};
+use super::Host;
+use super::graphics::{self, GFX_MASKS};
+use super::sequencer::{self, SEQ_MASKS};
 use vga_bits::{are_kept, put_bytes};
 use vga_planes::Latch;
 
@@ -57,8 +58,8 @@ impl Host {
         let (gfx, indexes) = rest.split_at(GFX_MASKS.len());
         are_kept(&SEQ_MASKS, seq)
             && are_kept(&GFX_MASKS, gfx)
-            && indexes[0] <= SEQUENCER_INDEX_MASK
-            && indexes[1] <= GRAPHICS_INDEX_MASK
+            && indexes[0] <= sequencer::INDEX_MASK
+            && indexes[1] <= graphics::INDEX_MASK
     }
 
     /// Takes latches, registers, indexes and memory from the bytes of a host path.

@@ -1,4 +1,4 @@
-//! The report of steps that a machine takes.
+//! Taking steps on a machine, and writing their report.
 ghost use Rattle.std.specs.Prelude.{◌≡◌, ◌≢◌, ◌+◌, ◌<◌, ◌≤◌, ◌^◌, length, take, false, OnOk, Ok};
 ghost use Rattle.std.specs.Prelude.{Some, Err};
 ghost use Rattle.vga_bits.specs.declared.fault.Fault.TheVariants.{OutOfMemory};
@@ -17,7 +17,7 @@ use std::io::Write;
 use vga_bits::{Fault, Tracked, flush};
 use vga_script::Steps;
 
-/// Takes so many of the first steps, all if there are fewer, and writes a line for each.
+/// Takes the first `most` steps, or all if there are fewer, and writes a line for each.
 fn write_first<W: Write>(
     alloc: Global,
     out: &mut Tracked<W>,
@@ -47,7 +47,7 @@ fn write_first<W: Write>(
     Ok(())
 }
 
-/// Takes so many of the first steps, all if there are fewer, and then the last dumps.
+/// Takes the first `most` steps, or all if there are fewer, and then the last dumps.
 fn write_until<W: Write>(
     alloc: Global,
     out: &mut Tracked<W>,
@@ -69,7 +69,7 @@ fn write_until<W: Write>(
     write_last_dumps(alloc, out, machine, line.number())
 }
 
-/// Takes the steps on this machine, all of them or so many of the first with the last dumps.
+/// Takes the steps on this machine: all of them, or with `until` the first ones and the last dumps.
 fn write_steps<W: Write>(
     alloc: Global,
     out: &mut Tracked<W>,
@@ -96,14 +96,15 @@ fn write_steps<W: Write>(
 }
 
 impl Machine {
-    /// Takes the steps of a script, all of them or so many of the first with the last dumps, writes
-    /// what each answers, of which the first has the number 1, and flushes the writer.
+    /// Takes the steps of a script on this machine, writes what each answers, and flushes the
+    /// writer. Steps are numbered from 1. With `until` it takes only the first `until` steps, or
+    /// all if there are fewer, and then the last dumps.
     ///
     /// # Errors
     ///
     /// - `WriteFault`: the writer failed, and has a prefix of the report.
-    /// - `OutOfMemory`: a step that takes memory got none. The answers of the steps before it are
-    ///   written, whole.
+    /// - `OutOfMemory`: an allocation failed in a step. The answers of the steps before it are
+    ///   written, each whole.
     #[tactic(auto, using(crate::proofs::ReportLemmas::report_is_flushed))]
     pub fn report<W: Write>(
         &mut self,
@@ -125,14 +126,14 @@ impl Machine {
         flush(out)
     }
 
-    /// Takes so many of the first steps, all if there are fewer, and writes what each answers, of
-    /// which the first has the number `number`; that is counted on to the step behind them. Other
-    /// steps may go on from there.
+    /// Takes the first `most` steps, or all if there are fewer, and writes what each answers. The
+    /// first has the number `number`, which is counted on to the step after the last. More steps
+    /// may go on from there.
     ///
     /// # Errors
     ///
-    /// As those of `report`. The machine has then taken some of the first steps, and none in part;
-    /// `number` stays.
+    /// As for `report`. The machine has then taken some of the first steps, none of them in part,
+    /// and `number` is unchanged.
     pub fn take_steps<W: Write>(
         &mut self,
         alloc: Global,

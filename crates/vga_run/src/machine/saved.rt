@@ -1,4 +1,4 @@
-//! A machine as bytes: a header, the BIOS data, and the adapter.
+//! Saving a machine as bytes, and restoring it: a header, the BIOS data, and the adapter.
 ghost use Rattle.std.specs.Prelude.{◌≡◌, ◌+◌, ◌<◌, ◌≤◌, ◌↔◌, ◌++◌, length};
 ghost use Rattle.std.specs.Prelude.{IsTrue, IsOk, OnOk, IfErr};
 ghost use Rattle.vga_bits.specs.Saved.{IsPut};
@@ -19,7 +19,7 @@ const MARK: [u8; 5] = [b'Z', b'A', b'K', b'S', 1];
 /// How many bytes the header has: the mark, the version, and the length of the whole.
 const HEADER_LEN: usize = 9;
 
-/// Puts the header of so many bytes into a slice, at its beginning.
+/// Puts the header at the beginning of a slice. The saved machine has `len` bytes in all.
 fn put_header(out: &mut [u8], len: usize) -> usize
     requires few { len < 4294967296 }
     requires room { 9 ≤ length out.old }
@@ -42,14 +42,14 @@ fn has_magic(bytes: &[u8]) -> bool
         && bytes[3] == MARK[3]
 }
 
-/// Whether some bytes are of this version of the format.
+/// Whether some bytes have this version of the format.
 fn has_version(bytes: &[u8]) -> bool
     ensures { IsTrue result ↔ HasVersion bytes.now }
 {
     bytes.len() > 4 && bytes[4] == MARK[4]
 }
 
-/// The number of four bytes, the lowest first, at place `at`.
+/// The number of four bytes at `at`, low byte first.
 fn long_at(bytes: &[u8], at: usize) -> usize
     requires { at + 4 ≤ length bytes.now }
     ensures { result ≡ long_of bytes.now at }
@@ -57,14 +57,15 @@ fn long_at(bytes: &[u8], at: usize) -> usize
     word_at(bytes, at) as usize + 65_536 * word_at(bytes, at + 2) as usize
 }
 
-/// Whether some bytes are as many as they say, and no fewer than any machine has.
+/// Whether some bytes are as many as their header says, and no fewer than the smallest saved
+/// machine.
 fn has_length(bytes: &[u8]) -> bool
     ensures { IsTrue result ↔ HasLength bytes.now }
 {
     bytes.len() >= Machine::SAVED_LEN && bytes.len() == long_at(bytes, 5)
 }
 
-/// Whether some bytes, no fewer than any machine has, have the parts of a machine.
+/// Whether some bytes, no fewer than the smallest saved machine, contain the parts of a machine.
 fn has_parts(bytes: &[u8]) -> bool
     requires { 40 ≤ length bytes.now }
     ensures { IsTrue result ↔ HasParts bytes.now }
@@ -74,7 +75,7 @@ fn has_parts(bytes: &[u8]) -> bool
     Bda::is_saved(bda) && Card::is_saved(card)
 }
 
-/// Judges whether some bytes are those of a machine.
+/// Checks that some bytes are a saved machine.
 fn judge(bytes: &[u8]) -> Result<(), StateFault>
     ensures ok { IsOk result ↔ IsSavedMachine bytes.now }
     ensures err { IfErr result (λ e. IsStateFault e bytes.now) }
@@ -95,11 +96,11 @@ fn judge(bytes: &[u8]) -> Result<(), StateFault>
 }
 
 impl Machine {
-    /// How many bytes a machine has when it is saved at the first dot of a frame; elsewhere it has
-    /// three more for each dot drawn of the frame under way.
+    /// The length in bytes of a machine that is saved at the first dot of a frame. Elsewhere there
+    /// are three more bytes for each dot drawn of the frame under way.
     pub const SAVED_LEN: usize = HEADER_LEN + Bda::SAVED_LEN + Card::SAVED_LEN;
 
-    /// How many bytes the machine has when it is saved now.
+    /// The length in bytes that the machine has if it is saved now.
     pub fn saved_len(&self) -> usize
         ensures value { result ≡ length (saved_machine self.now) }
         ensures few { result < 4294967296 }
@@ -108,9 +109,8 @@ impl Machine {
         HEADER_LEN + Bda::SAVED_LEN + self.card.saved_len()
     }
 
-    /// Saves the machine into a slice that has as many bytes as `saved_len` tells: a header, the
-    /// BIOS data, and the adapter with the dots drawn of the frame under way. The fonts are not
-    /// saved.
+    /// Saves the machine into a slice of `saved_len` bytes: a header, the BIOS data, and the
+    /// adapter with the dots drawn of the frame under way. The fonts are not saved.
     pub fn save(&self, out: &mut [u8])
         requires { length out.old ≡ length (saved_machine self.now) }
         ensures { out.new ≡ saved_machine self.now }
@@ -123,18 +123,19 @@ impl Machine {
         self.card.save(out, at);
     }
 
-    /// Restores a machine that was saved: adapter and BIOS data; the fonts stay. No memory is
-    /// taken.
+    /// Restores the adapter and the BIOS data of a saved machine. The fonts stay. It allocates
+    /// nothing.
     ///
     /// # Errors
     ///
-    /// Other bytes than a saved machine's are refused, and then nothing changes. Of several faults
-    /// the first in this order is answered:
+    /// Bytes that are not a saved machine are refused, and nothing changes. If they have several
+    /// faults, the first in this order is returned:
     ///
     /// - `BadMagic`: they do not begin with `ZAKS`.
-    /// - `BadVersion`: they are of another version than 1.
-    /// - `BadLength`: they are not as many as they say, or fewer than any machine has.
-    /// - `BadPart`: a register holds bits that it does not keep, the beam or a count is out of its
+    /// - `BadVersion`: their version is not 1.
+    /// - `BadLength`: they are not as many as their header says, or fewer than the smallest saved
+    ///   machine.
+    /// - `BadPart`: a register has bits that it does not keep, the beam or a count is out of its
     ///   bounds, there are more dots than the beam has passed, or the BIOS data are not valid.
     pub fn restore(&mut self, bytes: &[u8]) -> Result<(), StateFault>
         ensures ok { IsOk result ↔ IsSavedMachine bytes.now }
@@ -147,7 +148,7 @@ impl Machine {
         Ok(())
     }
 
-    /// Takes adapter and BIOS data from the bytes of a machine.
+    /// Takes adapter and BIOS data from the bytes of a saved machine.
     #[tactic(auto, unfolding(crate::specs::Saved::machine_from))]
     fn take_parts(&mut self, bytes: &[u8])
         requires { IsSavedMachine bytes.now }
@@ -162,8 +163,9 @@ impl Machine {
         self.card.bounds();
     }
 
-    /// What is saved is restored, whole, but for dots that no step can see any more; and the bytes
-    /// of a machine with valid BIOS data are such. The clauses are for proofs: nothing runs.
+    /// A saved machine is restored whole, except for dots that no step can see any more; and a
+    /// machine with valid BIOS data is saved as bytes that can be restored. The clauses are for
+    /// proofs: nothing runs.
     pub fn saves_whole(&self)
         ensures saved { IsValid self.now.bda → IsSavedMachine (saved_machine self.now) }
         ensures back { machine_from self.now.fonts (saved_machine self.now)

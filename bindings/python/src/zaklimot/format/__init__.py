@@ -1,4 +1,4 @@
-"""The script's format, and the report's: one table, and what reads and writes by it.
+"""The formats of scripts and reports: one table, and the code that reads and writes by it.
 
     >>> from zaklimot import format
     >>> script = format.parse_text("version 2\\nrepeat 2\\nout 3c4 2\\nend\\n")
@@ -12,9 +12,9 @@
     out 3C4 02
     end
 
-`parse_text` reads a text, `decode` bytes, and `read` either; a `ScriptFault` names the fault as the program does.
-`Report` reads a report answer by answer, and `is_answer_to` tells whether an answer has a form that a step's may have.
-docs/SCRIPT.md and docs/REPORT.md tell the formats. This package needs Python 3.9 and its standard library.
+`parse_text` reads a text, `decode` reads bytes, and `read` reads either. A `ScriptFault` names the fault as the
+program does. `Report` reads a report answer by answer, and `is_answer_to` says whether a step may answer so.
+docs/SCRIPT.md and docs/REPORT.md describe the formats. This package needs Python 3.9 and its standard library.
 """
 
 from .answers import is_answer_to

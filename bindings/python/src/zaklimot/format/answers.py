@@ -1,4 +1,4 @@
-"""What each step may answer, held against what it did answer. docs/REPORT.md tells the forms."""
+"""Checking answers against the forms that each step may have, which docs/REPORT.md describes."""
 
 from __future__ import annotations
 
@@ -14,7 +14,7 @@ _BYTE, _WORD = "[0-9A-F]{2}", "[0-9A-F]{4}"
 _CALLED = re.compile(rf"ax={_WORD} bx={_WORD} cx={_WORD} dx={_WORD}(?: block ((?:{_BYTE})+))?")
 _READ = {READ_BYTE: re.compile(_BYTE), READ_WORD: re.compile(_WORD)}
 RAGGED = "ragged"
-# The calls that answer a block: of the palette, and of DAC registers, as many as CX counts.
+# The calls that answer a block: the palette, and CX registers of the DAC.
 _PALETTE_BLOCK, _DAC_BLOCK, _PALETTE_BYTES = 0x1009, 0x1017, 17
 
 
@@ -22,7 +22,7 @@ def _bytes(count: int) -> str:
     return f"(?: {_BYTE}){{{count}}}"
 
 
-# The registers that `show regs` shows in rows: their name, and how many there are behind the index.
+# The groups of registers that `show regs` shows: their name, and how many registers follow the index.
 GROUPS = {"seq": 5, "crtc": 25, "gfx": 9, "attr": 21}
 _DUMPS = {
     "show regs": [
@@ -44,7 +44,7 @@ _ROWS, _COLUMNS = (25, 28, 50), (40, 80)
 
 
 def _dump(step: Step) -> Optional[list[str]]:
-    """The forms of a dump's lines; None of the cells."""
+    """The forms of a dump's lines; None for the cells."""
     if step.name == "show dac":
         return [f"entry {step.numbers[0]:02X}:(?: [0-3][0-9A-F]){{3}}"]
     if step.name == "show plane":
@@ -54,7 +54,7 @@ def _dump(step: Step) -> Optional[list[str]]:
 
 
 def _are_cells(lines: Sequence[str]) -> bool:
-    """Whether lines are a dump of the cells."""
+    """Whether these lines are a dump of the cells."""
     return len(lines) in _ROWS and any(
         all(re.fullmatch(f"row {row:02X}:(?: {_WORD}){{{columns}}}", line) for row, line in enumerate(lines))
         for columns in _COLUMNS
@@ -69,7 +69,7 @@ def _is_dump(step: Step, answer: Answer) -> bool:
 
 
 def _is_call(step: Step, answer: str) -> bool:
-    """Whether a call answers registers, and its block where it has one."""
+    """Whether an answer of a call has registers, and a block if the call answers one."""
     found = _CALLED.fullmatch(answer)
     if found is None:
         return False
@@ -79,9 +79,9 @@ def _is_call(step: Step, answer: str) -> bool:
 
 
 def is_answer_to(step: Step, answer: Answer) -> bool:
-    """Whether an answer has a form that this step's may have, and a refusal a number and a name that it may have."""
+    """Whether an answer has a form that this step may have, or is a refusal that this step may get."""
     has_more, kind = bool(answer.others) or answer.picture is not None, step.form.answer
-    # An advance is refused where it is too far, and nowhere else.
+    # An advance is refused exactly if it is too far.
     is_too_far = step.name == ADVANCE and step.numbers[0] > MOST_ADVANCE
     if REFUSED.fullmatch(answer.answer):
         may_be_refused = is_too_far or step.name != ADVANCE

@@ -1,4 +1,4 @@
-"""A script as bytes: read, and written."""
+"""Reading and writing a script as bytes."""
 
 from __future__ import annotations
 
@@ -15,17 +15,17 @@ _HAS_KIND = {form.opcode for form in FORMS.values() if len(form.code) > 1}
 
 
 def is_bytes(data: bytes) -> bool:
-    """Whether a script is one of bytes: it begins with the magic."""
+    """Whether a script is given as bytes: it begins with the magic."""
     return data.startswith(MAGIC)
 
 
 def read(data: bytes) -> Script:
-    """The script of a file, bytes or text; a ScriptFault where it is no good."""
+    """The script of a file, bytes or text. Raises ScriptFault if it has a fault."""
     return decode(data) if is_bytes(data) else parse_text(data)
 
 
 def encoded(item: Union[Step, Block]) -> bytes:
-    """A step or a block as bytes of a script."""
+    """The bytes of a step or a block."""
     if isinstance(item, Block):
         count = item.count.to_bytes(COUNT.size, "little")
         return bytes([REPEAT_CODE]) + count + b"".join(map(encoded, item.steps)) + bytes([END_CODE])
@@ -36,12 +36,12 @@ def encoded(item: Union[Step, Block]) -> bytes:
 
 
 def encode(script: Script) -> bytes:
-    """A script as bytes, as `vga asm` writes it."""
+    """The bytes of a script, as `vga asm` writes them."""
     return HEADERS[script.version] + b"".join(map(encoded, script.items))
 
 
 def decode(data: bytes) -> Script:
-    """The script of bytes; a ScriptFault where they are none: the first fault in the order of docs/SCRIPT.md."""
+    """The script that bytes spell. Raises ScriptFault with the first fault in the order of docs/SCRIPT.md."""
     if len(data) > MOST_BYTES:
         raise ScriptFault("TooLong")
     if not is_bytes(data):
@@ -56,14 +56,14 @@ def decode(data: bytes) -> Script:
 
 
 class _Reader:
-    """Bytes that are read from a place on."""
+    """Bytes, and the position of the next one to read."""
 
     def __init__(self, data: bytes, at: int) -> None:
         self._data = data
         self._at = at
 
     def items(self, has_blocks: bool) -> Iterator[Item]:
-        """The steps and blocks up to the end."""
+        """Reads the steps and blocks up to the end."""
         data, meant = self._data, 0
         while self._at < len(data):
             begin = self._at
@@ -74,7 +74,7 @@ class _Reader:
             yield item
 
     def _block(self) -> Block:
-        """The block that stands next."""
+        """Reads the next block."""
         data, begin = self._data, self._at
         self._at += 1 + COUNT.size
         if self._at > len(data):
@@ -91,7 +91,7 @@ class _Reader:
         return Block(count, tuple(steps))
 
     def _step(self) -> Step:
-        """The step that stands next: its code is judged first, then its length, then its numbers."""
+        """Reads the next step. Its opcode is checked first, then its length, then its numbers."""
         data, begin = self._data, self._at
         code = data[begin:begin + (2 if data[begin] in _HAS_KIND else 1)]
         form = CODES.get(code)
@@ -108,7 +108,7 @@ class _Reader:
                 raise ScriptFault("Truncated", begin)
             return Step(form.name, numbers[:-1], data[end:self._at])
         if form.name == DUMP_OF_PLANE:
-            # Those of a plane's dump are to be in range; all other fields take whatever their bytes hold.
+            # The fields of a plane's dump must be in range. All other fields take any bytes.
             plane, _, count = numbers
             if plane > PLANE.most or not DUMPED.least <= count <= DUMPED.most or not is_in_plane(numbers):
                 raise ScriptFault("BadStep", begin)

@@ -1,4 +1,4 @@
-"""A text's lines as they come from a stream, good or bad, with their comments; memory holds few of them."""
+"""A text's lines as they come from a stream, good or bad, with their comments. Few of them are in memory at a time."""
 
 from __future__ import annotations
 
@@ -12,17 +12,17 @@ from typing import BinaryIO, Iterator, NamedTuple
 from .table import END, FIRST_LINE, MOST_STEPS, REPEAT
 
 _WORDS = re.compile(rb"[^ \t\r\n]+")
-# Bytes by their numbers: Python finds a number in bytes some times as fast as it finds other bytes there.
+# Bytes as numbers: Python finds a number in bytes several times as fast as it finds other bytes there.
 _COMMENT, _VERTICAL_TAB, _FORM_FEED = b";\v\f"
-# What the lines of blocks begin with; hardly another line does.
+# The beginnings of the lines of blocks. Few other lines begin so.
 _BLOCK_LETTERS, _BLOCK_BYTES = "rReE", b"rReE"
 _BLANKS = b" \t\r\n"
-# Of a longer block the lines are read again in each of its rounds.
+# The lines of a longer block are read again in each of its rounds.
 _MOST_KEPT = 4096
 
 
 class Line(NamedTuple):
-    """A line that has a word: its number from 1, its words with one blank between them, and its comment's bytes."""
+    """A line with a word: its number from 1, its words separated by one blank, and its comment's bytes."""
 
     number: int
     words: str
@@ -30,35 +30,35 @@ class Line(NamedTuple):
 
     @property
     def name(self) -> str:
-        """What the line does: its first word."""
+        """The first word, which says what the line does."""
         return self.words.partition(" ")[0].lower()
 
     @property
     def has_blocks(self) -> bool:
-        """Whether a text may have blocks whose first line it is."""
+        """Whether a text whose first line this is may have blocks."""
         return self.words.lower() == FIRST_LINE
 
 
-# A line of all its parts, made in half the time that the class itself takes.
+# Makes a line of all its parts in half the time that the class takes.
 _made_line = partial(tuple.__new__, Line)
 
 
 def lines_in(stream: BinaryIO, before: int = 0) -> Iterator[Line]:
-    """The lines of a stream that have a word, behind so many lines."""
+    """The lines of a stream that have a word, after the given number of lines."""
     for number, line in enumerate(stream, before + 1):
         comment = b""
         if _COMMENT in line:
             line, _, comment = line.partition(b";")
-        # Blanks are parted fastest by the call that takes other letters for blanks too.
+        # The call that splits fastest also takes other characters for blanks.
         words = _WORDS.findall(line) if _VERTICAL_TAB in line or _FORM_FEED in line else line.split()
         if words:
             yield _made_line((number, b" ".join(words).decode("utf-8", "surrogateescape"), comment))
 
 
 def steps_in(stream: BinaryIO) -> Iterator[Line]:
-    """The steps that a text means, in their order: those of a block in each of its rounds.
+    """The steps that a text means, in order: those of a block in each of its rounds.
 
-    The stream is read from its beginning, and again from any place.
+    The stream must be seekable: it is read from its beginning, and parts of it again.
     """
     stream.seek(0)
     lines = lines_in(stream)
@@ -71,7 +71,7 @@ def steps_in(stream: BinaryIO) -> Iterator[Line]:
 
 
 def words_in(stream: BinaryIO) -> Iterator[str]:
-    """The words of the same steps, of a stream that `vga dis` has printed: a line of it is a step's words and no more."""
+    """The words of the same steps, from a stream that `vga dis` printed, in which a line is only the words of a step."""
     stream.seek(0)
     if stream.readline().split() == FIRST_LINE.encode().split():
         return (line.words for line in steps_in(stream))
@@ -80,7 +80,7 @@ def words_in(stream: BinaryIO) -> Iterator[str]:
 
 
 def places_in(stream: BinaryIO) -> Iterator[tuple[int, bytes]]:
-    """Where the same steps stand in a text: the number of each one's line, and the bytes of its comment."""
+    """Where the same steps stand in a text: the number of each line, and the bytes of its comment."""
     stream.seek(0)
     first = next(lines_in(stream), None)
     if first is not None and first.has_blocks:
@@ -96,7 +96,7 @@ def places_in(stream: BinaryIO) -> Iterator[tuple[int, bytes]]:
 
 
 def _unrolled(stream: BinaryIO, lines: Iterator[Line]) -> Iterator[Line]:
-    """The steps that lines of version 2 mean, as far as they are good ones."""
+    """The steps that lines of version 2 mean, up to the first bad line."""
     left, count, place, number = MOST_STEPS, 0, 0, 0
     block: list[Line] = []
     length = 0
@@ -117,7 +117,7 @@ def _unrolled(stream: BinaryIO, lines: Iterator[Line]) -> Iterator[Line]:
             stream.seek(behind)
             count = 0
         else:
-            # The first of a block's rounds is taken as it is read.
+            # The first round of a block is taken as it is read.
             length += 1
             left -= 1
             if count and length <= _MOST_KEPT:
@@ -126,13 +126,13 @@ def _unrolled(stream: BinaryIO, lines: Iterator[Line]) -> Iterator[Line]:
 
 
 def count_in(stream: BinaryIO) -> int:
-    """How many steps a text means, if it is a good one."""
+    """How many steps a text means, if it has no fault."""
     stream.seek(0)
     filled = filter(None, map(bytes.lstrip, stream))
     lines = (line for line in filled if line[0] != _COMMENT)
     first = next(lines, b"")
     if first.partition(b";")[0].lower().split() != FIRST_LINE.encode().split():
-        # They are counted by their first bytes, without a look at each.
+        # They are counted by their first bytes, without reading each.
         begins = Counter(map(itemgetter(0), filled))
         return bool(first) + sum(begins.values()) - begins[_COMMENT]
     total = opened = count = 0

@@ -1,4 +1,4 @@
-"""A picture: the Netpbm PPM that stands in a report, and how two of them differ."""
+"""Pictures of reports, which are Netpbm PPMs, and how two of them differ."""
 
 from __future__ import annotations
 
@@ -12,7 +12,7 @@ COMPONENTS = bytes(range(64))
 
 
 class Digest(NamedTuple):
-    """What is known of a picture whose dots are not at hand."""
+    """The size and the digest of a picture whose dots are not at hand."""
 
     length: int
     size: str
@@ -37,7 +37,7 @@ class Picture:
 
     @classmethod
     def of_ppm(cls, ppm: bytes) -> Picture:
-        """The picture of a PPM; a ValueError tells why it is none."""
+        """The picture of a PPM. Raises ValueError with the reason if it is not one."""
         header = HEADER.match(ppm)
         if header is None:
             raise ValueError("the picture doesn't begin as a PPM of the kind P6, width, height and 63")
@@ -51,12 +51,12 @@ class Picture:
 
     @classmethod
     def of_dots(cls, width: int, height: int, dots: bytes) -> Picture:
-        """The picture of so many dots, row by row from the top left."""
+        """A picture of these dots, row by row from the top left."""
         return cls.of_ppm(b"P6\n%d %d\n63\n" % (width, height) + dots)
 
     @property
     def length(self) -> int:
-        """How many bytes its PPM has."""
+        """The length of its PPM in bytes."""
         return len(self.ppm)
 
     @property
@@ -66,7 +66,7 @@ class Picture:
 
     @property
     def sum(self) -> str:
-        """The MD5 of its PPM, hexadecimal."""
+        """The MD5 digest of its PPM, in hexadecimal."""
         return hashlib.md5(self.ppm).hexdigest()
 
     def row(self, y: int) -> bytes:
@@ -80,7 +80,7 @@ class Picture:
 
 
 def marks_in_row(row: bytes, other: bytes) -> list[bool]:
-    """For each dot of a row whether it differs from that of another row of the same width."""
+    """For each dot of a row, whether it differs from the dot of another row of the same width."""
     return [row[at:at + 3] != other[at:at + 3] for at in range(0, len(row), 3)]
 
 

@@ -1,4 +1,4 @@
-"""A report, answer by answer."""
+"""Reading a report, answer by answer."""
 
 from __future__ import annotations
 
@@ -11,32 +11,32 @@ from typing import Callable, Iterator, NamedTuple, Optional, Union
 from .picture import Digest, Picture
 from .table import FAULT, OK, REFUSALS, refusal_of
 
-# Longer lines than any answer has, a block of 65,535 bytes among them, and larger pictures than any adapter's.
+# More than the longest line of an answer, with a block of 65,535 bytes, and more than an adapter's largest picture.
 MOST_LINE, MOST_PICTURE = 1 << 18, 1 << 26
-# So many lines are read between two calls of what hears how far a report was read.
+# How many lines are read between two reports of progress.
 _LINES_BETWEEN = 4096
 
 TEXT = re.compile(rb"[ -~]+\n")
 _PICTURE = re.compile(r"picture ([1-9][0-9]{0,11})")
-# A picture as a report that is kept as text shows it: its length, its size and its digest in the place of its bytes.
+# A picture in a report that is kept as text: its length, its size, and its digest in place of its bytes.
 _SHOWN = re.compile(r"(picture ([1-9][0-9]{0,11})) ([1-9][0-9]{0,6}x[1-9][0-9]{0,6}) ([0-9a-f]{32})")
 READ = re.compile(r"[0-9A-F]{2}|[0-9A-F]{4}")
 REFUSED = re.compile(r"E([1-9][0-9]?) ([A-Z][A-Za-z]*)")
-# The refusals that there are, with their numbers.
+# The refusals, with their numbers.
 _REFUSED = {refusal_of(number): number for number in REFUSALS}
-# What a harness answers that leaves a step out.
+# What a harness answers if it skips a step.
 SKIPPED = "skipped"
-# The kinds of answers that may look like one another.
+# The kinds of answers that could be mistaken for one another.
 VALUE, REFUSAL, RUN_FAULT = "read", "refused", "fault"
-# The answers of most steps: they are found by a look, which makes long reports quick to read.
+# The answers of most steps. Looking them up makes long reports fast to read.
 _PLAIN = {b"%s\n" % answer.encode(): answer for answer in (OK, SKIPPED, *("%02X" % value for value in range(256)))}
 _MOST_PLAIN = 1024
-# What may stand where the lines of an answer have ended.
+# What may follow the lines of an answer.
 _DIGITS_OR_END = (b"", *(b"%d" % digit for digit in range(10)))
 
 
 class ReportError(ValueError):
-    """A report is damaged: the reason, and the line from 1 where it is."""
+    """A report is damaged: the reason, and the line, counted from 1."""
 
     def __init__(self, reason: str, line: int) -> None:
         super().__init__(f"line {line}: {reason}")
@@ -47,7 +47,7 @@ class ReportError(ValueError):
 class Answer(NamedTuple):
     """What one step answered: its number, its line in the report, and the lines of the answer.
 
-    A fault in the place of a report is an answer with the number 0.
+    A fault that stands in place of a report is an answer with the number 0.
     """
 
     number: int
@@ -63,7 +63,7 @@ class Answer(NamedTuple):
 
     @property
     def kind(self) -> str:
-        """What kind of answer it is, where another kind may look like it."""
+        """The kind of the answer, if it could be mistaken for another kind."""
         if self.number == 0:
             return RUN_FAULT
         if READ.fullmatch(self.answer):
@@ -72,13 +72,13 @@ class Answer(NamedTuple):
 
     @property
     def is_refused(self) -> bool:
-        """Whether it looks like a refusal, be it one that there is or not."""
+        """Whether it looks like a refusal, known or not."""
         answer = self.answer
         return answer[:1] == "E" and self.number != 0 and (answer in _REFUSED or REFUSED.fullmatch(answer) is not None)
 
     @property
     def refusal(self) -> int:
-        """The number of the refusal that it is, 1 to 13; else 0."""
+        """The number of the refusal, 1 to 13; or 0 if it is none."""
         return _REFUSED.get(self.answer, 0) if self.number else 0
 
     def text(self) -> str:
@@ -89,15 +89,15 @@ class Answer(NamedTuple):
         return f"{self.number} " + "\n".join(self.lines) + picture + "\n"
 
 
-# An answer of all its parts, made in half the time that the class itself takes.
+# Makes an answer of all its parts in half the time that the class takes.
 _made_answer = partial(tuple.__new__, Answer)
 
 
 class Report:
-    """A report that is read from a stream. Lines are counted from 1, and a picture with its line is one.
+    """A report that is read from a stream. Lines are counted from 1; a picture and its line count as one.
 
-    `heard` is called now and then while it is read, with the line. `first` is the number of its first step: a slice of
-    a script has a report that begins behind the first.
+    `heard` is called now and then during reading, with the line. `first` is the number of the first step: the report of
+    a slice of a script begins with a later step.
     """
 
     def __init__(
@@ -106,17 +106,17 @@ class Report:
         self._stream = stream
         self._heard = heard
         self._first = first
-        # The answers of steps that a look finds, with the refusals that came.
+        # The answers that are looked up, with the refusals that have come so far.
         self._plain = dict(_PLAIN)
         self.line = 0
         # How many steps were read so far.
         self.count = 0
 
     def answers(self) -> Iterator[Answer]:
-        """The answers in their order; a ReportError where the report is damaged, behind those before that place."""
+        """The answers in order. If the report is damaged, raises ReportError after the answers before that place."""
         read_line, plain_of = self._stream.readline, self._plain.get
         for number in count(self._first):
-            # As `_next_line` reads it, without a call of its own.
+            # The same as `_next_line`, without the call.
             self.line = place = self.line + 1
             if place % _LINES_BETWEEN == 0 and self._heard is not None:
                 self._heard(place)
@@ -132,7 +132,7 @@ class Report:
                 yield self._answer(number, line)
 
     def _answer(self, number: int, line: bytes) -> Answer:
-        """The answer that begins with a line, and has this number if it is one."""
+        """The answer that begins with this line, which must have this number."""
         text = self._text_of(line)
         place = self.line
         if number == self._first and FAULT.fullmatch(text):
@@ -149,7 +149,7 @@ class Report:
         return Answer(number, place, answer, tuple(self._other_lines()))
 
     def _picture_answer(self, number: int, answer: str) -> Answer:
-        """The answer of a picture, whose bytes stand next, or whose digest stands in their place."""
+        """The answer of a picture. Its bytes come next, or its digest stands in their place."""
         place = self.line
         announced = _PICTURE.fullmatch(answer)
         if announced is not None:
@@ -160,13 +160,13 @@ class Report:
         return Answer(number, place, shown[1], (), Digest(int(shown[2]), shown[3], shown[4]))
 
     def _fault(self, text: str) -> Answer:
-        """A fault in the place of a report, behind which nothing may stand."""
+        """A fault in place of a report. Nothing may follow it."""
         if self._next_line():
             raise self._error("something stands after a fault")
         return Answer(0, 1, text)
 
     def _next_line(self) -> bytes:
-        """The next line with its newline, as far as there is one; nothing at the report's end."""
+        """The next line, with its newline if it has one; empty at the report's end."""
         self.line = line = self.line + 1
         if line % _LINES_BETWEEN == 0 and self._heard is not None:
             self._heard(line)
@@ -185,12 +185,12 @@ class Report:
         return line[:-1].decode("ascii")
 
     def _other_lines(self) -> Iterator[str]:
-        """The lines up to the next step's, as a dump has them: none of them begins with a digit."""
+        """The lines before the next step's, which belong to a dump: none of them begins with a digit."""
         while self._stream.peek(1)[:1] not in _DIGITS_OR_END:
             yield self._text_of(self._next_line())
 
     def _picture(self, number: int, length: int) -> Picture:
-        """The picture of so many bytes that stands next, and its newline."""
+        """Reads the next picture, of the given length, and its newline."""
         if length > MOST_PICTURE:
             raise self._error(f"step {number} has a picture of {length} bytes, and {MOST_PICTURE} are the most")
         ppm = self._stream.read(length)
@@ -211,5 +211,5 @@ class Report:
 
 
 def _front_of(text: str) -> str:
-    """The front of a line, for messages."""
+    """The beginning of a line, for messages."""
     return text if len(text) <= 40 else text[:40] + ".."

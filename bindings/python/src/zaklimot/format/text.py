@@ -1,4 +1,4 @@
-"""A script as text: read, and printed as `vga dis` does."""
+"""Reading a script as text, and printing one as `vga dis` does."""
 
 from __future__ import annotations
 
@@ -15,14 +15,14 @@ from .table import (
 _WORDS = re.compile(rb"[^ \t\r]+")
 _HEXADECIMAL = re.compile("[0-9A-Fa-f]+")
 DUMP_OF_PLANE = "show plane"
-# A byte that is no ASCII stands in no step.
+# No step contains a byte outside ASCII.
 _NO_LETTER = "\xff"
-# A step of all its parts, made in half the time that the class itself takes.
+# Makes a step of all its parts in half the time that the class takes.
 _made_step = partial(tuple.__new__, Step)
 
 
 def parse_text(text: Union[str, bytes]) -> Script:
-    """The script that a text spells; a ScriptFault, TooLong or BadLine, where it spells none."""
+    """The script that a text spells. Raises ScriptFault, TooLong or BadLine, if it spells none."""
     data = text.encode("utf-8", "surrogateescape") if isinstance(text, str) else text
     if len(data) > MOST_BYTES:
         raise ScriptFault("TooLong")
@@ -36,7 +36,7 @@ def parse_text(text: Union[str, bytes]) -> Script:
 
 
 def _lines(data: bytes) -> Iterator[tuple[int, list[str]]]:
-    """The lines that have a word, with their numbers; words in lower case."""
+    """The lines that have a word, with their numbers. Words are in lower case."""
     for number, line in enumerate(data.split(b"\n"), 1):
         words = _WORDS.findall(line.partition(b";")[0])
         if words:
@@ -51,7 +51,7 @@ def _step(number: int, words: Sequence[str]) -> Step:
 
 
 def _items_with_blocks(lines: Iterable[tuple[int, list[str]]]) -> Iterator[Item]:
-    """The items of version 2. A block that means too much is told by the line where it begins."""
+    """The items of version 2. A block that means too many steps is a fault of its first line."""
     opened, count, meant = 0, 0, 0
     steps: list[Step] = []
     for number, words in lines:
@@ -83,7 +83,7 @@ def _count(number: int, words: Sequence[str]) -> int:
 
 
 def parse_line(words: Sequence[str]) -> Step:
-    """The step of a line with these words, in lower case; a ValueError where it is none."""
+    """The step of a line with these words, in lower case. Raises ValueError if they spell none."""
     name, rest = words[0], words[1:]
     if name == SHOW and rest:
         name, rest = f"{SHOW} {rest[0]}", rest[1:]
@@ -99,19 +99,19 @@ def parse_line(words: Sequence[str]) -> Step:
 
 
 def is_in_plane(numbers: Sequence[int]) -> bool:
-    """Whether a dump of a plane, by its numbers, shows no byte past the plane's end."""
+    """Whether a dump of a plane, by its numbers, stays within the plane."""
     return numbers[1] + numbers[2] <= PLANE_BYTES
 
 
 def _numbers(words: Sequence[str], fields: Sequence[Field]) -> tuple[int, ...]:
-    """Words as the numbers of fields."""
+    """The numbers of fields that words spell."""
     if len(words) != len(fields):
         raise ValueError(words)
     return tuple(map(Field.value, fields, words))
 
 
 def _call(words: Sequence[str]) -> Step:
-    """A call: registers in their order, each at most once, and then a block."""
+    """A call: registers in order, each at most once, and then a block."""
     fields, block = FORMS[INT].fields, b""
     values = {field.name: field.default or 0 for field in fields}
     names, last = list(values), -1
@@ -128,14 +128,14 @@ def _call(words: Sequence[str]) -> Step:
 
 
 def _block(words: Sequence[str]) -> bytes:
-    """The bytes of a call's block, one at least."""
+    """The bytes of a call's block, at least one."""
     if len(words) != 1 or len(words[0]) > 2 * MOST_BLOCK or not _HEXADECIMAL.fullmatch(words[0]):
         raise ValueError(BLOCK)
     return bytes.fromhex(words[0])
 
 
 def printed(step: Step, is_short: bool = False) -> str:
-    """A step as a line without its end, as `vga dis` prints it; a short one leaves registers out that are 0."""
+    """A step as a line without its end, as `vga dis` prints it. With `is_short` registers of 0 are left out."""
     line = FORMS[step.name].template.format(*step.numbers)
     if is_short and step.name == INT:
         fields = zip(FORMS[INT].fields, step.numbers)
@@ -144,7 +144,7 @@ def printed(step: Step, is_short: bool = False) -> str:
 
 
 def print_text(script: Script) -> str:
-    """A script as text, as `vga dis` prints it: it spells this script again."""
+    """A script as text, as `vga dis` prints it. The text spells the same script."""
     lines = [FIRST_LINE] if script.version == 2 else []
     for item in script.items:
         lines.extend(printed_item(item))

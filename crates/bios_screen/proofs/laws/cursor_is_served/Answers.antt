@@ -4,8 +4,8 @@ use Rattle.bios_screen.proofs.laws.cursor_is_served.Goals as goal
 pub returns-clause-kind : goal.returns-clause-kind
 returns-clause-kind c = set_cursor_type
 
-pub returns-clause-place : goal.returns-clause-place
-returns-clause-place c = set_cursor
+pub returns-clause-position : goal.returns-clause-position
+returns-clause-position c = set_cursor
 
 pub returns-clause-page : goal.returns-clause-page
 returns-clause-page c = select_page

@@ -1,4 +1,5 @@
-use Rattle.std.proofs.Common.{arith, rules}
+use Rattle.std.proofs.Common.{◌≡◌, Some, arith, rules, length}
+use Rattle.bios_modes.specs.Heights.{row_at}
 use Rattle.bios_services.proofs.BoundLemmas.{begins_valid_at, port_small, there_of}
 use Rattle.bios_services.proofs.PlanRuns.{run_bind}
 use Rattle.bios_services.specs.Service.{load_at}
@@ -19,3 +20,8 @@ returns-clause-answer c = grind (arith, run_bind, begins_valid_at, there_of, por
 pub returns-clause-valid : goal.returns-clause-valid
 unfolding load_at
 returns-clause-valid c = search rules
+
+pub write-requires-clause-there : goal.write-requires-clause-there
+write-requires-clause-there g c =
+    let row : row_at c.args.bda.now.mode c.args.load.height ≡ Some c.in-Some.row = grind arith in
+    there_of c.args.load c.args.bda.now.mode (length c.args.block.now) c.in-Some.row c.requires.allowed row

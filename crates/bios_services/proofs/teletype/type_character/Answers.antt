@@ -3,49 +3,49 @@ use Rattle.bios_services.proofs.PlanRuns.{run_bind}
 use Rattle.bios_services.specs.Teletype.{show_plan, type_plan}
 use Rattle.bios_services.proofs.teletype.type_character.Goals as goal
 
-pub returns-in-7-clause-place : goal.returns-in-7-clause-place
+pub returns-in-7-clause-position : goal.returns-in-7-clause-position
 unfolding type_plan show_plan
-returns-in-7-clause-place c = search rules
+returns-in-7-clause-position c = search rules
 
 pub returns-in-7-clause-row : goal.returns-in-7-clause-row
 unfolding type_plan show_plan
 returns-in-7-clause-row c = search rules
 
-pub returns-then-place-eq0-clause-place : goal.returns-then-place-eq0-clause-place
+pub returns-then-position-eq0-clause-position : goal.returns-then-position-eq0-clause-position
 unfolding type_plan show_plan
-returns-then-place-eq0-clause-place c = search rules
+returns-then-position-eq0-clause-position c = search rules
 
-pub returns-then-place-eq0-clause-row : goal.returns-then-place-eq0-clause-row
+pub returns-then-position-eq0-clause-row : goal.returns-then-position-eq0-clause-row
 unfolding type_plan show_plan
-returns-then-place-eq0-clause-row c = search rules
+returns-then-position-eq0-clause-row c = search rules
 
-pub returns-else-place-eq0-clause-place : goal.returns-else-place-eq0-clause-place
+pub returns-else-position-eq0-clause-position : goal.returns-else-position-eq0-clause-position
 unfolding type_plan show_plan
-returns-else-place-eq0-clause-place c = search rules
+returns-else-position-eq0-clause-position c = search rules
 
-pub returns-else-place-eq0-clause-row : goal.returns-else-place-eq0-clause-row
+pub returns-else-position-eq0-clause-row : goal.returns-else-position-eq0-clause-row
 unfolding type_plan show_plan
-returns-else-place-eq0-clause-row c = search rules
+returns-else-position-eq0-clause-row c = search rules
 
-pub returns-in-10-clause-place : goal.returns-in-10-clause-place
+pub returns-in-10-clause-position : goal.returns-in-10-clause-position
 unfolding type_plan show_plan
-returns-in-10-clause-place c = search rules
+returns-in-10-clause-position c = search rules
 
 pub returns-in-10-clause-row : goal.returns-in-10-clause-row
 unfolding type_plan show_plan
 returns-in-10-clause-row c = search rules
 
-pub returns-in-13-clause-place : goal.returns-in-13-clause-place
+pub returns-in-13-clause-position : goal.returns-in-13-clause-position
 unfolding type_plan show_plan
-returns-in-13-clause-place c = search rules
+returns-in-13-clause-position c = search rules
 
 pub returns-in-13-clause-row : goal.returns-in-13-clause-row
 unfolding type_plan show_plan
 returns-in-13-clause-row c = search rules
 
-pub returns-in_default-clause-place : goal.returns-in_default-clause-place
+pub returns-in_default-clause-position : goal.returns-in_default-clause-position
 unfolding type_plan show_plan
-returns-in_default-clause-place c = grind (arith, run_bind)
+returns-in_default-clause-position c = grind (arith, run_bind)
 
 pub returns-in_default-clause-row : goal.returns-in_default-clause-row
 unfolding type_plan show_plan

@@ -3,7 +3,7 @@ use Rattle.vga_script.specs.declared.step.Step.{Step}
 use Rattle.vga_c.specs.Steps.{AreTakenOrCutOff, told}
 use Rattle.vga_c.proofs.steps.run_valid.Goals as goal
 
--- the steps that are taken are those behind the first
+-- the steps that are taken are those after the first
 pub returns-in-Ok-clause-run : goal.returns-in-Ok-clause-run
 returns-in-Ok-clause-run c =
     let before = told c.args.out.now c.args.len.now c.args.taken.now c.args.place.now in

@@ -1,6 +1,6 @@
 -- A part of one colour.
 use Rattle.std.proofs.Common.{sym, ap, ◌∙◌}
-use Rattle.vga_host.specs.Fields.{is_screen_off}
+use Rattle.vga_host.specs.Sequencer.{is_screen_off}
 use Rattle.vga_attr.specs.Fields.{is_palette_shown, overscan}
 use Rattle.vga_dac.specs.Dac.{DacState}
 use Rattle.vga_dots.specs.Line.{masked_colour}

@@ -1,4 +1,4 @@
--- The line before a picture tells its length.
+-- The line before a picture gives its length.
 use Rattle.std.proofs.Common.{◌∙◌}
 use Rattle.std.proofs.lemmas.Result.{err_from_is_err_and}
 use Rattle.vga_run.proofs.ReportLemmas.{writes_picture, prefix_of_picture}

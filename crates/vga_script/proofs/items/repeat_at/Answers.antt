@@ -5,7 +5,7 @@ use Rattle.vga_script.specs.Spelling.{opcode_end}
 use Rattle.vga_script.proofs.BodyLemmas.{repeat_found, repeat_counted, repeat_open, repeat_cut}
 use Rattle.vga_script.proofs.items.repeat_at.Goals as goal
 
--- the end stands behind the steps
+-- the end stands after the steps
 pub returns-in-End-clause-found : goal.returns-in-End-clause-found
 returns-in-End-clause-found c =
     let rest = c.behind_steps-len.result.1.now in

@@ -7,7 +7,7 @@ use Rattle.vga_script.proofs.StepsLemmas.{items_spelled, steps_few}
 use Rattle.vga_script.proofs.WalkLemmas.{script_printed}
 use Rattle.vga_script.proofs.printing.print.Goals as goal
 
--- the items stand behind the header
+-- the items stand after the header
 pub print_items-requires-clause-spelled : goal.print_items-requires-clause-spelled
 print_items-requires-clause-spelled c =
     let e = c.as_bytes.ensures in

@@ -14,15 +14,15 @@ loop-i-preserved g c =
     let s = c.args.self in
     let block = c.args.block.now in
     let i = c.loop-i.i in
-    let typed = λ (p : PageState) (character : ℕ) (colouring : Colouring). run m (type_plan p.fonts p.bda p.number c.loop-i.place character colouring)
+    let typed = λ (p : PageState) (character : ℕ) (colouring : Colouring). run m (type_plan p.fonts p.bda p.number c.loop-i.position character colouring)
     c.loop-i.bus in
     let page : PageState = page_of c.args.fonts.now c.args.bda.now s.page in
-    let now = c.type_character-place.ensures.place
+    let now = c.type_character-position.ensures.position
     ∙ ap (λ (p : PageState). typed p c.character-character.result c.colouring-colouring.result) c.new-page.ensures
     ∙ ap (λ character. typed page character c.colouring-colouring.result) c.character-character.ensures
     ∙ ap (typed page (character_at s block i)) c.colouring-colouring.ensures in
     record {
-      row = subst (λ (p : PageState). row_of c.type_character-place.result ≤ p.bda.last_row) c.new-page.ensures c.type_character-place.ensures.row;
-      left = next_answer m (λ i place. type_plan c.args.fonts.now c.args.bda.now s.page place (character_at s block i) (colouring_at s block i)) i s.count
-          c.loop-i.bus c.type_character-place.new.bus c.loop-i.place c.type_character-place.result _ (omega arith) now c.loop-i.invariant.left;
+      row = subst (λ (p : PageState). row_of c.type_character-position.result ≤ p.bda.last_row) c.new-page.ensures c.type_character-position.ensures.row;
+      left = next_answer m (λ i position. type_plan c.args.fonts.now c.args.bda.now s.page position (character_at s block i) (colouring_at s block i)) i s.count
+          c.loop-i.bus c.type_character-position.new.bus c.loop-i.position c.type_character-position.result _ (omega arith) now c.loop-i.invariant.left;
     }

@@ -1,5 +1,5 @@
 use Rattle.std.proofs.Common.{◌≡◌, ◌∙◌, ap, ◌+◌}
-use Rattle.vga_host.specs.Runs.{in_turn}
+use Rattle.vga_host.specs.Memory.Runs.{in_turn}
 use Rattle.vga_host.proofs.RunLemmas.{even_in_turn, odd_in_turn}
 use Rattle.vga_card.specs.Bus.{AtAddress}
 use Rattle.vga_card.proofs.CycleLemmas.{next_put}

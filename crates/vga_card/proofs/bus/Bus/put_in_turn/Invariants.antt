@@ -1,5 +1,5 @@
 use Rattle.std.proofs.Common.{◌≡◌, ◌-◌}
-use Rattle.vga_host.specs.Runs.{in_turn}
+use Rattle.vga_host.specs.Memory.Runs.{in_turn}
 use Rattle.vga_card.specs.Bus.{after_puts}
 use Rattle.vga_card.proofs.bus.Bus.put_in_turn.Given as goal
 

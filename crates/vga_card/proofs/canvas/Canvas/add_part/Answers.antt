@@ -1,7 +1,7 @@
 use Rattle.std.proofs.Common.{◌≡◌, ℕ, ◌*◌, ◌<◌, ◌≤◌, ◌++◌, List, length, take, replicate, sym, ap, ◌∙◌, arith}
 use Rattle.std.proofs.lemmas.List.{get_or_read, length-take}
 use Rattle.vga_crtc.specs.declared.beam.Beam.{Beam}
-use Rattle.vga_host.specs.Fields.{character_width}
+use Rattle.vga_host.specs.Sequencer.{character_width}
 use Rattle.vga_card.specs.Picture.{Dot}
 use Rattle.vga_card.specs.Canvas.{CanvasState, dots_from}
 use Rattle.vga_card.proofs.CanvasLemmas.{line_shown, stored_line, canvas_more, roomier, bytes_fit}

@@ -1,5 +1,5 @@
 use Rattle.std.proofs.Common.{◌≡◌, ◌*◌, refl, ap, ◌∙◌}
-use Rattle.vga_host.specs.Fields.{is_clock_halved, character_width as host_width}
+use Rattle.vga_host.specs.Sequencer.{is_clock_halved, character_width as host_width}
 use Rattle.vga_crtc.specs.Beam.{characters, lines}
 use Rattle.vga_crtc.specs.Raster.{dots_in_frame}
 use Rattle.vga_card.specs.Card.{CardState}

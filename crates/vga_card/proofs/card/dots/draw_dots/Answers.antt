@@ -1,7 +1,7 @@
 use Rattle.std.proofs.Common.{◌≡◌, ℕ, ◌+◌, ◌-◌, ◌*◌, ◌++◌, ◌<◌, ◌≤◌, refl, sym, ap, subst, ◌∙◌, arith, Bool, true, List}
 use Rattle.std.specs.Prelude.{min}
 use Rattle.std.proofs.lemmas.List.{append-nil}
-use Rattle.vga_host.specs.Fields.{character_width as host_width}
+use Rattle.vga_host.specs.Sequencer.{character_width as host_width}
 use Rattle.vga_crtc.specs.Beam.{characters}
 use Rattle.vga_crtc.specs.Crtc.{CrtcState}
 use Rattle.vga_crtc.specs.Raster.{dot_number, IsInLine}

@@ -1,6 +1,6 @@
 use Rattle.std.proofs.Common.{◌++◌, refl, sym, ap, ◌∙◌}
 use Rattle.std.proofs.lemmas.List.{append-nil}
-use Rattle.vga_host.specs.Fields.{character_width as host_width}
+use Rattle.vga_host.specs.Sequencer.{character_width as host_width}
 use Rattle.vga_crtc.specs.Crtc.{CrtcState}
 use Rattle.vga_crtc.specs.Status.{is_display}
 use Rattle.vga_card.proofs.FrameLemmas.{wide}

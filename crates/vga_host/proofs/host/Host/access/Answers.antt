@@ -1,7 +1,7 @@
 -- What is kept beside the registers is what they say.
 use Rattle.std.proofs.Common.{subst}
 use Rattle.vga_host.specs.Host.{HostState}
-use Rattle.vga_host.specs.MemoryAccess.{IsAccess}
+use Rattle.vga_host.specs.Memory.Access.{IsAccess}
 use Rattle.vga_host.proofs.host.Host.access.Goals as goal
 
 pub returns-clause-access : goal.returns-clause-access

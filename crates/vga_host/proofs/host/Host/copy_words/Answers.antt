@@ -1,8 +1,8 @@
 use Rattle.std.proofs.Common.{◌+◌, ◌-◌, ◌%◌, ◌∙◌, ap, sym, subst, refl, arith, ℕ, Bool}
 use Rattle.std.proofs.Math.Nat.{zero-mod}
 use Rattle.vga_bits.specs.Bits.{is_set}
-use Rattle.vga_host.specs.MemoryAccess.{IsAccess}
-use Rattle.vga_host.specs.PlaneWords.{word_moved}
+use Rattle.vga_host.specs.Memory.Access.{IsAccess}
+use Rattle.vga_host.specs.Memory.PlaneWords.{word_moved}
 use Rattle.vga_host.proofs.WordLemmas.{access_over, words_go_on}
 use Rattle.vga_host.proofs.host.Host.copy_words.Goals as goal
 

@@ -1,5 +1,5 @@
 use Rattle.std.proofs.Common.{◌≡◌, ◌≤◌, ◌-◌, ◌%◌}
-use Rattle.vga_host.specs.Runs.{after_moves}
+use Rattle.vga_host.specs.Memory.Runs.{after_moves}
 use Rattle.vga_host.proofs.WordLemmas.{over}
 use Rattle.vga_host.proofs.host.Host.copy_words.Given as goal
 

@@ -1,6 +1,6 @@
 use Rattle.std.proofs.Common.{◌≡◌, ◌∙◌, ◌+◌, ◌-◌, sym, true, false}
 use Rattle.std.specs.Prelude.{min, max}
-use Rattle.vga_host.specs.Fields.{is_memory_enabled}
+use Rattle.vga_host.specs.Memory.Address.{is_memory_enabled}
 use Rattle.vga_host.proofs.RunLemmas.{none_enabled, among_window}
 use Rattle.vga_host.proofs.host.Host.decoded_among.Goals as goal
 

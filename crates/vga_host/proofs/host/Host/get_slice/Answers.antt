@@ -1,5 +1,5 @@
 use Rattle.std.proofs.Common.{arith, ◌≡◌, ◌∙◌, ◌+◌, ◌-◌, suc, refl, sym, ap, length}
-use Rattle.vga_host.specs.Runs.{get_where, after_gets}
+use Rattle.vga_host.specs.Memory.Runs.{get_where, after_gets}
 use Rattle.vga_host.proofs.RunLemmas.{last_get}
 use Rattle.vga_host.proofs.host.Host.get_slice.Goals as goal
 

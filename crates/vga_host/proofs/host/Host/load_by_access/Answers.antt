@@ -1,10 +1,9 @@
 -- A load by what the registers say is a read.
 use Rattle.std.proofs.Common.{◌≡◌, ◌∙◌, ap, sym, subst}
-use Rattle.vga_planes.specs.Planes.{bytes_at}
 use Rattle.vga_host.specs.Host.{HostState}
-use Rattle.vga_host.specs.Runs.{get_where}
-use Rattle.vga_host.specs.MemoryAccess.{IsAccess}
-use Rattle.vga_host.proofs.RunLemmas.{get_as}
+use Rattle.vga_host.specs.Memory.Runs.{get_where}
+use Rattle.vga_host.specs.Memory.Access.{IsAccess}
+use Rattle.vga_host.proofs.RunLemmas.{get_at}
 use Rattle.vga_host.proofs.host.Host.load_by_access.Goals as goal
 
 pub returns-in-Some : goal.returns-in-Some
@@ -19,7 +18,7 @@ returns-in-Some c =
     } in
     let same : h ≡ c.args.self.now = c.self.view_is in
     let is : IsAccess c.args.access h = subst (λ x. IsAccess c.args.access x) (sym same) c.requires.access in
-    let d = c.in-Some.ensures in
-    ap (λ l. let after : HostState = record h { latches = l } in after) (c.load-self-inside.ensures ∙ ap (λ o. bytes_at h.memory o) c.offset.ensures)
-    ∙ get_as c.args.access h c.args.misc c.args.address is c.in-Some.in_window d.0 d.1
+    let d = c.in-Some.ensures h is in
+    ap (λ l. let after : HostState = record h { latches = l } in after) c.load-self-inside.ensures
+    ∙ get_at h c.args.misc c.args.address c.in-Some.in_window c.offset.result d.0 d.1 (c.offset.ensures h is)
     ∙ ap (λ x. get_where x c.args.misc c.args.address) same

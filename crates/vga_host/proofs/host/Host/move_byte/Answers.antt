@@ -1,15 +1,15 @@
 -- A load keeps what the registers say; what is read is written.
 use Rattle.std.proofs.Common.{◌∙◌, ap, sym, subst}
 use Rattle.vga_bits.specs.Four.{four}
-use Rattle.vga_host.specs.MemoryWrite.{written_byte}
-use Rattle.vga_host.specs.Runs.{put_where, put_bytes, byte_where}
-use Rattle.vga_host.specs.MemoryAccess.{IsAccess}
+use Rattle.vga_host.specs.Memory.Write.{written_byte}
+use Rattle.vga_host.specs.Memory.Runs.{put_where, put_bytes, byte_where}
+use Rattle.vga_host.specs.Memory.Access.{IsAccess}
 use Rattle.vga_host.proofs.RunLemmas.{access_read}
 use Rattle.vga_host.proofs.host.Host.move_byte.Goals as goal
 
-pub put_by_access-requires-clause-access : goal.put_by_access-requires-clause-access
-put_by_access-requires-clause-access c =
-    subst (IsAccess c.args.access) (sym c.load_by_access.ensures) (access_read c.args.access c.args.self.now c.args.misc c.args.from c.requires.access)
+pub put_by_access-requires : goal.put_by_access-requires
+put_by_access-requires c =
+    record { access = subst (IsAccess c.args.access) (sym c.load_by_access.ensures) (access_read c.args.access c.args.self.now c.args.misc c.args.from c.requires.access) }
 
 pub returns : goal.returns
 returns c =

@@ -1,6 +1,6 @@
 use Rattle.std.proofs.Common.{◌≡◌, ◌-◌}
-use Rattle.vga_host.specs.Runs.{after_moves}
-use Rattle.vga_host.specs.MemoryAccess.{IsAccess}
+use Rattle.vga_host.specs.Memory.Runs.{after_moves}
+use Rattle.vga_host.specs.Memory.Access.{IsAccess}
 use Rattle.vga_host.proofs.host.Host.move_bytes.Given as goal
 
 -- what the registers say stays, and what the moves from here on leave is what all leave

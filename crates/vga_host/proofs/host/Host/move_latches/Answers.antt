@@ -1,17 +1,17 @@
 -- A load keeps what the registers say; whatever is read, the latches are stored.
 use Rattle.std.proofs.Common.{◌∙◌, ap, sym, subst}
-use Rattle.vga_host.specs.Fields.{write_mode}
-use Rattle.vga_host.specs.Runs.{put_where, put_bytes, byte_where}
-use Rattle.vga_host.specs.MemoryAccess.{IsAccess}
+use Rattle.vga_host.specs.Graphics.{write_mode}
+use Rattle.vga_host.specs.Memory.Runs.{put_where, put_bytes, byte_where}
+use Rattle.vga_host.specs.Memory.Access.{IsAccess}
 use Rattle.vga_host.proofs.RunLemmas.{access_read, mode_read}
 use Rattle.vga_host.proofs.host.Host.move_latches.Goals as goal
 
 pub stored_latches-bytes-requires : goal.stored_latches-bytes-requires
 stored_latches-bytes-requires c = ap write_mode c.load_by_access.ensures ∙ mode_read c.args.self.now c.args.misc c.args.from ∙ c.requires.mode
 
-pub put_by_access-requires-clause-access : goal.put_by_access-requires-clause-access
-put_by_access-requires-clause-access c =
-    subst (IsAccess c.args.access) (sym c.load_by_access.ensures) (access_read c.args.access c.args.self.now c.args.misc c.args.from c.requires.access)
+pub put_by_access-requires : goal.put_by_access-requires
+put_by_access-requires c =
+    record { access = subst (IsAccess c.args.access) (sym c.load_by_access.ensures) (access_read c.args.access c.args.self.now c.args.misc c.args.from c.requires.access) }
 
 pub returns : goal.returns
 returns c =

@@ -1,5 +1,5 @@
 use Rattle.std.proofs.Common.{subst, sym, arith, replicate, List, ℕ}
-use Rattle.vga_host.specs.MemoryAccess.{IsAccessOf}
+use Rattle.vga_host.specs.Memory.Access.{IsAccessOf}
 use Rattle.vga_host.proofs.host.Host.new.Goals as goal
 
 pub invariant_of-result : goal.invariant_of-result

@@ -1,11 +1,9 @@
-use Rattle.std.proofs.Common.{◌≡◌, ◌∙◌, ap, sym, subst, ◌%◌, ◌==◌, ◌&&◌, ◌||◌, if◌then◌else◌}
-use Rattle.vga_bits.specs.Bits.{is_set}
-use Rattle.vga_planes.specs.Planes.{with_bytes}
-use Rattle.vga_bits.proofs.FourLemmas.{by_plane}
+-- A write by what the registers say is a write.
+use Rattle.std.proofs.Common.{◌≡◌, ◌∙◌, ap, sym, subst}
 use Rattle.vga_host.specs.Host.{HostState}
-use Rattle.vga_host.specs.Runs.{put_bytes}
-use Rattle.vga_host.specs.MemoryAccess.{IsAccess}
-use Rattle.vga_host.proofs.RunLemmas.{put_as}
+use Rattle.vga_host.specs.Memory.Runs.{put_bytes}
+use Rattle.vga_host.specs.Memory.Access.{IsAccess}
+use Rattle.vga_host.proofs.RunLemmas.{put_at}
 use Rattle.vga_host.proofs.host.Host.put_by_access.Goals as goal
 
 pub returns-in-Some : goal.returns-in-Some
@@ -20,12 +18,8 @@ returns-in-Some c =
     } in
     let same : h ≡ c.args.self.now = c.self.view_is in
     let is : IsAccess c.args.access h = subst (λ x. IsAccess c.args.access x) (sym same) c.requires.access in
-    let d = c.in-Some.ensures in
-    let w = c.in-Some.in_window in
+    let d = c.in-Some.ensures h is in
     let set = c.reached.result in
-    let access = c.args.access in
-    let reach = by_plane (λ p. is_set set p ≡ (is_set access.map_mask p && (if access.chain_four then p == w % 4 else access.odd_even_off || (p % 2 == w % 2)))) c.reached.ensures.plane0
-    c.reached.ensures.plane1 c.reached.ensures.plane2 c.reached.ensures.plane3 in
-    ap (λ m. let after : HostState = record h { memory = m } in after) (c.store.ensures ∙ ap (λ o. with_bytes h.memory o c.args.bytes set) c.offset.ensures)
-    ∙ put_as access h c.args.misc c.args.address is w set c.args.bytes d.0 d.1 reach
+    ap (λ m. let after : HostState = record h { memory = m } in after) c.store.ensures
+    ∙ put_at h c.args.misc c.args.address c.in-Some.in_window c.offset.result d.0 d.1 (c.offset.ensures h is) set c.args.bytes (λ p less. c.reached.ensures h p is less)
     ∙ ap (λ x. put_bytes x c.args.misc c.args.address c.args.bytes) same

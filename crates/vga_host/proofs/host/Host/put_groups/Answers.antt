@@ -1,7 +1,7 @@
 use Rattle.std.proofs.Common.{◌+◌, ◌-◌, ◌%◌, ◌∙◌, refl, arith, length}
 use Rattle.std.proofs.Math.Nat.{zero-mod}
 use Rattle.std.specs.Prelude.{slice_index}
-use Rattle.vga_host.specs.PlaneWords.{word_put, grouped}
+use Rattle.vga_host.specs.Memory.PlaneWords.{word_put, grouped}
 use Rattle.vga_host.proofs.FillLemmas.{words_go_on}
 use Rattle.vga_host.proofs.host.Host.put_groups.Goals as goal
 

@@ -1,5 +1,5 @@
 use Rattle.std.proofs.Common.{◌≡◌, ◌≤◌, ◌-◌, ◌%◌, length, slice_index}
-use Rattle.vga_host.specs.Runs.{after_puts, with_memory}
+use Rattle.vga_host.specs.Memory.Runs.{after_puts, with_memory}
 use Rattle.vga_host.proofs.host.Host.put_groups.Given as goal
 
 -- a whole number of words is put, memory alone is another, and the writes so far leave what is there

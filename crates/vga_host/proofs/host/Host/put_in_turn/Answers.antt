@@ -1,6 +1,6 @@
 -- A turn keeps what the registers say, and leaves what the other turns begin with.
 use Rattle.std.proofs.Common.{◌∙◌, ap, ◌+◌}
-use Rattle.vga_host.specs.Runs.{put_bytes}
+use Rattle.vga_host.specs.Memory.Runs.{put_bytes}
 use Rattle.vga_host.proofs.RunLemmas.{turn_kept, even_in_turn, odd_in_turn}
 use Rattle.vga_host.proofs.FillLemmas.{fill_leaves}
 use Rattle.vga_host.proofs.host.Host.put_in_turn.Goals as goal

@@ -1,8 +1,8 @@
 use Rattle.std.proofs.Common.{◌≡◌, ◌-◌}
 use Rattle.vga_bits.specs.Four.{four}
-use Rattle.vga_host.specs.MemoryWrite.{written_byte}
-use Rattle.vga_host.specs.Runs.{after_puts, in_turn}
-use Rattle.vga_host.specs.MemoryAccess.{IsAccess}
+use Rattle.vga_host.specs.Memory.Write.{written_byte}
+use Rattle.vga_host.specs.Memory.Runs.{after_puts, in_turn}
+use Rattle.vga_host.specs.Memory.Access.{IsAccess}
 use Rattle.vga_host.proofs.host.Host.put_in_turn.Given as goal
 
 -- what the registers say stays, and what the writes from here on leave is what all leave

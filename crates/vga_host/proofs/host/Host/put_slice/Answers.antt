@@ -1,7 +1,7 @@
 use Rattle.std.proofs.Common.{arith, ◌∙◌, ◌+◌, ap, sym, subst, length}
 use Rattle.std.specs.Prelude.{slice_index}
-use Rattle.vga_host.specs.MemoryAccess.{IsAccess}
-use Rattle.vga_host.specs.Runs.{put_bytes}
+use Rattle.vga_host.specs.Memory.Access.{IsAccess}
+use Rattle.vga_host.specs.Memory.Runs.{put_bytes}
 use Rattle.vga_host.proofs.RunLemmas.{next_put, access_stays}
 use Rattle.vga_host.proofs.FillLemmas.{access_kept, puts_rest}
 use Rattle.vga_host.proofs.host.Host.put_slice.Goals as goal

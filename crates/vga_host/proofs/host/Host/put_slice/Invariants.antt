@@ -1,6 +1,6 @@
 use Rattle.std.proofs.Common.{◌≡◌, ◌-◌, length, slice_index}
-use Rattle.vga_host.specs.Runs.{after_puts}
-use Rattle.vga_host.specs.MemoryAccess.{IsAccess}
+use Rattle.vga_host.specs.Memory.Runs.{after_puts}
+use Rattle.vga_host.specs.Memory.Access.{IsAccess}
 use Rattle.vga_host.proofs.host.Host.put_slice.Given as goal
 
 -- what the registers say stays, and what the writes from here on leave is what all leave

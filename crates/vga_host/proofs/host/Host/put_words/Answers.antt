@@ -1,7 +1,7 @@
 use Rattle.std.proofs.Common.{◌+◌, ◌-◌, ◌%◌, ◌∙◌, ap, sym, refl, arith, ℕ, Bool}
 use Rattle.std.proofs.Math.Nat.{zero-mod}
-use Rattle.vga_host.specs.PlaneWords.{word_put}
-use Rattle.vga_host.specs.Runs.{in_turn}
+use Rattle.vga_host.specs.Memory.PlaneWords.{word_put}
+use Rattle.vga_host.specs.Memory.Runs.{in_turn}
 use Rattle.vga_host.proofs.FillLemmas.{words_go_on}
 use Rattle.vga_host.proofs.host.Host.put_words.Goals as goal
 

@@ -1,5 +1,5 @@
 use Rattle.std.proofs.Common.{◌≡◌, ◌≤◌, ◌-◌, ◌%◌}
-use Rattle.vga_host.specs.Runs.{after_puts, in_turn, with_memory}
+use Rattle.vga_host.specs.Memory.Runs.{after_puts, in_turn, with_memory}
 use Rattle.vga_host.proofs.host.Host.put_words.Given as goal
 
 -- a whole number of words is put, memory alone is another, and the writes so far leave what is there

@@ -1,6 +1,6 @@
 use Rattle.std.proofs.Common.{subst, ℕ, ◌-◌}
-use Rattle.vga_host.specs.PlaneWords.{written_in_turn, PutsWords}
-use Rattle.vga_host.specs.Runs.{in_turn}
+use Rattle.vga_host.specs.Memory.PlaneWords.{written_in_turn, PutsWords}
+use Rattle.vga_host.specs.Memory.Runs.{in_turn}
 use Rattle.vga_host.proofs.FillLemmas.{plane_fills, four_fills, pair_fills}
 use Rattle.vga_host.proofs.host.Host.puts_of_word.Goals as goal
 

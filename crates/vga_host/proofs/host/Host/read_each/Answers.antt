@@ -1,7 +1,7 @@
 use Rattle.std.proofs.Common.{rules, arith, ◌≡◌, ◌∙◌, ◌+◌, length, sym, subst}
 use Rattle.vga_host.specs.Host.{HostState}
-use Rattle.vga_host.specs.Runs.{byte_where}
-use Rattle.vga_host.specs.MemoryAccess.{IsAccess}
+use Rattle.vga_host.specs.Memory.Runs.{byte_where}
+use Rattle.vga_host.specs.Memory.Access.{IsAccess}
 use Rattle.vga_host.proofs.RunLemmas.{with_latches, access_read, latches_read, byte_over, next_get, byte_set}
 use Rattle.vga_host.proofs.host.Host.read_each.Goals as goal
 

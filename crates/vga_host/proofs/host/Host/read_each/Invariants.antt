@@ -1,6 +1,6 @@
 use Rattle.std.proofs.Common.{◌≡◌, ◌<◌, ◌+◌, ◌-◌, ℕ, length, slice_index}
-use Rattle.vga_host.specs.Runs.{after_gets, byte_where}
-use Rattle.vga_host.specs.MemoryAccess.{IsAccess}
+use Rattle.vga_host.specs.Memory.Runs.{after_gets, byte_where}
+use Rattle.vga_host.specs.Memory.Access.{IsAccess}
 use Rattle.vga_host.proofs.RunLemmas.{with_latches}
 use Rattle.vga_host.proofs.host.Host.read_each.Given as goal
 

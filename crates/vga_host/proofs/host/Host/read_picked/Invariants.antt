@@ -1,5 +1,5 @@
 use Rattle.std.proofs.Common.{◌≡◌, ◌<◌, ◌+◌, ℕ, length, slice_index}
-use Rattle.vga_host.specs.Runs.{byte_where}
+use Rattle.vga_host.specs.Memory.Runs.{byte_where}
 use Rattle.vga_host.proofs.host.Host.read_picked.Given as goal
 
 -- the bytes so far are read

@@ -4,8 +4,8 @@ use Rattle.std.specs.Int.{bit_at}
 use Rattle.vga_bits.specs.Four.{of_plane}
 use Rattle.vga_bits.proofs.WordLemmas.{bytes_from_bits}
 use Rattle.vga_host.specs.Host.{HostState}
-use Rattle.vga_host.specs.MemoryWrite.{written_bit}
-use Rattle.vga_host.proofs.PlainLemmas.{latched_bit}
+use Rattle.vga_host.specs.Memory.Write.{written_bit}
+use Rattle.vga_host.proofs.StoresByteLemmas.{latched_bit}
 use Rattle.vga_host.proofs.host.Host.stored_latches.Goals as goal
 
 pub returns : goal.returns

@@ -79,7 +79,7 @@ returns-in_default-clause-way g c = (c.steps.counter, c.steps.invariant.reported
 pub returns-in_default-clause-valid : goal.returns-in_default-clause-valid
 returns-in_default-clause-valid g c = c.steps.invariant.reported.valid
 
--- so many steps are taken
+-- the first `most` steps are taken
 pub returns-clause-text : goal.returns-clause-text
 returns-clause-text g c =
     let i = c.steps.invariant in

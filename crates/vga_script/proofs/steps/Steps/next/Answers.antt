@@ -20,7 +20,7 @@ returns-then-is_empty-2-clause-first c =
     let none = none_left p.left p.body.now p.rest.now reached.stands (search rules) in
     (sym c.self.view_is ∙ sym reached.same ∙ none, none)
 
--- a step stands behind marks
+-- a step stands after marks
 pub invariant_of-self-in-Ok-step_at : goal.invariant_of-self-in-Ok-step_at
 invariant_of-self-in-Ok-step_at c = (step_taken c.skip_marks-progress.result.left _ _ _ _ c.skip_marks-progress.ensures.reached.stands
     c.in-Ok-step_at.ensures.found).1

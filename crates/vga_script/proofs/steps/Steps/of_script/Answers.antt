@@ -3,7 +3,7 @@ use Rattle.vga_script.specs.Progress.{Stands}
 use Rattle.vga_script.proofs.StepsLemmas.{items_stand}
 use Rattle.vga_script.proofs.steps.Steps.of_script.Goals as goal
 
--- the items stand behind the header
+-- the items stand after the header
 pub invariant_of-result : goal.invariant_of-result
 invariant_of-result c =
     let body = c.split_at-2.result.0.now in

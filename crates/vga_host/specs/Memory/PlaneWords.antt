@@ -1,0 +1,141 @@
+-- Moves that copy words of the planes: one move of the latches; two where odd and even addresses
+-- are apart; four in a chain of four.
+-- From the IBM PS/2 Hardware Interface Technical Reference, Video Subsystems: "Memory Mode
+-- Register", "Graphics Mode Register" and "Miscellaneous Register".
+use Rattle.std.specs.Prelude.{ℕ, ◌≡◌, ◌+◌, ◌%◌, ◌<◌, ◌≤◌, Bool, true, false, if◌then◌else◌, List}
+use Rattle.std.specs.Prelude.{slice_set}
+use Rattle.vga_bits.specs.Four.{Four, four, of_plane}
+use Rattle.vga_planes.specs.Planes.{byte_at, bytes_at}
+use Rattle.vga_host.specs.Host.{HostState}
+use Rattle.vga_host.specs.Sequencer.{is_in_map_mask, is_odd_even_off, is_chain_four}
+use Rattle.vga_host.specs.Graphics.{write_mode}
+use Rattle.vga_host.specs.Graphics.{is_chain_odd_even, is_odd_even_read, is_read_compare}
+use Rattle.vga_host.specs.Graphics.{read_map_pair}
+use Rattle.vga_host.specs.Memory.Address.{is_decoded, window_offset}
+use Rattle.vga_host.specs.Memory.Write.{written_byte, StoresByte}
+use Rattle.vga_host.specs.Memory.Runs.{after_moves, after_puts}
+
+-- a word of the planes is copied from one offset to another, in the planes told, and the latches
+-- are loaded with it
+abbrev pub word_moved : HostState → (ℕ → Bool) → ℕ → ℕ → HostState
+word_moved h reach a b = record h {
+  latches = bytes_at h.memory a;
+  memory = four (λ p. if reach p
+      then slice_set (of_plane h.memory p) b (byte_at h.memory p a) else of_plane h.memory p);
+}
+
+-- n moves are decoded, and have their places in the window one after another, from f and from t on
+pub record AreWithin (h : HostState) (misc from to n f t : ℕ) : Type 0 where
+  pub read : (k : ℕ) → k < n → is_decoded h misc (from + k) ≡ true
+  pub written : (k : ℕ) → k < n → is_decoded h misc (to + k) ≡ true
+  pub from_place : (k : ℕ) → k < n → window_offset h (from + k) ≡ (f + k) % 65536
+  pub to_place : (k : ℕ) → k < n → window_offset h (to + k) ≡ (t + k) % 65536
+
+-- moves store the latches, and no bit of an address picks a plane
+pub record MovesLatches (h : HostState) : Type 0 where
+  pub mode : write_mode h ≡ 1
+  pub chain_four : is_chain_four h ≡ false
+  pub chain_odd_even : is_chain_odd_even h ≡ false
+  pub odd_even_off : is_odd_even_off h ≡ true
+
+-- moves store bytes as they are, and go from the first offset of a word of four to the first one of another
+pub record MovesFours (h : HostState) (f t : ℕ) : Type 0 where
+  pub chain_four : is_chain_four h ≡ true
+  pub stores_byte : StoresByte h
+  pub compare : is_read_compare h ≡ false
+  pub from_place : f % 4 ≡ 0
+  pub to_place : t % 4 ≡ 0
+
+-- reads pick plane 0 or 1 by the lowest bit of an address
+pub record ReadsPairs (h : HostState) : Type 0 where
+  pub apart : is_odd_even_read h ≡ true
+  pub pair : read_map_pair h ≡ 0
+  pub compare : is_read_compare h ≡ false
+
+-- writes of bytes as they are reach planes 0 and 1 alone, by the lowest bit of an address
+pub record WritesPairs (h : HostState) : Type 0 where
+  pub chain_four : is_chain_four h ≡ false
+  pub chain_odd_even : is_chain_odd_even h ≡ true
+  pub odd_even_off : is_odd_even_off h ≡ false
+  pub plane2 : is_in_map_mask h 2 ≡ false
+  pub plane3 : is_in_map_mask h 3 ≡ false
+  pub stores_byte : StoresByte h
+
+-- moves go from an even offset to another, of planes 0 and 1 alone
+pub record MovesPairs (h : HostState) (f t : ℕ) : Type 0 where
+  pub reads : ReadsPairs h
+  pub writes : WritesPairs h
+  pub from_place : f % 2 ≡ 0
+  pub to_place : t % 2 ≡ 0
+
+-- n moves copy words, of so many moves each, whatever memory and latches hold
+pub record MovesWords (per : ℕ) (h : HostState) (misc from to n f t : ℕ) : Type 0 where
+  pub some : 0 < per
+  pub next : (i : ℕ) → i % per ≡ 0 → (i + per) % per ≡ 0
+  pub moved : (m : Four (List ℕ)) (l : Four ℕ) (i : ℕ) → i % per ≡ 0 → i + per ≤ n
+      → ((p : ℕ) → p < 4 → byte_at m p ((f + i) % 65536) < 256)
+      → (let s : HostState = record h { memory = m; latches = l } in
+      after_moves misc from to per i s
+      ≡ word_moved s (is_in_map_mask h) ((f + i) % 65536) ((t + i) % 65536))
+
+-- ---- fills
+
+-- planes, those told, get the bytes of a word at an offset
+abbrev pub word_put : HostState → (ℕ → Bool) → ℕ → Four ℕ → HostState
+word_put h reach b w = record h {
+  memory = four (λ p. if reach p
+      then slice_set (of_plane h.memory p) b (of_plane w p) else of_plane h.memory p);
+}
+
+-- the bytes of two in turn: planes 0 and 2 of the one, and 1 and 3 of the other
+abbrev pub alternating : Four ℕ → Four ℕ → Four ℕ
+alternating even odd = record {
+  plane0 = even.plane0;
+  plane1 = odd.plane1;
+  plane2 = even.plane2;
+  plane3 = odd.plane3;
+}
+
+-- the word that two bytes in turn make
+abbrev pub written_in_turn : HostState → ℕ → ℕ → Four ℕ
+written_in_turn h even odd = alternating (four (λ p. written_byte h even p))
+    (four (λ p. written_byte h odd p))
+
+-- n writes are decoded, and have their places in the window one after another, from f on
+pub record ArePutWithin (h : HostState) (misc first n f : ℕ) : Type 0 where
+  pub written : (k : ℕ) → k < n → is_decoded h misc (first + k) ≡ true
+  pub in_window : (k : ℕ) → k < n → window_offset h (first + k) ≡ (f + k) % 65536
+
+-- no bit of an address picks a plane
+pub record FillsPlanes (h : HostState) : Type 0 where
+  pub chain_four : is_chain_four h ≡ false
+  pub chain_odd_even : is_chain_odd_even h ≡ false
+  pub odd_even_off : is_odd_even_off h ≡ true
+
+-- the two low bits of an address pick the plane, and writes begin at the first of four places
+pub record FillsFours (h : HostState) (f : ℕ) : Type 0 where
+  pub chain_four : is_chain_four h ≡ true
+  pub in_window : f % 4 ≡ 0
+
+-- the lowest bit of an address picks planes, and writes begin at an even offset in the window
+pub record FillsPairs (h : HostState) (f : ℕ) : Type 0 where
+  pub chain_four : is_chain_four h ≡ false
+  pub chain_odd_even : is_chain_odd_even h ≡ true
+  pub odd_even_off : is_odd_even_off h ≡ false
+  pub in_window : f % 2 ≡ 0
+
+-- n writes put words of the planes, each by so many writes, whatever memory holds: write i is of
+-- byte g i, and the word that begins there is w i
+pub record PutsWords (per : ℕ) (h : HostState) (misc first n f : ℕ) (g : ℕ → ℕ) (w : ℕ → Four ℕ)
+    : Type 0 where
+  pub some : 0 < per
+  pub next : (i : ℕ) → i % per ≡ 0 → (i + per) % per ≡ 0
+  pub put : (m : Four (List ℕ)) (i : ℕ) → i % per ≡ 0 → i + per ≤ n
+      → (let s : HostState = record h { memory = m } in
+      after_puts misc first g per i s
+      ≡ word_put s (is_in_map_mask h) ((f + i) % 65536) (w i))
+
+-- the bytes from number i on as a word: four of them, two that each go to two planes, or one that
+-- goes to all
+abbrev pub grouped : ℕ → (ℕ → ℕ) → ℕ → Four ℕ
+grouped per g i = four (λ p. g (i + p % per))

@@ -1,0 +1,64 @@
+//! The place of an address, and the planes that a write there reaches.
+ghost use Rattle.std.specs.Prelude.{◌≡◌, ◌<◌, ◌≤◌, ◌+◌, ◌^◌, false, IfSome};
+ghost use Rattle.vga_host.specs.Graphics.{is_graphics};
+ghost use Rattle.vga_host.specs.Memory.Address.{is_memory_enabled as is_memory_enabled_of};
+ghost use Rattle.vga_host.specs.Memory.Address.{is_decoded, decoded_among, window_offset};
+ghost use Rattle.vga_host.specs.Memory.Address.{plane_offset, is_reached};
+
+use crate::host::Host;
+use vga_bits::is_set;
+
+/// The plane that has the glyphs of text.
+const GLYPHS: u32 = 2;
+
+/// Whether the miscellaneous output register lets the display memory answer the processor.
+pub(super) fn is_memory_enabled(misc: u8) -> bool
+    ensures { result ≡ is_memory_enabled_of misc }
+{
+    is_set(misc, 1)
+}
+
+impl Host {
+    /// Whether the display memory has an address; `misc` is the miscellaneous output register.
+    pub fn decodes(&self, address: u32, misc: u8) -> bool
+        ensures { result ≡ is_decoded self.now misc address }
+    {
+        let access = self.access();
+        is_memory_enabled(misc) && access.start <= address && address < access.start + access.len
+    }
+
+    /// How many of n addresses from the first on the display memory has; `misc` is the
+    /// miscellaneous output register.
+    pub fn decoded_among(&self, first: u32, n: u32, misc: u8) -> u32
+        requires { first + n < 2 ^ 32 }
+        ensures value { result ≡ decoded_among self.now misc first n }
+        ensures few { result ≤ n }
+    {
+        let access = self.access();
+        if !is_memory_enabled(misc) {
+            return 0;
+        }
+        let start = first.max(access.start);
+        let end = (first + n).min(access.start + access.len);
+        end.saturating_sub(start)
+    }
+
+    /// The offset in each plane of a write to an address, where it is decoded and, in text, reaches
+    /// no glyph.
+    pub fn offset_beside_glyphs(&self, address: u32, misc: u8) -> Option<u16>
+        ensures offset { IfSome result (λ o. o
+            ≡ plane_offset self.now (window_offset self.now address)) }
+        ensures beside { IfSome result (λ o. is_graphics self.now ≡ false
+            → is_reached self.now (window_offset self.now address) 2 ≡ false) }
+    {
+        let access = self.access();
+        let Some(in_window) = access.in_window(address, misc) else {
+            return None;
+        };
+        let set = access.reached(in_window);
+        if is_set(set, GLYPHS) && !self.is_graphics() {
+            return None;
+        }
+        Some(access.offset(in_window))
+    }
+}

@@ -1,0 +1,160 @@
+//! Fills that put whole words of the planes, apart for speed alone: writes of two bytes in turn
+//! that follow one another put a word, where the bits of an address pick planes, and where none
+//! does.
+ghost use Rattle.std.specs.Prelude.{◌≡◌, ◌<◌, ◌≤◌, ◌+◌, ◌-◌, ◌^◌, true};
+ghost use Rattle.vga_bits.specs.Bits.{is_set};
+ghost use Rattle.vga_bits.specs.Four.{four};
+ghost use Rattle.vga_host.specs.Memory.Write.{written_byte};
+ghost use Rattle.vga_host.specs.Memory.Runs.{after_puts, in_turn, with_memory};
+ghost use Rattle.vga_host.specs.Memory.Access.{IsAccess};
+ghost use Rattle.vga_host.specs.Memory.PlaneWords.{alternating, word_put, written_in_turn, ArePutWithin};
+ghost use Rattle.vga_host.specs.Memory.PlaneWords.{FillsPlanes, FillsFours, FillsPairs, PutsWords};
+
+use super::access::MemoryAccess;
+use crate::host::Host;
+use vga_planes::{Latch, PlaneSet};
+
+/// The bytes of two in turn: planes 0 and 2 of the one, and 1 and 3 of the other.
+fn alternate(even: Latch, odd: Latch) -> Latch
+    ensures { result ≡ alternating even odd }
+{
+    Latch::new([even.byte(0), odd.byte(1), even.byte(2), odd.byte(3)])
+}
+
+impl Host {
+    /// Whether the memory has all addresses of n writes.
+    pub(super) fn is_put_within(&self, access: MemoryAccess, first: u32, n: u32, misc: u8) -> bool
+        requires access { IsAccess access self.now }
+        requires small { access.start + access.len < 2 ^ 32 }
+        requires few { first + n < 2 ^ 32 }
+        ensures start { result ≡ true → access.start ≤ first }
+        ensures within { result ≡ true → ArePutWithin self.now misc first n (first - access.start) }
+    {
+        access.covers(first, n, misc)
+    }
+
+    /// Whether no bit of an address picks a plane.
+    pub(super) fn fills_planes(&self, access: MemoryAccess) -> bool
+        requires { IsAccess access self.now }
+        ensures { result ≡ true → FillsPlanes self.now }
+    {
+        access.odd_even_off && !access.chain_four && !access.chain_odd_even
+    }
+
+    /// Whether the two low bits of an address pick the plane, and an offset in the window is the
+    /// first of four.
+    pub(super) fn fills_fours(&self, access: MemoryAccess, in_window: u32) -> bool
+        requires { IsAccess access self.now }
+        ensures { result ≡ true → FillsFours self.now in_window }
+    {
+        access.chain_four && in_window % 4 == 0
+    }
+
+    /// Whether the lowest bit of an address picks planes, and an offset in the window is even.
+    pub(super) fn fills_pairs(&self, access: MemoryAccess, in_window: u32) -> bool
+        requires { IsAccess access self.now }
+        ensures { result ≡ true → FillsPairs self.now in_window }
+    {
+        access.chain_odd_even && !access.odd_even_off && !access.chain_four && in_window % 2 == 0
+    }
+
+    /// How many writes put a word: 1, 2 or 4, or 0 where they do not.
+    fn puts_of_word(
+        &self,
+        access: MemoryAccess,
+        first: u32,
+        n: u32,
+        even: u8,
+        odd: u8,
+        misc: u8,
+    ) -> u32
+        requires access { IsAccess access self.now }
+        requires start { access.start ≤ first }
+        requires within { ArePutWithin self.now misc first n (first - access.start) }
+        ensures { 0 < result → PutsWords result self.now misc first n (first - access.start)
+            (in_turn even odd) (λ i. written_in_turn self.now even odd) }
+    {
+        let in_window = first - access.start;
+        if even == odd && self.fills_planes(access) {
+            1
+        } else if self.fills_fours(access, in_window) {
+            4
+        } else if self.fills_pairs(access, in_window) {
+            2
+        } else {
+            0
+        }
+    }
+
+    /// Puts a word at an offset, in the planes of a set.
+    pub(super) fn put_word(&mut self, at: u16, word: Latch, set: PlaneSet)
+        ensures { self.new ≡ word_put self.old (is_set set) at word }
+    {
+        self.planes.store(at, word, set);
+    }
+
+    /// Puts a word again and again, by `per` writes each, as long as a whole one is left of n
+    /// writes, and tells how many writes that were.
+    fn put_words(
+        &mut self,
+        access: MemoryAccess,
+        per: u32,
+        word: Latch,
+        first: u32,
+        n: u32,
+        even: u8,
+        odd: u8,
+        misc: u8,
+    ) -> u32
+        requires access { IsAccess access self.old }
+        requires start { access.start ≤ first }
+        requires few { first + n < 2 ^ 32 }
+        requires words { PutsWords per self.old misc first n (first - access.start)
+            (in_turn even odd) (λ i. word) }
+        ensures few { result ≤ n }
+        ensures kept { with_memory self.old self.new.memory ≡ self.new }
+        ensures put { self.new ≡ after_puts misc first (in_turn even odd) result 0 self.old }
+    {
+        let start = first - access.start;
+        let mut done = 0;
+        while n - done >= per {
+            let in_window = ((start + done) % 65_536) as u16;
+            self.put_word(in_window, word, access.map_mask);
+            done += per;
+        }
+        done
+    }
+
+    /// Puts words, where that is what the first of n writes of two bytes in turn do, and tells how
+    /// many writes that were. `bytes` and `others` are what the two bytes make.
+    pub(super) fn fill_words(
+        &mut self,
+        access: MemoryAccess,
+        bytes: Latch,
+        others: Latch,
+        first: u32,
+        n: u32,
+        even: u8,
+        odd: u8,
+        misc: u8,
+    ) -> u32
+        requires access { IsAccess access self.old }
+        requires small { access.start + access.len < 2 ^ 32 }
+        requires bytes { bytes ≡ four (λ p. written_byte self.old even p) }
+        requires others { others ≡ four (λ p. written_byte self.old odd p) }
+        requires few { first + n < 2 ^ 32 }
+        ensures few { result ≤ n }
+        ensures kept { with_memory self.old self.new.memory ≡ self.new }
+        ensures put { self.new ≡ after_puts misc first (in_turn even odd) result 0 self.old }
+    {
+        if !self.is_put_within(access, first, n, misc) {
+            return 0;
+        }
+        let per = self.puts_of_word(access, first, n, even, odd, misc);
+        if per == 0 {
+            return 0;
+        }
+        let word = alternate(bytes, others);
+        self.put_words(access, per, word, first, n, even, odd, misc)
+    }
+}

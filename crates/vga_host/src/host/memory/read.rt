@@ -1,0 +1,88 @@
+//! A read of a byte of display memory.
+ghost use Rattle.std.specs.Prelude.{◌≡◌, ◌<◌, ◌↔◌, ℕ, if◌then◌else◌, IsTrue, IfOk, IfErr, IsOk};
+ghost use Rattle.std.specs.Int.{bit_at};
+ghost use Rattle.vga_bits.specs.Bits.{byte_of};
+ghost use Rattle.vga_bits.specs.Four.{of_plane};
+ghost use Rattle.vga_bits.specs.Words.{word_bit};
+ghost use Rattle.vga_host.specs.Memory.Address.{is_decoded};
+ghost use Rattle.vga_host.specs.Memory.Read.{agrees, compared_bit, read_bit, picked_plane};
+ghost use Rattle.vga_host.specs.Memory.Read.{read_byte, after_get};
+
+use crate::bytes::clear_in_all;
+use crate::host::Host;
+use vga_bits::Refusal;
+use vga_planes::Latch;
+use vga_planes::plane_words::filled;
+
+impl Host {
+    /// The plane that read mode 0 picks for an offset in the window.
+    fn picked_plane(&self, in_window: u16) -> usize
+        ensures plane { result ≡ picked_plane self.now in_window }
+        ensures below { result < 4 }
+    {
+        let in_window = in_window as usize;
+        if self.is_chain_four() {
+            in_window % 4
+        } else if self.is_odd_even_read() {
+            2 * self.read_map_pair() as usize + in_window % 2
+        } else {
+            self.read_map_select() as usize
+        }
+    }
+
+    /// In read mode 1, the bits in which each plane does not agree with its compare bit.
+    fn differing(&self, bytes: Latch) -> u32
+        ensures { (p i : ℕ) → p < 4 → i < 8 → word_bit result p i
+            ≡ (if agrees self.now bytes p i then 0 else 1) }
+    {
+        let word = bytes.word();
+        let wanted = filled(self.colour_compare());
+        let compared = filled(self.compared_planes());
+        (word ^ wanted) & compared
+    }
+
+    /// In read mode 1, the bits in which all four planes agree.
+    fn compared(&self, bytes: Latch) -> u8
+        ensures { (i : ℕ) → i < 8 → bit_at result i ≡ compared_bit self.now bytes i }
+    {
+        clear_in_all(self.differing(bytes))
+    }
+
+    /// The answer to a read at an offset in the window, from the bytes loaded, by its bits.
+    #[tactic(auto, unfolding(crate::specs::Memory::Read::read_bit))]
+    fn read_bits(&self, in_window: u16, bytes: Latch) -> u8
+        ensures { (i : ℕ) → i < 8 → bit_at result i ≡ read_bit self.now in_window bytes i }
+    {
+        if self.is_read_compare() {
+            self.compared(bytes)
+        } else {
+            bytes.byte(self.picked_plane(in_window))
+        }
+    }
+
+    /// The answer to a read at an offset in the window, from the bytes loaded.
+    pub(super) fn read_byte(&self, in_window: u16, bytes: Latch) -> u8
+        ensures { result ≡ byte_of (λ i. read_bit self.now in_window bytes i) }
+    {
+        self.read_bits(in_window, bytes)
+    }
+
+    /// Reads a byte of display memory, and loads the latches with the four bytes at its offset;
+    /// `misc` is the miscellaneous output register. It is refused with `NotDecoded`, and then
+    /// changes nothing, where the address is not decoded.
+    pub fn get(&mut self, address: u32, misc: u8) -> Result<u8, Refusal>
+        ensures decoded { IsOk result ↔ IsTrue (is_decoded self.old misc address) }
+        ensures ok { IfOk result (λ v. (v ≡ read_byte self.old address)
+            × (self.new ≡ after_get self.old address)) }
+        ensures refused { IfErr result (λ e. (e ≡ Refusal.NotDecoded) × (self.new ≡ self.old)) }
+    {
+        let access = self.access();
+        let Some(in_window) = access.in_window(address, misc) else {
+            return Err(Refusal::NotDecoded);
+        };
+        let bytes = self.planes.load(access.offset(in_window));
+        let answer = self.read_byte(in_window, bytes);
+        self.latch = bytes;
+        Ok(answer)
+    }
+}

@@ -1,0 +1,128 @@
+//! Runs of cycles of display memory, apart for speed alone: what the registers say of a cycle is
+//! looked up once for a run, since no cycle of memory changes a register.
+ghost use Rattle.std.specs.Prelude.{◌≡◌, ◌<◌, ◌+◌, ◌-◌, ◌/◌, ◌%◌, ◌^◌, ◌==◌};
+ghost use Rattle.std.specs.Prelude.{if◌then◌else◌};
+ghost use Rattle.vga_host.specs.Graphics.{write_mode};
+ghost use Rattle.vga_host.specs.Memory.Runs.{put_bytes, get_where, byte_where, move_where, after_puts};
+ghost use Rattle.vga_host.specs.Memory.Runs.{after_moves, in_turn};
+ghost use Rattle.vga_host.specs.Memory.Access.{IsAccess};
+
+use super::access::MemoryAccess;
+use crate::host::Host;
+use vga_planes::Latch;
+
+/// What a read gives that is not decoded.
+const REFUSED: u8 = 0xFF;
+
+impl Host {
+    /// Writes these four bytes to the planes that an address reaches where it is decoded, by what
+    /// the registers say of every write.
+    pub(super) fn put_by_access(
+        &mut self,
+        access: MemoryAccess,
+        bytes: Latch,
+        address: u32,
+        misc: u8,
+    )
+        requires access { IsAccess access self.old }
+        ensures { self.new ≡ put_bytes self.old misc address bytes }
+    {
+        if let Some(in_window) = access.in_window(address, misc) {
+            self.planes
+                .store(access.offset(in_window), bytes, access.reached(in_window));
+        }
+    }
+
+    /// What a read of an address gives, by what the registers say of every cycle: FF, where it is
+    /// not decoded.
+    pub(super) fn byte_by_access(&self, access: MemoryAccess, address: u32, misc: u8) -> u8
+        requires access { IsAccess access self.now }
+        ensures { result ≡ byte_where self.now misc address }
+    {
+        match access.in_window(address, misc) {
+            Some(in_window) => {
+                let bytes = self.planes().load(access.offset(in_window));
+                self.read_byte(in_window, bytes)
+            }
+            None => REFUSED,
+        }
+    }
+
+    /// Loads the latches from an address where it is decoded, by what the registers say.
+    pub(super) fn load_by_access(&mut self, access: MemoryAccess, address: u32, misc: u8)
+        requires access { IsAccess access self.old }
+        ensures { self.new ≡ get_where self.old misc address }
+    {
+        if let Some(in_window) = access.in_window(address, misc) {
+            self.latch = self.planes.load(access.offset(in_window));
+        }
+    }
+
+    /// Loads the latches from an address, and stores them at another. The byte read is not looked
+    /// at.
+    fn move_latches(&mut self, access: MemoryAccess, from: u32, to: u32, misc: u8)
+        requires access { IsAccess access self.old }
+        requires mode { write_mode self.old ≡ 1 }
+        ensures { self.new ≡ move_where self.old misc from to }
+    {
+        self.load_by_access(access, from, misc);
+        let bytes = self.stored_latches();
+        self.put_by_access(access, bytes, to, misc);
+    }
+
+    /// Reads a byte from an address, and writes it to another.
+    fn move_byte(&mut self, access: MemoryAccess, from: u32, to: u32, misc: u8)
+        requires access { IsAccess access self.old }
+        ensures { self.new ≡ move_where self.old misc from to }
+    {
+        let byte = self.byte_by_access(access, from, misc);
+        self.load_by_access(access, from, misc);
+        let bytes = self.written(byte);
+        self.put_by_access(access, bytes, to, misc);
+    }
+
+    /// Moves a byte from an address to another, in the way of the write mode.
+    fn move_by_access(&mut self, access: MemoryAccess, from: u32, to: u32, misc: u8)
+        requires access { IsAccess access self.old }
+        ensures { self.new ≡ move_where self.old misc from to }
+    {
+        if access.stores_latches {
+            self.move_latches(access, from, to, misc);
+        } else {
+            self.move_byte(access, from, to, misc);
+        }
+    }
+
+    /// Moves n bytes, in ascending order: each is read at an address, and written at another, a
+    /// refused read as FF; `misc` is the miscellaneous output register.
+    pub fn move_bytes(&mut self, from: u32, to: u32, n: u32, misc: u8)
+        requires from { from + n < 2 ^ 32 }
+        requires to { to + n < 2 ^ 32 }
+        ensures { self.new ≡ after_moves misc from to n 0 self.old }
+    {
+        let access = self.access();
+        let done = self.move_words(access, from, to, n, misc);
+        for i in done..n {
+            self.move_by_access(access, from + i, to + i, misc);
+        }
+    }
+
+    /// Writes two bytes in turn to n addresses from the first on; `misc` is the miscellaneous
+    /// output register.
+    pub fn put_in_turn(&mut self, first: u32, n: u32, even: u8, odd: u8, misc: u8)
+        requires { first + n < 2 ^ 32 }
+        ensures { self.new ≡ after_puts misc first (in_turn even odd) n 0 self.old }
+    {
+        let access = self.access();
+        let bytes = self.written(even);
+        let others = self.written(odd);
+        let done = self.fill_words(access, bytes, others, first, n, even, odd, misc);
+        for i in done..n {
+            if i % 2 == 0 {
+                self.put_by_access(access, bytes, first + i, misc);
+            } else {
+                self.put_by_access(access, others, first + i, misc);
+            }
+        }
+    }
+}

@@ -1,0 +1,236 @@
+//! Bytes of the caller's that are written to addresses, or read from them, one after another; apart
+//! for speed alone. Writes of bytes as they are put whole words of the planes.
+ghost use Rattle.std.specs.Prelude.{◌≡◌, ◌<◌, ◌≤◌, ◌⊎◌, ◌+◌, ◌-◌, ◌*◌, ◌/◌, ◌%◌, ◌^◌, ℕ};
+ghost use Rattle.std.specs.Prelude.{length};
+ghost use Rattle.std.specs.Prelude.{slice_index, false};
+ghost use Rattle.vga_host.specs.Graphics.{is_read_compare};
+ghost use Rattle.vga_host.specs.Memory.Read.{picked_plane};
+ghost use Rattle.vga_host.specs.Memory.Address.{plane_offset};
+ghost use Rattle.vga_host.specs.Memory.Access.{IsAccess};
+ghost use Rattle.vga_host.specs.Memory.Runs.{after_puts, after_gets, byte_where, with_memory};
+ghost use Rattle.vga_host.specs.Memory.PlaneWords.{grouped as grouped_of, ArePutWithin, PutsWords};
+
+use super::access::MemoryAccess;
+use crate::host::Host;
+use vga_planes::Latch;
+
+/// The bytes from number i on as a word: four of them, two that each go to two planes, or one that
+/// goes to all.
+#[inline(always)]
+fn grouped(per: u32, bytes: &[u8], i: usize) -> Latch
+    requires per { (per ≡ 1) ⊎ ((per ≡ 2) ⊎ (per ≡ 4)) }
+    requires room { i + per ≤ length bytes.now }
+    ensures { result ≡ grouped_of per (slice_index bytes.now) i }
+{
+    match per {
+        4 => Latch::new([bytes[i], bytes[i + 1], bytes[i + 2], bytes[i + 3]]),
+        2 => Latch::new([bytes[i], bytes[i + 1], bytes[i], bytes[i + 1]]),
+        _ => Latch::new([bytes[i], bytes[i], bytes[i], bytes[i]]),
+    }
+}
+
+impl Host {
+    /// How many of these bytes make a word of the planes, where writes store bytes as they are and begin at its
+    /// first place: 1, 2 or 4, or 0 where none do.
+    fn bytes_of_word(&self, access: MemoryAccess, first: u32, bytes: &[u8], misc: u8) -> u32
+        requires access { IsAccess access self.now }
+        requires start { access.start ≤ first }
+        requires within { ArePutWithin self.now misc first (length bytes.now)
+            (first - access.start) }
+        ensures known { 0 < result → (result ≡ 1) ⊎ ((result ≡ 2) ⊎ (result ≡ 4)) }
+        ensures words { 0 < result → PutsWords result self.now misc first (length bytes.now)
+            (first - access.start) (slice_index bytes.now)
+            (grouped_of result (slice_index bytes.now)) }
+    {
+        let in_window = first - access.start;
+        if !access.stores_byte {
+            0
+        } else if self.fills_planes(access) {
+            1
+        } else if self.fills_fours(access, in_window) {
+            4
+        } else if self.fills_pairs(access, in_window) {
+            2
+        } else {
+            0
+        }
+    }
+
+    /// Puts words of `per` bytes each, as long as a whole one is left, and tells how many bytes
+    /// that were.
+    #[inline(always)]
+    fn put_groups(
+        &mut self,
+        access: MemoryAccess,
+        per: u32,
+        first: u32,
+        bytes: &[u8],
+        misc: u8,
+    ) -> u32
+        requires access { IsAccess access self.old }
+        requires start { access.start ≤ first }
+        requires few { first + length bytes.now < 2 ^ 32 }
+        requires per { (per ≡ 1) ⊎ ((per ≡ 2) ⊎ (per ≡ 4)) }
+        requires words { PutsWords per self.old misc first (length bytes.now) (first - access.start)
+            (slice_index bytes.now) (grouped_of per (slice_index bytes.now)) }
+        ensures few { result ≤ length bytes.now }
+        ensures kept { with_memory self.old self.new.memory ≡ self.new }
+        ensures put { self.new ≡ after_puts misc first (slice_index bytes.now) result 0 self.old }
+    {
+        let start = first - access.start;
+        let n = bytes.len() as u32;
+        let mut done = 0;
+        while n - done >= per {
+            let in_window = ((start + done) % 65_536) as u16;
+            self.put_word(
+                in_window,
+                grouped(per, bytes, done as usize),
+                access.map_mask,
+            );
+            done += per;
+        }
+        done
+    }
+
+    /// Puts words, where that is what writes of the first of these bytes do, and tells how many
+    /// bytes that were.
+    #[inline(never)]
+    fn put_whole_words(&mut self, access: MemoryAccess, first: u32, bytes: &[u8], misc: u8) -> u32
+        requires access { IsAccess access self.old }
+        requires small { access.start + access.len < 2 ^ 32 }
+        requires few { first + length bytes.now < 2 ^ 32 }
+        ensures few { result ≤ length bytes.now }
+        ensures kept { with_memory self.old self.new.memory ≡ self.new }
+        ensures put { self.new ≡ after_puts misc first (slice_index bytes.now) result 0 self.old }
+    {
+        if !self.is_put_within(access, first, bytes.len() as u32, misc) {
+            return 0;
+        }
+        // Each number of bytes has a loop of its own.
+        match self.bytes_of_word(access, first, bytes, misc) {
+            1 => self.put_groups(access, 1, first, bytes, misc),
+            2 => self.put_groups(access, 2, first, bytes, misc),
+            4 => self.put_groups(access, 4, first, bytes, misc),
+            _ => 0,
+        }
+    }
+
+    /// Writes bytes to the addresses from the first on, in ascending order; a write that is not
+    /// decoded does nothing, and `misc` is the miscellaneous output register.
+    pub fn put_slice(&mut self, first: u32, bytes: &[u8], misc: u8)
+        requires { first + length bytes.now < 2 ^ 32 }
+        ensures { self.new ≡ after_puts misc first (slice_index bytes.now) (length bytes.now) 0
+            self.old }
+    {
+        let access = self.access();
+        let n = bytes.len() as u32;
+        let done = self.put_whole_words(access, first, bytes, misc);
+        for i in done..n {
+            let word = self.written_as(access.stores_byte, bytes[i as usize]);
+            self.put_by_access(access, word, first + i, misc);
+        }
+    }
+
+    /// Reads places of the window that follow one another, all of them decoded, where a read picks
+    /// plane `base`, and one more for each step of the place modulo `span`, at the place rounded
+    /// down to a multiple of `unit`.
+    #[inline(always)]
+    fn read_picked(
+        &self,
+        access: MemoryAccess,
+        base: usize,
+        span: u16,
+        unit: u16,
+        first: u32,
+        bytes: &mut [u8],
+        misc: u8,
+    )
+        requires access { IsAccess access self.now }
+        requires start { access.start ≤ first }
+        requires few { first + length bytes.old < 2 ^ 32 }
+        requires within { ArePutWithin self.now misc first (length bytes.old)
+            (first - access.start) }
+        requires byte { is_read_compare self.now ≡ false }
+        requires span { 0 < span }
+        requires below { base + span ≤ 4 }
+        requires picked { (w : ℕ) → base + w % span ≡ picked_plane self.now w }
+        requires unit { 0 < unit }
+        requires offset { (w : ℕ) → w / unit * unit ≡ plane_offset self.now w }
+        ensures bytes { (i : ℕ) → i < length bytes.old →
+            slice_index bytes.new i ≡ byte_where self.now misc (first + i) }
+        ensures size { length bytes.new ≡ length bytes.old }
+    {
+        let start = first - access.start;
+        for i in 0..bytes.len() {
+            let in_window = ((start + i as u32) % 65_536) as u16;
+            let plane = base + (in_window % span) as usize;
+            bytes[i] = self.planes().byte(plane, in_window / unit * unit);
+        }
+    }
+
+    /// Reads addresses that are all decoded, in read mode 0. Each way to pick a plane and an offset
+    /// has a loop of its own.
+    #[inline(never)]
+    fn read_within(&self, access: MemoryAccess, first: u32, bytes: &mut [u8], misc: u8)
+        requires access { IsAccess access self.now }
+        requires start { access.start ≤ first }
+        requires few { first + length bytes.old < 2 ^ 32 }
+        requires within { ArePutWithin self.now misc first (length bytes.old)
+            (first - access.start) }
+        requires byte { is_read_compare self.now ≡ false }
+        ensures bytes { (i : ℕ) → i < length bytes.old →
+            slice_index bytes.new i ≡ byte_where self.now misc (first + i) }
+        ensures size { length bytes.new ≡ length bytes.old }
+    {
+        if self.is_chain_four() {
+            self.read_picked(access, 0, 4, 4, first, bytes, misc);
+            return;
+        }
+        let pair = 2 * self.read_map_pair() as usize;
+        let plane = self.read_map_select() as usize;
+        match (self.is_odd_even_read(), access.chain_odd_even) {
+            (true, true) => self.read_picked(access, pair, 2, 2, first, bytes, misc),
+            (true, false) => self.read_picked(access, pair, 2, 1, first, bytes, misc),
+            (false, true) => self.read_picked(access, plane, 1, 2, first, bytes, misc),
+            (false, false) => self.read_picked(access, plane, 1, 1, first, bytes, misc),
+        }
+    }
+
+    /// Reads the addresses from the first on, one after the other.
+    fn read_each(&mut self, access: MemoryAccess, first: u32, bytes: &mut [u8], misc: u8)
+        requires access { IsAccess access self.old }
+        requires small { access.start + access.len < 2 ^ 32 }
+        requires few { first + length bytes.old < 2 ^ 32 }
+        ensures latches { self.new ≡ after_gets misc first (length bytes.old) 0 self.old }
+        ensures bytes { (i : ℕ) → i < length bytes.old →
+            slice_index bytes.new i ≡ byte_where self.old misc (first + i) }
+        ensures size { length bytes.new ≡ length bytes.old }
+    {
+        for i in 0..bytes.len() {
+            let address = first + i as u32;
+            bytes[i] = self.byte_by_access(access, address, misc);
+            self.load_by_access(access, address, misc);
+        }
+    }
+
+    /// Reads the addresses from the first on, in ascending order, into bytes of the caller's; a
+    /// read that is not decoded gives FF and loads no latch, and `misc` is the miscellaneous output
+    /// register.
+    pub fn get_slice(&mut self, first: u32, bytes: &mut [u8], misc: u8)
+        requires { first + length bytes.old < 2 ^ 32 }
+        ensures latches { self.new ≡ after_gets misc first (length bytes.old) 0 self.old }
+        ensures bytes { (i : ℕ) → i < length bytes.old →
+            slice_index bytes.new i ≡ byte_where self.old misc (first + i) }
+        ensures size { length bytes.new ≡ length bytes.old }
+    {
+        let access = self.access();
+        let n = bytes.len() as u32;
+        if n == 0 || self.is_read_compare() || !self.is_put_within(access, first, n, misc) {
+            self.read_each(access, first, bytes, misc);
+            return;
+        }
+        self.read_within(access, first, bytes, misc);
+        // The latches are those of the last read.
+        self.load_by_access(access, first + (n - 1), misc);
+    }
+}

@@ -1,0 +1,144 @@
+//! A write of a byte to display memory.
+ghost use Rattle.std.specs.Prelude.{◌≡◌, ◌<◌, ◌↔◌, ℕ, if◌then◌else◌, IsTrue, OnOk, IfErr, IsOk};
+ghost use Rattle.std.specs.Prelude.{true};
+ghost use Rattle.std.specs.Int.{bit_at};
+ghost use Rattle.vga_bits.specs.Four.{four};
+ghost use Rattle.vga_host.specs.Memory.Address.{is_decoded};
+ghost use Rattle.vga_host.specs.Graphics.{bit_mask, set_reset, is_set_reset_enabled, write_mode};
+ghost use Rattle.vga_bits.specs.Words.{word_bit};
+ghost use Rattle.vga_host.specs.Memory.Write.{rotated_bit, data_bit, mask_bit, combined_bit};
+ghost use Rattle.vga_host.specs.Memory.Write.{written_bit, written_byte, after_put, StoresByte};
+
+use crate::bytes::{combined, rotated};
+use crate::host::Host;
+use vga_bits::Refusal;
+use vga_planes::Latch;
+use vga_planes::plane_words::{filled, selected, spread};
+
+impl Host {
+    /// The rotated byte of a write.
+    fn rotated(&self, v: u8) -> u8
+        ensures { (i : ℕ) → i < 8 → bit_at result i ≡ rotated_bit self.now v i }
+    {
+        rotated(v, self.rotate_count())
+    }
+
+    /// The data of the four planes in write mode 0, before the function and the mask.
+    fn data_in_mode_0(&self, v: u8) -> u32
+        ensures { (p i : ℕ) → p < 4 → i < 8 → word_bit result p i
+            ≡ (if is_set_reset_enabled self.now p then set_reset self.now p
+            else rotated_bit self.now v i) }
+    {
+        let fill = filled(self.set_reset());
+        let enabled = filled(self.set_reset_enabled());
+        let bytes = spread(self.rotated(v));
+        selected(fill, enabled, bytes)
+    }
+
+    /// The data of the four planes in the write modes 0, 2 and 3, before the function and the mask.
+    fn data(&self, v: u8) -> u32
+        ensures { (p i : ℕ) → p < 4 → i < 8 → word_bit result p i ≡ data_bit self.now v p i }
+    {
+        match self.write_mode() {
+            0 => self.data_in_mode_0(v),
+            2 => filled(v),
+            _ => filled(self.set_reset()),
+        }
+    }
+
+    /// The mask of a write in the write modes 0, 2 and 3, which is that of each plane.
+    #[tactic(auto, using(std::proofs::lemmas::Nat::Bits::bit_at_and))]
+    fn mask_byte(&self, v: u8) -> u8
+        ensures { (i : ℕ) → i < 8 → bit_at result i ≡ mask_bit self.now v i }
+    {
+        if self.write_mode() == 3 {
+            self.bit_mask() & self.rotated(v)
+        } else {
+            self.bit_mask()
+        }
+    }
+
+    /// The mask of a write in the write modes 0, 2 and 3, for the four planes.
+    fn mask(&self, v: u8) -> u32
+        ensures { (p i : ℕ) → p < 4 → i < 8 → word_bit result p i ≡ mask_bit self.now v i }
+    {
+        spread(self.mask_byte(v))
+    }
+
+    /// The data of the four planes and their latches by the function.
+    #[tactic(auto, unfolding(crate::specs::Memory::Write::combined_bit))]
+    fn combined(&self, v: u8) -> u32
+        ensures { (p i : ℕ) → p < 4 → i < 8 → word_bit result p i ≡ combined_bit self.now v p i }
+    {
+        let data = self.data(v);
+        let latch = self.latch.word();
+        combined(self.function_select(), data, latch)
+    }
+
+    /// What the four planes get where a write reaches them, by its bits.
+    #[tactic(auto, unfolding(crate::specs::Memory::Write::written_bit))]
+    fn written_bits(&self, v: u8) -> u32
+        ensures { (p i : ℕ) → p < 4 → i < 8 → word_bit result p i ≡ written_bit self.now v p i }
+    {
+        let latch = self.latch.word();
+        if self.write_mode() == 1 {
+            latch
+        } else {
+            let source = self.combined(v);
+            let mask = self.mask(v);
+            selected(source, mask, latch)
+        }
+    }
+
+    /// The bytes that the four planes get where a write reaches them. `stores_byte` is for speed alone:
+    /// it may be false.
+    pub(super) fn written_as(&self, stores_byte: bool, v: u8) -> Latch
+        requires { stores_byte ≡ true → StoresByte self.now }
+        ensures { result ≡ four (λ p. written_byte self.now v p) }
+    {
+        if stores_byte {
+            return Latch::from_word(spread(v));
+        }
+        let word = self.written_bits(v);
+        Latch::from_word(word)
+    }
+
+    /// The bytes that the four planes get in write mode 1 where a write reaches them: the latches,
+    /// whatever is written.
+    pub(super) fn stored_latches(&self) -> Latch
+        requires { write_mode self.now ≡ 1 }
+        ensures { (v : ℕ) → result ≡ four (λ p. written_byte self.now v p) }
+    {
+        let word = self.latch.word();
+        Latch::from_word(word)
+    }
+
+    /// The bytes that the four planes get where a write reaches them.
+    pub(super) fn written(&self, v: u8) -> Latch
+        ensures { result ≡ four (λ p. written_byte self.now v p) }
+    {
+        self.written_as(self.access().stores_byte, v)
+    }
+
+    /// Writes a byte to an address of display memory; `misc` is the miscellaneous output register.
+    /// It is refused with `NotDecoded`, and then changes nothing, where the address is not decoded.
+    ///
+    /// To follow a write, read this file and two more. `access.rt` has what the registers say of an
+    /// address: its offset in the window, its offset in a plane, and the planes that a write
+    /// reaches. `store` of `vga_planes` keeps the bytes.
+    pub fn put(&mut self, address: u32, v: u8, misc: u8) -> Result<(), Refusal>
+        ensures decoded { IsOk result ↔ IsTrue (is_decoded self.old misc address) }
+        ensures ok { OnOk result (self.new ≡ after_put self.old address v) }
+        ensures refused { IfErr result (λ e. (e ≡ Refusal.NotDecoded) × (self.new ≡ self.old)) }
+    {
+        let access = self.access();
+        let Some(in_window) = access.in_window(address, misc) else {
+            return Err(Refusal::NotDecoded);
+        };
+        let bytes = self.written_as(access.stores_byte, v);
+        let set = access.reached(in_window);
+        let offset = access.offset(in_window);
+        self.planes.store(offset, bytes, set);
+        Ok(())
+    }
+}
