@@ -4,6 +4,8 @@ import { newId } from "../editor/drafts.js";
 
 /** Milliseconds between two times at which a run is kept. */
 const KEPT_EVERY = 3000;
+/** Nanoseconds of the machine between two times at which its state is kept too, which takes longer. */
+const STATE_EVERY = 30e9;
 const BY_FILE = "Pause it and save the run, and the file brings it back.";
 const WHY_LOST = {
   forbidden: `This browser keeps nothing for the page, so a run is gone after a reload. ${BY_FILE}`,
@@ -29,6 +31,8 @@ export class Keeper {
   #shelved = new Set();
   #warned = new Set();
   #timer = 0;
+  /** The machine's time when its state was kept last. */
+  #stateTime = 0;
   #isLeaving = false;
 
   constructor(runs, live, tell) {
@@ -46,15 +50,23 @@ export class Keeper {
     const live = this.#live(), old = this.#now;
     if (!["running", "paused"].includes(live?.state) || live.isComingBack) return null;
     // Whoever looks at steps of a paused machine moves it; its run stays as it was paused.
-    const pausedAt = live.state === "paused" ? live.snapshots.at(-1) : null;
+    const pausedAt = live.state === "paused" ? live.snapshots.last : null;
     if (pausedAt && old?.pausedAt === pausedAt) return null;
     const { machine, name } = live, inputs = machine.inputs.slice(0, machine.cpu.inputs());
     const isSplit = old?.inputs.slice(inputs.length).some(isTyped) ?? false;
     if (isSplit) this.#gone = old;
     this.#now = { id: old && !isSplit ? old.id : newId(), name, software: machine.software,
       softwareId: this.#idOf(machine.software), moment: machine.moment, inputs, pausedAt };
-    this.#keep();
+    const isKept = this.#keep();
+    if (isKept && (pausedAt || Math.abs(this.#now.moment.time - this.#stateTime) >= STATE_EVERY)) this.#keepState(live);
     return isSplit ? this.#told(old) : null;
+  }
+
+  /** Keeps the machine's state beside its run, so that the run comes back soon. */
+  #keepState(live) {
+    const { id, moment } = this.#now, state = live.keptState;
+    this.#stateTime = moment.time;
+    if (state) this.#runs.keepState(id, state);
   }
 
   /** The identity of software. */
@@ -65,7 +77,8 @@ export class Keeper {
 
   /** A run that was kept comes back, and is the one that is on. */
   begin(run) {
-    this.#now = { ...run, pausedAt: null };
+    this.#now = { ...run, state: null, pausedAt: null };
+    this.#stateTime = run.moment.time;
     this.#softwareIds.set(run.software, run.softwareId);
     this.#shelved.add(`${run.softwareId} ${run.software.media?.length ?? 0}`);
     this.#keepSoon();
@@ -88,11 +101,13 @@ export class Keeper {
   #keepSoon() {
     clearTimeout(this.#timer);
     this.#timer = setTimeout(() => {
-      if (this.#live()?.state === "running") this.note();
+      const live = this.#live();
+      if (live?.state === "running" && !live.isComingBack) this.note();
       else this.#keepSoon();
     }, KEPT_EVERY);
   }
 
+  /** Keeps the run that is on; whether it is kept. */
   #keep() {
     const run = this.#now, hasKeys = run.inputs.some(isTyped);
     const wrong = this.#runs.keep({ ...run, hasKeys }, this.#isLeaving);
@@ -104,6 +119,7 @@ export class Keeper {
       this.#runs.keepSoftware(run.softwareId, run.software).then(reason => this.#warn(reason));
     }
     this.#keepSoon();
+    return !wrong;
   }
 
   #warn(wrong) {
@@ -133,7 +149,7 @@ export class Keeper {
   }
 
   /** A run that can be brought back; null where it is gone. */
-  read(id) {
-    return this.#gone?.id === id ? this.#gone : this.#runs.read(id);
+  async read(id) {
+    return this.#gone?.id === id ? { ...this.#gone, state: await this.#runs.stateOf(id) } : this.#runs.read(id);
   }
 }

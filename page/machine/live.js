@@ -3,18 +3,29 @@ import { Machine, QUANTUM, SPEEDS, USUAL_SPEED } from "./machine.js";
 import { bytesOfKey, placeOfKey } from "./pckeys.js";
 import { Pace } from "./pace.js";
 import { LivePicture } from "./livepicture.js";
+import { Snapshot } from "./snapshot.js";
+import { Snapshots } from "./snapshots.js";
+import { isStateOf, stateOf } from "./keptstate.js";
 import { stopOf } from "./stops.js";
 import { byId, setText } from "../common/dom.js";
 import { grouped } from "../common/bytes.js";
 
 const SECOND = 1e9, MILLISECOND = 1e6;
+/** A state is kept of a run that is longer than this: another one is as soon back by running again. */
+const WORTH = 5 * SECOND;
 /** Milliseconds of a turn, and how late the machine may be: what is missed beyond is left out. */
 const TURN = 12, MOST_LATE = 100;
 /** Milliseconds of a turn while a run comes back, which is as fast as the machine can. */
 const LONG_TURN = 30;
 const OTHERWISE = "It ran otherwise than it did when it was kept: the page is another one since.";
-/** A snapshot is made once in so many frames; all have so many bytes at most. */
-const SNAPSHOT_FRAMES = 35, MOST_SNAPSHOTS = 1 << 28;
+/** A snapshot is made once in so many frames. */
+const SNAPSHOT_FRAMES = 35;
+/** A paused machine needs a snapshot so many nanoseconds before a moment, to show the frames until then. */
+const WINDOW = 1.5 * SECOND;
+/** From a snapshot so far before a moment it runs again at once, and from an earlier one in turns. */
+const NEAR = 5 * SECOND;
+/** On a way back it keeps the snapshots of so many nanoseconds before the moment: whoever goes on back needs them. */
+const TRAIL = 10 * SECOND;
 /** Milliseconds between two lines that tell how it runs. */
 const TELLING = 500;
 /** Milliseconds between two turns of a machine that rests. */
@@ -48,10 +59,12 @@ export class Live {
   state = "off";
   /** Why it paused, where it did so by itself. */
   reason = "";
-  snapshots = [];
+  snapshots = null;
   #modules;
   #fonts;
   #heard;
+  #mostBytes;
+  #version;
   #machine = null;
   #lastTime = 0;
   #told = { at: 0, instructions: 0, frames: 0 };
@@ -61,15 +74,21 @@ export class Live {
   #drawn = -1;
   #pace = null;
   #sleep = 0;
-  /** The moment at which a run pauses that comes back: see Machine.moment. */
+  /** The moment at which a machine pauses that runs again: see goTo. */
   #goal = null;
   #canvas = byId("live");
   #picture = new LivePicture(this.#canvas);
 
-  constructor(modules, fonts, heard) {
+  /**
+   * Its snapshots take `mostBytes` at most: see Snapshots. `version` is that of the modules and the fonts: a state
+   * that was kept under another one means nothing.
+   */
+  constructor(modules, fonts, heard, { mostBytes, version = "" } = {}) {
     this.#modules = modules;
     this.#fonts = fonts;
     this.#heard = heard;
+    this.#mostBytes = mostBytes;
+    this.#version = version;
     for (const type of ["keydown", "keyup"]) {
       this.#canvas.addEventListener(type, event => this.#key(event));
     }
@@ -96,15 +115,73 @@ export class Live {
     this.#begin();
   }
 
-  /** Brings a run back to a moment, as fast as it can, and pauses there. */
-  comeBack({ name, software, inputs, moment }) {
+  /**
+   * Brings a run back to a moment, as fast as it can, and pauses there. From a state of it that was kept it runs a
+   * short way, and else from the start.
+   */
+  comeBack(run) {
+    const { name, software, inputs, moment, state } = run;
     this.#boot(software, name);
     this.#takeInputs(inputs);
-    this.#goal = moment;
-    this.#begin();
+    const first = this.#machine.snapshot(null), kept = this.#takenState(state, run, first);
+    const arrive = machine => {
+      machine.runAgainTo(moment);
+      if (machine.cpu.cycles() === moment.cycles) return;
+      // Running again from the start tells whether it is the state that was wrong.
+      if (kept) this.comeBack({ ...run, state: null });
+      else this.reason = OTHERWISE;
+    };
+    this.#goal = { time: moment.time, from: kept?.time ?? 0, trail: 0, isEarlier: false, arrive };
+    this.#begin(first);
+    if (kept) this.snapshots.add(kept);
   }
 
-  /** Whether a run comes back, and is not there yet. */
+  /** The snapshot of a state that was kept, which the machine is then; null where it can't be. */
+  #takenState(state, { software, inputs, moment, name }, first) {
+    if (!isStateOf(state, { version: this.#version, inputs, until: moment.time - WINDOW })) return null;
+    try {
+      const snapshot = Snapshot.unpacked(state.packed, first);
+      this.#machine.takeOver(snapshot, state.notes);
+      return snapshot;
+    } catch {
+      this.#boot(software, name);
+      this.#takeInputs(inputs);
+      this.#machine.restore(first);
+      return null;
+    }
+  }
+
+  /** A state by which this run comes back soon: see keptstate.js. Null where that is of no use. */
+  get keptState() {
+    const { first, last } = this.snapshots, snapshot = this.snapshots.until(last.time - WINDOW);
+    if (snapshot.time < WORTH || this.isComingBack) return null;
+    return stateOf(snapshot, { first, machine: this.#machine, version: this.#version });
+  }
+
+  /**
+   * Takes a paused machine to an earlier moment, { time, arrive(machine) }: `arrive` runs the machine to it from
+   * shortly before that time. From a snapshot that is near this is done at once. From another one it runs in turns,
+   * as fast as it can, and pauses there. Whether it is there.
+   */
+  goTo({ time, arrive }) {
+    const machine = this.#machine, before = this.snapshots.until(time - WINDOW);
+    const nearest = this.snapshots.until(time - 2 * QUANTUM), isNear = time - before.time <= NEAR;
+    machine.restore(isNear ? nearest : before);
+    machine.record(false);
+    if (isNear) {
+      machine.isShowing = false;
+      arrive(machine);
+      machine.isShowing = true;
+      return true;
+    }
+    this.snapshots.release();
+    this.#goal = { time, from: before.time, trail: time - TRAIL, isEarlier: true, arrive };
+    this.#go();
+    this.#canvas.focus();
+    return false;
+  }
+
+  /** Whether a machine runs again to a moment, and is not there yet. */
   get isComingBack() {
     return this.#goal !== null;
   }
@@ -123,8 +200,8 @@ export class Live {
     this.#machine.boot(software);
   }
 
-  #begin() {
-    this.snapshots = [this.#machine.snapshot(null)];
+  #begin(first = this.#machine.snapshot(null)) {
+    this.snapshots = new Snapshots(first, this.#mostBytes);
     this.#told = { at: 0, instructions: 0, frames: 0 };
     setText(byId("livestate"), "");
     this.#machine.stopAt(this.isComingBack ? {} : this.#stop.machine);
@@ -146,8 +223,10 @@ export class Live {
   /** Goes on from what the machine is now; what came later is forgotten. */
   goOn() {
     const machine = this.#machine, now = machine.cpu.now();
+    this.reason = "";
     machine.forgetLater();
-    this.snapshots = this.snapshots.filter(({ time }) => time <= now);
+    this.snapshots.forgetAfter(now);
+    this.snapshots.release();
     machine.record(false);
     machine.cpu.go_on();
     this.#arm();
@@ -171,6 +250,7 @@ export class Live {
 
   #go() {
     this.state = "running";
+    byId("liveway").value = 0;
     this.#lastTime = performance.now();
     this.#drawn = -1;
     const { cpu } = this.#machine;
@@ -202,21 +282,22 @@ export class Live {
 
   pause() {
     if (this.state !== "running") return;
+    const isEarlier = this.#goal?.isEarlier;
     this.state = "paused";
     this.#goal = null;
     this.#machine.stopAt();
-    this.#keepSnapshot();
+    if (!isEarlier) this.#addSnapshot();
     this.#heard.changed();
   }
 
   /** Switches it off. What `takeUp` needs to have it paused as it is now; null where there is nothing. */
   close() {
     const { name, snapshots, state } = this, machine = this.#machine;
-    const isWhole = state !== "failed" && !this.isComingBack;
-    if (isWhole && state === "running") this.#addSnapshot();
+    const isEarlier = this.#goal?.isEarlier, isWhole = state !== "failed" && (isEarlier || !this.isComingBack);
+    if (isWhole && state === "running" && !isEarlier) this.#addSnapshot();
     if (isWhole) machine.stopAt();
     this.state = "off";
-    this.snapshots = [];
+    this.snapshots = null;
     this.#machine = null;
     this.#goal = null;
     this.#heard.changed();
@@ -227,7 +308,7 @@ export class Live {
   takeUp({ name, machine, snapshots }) {
     Object.assign(this, { name, snapshots, reason: "", state: "paused" });
     this.#machine = machine;
-    machine.restore(snapshots.at(-1));
+    machine.restore(snapshots.last);
     this.#heard.changed();
   }
 
@@ -236,9 +317,11 @@ export class Live {
     return this.#speed;
   }
 
+  /** On its way back it has the speeds that it had. */
   set speed(name) {
+    if (this.isComingBack) return;
     this.#speed = name;
-    if (this.state === "running" && !this.isComingBack) this.#machine.setSpeed(SPEEDS[name]);
+    if (this.state === "running") this.#machine.setSpeed(SPEEDS[name]);
   }
 
   #turn() {
@@ -281,22 +364,22 @@ export class Live {
     this.#pace.passTurn(until, now);
   }
 
-  /** Runs towards the moment at which a run pauses that comes back; only the last frame of a turn is seen. */
+  /** Runs towards the moment at which it pauses; only the last frame of a turn is seen. */
   #runBack() {
     const machine = this.#machine, goal = this.#goal, end = performance.now() + LONG_TURN;
-    const until = goal.isAmid ? goal.time - goal.time % QUANTUM : goal.time;
+    const until = goal.time - 2 * QUANTUM;
     const isOnItsWay = () => machine.cpu.now() < until && machine.stopped === "runs";
     while (isOnItsWay()) {
       machine.isShowing = performance.now() >= end;
       machine.runFrame(until);
-      this.#keepSnapshot();
+      if (machine.cpu.now() >= goal.trail) this.#keepSnapshot();
       if (machine.isShowing) break;
     }
     machine.isShowing = true;
     if (isOnItsWay()) return;
-    machine.runAgainTo(goal);
-    this.reason = machine.cpu.cycles() === goal.cycles ? "" : OTHERWISE;
-    this.pause();
+    goal.arrive(machine);
+    // It may have begun anew.
+    if (this.#goal === goal) this.pause();
   }
 
   /** Whether it stopped at what was asked for, but the conditions do not hold. */
@@ -310,23 +393,13 @@ export class Live {
   }
 
   #keepSnapshot() {
-    const machine = this.#machine, last = this.snapshots.at(-1);
-    const isDue = this.state === "paused" || machine.cpu.frames() - last.frames >= SNAPSHOT_FRAMES;
-    if (isDue) this.#addSnapshot();
+    const { cpu, latest } = this.#machine;
+    if (cpu.frames() - latest.frames >= SNAPSHOT_FRAMES) this.#addSnapshot();
   }
 
   #addSnapshot() {
-    if (this.#machine.cpu.now() === this.snapshots.at(-1).time) return;
-    this.snapshots.push(this.#machine.snapshot());
-    this.#thin();
-  }
-
-  /** Where snapshots become too many, every other one of the older half goes; the first one stays. */
-  #thin() {
-    const bytes = this.snapshots.reduce((sum, { fresh }) => sum + fresh, 0);
-    if (bytes < MOST_SNAPSHOTS) return;
-    const half = this.snapshots.length >> 1;
-    this.snapshots = this.snapshots.filter((_, i) => i === 0 || i > half || i % 2 === 0);
+    const machine = this.#machine;
+    if (machine.cpu.now() !== machine.latest.time) this.snapshots.add(machine.snapshot(), this.#goal?.isEarlier);
   }
 
   #stopped() {
@@ -357,9 +430,9 @@ export class Live {
   }
 
   #wayText() {
-    const come = this.#machine.cpu.now(), whole = this.#goal.time, inSeconds = time => (time / SECOND).toFixed(1);
-    byId("liveway").value = come / whole;
-    return `It runs again as it ran: ${inSeconds(come)} of ${inSeconds(whole)} s`;
+    const come = this.#machine.cpu.now(), { from, time } = this.#goal, inSeconds = at => (at / SECOND).toFixed(1);
+    byId("liveway").value = (come - from) / (time - from);
+    return `It runs again as it ran: ${inSeconds(come)} of ${inSeconds(time)} s`;
   }
 
   #stateText(mips, rate) {

@@ -19,6 +19,8 @@ const TEXTS = 2, TIMES = 3;
 const WASM_PAGE = 65536, ROOM_BYTES = 64, MOST_BLOCK = 0x20000, TABLE_BYTES = 1024;
 const WITH_ALPHA = 1, BOOT = 1, PROGRAM = 0;
 const BIOS_DATA = 0x400, MOST_FRAMES = 4096, MOST_MISSING = 64;
+/** So many sets of modes are noted, and of more the last. */
+const MOST_MODES = 1 << 16;
 /** Memory that isn't plain: the windows of the display, and the BIOS. */
 const LOW_END = 0xa0000, HIGH_BEGIN = 0x100000;
 /** The registers of the processor, as machine/pc/run.c tells them. */
@@ -48,6 +50,8 @@ export class Machine {
   #inputs = [];
   /** The disks: { slot, place, given, since }, with the number of inputs after which each was put in. */
   #disks = [];
+  /** The bytes that lie in the store as they were given: { place, bytes }, by their places. */
+  #given = [];
   #isRecording = false;
   #paint;
   /** Whether frames are drawn as they end. */
@@ -119,7 +123,16 @@ export class Machine {
     const place = this.cpu.store_take(Math.max(1, bytes.length));
     if (place === -1) throw new Trouble("There is no memory left for this disk.");
     this.bytes.set(bytes, this.cpu.store_at(place));
+    // What lay from this place on, in a run that went another way, lies there no longer.
+    this.#given = this.#given.filter(one => one.place < place);
+    this.#given.push({ place, bytes });
     return place;
+  }
+
+  /** So many bytes of the software that were put into the store at a place; null where others lie there too. */
+  givenAt(at, length) {
+    const { place, bytes } = this.#given.findLast(one => one.place <= at) ?? { place: at, bytes: [] };
+    return at + length <= place + bytes.length ? bytes.subarray(at - place, at - place + length) : null;
   }
 
   /** Writes a text of latin letters at a place of the processor's memory, with a zero behind it. */
@@ -144,6 +157,7 @@ export class Machine {
     const lacking = store - cpu.memory.buffer.byteLength;
     if (lacking > 0) cpu.memory.grow(Math.ceil(lacking / WASM_PAGE));
     cpu.begin_store(store);
+    this.#given = [];
     cpu.remove_disks();
     cpu.begin_files();
     for (const { name, bytes } of software.files ?? []) this.#addFile(name, bytes);
@@ -401,22 +415,24 @@ export class Machine {
 
   /**
    * Runs again from a snapshot to a moment, and records from the end of a frame on: `frame` is the number
-   * of frames until then. The state of the display at that moment is kept.
+   * of frames until then. What it was when the record began: { state, time }, the display's state and the
+   * machine's nanoseconds.
    */
   runWindow(snapshot, frame, moment) {
     const wasShowing = this.isShowing;
     this.restore(snapshot);
     this.record(false);
     this.isShowing = false;
-    this.#window = { frame, state: null };
+    this.#window = { frame, state: null, time: 0 };
     if (this.cpu.frames() === frame) this.#beginWindow();
     this.runAgainTo(moment);
     this.isShowing = wasShowing;
-    return this.#window.state;
+    return this.#window;
   }
 
   #beginWindow() {
     this.#window.state = this.savedState().slice();
+    this.#window.time = this.cpu.now();
     this.record(true);
   }
 
@@ -425,7 +441,8 @@ export class Machine {
   #frame(dots) {
     this.#passFrame(dots);
     this.#frameCycles.set(this.cpu.frames(), this.cpu.cycles());
-    this.#frameCycles.delete(this.cpu.frames() - MOST_FRAMES);
+    // The start stays: a run that goes back to it passes its frame no more.
+    if (this.cpu.frames() > MOST_FRAMES) this.#frameCycles.delete(this.cpu.frames() - MOST_FRAMES);
     this.#heard.frame?.();
     if (this.#window && !this.#window.state && this.cpu.frames() === this.#window.frame) {
       this.#beginWindow();
@@ -505,7 +522,9 @@ export class Machine {
   #noteMode() {
     const set = { cycles: this.cpu.cycles() + CALL_CYCLES, time: this.cpu.now() };
     // What runs again sets the same modes.
-    if (set.cycles > (this.modes.at(-1)?.cycles ?? 0)) this.modes.push(set);
+    if (set.cycles <= (this.modes.at(-1)?.cycles ?? 0)) return;
+    if (this.modes.length === MOST_MODES) this.modes.shift();
+    this.modes.push(set);
   }
 
   #write(place, given) {
@@ -611,6 +630,25 @@ export class Machine {
   snapshot(before = this.latest) {
     this.latest = new Snapshot(this, before);
     return this.latest;
+  }
+
+  /** What a machine has beside a snapshot until then, as plain data: its disks, and what it noted. */
+  notesUntil({ time, cycles }) {
+    const media = this.software.media ?? [];
+    const disks = this.#disks.map(({ given, ...disk }) => ({ ...disk, number: media.indexOf(given) }));
+    return { disks, modes: this.modes.filter(set => set.cycles <= cycles),
+      missing: this.missing.filter(one => one.time <= time) };
+  }
+
+  /** A machine that was just started is what it was at a snapshot of another run of the same software and inputs. */
+  takeOver(snapshot, { disks, modes, missing }) {
+    const { cpu, software } = this, lacking = cpu.store_at(snapshot.storeBytes) - cpu.memory.buffer.byteLength;
+    if (lacking > 0) cpu.memory.grow(Math.ceil(lacking / WASM_PAGE));
+    this.#disks = disks.map(({ slot, place, since, number }) =>
+      ({ slot, place, since, given: number < 0 ? software[DRIVES[slot]] : software.media[number] }));
+    this.modes = [...modes];
+    this.missing = [...missing];
+    this.restore(snapshot);
   }
 
   /** Goes back, or forward, to a snapshot of this run. */

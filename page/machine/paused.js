@@ -16,8 +16,9 @@ export class Paused {
   #adapter;
   #fonts;
   #states;
-  /** Cycles of the display when the window begins; and the moment of its end: see Machine.moment. */
+  /** Cycles of the display and the time when the window begins; and the moment of its end: see Machine.moment. */
   #cycle = 0;
+  #beginTime = 0;
   #end = { time: 0, cycles: 0, isAmid: false };
 
   constructor(live, adapter, fonts) {
@@ -46,67 +47,58 @@ export class Paused {
     }
     this.#end = machine.moment;
     // The window begins as its frame does; so a snapshot within that frame is too late.
-    const before = frame ? this.#snapshotBefore(({ frames }) => frames < frame) : this.#live.snapshots[0];
-    const state = machine.runWindow(before, frame, this.#end);
+    const { snapshots } = this.#live, before = snapshots.findLast(({ frames }) => frames < frame) ?? snapshots.first;
+    const { state, time } = machine.runWindow(before, frame, this.#end);
+    this.#beginTime = time;
     this.recording = new Recording(rebuilding(state, this.#states), machine);
     this.#cycle = this.#end.cycles - this.recording.words.length / 4;
     return new Session(this.#adapter, this.#fonts, "", judgedRecording(this.#adapter, this.recording));
   }
 
-  #snapshotBefore(isBefore) {
-    const found = this.#live.snapshots.findLast(isBefore);
-    if (!found) throw new Trouble("The machine has no snapshot so far back.");
-    return found;
+  /** The moment after so many cycles of the display, which came at a time: see Live.goTo. */
+  #momentOf(cycles, time) {
+    const end = this.#end.time;
+    return { time, arrive: machine => {
+      if (machine.cpu.cycles() < cycles) machine.runAgainToCycle(cycles, end);
+    } };
   }
 
-  /** Runs again from a snapshot, unseen, as `does` tells. */
-  #again(snapshot, does) {
-    const machine = this.#machine;
-    machine.restore(snapshot);
-    machine.record(false);
-    machine.isShowing = false;
-    does(machine);
-    machine.isShowing = true;
-  }
-
-  /** Brings the machine to where it was after so many cycles of the display. */
-  #seekCycle(wanted) {
-    const [first] = this.#live.snapshots;
-    const before = this.#live.snapshots.findLast(({ cycles }) => cycles < wanted);
-    if (before) this.#again(before, machine => machine.runAgainToCycle(wanted, this.#end.time));
-    else this.#machine.restore(first);
-  }
-
-  /** Goes back by so many seconds from the window's end, or as far as the start. */
-  back(seconds) {
-    const until = Math.max(this.#live.snapshots[0].time, this.#end.time - seconds * SECOND);
-    this.#again(this.#snapshotBefore(({ time }) => time <= until), machine => machine.runAgain(until));
+  /** The moment so many seconds before the window's end, or the start. */
+  momentBack(seconds) {
+    const time = Math.max(this.#live.snapshots.first.time, this.#end.time - seconds * SECOND);
+    return { time, arrive: machine => machine.runAgain(time) };
   }
 
   /** Whether the machine ran before the window. */
   get hasEarlier() {
-    return this.#cycle > this.#live.snapshots[0].cycles;
+    return this.#cycle > this.#live.snapshots.first.cycles;
   }
 
-  /** Goes back to where the window begins. */
-  backToBegin() {
-    this.#seekCycle(this.#cycle);
+  /** The moment at which the window begins. */
+  get beginMoment() {
+    return this.#momentOf(this.#cycle, this.#beginTime);
   }
 
-  /** Goes back to the moment at which a mode was set last before the window's end. */
-  backToMode() {
+  /** The moment at which a mode was set last before the window's end. */
+  get modeMoment() {
     const set = this.#machine.modes.findLast(({ cycles }) => cycles < this.#end.cycles);
     if (!set) throw new Trouble("The video BIOS of this page set no mode before this moment.");
-    this.#seekCycle(set.cycles);
+    return this.#momentOf(set.cycles, set.time);
   }
 
   /** Brings the machine to where it was paused. */
   seekEnd() {
-    this.#machine.restore(this.#live.snapshots.at(-1));
+    this.#machine.restore(this.#live.snapshots.last);
   }
 
   /** Brings the machine to where it was after so many steps of the window. */
   seekStep(steps) {
-    this.#seekCycle(this.#cycle + (steps ? this.recording.recordsBefore(steps) : 0));
+    const cycles = this.#cycle + (steps ? this.recording.recordsBefore(steps) : 0);
+    const { snapshots } = this.#live, machine = this.#machine, { arrive } = this.#momentOf(cycles, 0);
+    machine.restore(snapshots.findLast(one => one.cycles < cycles) ?? snapshots.first);
+    machine.record(false);
+    machine.isShowing = false;
+    arrive(machine);
+    machine.isShowing = true;
   }
 }

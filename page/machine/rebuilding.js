@@ -90,9 +90,9 @@ function fillMemory(steps, planes, old) {
   }
 }
 
-/** Latches are loaded from memory, which has them for as long. */
-function fillLatches(steps, latches, planes) {
-  if (!latches.some(latch => latch)) return;
+/** Loads the latches, where they were others, from memory, which has them for as long. */
+function fillLatches(steps, latches, old, planes) {
+  if (isSame(latches, old)) return;
   const putEach = bytes => bytes.forEach((byte, plane) => {
     steps.register(PORTS.sequencer, MAP_MASK, 1 << plane);
     steps.step(`put A0000 ${hex(byte, 2)}`);
@@ -147,7 +147,7 @@ export function rebuilding(bytes, states) {
   const before = states.after(steps.lines), numbers = [0, 1, 2, 3];
   const planes = numbers.map(plane => state.plane(plane));
   fillMemory(steps, planes, numbers.map(plane => before.plane(plane)));
-  fillLatches(steps, latches, planes);
+  fillLatches(steps, latches, before.latches, planes);
   registers.gfx.forEach((value, index) => steps.register(PORTS.graphics, index, value));
   registers.seq.forEach((value, index) => steps.register(PORTS.sequencer, index, value));
   setAttributes(steps, registers, controller + 6);
@@ -178,7 +178,7 @@ function moveMemory(steps, before, state) {
   if (hasSameMemory && isSame(before.latches, state.latches)) return false;
   openMemory(steps, state.registers.misc);
   fillMemory(steps, planes, old);
-  fillLatches(steps, state.latches, planes);
+  fillLatches(steps, state.latches, before.latches, planes);
   return true;
 }
 

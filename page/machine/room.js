@@ -1,6 +1,7 @@
 // The machine in the page: what is dropped runs, a pause shows its last frames in the debugger, and it goes
 // on from any of their steps.
 import { Keeper } from "./keeper.js";
+import { sumOf } from "./keptstate.js";
 import { Live } from "./live.js";
 import { Paused } from "./paused.js";
 import { HELD, ROWS, bytesOfKey, typedAt } from "./pckeys.js";
@@ -42,6 +43,8 @@ export class MachineRoom {
   #heard;
   #live = null;
   #paused = null;
+  /** Whether steps of the machine stand in the debugger. */
+  #hasWindow = false;
   #rom = null;
   /** Which of shiftKey, ctrlKey and altKey are held on the screen's keyboard. */
   #held = {};
@@ -95,6 +98,7 @@ export class MachineRoom {
     list.value = USUAL_SPEED;
     list.addEventListener("change", () => {
       this.#live.speed = list.value;
+      list.value = this.#live.speed;
       byId("live").focus();
     });
   }
@@ -218,10 +222,11 @@ export class MachineRoom {
   /** What is on ends, since something else begins; a press brings it back. */
   #endRun(how) {
     this.#heard.withdraw();
+    // The snapshots of one machine alone are kept.
+    this.#aside = null;
     if (!this.isOn) return;
     const run = this.#keeper.end();
     this.#end();
-    this.#aside = null;
     if (run) this.#offer(run, how);
   }
 
@@ -242,7 +247,6 @@ export class MachineRoom {
     this.#keeper.begin(run);
     if (aside) this.#live.takeUp(aside);
     else this.#live.comeBack(run);
-    this.#aside = null;
     byId("livespeed").value = this.#live.speed;
     this.#heard.cameBack(id);
   }
@@ -322,11 +326,11 @@ export class MachineRoom {
 
   async #prepare() {
     if (this.#live) return;
-    const { cpu, reads } = this.#data.machine;
-    const modules = await compiledModules({ adapter: this.#module, cpu: await unzipped(cpu),
-      reads: await unzipped(reads) });
-    this.#live = new Live(modules, this.#heard.fonts(), { changed: () => this.#changed(),
-      failed: error => this.#fail(error) });
+    const { machine } = this.#data, fonts = this.#heard.fonts();
+    const [cpu, reads] = [await unzipped(machine.cpu), await unzipped(machine.reads)];
+    const modules = await compiledModules({ adapter: this.#module, cpu, reads });
+    this.#live = new Live(modules, fonts, { changed: () => this.#changed(), failed: error => this.#fail(error) },
+      { version: sumOf(this.#module, cpu, reads, fonts) });
   }
 
   /** The machine can't go on. What was typed can be looked at, up to where it stopped. */
@@ -372,6 +376,7 @@ export class MachineRoom {
     const more = left ? ` Of the last frames ${left} cycles are left out: a script has no room for more.` : "";
     setText(byId("pausedtime"), `${this.#live.name} is paused at ${this.#paused.time.toFixed(2)} s. ${reason}${more}`);
     this.#live.reason = "";
+    this.#hasWindow = true;
     this.#heard.show(session);
   }
 
@@ -429,8 +434,23 @@ export class MachineRoom {
 
   /** Shows the frames of some seconds before. */
   back(seconds) {
-    this.#paused.back(seconds);
-    this.#showWindow();
+    this.#goTo(this.#paused.momentBack(seconds));
+  }
+
+  /** Shows the frames until a moment: at once, or when the machine has run again to it. */
+  #goTo(moment) {
+    if (this.#live.goTo(moment)) {
+      this.#showWindow();
+      return;
+    }
+    // Its steps can be looked at until then, but the machine follows them no longer.
+    clearTimeout(this.#timer);
+    this.#paused = null;
+  }
+
+  /** Whether the machine runs again to a moment, and is not there yet. */
+  get isComingBack() {
+    return this.#live?.isComingBack ?? false;
   }
 
   /** Whether there are frames before those that are shown. */
@@ -440,13 +460,11 @@ export class MachineRoom {
 
   /** Shows the frames that end where those begin that are shown. */
   backToBegin() {
-    this.#paused.backToBegin();
-    this.#showWindow();
+    this.#goTo(this.#paused.beginMoment);
   }
 
   #backToMode() {
-    this.#paused.backToMode();
-    this.#showWindow();
+    this.#goTo(this.#paused.modeMoment);
   }
 
   #openScript() {
@@ -462,14 +480,15 @@ export class MachineRoom {
 
   #end() {
     clearTimeout(this.#timer);
-    if (this.#paused) this.#heard.end();
+    if (this.#hasWindow) this.#heard.end();
+    this.#hasWindow = false;
     this.#paused = null;
   }
 
   #close() {
-    const isPaused = this.#paused !== null;
+    const hasWindow = this.#hasWindow;
     this.leave();
-    if (isPaused) this.#heard.end();
+    if (hasWindow) this.#heard.end();
   }
 
   /** Switches the machine off, since a script stands there now; a press brings the run back. */
@@ -477,6 +496,7 @@ export class MachineRoom {
     if (!this.isOn) return;
     const run = this.#keeper.end();
     clearTimeout(this.#timer);
+    this.#hasWindow = false;
     this.#paused = null;
     const aside = this.#live.close();
     this.#aside = run && aside && { ...aside, id: run.id };

@@ -52,6 +52,8 @@ export class Shelf {
   }
 }
 
+/** The key of a run's state on the shelf. */
+const stateKey = id => `state ${id}`;
 const isNumber = value => Number.isFinite(value) && value >= 0;
 
 /** What stands under a key: { name, time, softwareId, moment, inputs, hasKeys, isLeft }; null where it is no run. */
@@ -132,9 +134,28 @@ export class Runs {
     }
   }
 
-  /** Software that no run names goes. */
+  /** Keeps a machine's state beside its run. Where that fails, the run comes back by running again. */
+  async keepState(id, state) {
+    try {
+      await this.#dropUnused();
+      await this.shelf.put(stateKey(id), state);
+    } catch {
+      // The run itself is kept.
+    }
+  }
+
+  /** The state that is kept beside a run; null for none. Whoever takes it up looks whether it is whole. */
+  async stateOf(id) {
+    try {
+      return await this.shelf.get(stateKey(id)) ?? null;
+    } catch {
+      return null;
+    }
+  }
+
+  /** Software that no run names goes, and the state of a run that is gone. */
   async #dropUnused() {
-    const used = new Set(this.list().map(({ softwareId }) => softwareId));
+    const used = new Set(this.list().flatMap(({ id, softwareId }) => [softwareId, stateKey(id)]));
     for (const key of await this.shelf.keys()) if (!used.has(key)) await this.shelf.delete(key);
   }
 
@@ -164,13 +185,13 @@ export class Runs {
     }
   }
 
-  /** A run that is kept: { id, name, softwareId, software, moment, inputs }; null where it is gone or damaged. */
+  /** A run that is kept: { id, name, softwareId, software, moment, inputs, state }; null where it is gone or bad. */
   async read(id) {
     try {
       const found = readCourse(this.storage().getItem(PREFIX + id));
       const software = found && await this.shelf.get(found.softwareId);
       if (!isSoftware(software)) return null;
-      return { ...found, id, software, inputs: inputsOf(found.inputs) };
+      return { ...found, id, software, inputs: inputsOf(found.inputs), state: await this.stateOf(id) };
     } catch {
       return null;
     }

@@ -452,7 +452,9 @@ const CHECKS = {
     await paste(OWN);
     const answers = await browser.value("[...document.querySelectorAll('.answer')].map(one => one.textContent).join()");
     assert.match(answers, /ax to dx as given,00,picture 720x400/);
-    assert.equal(await text("laststep"), "After step 3 of 3, line 4: frame answers picture 720x400");
+    // What is seen: a button that is hidden has words, too.
+    const last = await browser.value("document.getElementById('laststep').innerText.trim()");
+    assert.equal(last, "After step 3 of 3, line 4: frame answers picture 720x400");
     await browser.press("Escape");
     await browser.press("4");
     const isTold = "!document.querySelector('.colours .hint').hidden";

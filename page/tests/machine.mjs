@@ -69,7 +69,7 @@ const adapter = await loadAdapter();
 function recordingOf(machine, snapshot, cycles) {
   const frame = machine.frameBefore(cycles, 70), { moment } = machine;
   assert.ok(frame !== null && frame >= snapshot.frames, `frame ${frame}`);
-  const state = machine.runWindow(snapshot, frame, moment);
+  const { state } = machine.runWindow(snapshot, frame, moment);
   return new Recording(rebuilding(state, statesOf(adapter, FONTS)), machine);
 }
 
@@ -128,7 +128,11 @@ function differing({ rgb: one }, { rgb: other }) {
   return count / one.length * 3;
 }
 
-for (const { name, bytes } of programs) {
+/** Mode 13; then it writes E3 and 63 to port 3C2 by turns, some frames apart. */
+const TURNS = { name: "turns.com", bytes: code("B81300 CD10 BAC203 B0E3 EE BB1400 31C9 E2FE 4B 75F9" +
+  "BAC203 B063 EE BB1400 31C9 E2FE 4B 75F9 EBDE") };
+
+for (const { name, bytes } of [...programs, TURNS]) {
   test(`the last frames of ${name} are a trace, of which vga-trace makes the same pictures`, () => {
     const machine = started({ program: bytes });
     machine.run(HALF);

@@ -50,7 +50,7 @@ function windowOf(software, seconds) {
   machine.setSpeed(SPEEDS[USUAL_SPEED]);
   const begin = machine.snapshot(null);
   machine.run(seconds * SECOND);
-  const state = machine.runWindow(begin, 0, machine.moment);
+  const { state } = machine.runWindow(begin, 0, machine.moment);
   const recording = new Recording(rebuilding(state, statesOf(adapter, FONTS)), machine), lines = [], answers = [];
   for (let step = recording.head.length; step < recording.length; step++) {
     const entry = recording.entryOf(step), expected = recording.expectedOf(entry);

@@ -212,8 +212,17 @@ await check(use => {
       const before = await secondsPaused();
       await browser.click("#pausedgo");
       await use.until(isLive);
+      await use.until("parseFloat(document.getElementById('livestate').textContent) > 3");
       await pause();
-      assert.ok(await secondsPaused() >= before);
+      const end = await secondsPaused();
+      assert.ok(end >= before);
+      // It goes on where it was paused, whatever is shown.
+      await browser.click("#pausedfar");
+      await use.until(`${isPaused} && /paused at 0\\./.test(document.getElementById('pausedtime').textContent)`);
+      await browser.click("#pausedgo");
+      await use.until(isLive);
+      await pause();
+      assert.ok(await secondsPaused() >= end);
     },
 
     async "a step's registers, code and instruction; and on from there"() {
@@ -391,7 +400,11 @@ await check(use => {
       await pause();
       await choose("echo.com, ");
       assert.deepEqual(await seenPaused(), seen);
-      await browser.click("#pausedclose");
+      // One that takes the place of what is on offers that.
+      await choose("plasma.com");
+      await use.until(isLive);
+      assert.match(await notice(), /^echo\.com, [\d.]+ s: it was switched off\. bring it back$/);
+      await browser.click("#liveclose");
     },
 
     async "a program runs on, paused or not, after the page was loaded anew"() {
@@ -546,6 +559,10 @@ await check(use => {
       await use.until(isLive);
       assert.equal(await use.text("livename"), "game/run.com");
       await pause();
+      // All that it wrote until it was paused, whatever is shown.
+      const shown = JSON.stringify(await use.text("pausedtime"));
+      await browser.click("#pausedfar");
+      await use.until(`${isPaused} && document.getElementById("pausedtime").textContent !== ${shown}`);
       const file = await saved(() => browser.click("#pausedfiles"));
       if (file) assert.deepEqual([file.name, String(file.bytes)], ["OUT.TXT", "hello"]);
       assert.equal(await notice(), "");
@@ -624,6 +641,70 @@ await check(use => {
       await browser.click("#offered");
       await use.until(isPaused);
       await browser.click("#pausedclose");
+    },
+
+    async "a long run is soon back after the page was loaded anew, and goes back over what lies before"() {
+      await use.open();
+      await use.value("localStorage.clear()");
+      await run("plasma");
+      await use.until("parseFloat(document.getElementById('livestate').textContent) > 9");
+      await pause();
+      const seen = await seenPaused(), end = await secondsPaused();
+      await use.until(`new Promise(done => {
+        const request = indexedDB.open("zaklimot-runs");
+        request.onsuccess = () => {
+          const keys = request.result.transaction("software").objectStore("software").getAllKeys();
+          keys.onsuccess = () => {
+            request.result.close();
+            done(keys.result.some(key => key.startsWith("state ")));
+          };
+        };
+      })`);
+      await reload();
+      await browser.click("#offered");
+      assert.deepEqual(await seenPaused(), seen);
+      // It has no snapshots from before its state, so it runs again to a moment there: told, and stopped.
+      const isOnItsWay = "!document.getElementById('liveway').hidden && " +
+        "document.getElementById('liveway').value > 0.05";
+      await browser.click("#pausedback");
+      await use.until(isOnItsWay);
+      await browser.click("#livepause");
+      await use.until(isPaused);
+      assert.ok(await secondsPaused() < end - 1, await use.text("pausedtime"));
+      // It goes on where it was paused first.
+      await browser.click("#pausedgo");
+      await use.until(isLive);
+      await pause();
+      const later = await secondsPaused();
+      assert.ok(later >= end);
+      await browser.click("#pausedfar");
+      await use.until(`${isPaused} && document.getElementById("pausedtime").textContent.includes("at ` +
+        `${Math.max(0, later - 10).toFixed(1)}")`);
+      assert.equal(await notice(), "");
+      await browser.click("#pausedclose");
+      await use.until(isOff);
+    },
+
+    async "a PC that is restarted by Ctrl+Alt+Del has its disk as it was left, and a ROM stands in the saved run"() {
+      await use.open();
+      const floppy = Buffer.alloc(163840), rom = Buffer.alloc(512);
+      // Counts in the first byte of the second sector; then it waits.
+      code("B80102 BB007E B90200 31D2 CD13 FE06007E B80103 BB007E B90200 31D2 CD13 F4 EBFD").copy(floppy);
+      floppy.writeUInt16LE(0xaa55, 510);
+      code("55AA01 CB").copy(rom);
+      await openFile("video.rom", rom);
+      await use.until("document.getElementById('notice').textContent.includes('video.rom serves the video calls')");
+      await openFile("counts.img", floppy);
+      await use.until(isLive);
+      await browser.click("#livedelete");
+      await use.until(isLive);
+      await pause();
+      const disk = await saved(() => browser.click("#pausedfiles"));
+      if (disk) assert.deepEqual([disk.name, disk.bytes[512]], ["disk-a.img", 2]);
+      const file = await saved(() => browser.click("#pausedsave"));
+      if (file) assert.equal(typeof JSON.parse(String(file.bytes)).software.rom, "string");
+      await browser.click("#pausedclose");
+      await use.until(isOff);
     },
 
     async "files: a boot sector, one that does not start, and a script in bytes"() {

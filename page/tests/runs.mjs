@@ -2,56 +2,7 @@
 import assert from "node:assert/strict";
 import test from "node:test";
 import { Runs } from "../machine/runs.js";
-
-/** A storage as a browser's, of so many characters in all. */
-class Storage {
-  constructor(most = Infinity) {
-    Object.assign(this, { most, map: new Map() });
-  }
-
-  get length() {
-    return this.map.size;
-  }
-
-  key(i) {
-    return [...this.map.keys()][i];
-  }
-
-  getItem(key) {
-    return this.map.get(key) ?? null;
-  }
-
-  setItem(key, value) {
-    const others = [...this.map].reduce((sum, [name, text]) => sum + (name === key ? 0 : text.length), 0);
-    if (others + value.length > this.most) throw new Error("full");
-    this.map.set(key, value);
-  }
-
-  removeItem(key) {
-    this.map.delete(key);
-  }
-}
-
-/** A shelf of software as the browser's database. */
-class Shelf {
-  map = new Map();
-
-  async put(key, value) {
-    this.map.set(key, value);
-  }
-
-  async get(key) {
-    return this.map.get(key);
-  }
-
-  async delete(key) {
-    this.map.delete(key);
-  }
-
-  async keys() {
-    return [...this.map.keys()];
-  }
-}
+import { Shelf, Storage } from "./storages.mjs";
 
 function made(storage = new Storage()) {
   let now = 1000;
@@ -89,6 +40,23 @@ test("the last six are kept, and of one name no second without keys", async () =
   assert.deepEqual(runs.list().map(({ id }) => id).slice(0, 3), ["third", "other", "run8"]);
 });
 
+test("a state lies beside its run, and goes with it", async () => {
+  const { runs, shelf } = made(), state = { form: 1 };
+  runs.keep(run("one"));
+  await runs.keepSoftware("of one", software);
+  assert.equal((await runs.read("one")).state, null);
+  await runs.keepState("one", state);
+  assert.deepEqual([(await runs.read("one")).state, await runs.stateOf("one"), await runs.stateOf("two")],
+    [state, state, null]);
+  for (let i = 0; i < 6; i++) runs.keep(run(`run${i}`));
+  await runs.keepState("run5", state);
+  assert.deepEqual([...shelf.map.keys()], ["state run5"]);
+  const forbidden = new Runs(() => new Storage(), { keys: () => Promise.reject(new Error()),
+    get: () => Promise.reject(new Error()) });
+  await forbidden.keepState("one", state);
+  assert.equal(await forbidden.stateOf("one"), null);
+});
+
 test("long runs make place for the newest, and one that is too long is told", () => {
   const { runs } = made(), many = count => Array(count).fill(KEY);
   for (const id of ["a", "b", "c"]) assert.equal(runs.keep(run(id, { inputs: many(13000) })), "");
@@ -119,7 +87,7 @@ test("what was left is told until it is forgotten; what is damaged is no run", a
   assert.deepEqual(runs.list().map(({ isLeft }) => isLeft), [false, false]);
   const good = JSON.parse(storage.getItem("zaklimot-run-one"));
   for (const wrong of [{ moment: null }, { moment: {} }, { inputs: 1 }, { name: 5 }, { softwareId: null },
-    { time: "x" }, { moment: { time: -1, cycles: 1 } }]) {
+    { time: "x" }, { moment: { time: -1, cycles: 1 } }, { moment: { time: 1 } }]) {
     storage.setItem("zaklimot-run-one", JSON.stringify({ ...good, ...wrong }));
     assert.deepEqual(runs.list().map(({ id }) => id), ["two"], JSON.stringify(wrong));
   }

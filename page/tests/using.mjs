@@ -7,7 +7,8 @@ import { IDLE, fragmentOf } from "./jumps.mjs";
 import { PAGE } from "./loading.mjs";
 
 export const ADDRESS = pathToFileURL(resolve(PAGE)).href;
-const PATIENCE = 90000;
+/** Milliseconds that a check waits for one thing. The longest wait took 15 seconds, beside three times other work. */
+const PATIENCE = 40000;
 
 /** The page in a browser. */
 export class Use {

@@ -210,7 +210,7 @@ export class View {
   /** Asks what was asked in other frames, once these have run. */
   #lookOn() {
     const { runner } = this, subject = this.#lookedFor;
-    if (!subject || !runner.session?.isDone || !runner.isShown) return;
+    if (!subject || this.room.isComingBack || !runner.session?.isDone || !runner.isShown) return;
     this.#lookedFor = null;
     this.#findChange(subject);
   }

@@ -103,7 +103,8 @@ macro_rules! on_owing_card {
     }};
 }
 
-pub(crate) use {on_open_card, on_owing_card};
+pub(crate) use on_open_card;
+pub(crate) use on_owing_card;
 
 /// Takes the machine out of an open card, without the dots that the card owes. The handle is empty
 /// afterwards.
@@ -187,6 +188,6 @@ pub(crate) fn give_owing(card: &mut Handle, machine: Box<Machine>, owed: u32)
     *card = Handle {
         is_open: true,
         owed,
-        sealed: Sealed::of_parts(Parts::of(machine)),
+        sealed: Sealed::of_parts(BoxParts::of(machine)),
     };
 }
