@@ -179,95 +179,98 @@ static void f2(module *, u64, u32);
 static u32 f3(module *, u64, u64);
 static void f4(module *, u64, u64, u64, u64);
 static void f5(module *, u64, u64, u64, u64);
-static void f6(module *, u64, u64, u64);
-static void f7(module *, u64, u64);
-static u32 f8(module *, u64, u64, u64, u64);
-static void f9(module *, u64, u64, u64, u64);
-static u32 f10(module *, u64, u64);
-static void f11(module *, u64, u64, u32);
-static void f12(module *, u64, u64, u64, u64);
+static void f6(module *, u64, u64, u32, u32);
+static void f7(module *, u64, u64, u64);
+static void f8(module *, u64, u64);
+static u32 f9(module *, u64, u64, u64, u64);
+static void f10(module *, u64, u64, u64, u64);
+static u32 f11(module *, u64, u64);
+static void f12(module *, u64, u64, u32);
 static void f13(module *, u64, u64, u64, u64);
-static void f14(module *, u64, u64, u64);
+static void f14(module *, u64, u64, u64, u64);
 static void f15(module *, u64, u64, u64);
-static void f16(module *, u64, u64);
-static u32 f17(module *, u64);
-static void f18(module *, u64, u32, u32);
-static void f19(module *, u64, u64, u64);
-static void f20(module *, u64);
-static void f21(module *, u64, u64);
-static void f22(module *, u64, u64, u64);
-static void f23(module *, u64, u64, u64, u64, u64, u64, u64);
-static void f24(module *, u64, u64, u32);
-static u32 f25(module *, u64, u32, u32);
-static void f26(module *, u64, u64, u64, u64, u32);
-static void f27(module *, u64, u32, u32);
-static void f28(module *, u64, u64, u64);
-static void f29(module *, u64, u64, u64, u64);
-static void f30(module *, u64, u64, u32);
-static void f31(module *, u64, u64, u64, u32, u64);
-static void f32(module *, u64, u64, u32);
-static void f33(module *, u64, u32, u32);
-static u32 f34(module *, u64, u32, u64);
-static void f35(module *, u64, u64, u32, u32, u32, u32);
-static void f36(module *, u64, u32, u32);
-static u32 f37(module *, u64, u64, u32, u32, u32, u32);
-static void f38(module *, u64, u32, u32, u32);
-static void f39(module *, u64, u32, u32);
-static void f40(module *, u64, u32);
-static void f41(module *, u64, u32, u32);
-static void f42(module *, u64, u64, u32, u32);
-static void f43(module *, u64, u32, u32);
-static u32 f44(module *, u64, u32, u32);
-static void f45(module *, u64, u64, u32, u32);
-static void f46(module *, u64, u64, u32, u32, u32);
-static u32 f47(module *, u64, u64, u32, u32);
-static void f48(module *, u64, u32, u32, u32, u32);
-static void f49(module *, u64, u64);
-static void f50(module *, u64, u64, u32, u64, u64);
-static void f51(module *, u64, u64, u32);
+static void f16(module *, u64, u64, u64);
+static void f17(module *, u64, u64);
+static u32 f18(module *, u64);
+static void f19(module *, u64, u32, u32);
+static void f20(module *, u64, u64, u64);
+static void f21(module *, u64);
+static void f22(module *, u64, u64);
+static void f23(module *, u64, u64, u64);
+static void f24(module *, u64, u64, u64, u64, u64, u64, u64);
+static void f25(module *, u64, u64, u32);
+static u32 f26(module *, u64, u32, u32);
+static void f27(module *, u64, u64, u64, u64, u32);
+static void f28(module *, u64, u32, u32);
+static void f29(module *, u64, u64, u64);
+static void f30(module *, u64, u64, u64, u64);
+static void f31(module *, u64, u64, u32);
+static void f32(module *, u64, u64, u64, u32, u64);
+static void f33(module *, u64, u64, u32);
+static void f34(module *, u64, u32, u32);
+static u32 f35(module *, u64, u32, u64);
+static void f36(module *, u64, u64, u32, u32, u32, u32);
+static void f37(module *, u64, u32, u32);
+static u32 f38(module *, u64, u64, u32, u32, u32, u32);
+static void f39(module *, u64, u32, u32, u32);
+static void f40(module *, u64, u32, u32);
+static void f41(module *, u64, u32);
+static void f42(module *, u64, u32, u32);
+static void f43(module *, u64, u64, u32, u32);
+static void f44(module *, u64, u32, u32);
+static u32 f45(module *, u64, u32, u32);
+static void f46(module *, u64, u64, u32, u32);
+static void f47(module *, u64, u64, u32, u32, u32);
+static u32 f48(module *, u64, u64, u32, u32);
+static void f49(module *, u64, u32, u32, u32, u32);
+static void f50(module *, u64, u64);
+static void f51(module *, u64, u64, u32, u64, u64);
 static void f52(module *, u64, u64, u32);
-static void f53(module *, u64, u64, u64, u64, u64, u64, u64);
-static void f54(module *, u64, u64, u64, u64, u32);
-static void f55(module *, u64, u32, u32, u32);
-static void f56(module *, u64, u64, u64, u32, u64);
-static void f57(module *, u64, u64, u32, u32, u32, u32);
-static u32 f58(module *, u64, u64, u32, u32, u32, u32);
-static void f59(module *, u64, u32, u32, u32);
-static void f60(module *, u64, u64, u64);
-static void f61(module *, u64, u32, u32, u64);
-static void f62(module *, u64, u32, u32, u32);
-static u32 f63(module *, u64, u64, u32, u32, u32, u32);
-static u32 f64(module *, u64, u64, u32, u32);
-static void f65(module *, u64, u64, u64);
-static void f66(module *, u64, u64);
-static void f67(module *, u64, u64, u32, u32);
-static void f68(module *, u64, u64, u32, u32, u32);
-static void f69(module *, u64, u64, u64);
+static void f53(module *, u64, u64, u32);
+static void f54(module *, u64, u64, u64, u64, u64, u64, u64);
+static void f55(module *, u64, u64, u64, u64, u32);
+static void f56(module *, u64, u32, u32, u32);
+static void f57(module *, u64, u64, u64, u32, u64);
+static void f58(module *, u64, u64, u32, u32, u32, u32);
+static u32 f59(module *, u64, u64, u32, u32, u32, u32);
+static void f60(module *, u64, u32, u32, u32);
+static void f61(module *, u64, u64, u64);
+static void f62(module *, u64, u32, u32, u64);
+static void f63(module *, u64, u32, u32, u32);
+static u32 f64(module *, u64, u64, u32, u32, u32, u32);
+static u32 f65(module *, u64, u64, u32, u32);
+static void f66(module *, u64, u64, u64);
+static void f67(module *, u64, u64);
+static void f68(module *, u64, u64, u32, u32);
+static void f69(module *, u64, u64, u32, u32, u32);
 static void f70(module *, u64, u64, u64);
-static void f71(module *, u64, u64, u64, u64, u32);
-static void f72(module *, u64, u64, u64);
-static void f73(module *, u64, u32, u64);
-static void f74(module *, u64, u64, u32);
-static u32 f75(module *, u64, u64, u32, u64, u64, u32);
-static void f76(module *, u64, u64, u32, u32);
-static u32 f77(module *, u64, u64, u64);
-static void f78(module *, u64, u64);
-static u32 f79(module *, u64, u64, u64);
-static void f80(module *, u64, u64, u64, u64, u64, u64, u64);
+static void f71(module *, u64, u64, u64);
+static void f72(module *, u64, u64, u64, u64, u32);
+static void f73(module *, u64, u64, u64);
+static void f74(module *, u64, u32, u64);
+static void f75(module *, u64, u64, u32);
+static u32 f76(module *, u64, u32, u32);
+static u32 f77(module *, u64, u32, u32);
+static u32 f78(module *, u64, u64, u32, u64, u64, u32);
+static void f79(module *, u64, u64, u32, u32);
+static u32 f80(module *, u64, u64, u64);
 static void f81(module *, u64, u64);
-static u32 f82(module *, u64, u64);
-static void f83(module *, u64, u64, u64, u64);
-static void f84(module *, u64, u64, u64, u64, u64);
-static void f85(module *, u64, u64, u64, u64);
-static void f86(module *, u64, u64, u64, u32, u64, u64);
-static void f87(module *, u64, u64, u64, u32);
-static void f88(module *, u64, u64, u64, u64, u64, u64);
-static void f89(module *, u64, u64);
-static void f90(module *, u64, u64);
-static void f91(module *, u64, u64, u64);
-static u32 f92(module *, u64);
-static u32 f93(module *, u64);
-static u32 f94(module *, u64, u64, u64, u64, u64);
+static u32 f82(module *, u64, u64, u64);
+static void f83(module *, u64, u64, u64, u64, u64, u64, u64);
+static void f84(module *, u64, u64);
+static u32 f85(module *, u64, u64);
+static void f86(module *, u64, u64, u64, u64);
+static void f87(module *, u64, u64, u64, u64, u64);
+static void f88(module *, u64, u64, u64, u64);
+static void f89(module *, u64, u64, u64, u32, u64, u64);
+static void f90(module *, u64, u64, u64, u32);
+static void f91(module *, u64, u64, u64, u64, u64, u64);
+static void f92(module *, u64, u64);
+static void f93(module *, u64, u64);
+static void f94(module *, u64, u64, u64);
+static u32 f95(module *, u64);
+static u32 f96(module *, u64);
+static u32 f97(module *, u64, u64, u64, u64, u64);
 static u32 module_zak_advance(module *, u64, u32);
 static u32 module_zak_assemble(module *, u64, u64, u64, u64, u64, u64);
 static u32 module_zak_block(module *, u64, u64, u64);
@@ -321,10 +324,10 @@ static u32 module_zak_show_regs(module *, u64, u64, u64, u64);
 static u32 module_zak_version(module *);
 static u64 module_page_take(module *, u64);
 static u32 module_page_give(module *, u64);
-static void f148(module *, u64, u64, u64);
-static u64 f149(module *, u64);
-static void f150(module *, u64, u64, u64, u64, u64);
-static void f151(module *, u64);
+static void f151(module *, u64, u64, u64);
+static u64 f152(module *, u64);
+static void f153(module *, u64, u64, u64, u64, u64);
+static void f154(module *, u64);
 
 static void f0(module *self, u64 p0, u64 p1, u64 p2, u64 p3, u64 p4) {
   u64 l5 = 0, l6 = 0;
@@ -445,11 +448,11 @@ static void f1(module *self, u64 p0) {
 }
 
 static void f2(module *self, u64 p0, u32 p1) {
-  u32 l20 = 0, l21 = 0, l22 = 0, l23 = 0, l24 = 0, l25 = 0, l26 = 0, l27 = 0, 
-      l28 = 0, l29 = 0, l30 = 0, l31 = 0, l32 = 0, l33 = 0;
+  u32 l21 = 0, l22 = 0, l23 = 0, l24 = 0, l25 = 0, l26 = 0, l27 = 0, l28 = 0, 
+      l29 = 0, l30 = 0, l31 = 0, l32 = 0, l33 = 0, l34 = 0;
   u64 l2 = 0, l3 = 0, l4 = 0, l5 = 0, l6 = 0, l7 = 0, l8 = 0, l9 = 0, 
       l10 = 0, l11 = 0, l12 = 0, l13 = 0, l14 = 0, l15 = 0, l16 = 0, l17 = 0, 
-      l18 = 0, l19 = 0;
+      l18 = 0, l19 = 0, l20 = 0;
   u8 *m = self->memory;
   u32 i0, i1, i2, i3, i4, i5;
   u64 j0, j1, j2, j3, j4;
@@ -470,7 +473,7 @@ static void f2(module *self, u64 p0, u32 p1) {
   i0 &= i1;
   i1 = 9u;
   i0 ^= i1;
-  l20 = i0;
+  l21 = i0;
   j0 = p0;
   j1 = 188ull;
   j0 += j1;
@@ -496,20 +499,14 @@ static void f2(module *self, u64 p0, u32 p1) {
   j0 += j1;
   l8 = j0;
   j0 = p0;
-  j1 = 80ull;
+  j1 = 132ull;
   j0 += j1;
   l9 = j0;
   j0 = p0;
-  j1 = 138ull;
+  j1 = 80ull;
   j0 += j1;
-  i0 = (u32)(j0);
-  i0 = i32_load8_u(j0);
-  l21 = i0;
-  j0 = p0;
-  j1 = 136ull;
-  j0 += j1;
-  i0 = (u32)(j0);
-  i0 = i32_load16_u(j0);
+  l10 = j0;
+  i0 = 0u;
   l22 = i0;
   i0 = 0u;
   l23 = i0;
@@ -517,14 +514,21 @@ static void f2(module *self, u64 p0, u32 p1) {
   l24 = i0;
   i0 = 0u;
   l25 = i0;
-  i0 = 0u;
-  l26 = i0;
   L1: 
-    i0 = l22;
-    i1 = 65535u;
-    i0 &= i1;
+    j0 = p0;
+    j1 = 138ull;
+    j0 += j1;
+    i0 = (u32)(j0);
+    i0 = i32_load8_u(j0);
+    l26 = i0;
+    j0 = p0;
+    j1 = 136ull;
+    j0 += j1;
+    i0 = (u32)(j0);
+    i0 = i32_load16_u(j0);
+    l27 = i0;
     if (i0) {goto B6;}
-    i0 = l21;
+    i0 = l26;
     i1 = 255u;
     i0 &= i1;
     if (i0) {goto B6;}
@@ -536,15 +540,15 @@ static void f2(module *self, u64 p0, u32 p1) {
     i1 = i32_load8_u(j1);
     i2 = 4u;
     i1 += i2;
-    i2 = l20;
+    i2 = l21;
     i1 *= i2;
-    i2 = l20;
+    i2 = l21;
     i1 += i2;
-    l27 = i1;
+    l28 = i1;
     i0 = i0 < i1;
     if (i0) {goto B6;}
     i0 = 0u;
-    l22 = i0;
+    l27 = i0;
     j0 = p0;
     j1 = 134ull;
     j0 += j1;
@@ -562,35 +566,35 @@ static void f2(module *self, u64 p0, u32 p1) {
     j0 += j1;
     i0 = (u32)(j0);
     j0 = i64_load(j0);
-    l10 = j0;
+    l11 = j0;
     j1 = p0;
     j2 = 2064ull;
     j1 += j2;
-    l11 = j1;
+    l12 = j1;
     i1 = (u32)(j1);
     j1 = i64_load16_u(j1);
-    l12 = j1;
+    l13 = j1;
     j2 = 2ull;
     j1 <<= (j2 & 63);
-    l13 = j1;
+    l14 = j1;
     j0 += j1;
     i0 = (u32)(j0);
     i1 = 0u;
     i32_store(j0, i1);
-    j0 = l12;
-    i0 = !(j0);
-    if (i0) {goto B8;}
     j0 = l13;
     i0 = !(j0);
     if (i0) {goto B8;}
-    j0 = l10;
+    j0 = l14;
+    i0 = !(j0);
+    if (i0) {goto B8;}
+    j0 = l11;
     i0 = (u32)(j0);
     i1 = 0u;
-    j2 = l13;
+    j2 = l14;
     i2 = (u32)(j2);
     memory_fill(j0, i1, j2);
     B8:;
-    j0 = l11;
+    j0 = l12;
     i0 = (u32)(j0);
     i1 = 0u;
     i32_store16(j0, i1);
@@ -599,10 +603,10 @@ static void f2(module *self, u64 p0, u32 p1) {
     j0 += j1;
     i0 = (u32)(j0);
     i0 = i32_load16_u(j0);
-    l22 = i0;
+    l27 = i0;
     if (i0) {goto B7;}
     i0 = 0u;
-    l22 = i0;
+    l27 = i0;
     j0 = p0;
     j1 = 138ull;
     j0 += j1;
@@ -618,7 +622,7 @@ static void f2(module *self, u64 p0, u32 p1) {
     i0 &= i1;
     if (i0) {goto B7;}
     i0 = 0u;
-    l22 = i0;
+    l27 = i0;
     j0 = p0;
     j1 = 143ull;
     j0 += j1;
@@ -634,7 +638,7 @@ static void f2(module *self, u64 p0, u32 p1) {
     j1 += j2;
     i1 = (u32)(j1);
     i1 = i32_load8_u(j1);
-    l21 = i1;
+    l26 = i1;
     i2 = 31u;
     i1 &= i2;
     i32_store8(j0, i1);
@@ -647,14 +651,14 @@ static void f2(module *self, u64 p0, u32 p1) {
     j1 += j2;
     i1 = (u32)(j1);
     i1 = i32_load16_u(j1);
-    l28 = i1;
+    l29 = i1;
     i2 = 8u;
     i1 <<= (i2 & 31);
-    i2 = l28;
+    i2 = l29;
     i3 = 8u;
     i2 >>= (i3 & 31);
     i1 |= i2;
-    i2 = l21;
+    i2 = l26;
     i3 = 5u;
     i2 >>= (i3 & 31);
     i3 = 3u;
@@ -662,7 +666,7 @@ static void f2(module *self, u64 p0, u32 p1) {
     i1 += i2;
     i32_store16(j0, i1);
     B7:;
-    i0 = l26;
+    i0 = l25;
     i1 = 255u;
     i0 &= i1;
     i1 = 1u;
@@ -673,7 +677,7 @@ static void f2(module *self, u64 p0, u32 p1) {
     j0 += j1;
     i0 = (u32)(j0);
     i0 = i32_load8_u(j0);
-    l21 = i0;
+    l26 = i0;
     goto B5;
     B9:;
     j0 = p0;
@@ -681,7 +685,7 @@ static void f2(module *self, u64 p0, u32 p1) {
     j0 += j1;
     i0 = (u32)(j0);
     i0 = i32_load8_u(j0);
-    l21 = i0;
+    l26 = i0;
     j0 = p0;
     j1 = 53ull;
     j0 += j1;
@@ -691,7 +695,7 @@ static void f2(module *self, u64 p0, u32 p1) {
     i0 &= i1;
     i0 = !(i0);
     if (i0) {goto B5;}
-    i0 = l24;
+    i0 = l23;
     i1 = 65535u;
     i0 &= i1;
     j1 = p0;
@@ -708,13 +712,13 @@ static void f2(module *self, u64 p0, u32 p1) {
     j0 += j1;
     i0 = (u32)(j0);
     i0 = i32_load8_u(j0);
-    l29 = i0;
-    i1 = l23;
+    l30 = i0;
+    i1 = l22;
     i0 ^= i1;
     i1 = 1u;
     i0 &= i1;
     if (i0) {goto B5;}
-    i0 = l25;
+    i0 = l24;
     i1 = 65535u;
     i0 &= i1;
     j1 = p0;
@@ -722,27 +726,27 @@ static void f2(module *self, u64 p0, u32 p1) {
     j1 += j2;
     i1 = (u32)(j1);
     i1 = i32_load16_u(j1);
-    l26 = i1;
+    l25 = i1;
     i2 = 65535u;
     i1 &= i2;
     i0 = i0 >= i1;
     if (i0) {goto B5;}
-    i0 = l22;
-    i1 = l21;
+    i0 = l27;
+    i1 = l26;
     i2 = 255u;
     i1 &= i2;
-    l21 = i1;
+    l26 = i1;
     i0 = i0 <= i1;
     if (i0) {goto B10;}
-    i0 = l24;
-    l28 = i0;
-    i0 = l26;
-    l25 = i0;
-    i0 = l29;
-    l23 = i0;
+    i0 = l23;
+    l29 = i0;
+    i0 = l25;
+    l24 = i0;
+    i0 = l30;
+    l22 = i0;
     goto B3;
     B10:;
-    i0 = l26;
+    i0 = l25;
     i1 = 65535u;
     i0 &= i1;
     j1 = p0;
@@ -750,3638 +754,18 @@ static void f2(module *self, u64 p0, u32 p1) {
     j1 += j2;
     i1 = (u32)(j1);
     i1 = i32_load8_u(j1);
-    l22 = i1;
-    i2 = 7u;
-    i1 <<= (i2 & 31);
-    i2 = 256u;
-    i1 &= i2;
-    j2 = p0;
-    j3 = 123ull;
-    j2 += j3;
-    i2 = (u32)(j2);
-    i2 = i32_load8_u(j2);
-    i1 |= i2;
-    i2 = l22;
-    i3 = 3u;
-    i2 <<= (i3 & 31);
-    i3 = 512u;
-    i2 &= i3;
-    i1 |= i2;
-    i0 = i0 > i1;
-    if (i0) {goto B4;}
-    i0 = l26;
-    j0 = (u64)(i0);
-    l13 = j0;
-    j0 = p0;
-    j1 = 105ull;
-    j0 += j1;
-    i0 = (u32)(j0);
-    i0 = i32_load8_u(j0);
-    i1 = 5u;
-    i0 += i1;
-    l22 = i0;
-    i1 = l21;
-    i2 = 1u;
-    i1 += i2;
-    l21 = i1;
-    i2 = l22;
-    i3 = l21;
-    i2 = i2 < i3;
-    i0 = i2 ? i0 : i1;
-    j0 = (u64)(i0);
-    j1 = p0;
-    j2 = 34ull;
-    j1 += j2;
-    i1 = (u32)(j1);
-    i1 = i32_load8_u(j1);
-    i2 = 1u;
-    i1 &= i2;
-    i2 = 9u;
-    i1 ^= i2;
-    j1 = (u64)(i1);
-    j0 *= j1;
-    l10 = j0;
-    j1 = 3ull;
-    j0 *= j1;
-    l11 = j0;
-    j1 = p0;
-    j2 = 2032ull;
-    j1 += j2;
-    i1 = (u32)(j1);
-    j1 = i64_load(j1);
-    l14 = j1;
-    j0 += j1;
-    l15 = j0;
-    j1 = p0;
-    j2 = 2016ull;
-    j1 += j2;
-    i1 = (u32)(j1);
-    j1 = i64_load(j1);
-    l12 = j1;
-    i0 = j0 <= j1;
-    if (i0) {goto B11;}
-    j0 = l15;
-    j1 = l12;
-    j0 -= j1;
-    l15 = j0;
-    j1 = p0;
-    j2 = 2024ull;
-    j1 += j2;
-    i1 = (u32)(j1);
-    j1 = i64_load(j1);
-    l16 = j1;
-    j2 = l12;
-    j1 -= j2;
-    i0 = j0 <= j1;
-    if (i0) {goto B12;}
-    j0 = p0;
-    j1 = 2008ull;
-    j0 += j1;
-    j1 = l15;
-    i0 = f3(self, j0, j1); m = self->memory; if (NEVER(self->is_broken)) return;
-    i0 = !(i0);
-    if (i0) {goto B11;}
-    j0 = p0;
-    j1 = 2024ull;
-    j0 += j1;
-    i0 = (u32)(j0);
-    j0 = i64_load(j0);
-    l16 = j0;
-    j0 = p0;
-    j1 = 2016ull;
-    j0 += j1;
-    i0 = (u32)(j0);
-    j0 = i64_load(j0);
-    l12 = j0;
-    B12:;
-    j0 = p0;
-    j1 = 2008ull;
-    j0 += j1;
-    l17 = j0;
-    i0 = (u32)(j0);
-    j0 = i64_load(j0);
-    l18 = j0;
-    j0 = l12;
-    j1 = l12;
-    j2 = l15;
-    j1 += j2;
-    l19 = j1;
-    i0 = j0 >= j1;
-    if (i0) {goto B13;}
-    j0 = l15;
-    i0 = !(j0);
-    if (i0) {goto B13;}
-    j0 = l18;
-    j1 = l12;
-    j0 += j1;
-    i0 = (u32)(j0);
-    i1 = 0u;
-    j2 = l15;
-    i2 = (u32)(j2);
-    memory_fill(j0, i1, j2);
-    B13:;
-    j0 = p0;
-    j1 = 2024ull;
-    j0 += j1;
-    i0 = (u32)(j0);
-    j1 = l16;
-    i64_store(j0, j1);
-    j0 = p0;
-    j1 = 2016ull;
-    j0 += j1;
-    i0 = (u32)(j0);
-    j1 = l19;
-    i64_store(j0, j1);
-    j0 = l17;
-    i0 = (u32)(j0);
-    j1 = l18;
-    i64_store(j0, j1);
-    B11:;
-    j0 = l13;
-    j1 = 65535ull;
-    j0 &= j1;
-    l12 = j0;
-    j0 = l11;
-    i0 = !(j0);
-    if (i0) {goto B14;}
-    j0 = p0;
-    j1 = 2008ull;
-    j0 += j1;
-    i0 = (u32)(j0);
-    j0 = i64_load(j0);
-    l13 = j0;
-    j1 = l14;
-    j0 += j1;
-    i0 = (u32)(j0);
-    j1 = l13;
-    j2 = l14;
-    j3 = l11;
-    j2 -= j3;
-    j1 += j2;
-    i1 = (u32)(j1);
-    j2 = l11;
-    i2 = (u32)(j2);
-    memory_copy(j0, j1, j2);
-    B14:;
-    j0 = p0;
-    j1 = 2032ull;
-    j0 += j1;
-    l13 = j0;
-    i0 = (u32)(j0);
-    j1 = l13;
-    i1 = (u32)(j1);
-    j1 = i64_load(j1);
-    j2 = l11;
-    j1 += j2;
-    i64_store(j0, j1);
-    j0 = p0;
-    j1 = 2040ull;
-    j0 += j1;
-    i0 = (u32)(j0);
-    j0 = i64_load(j0);
-    j1 = l12;
-    j2 = 2ull;
-    j1 <<= (j2 & 63);
-    j0 += j1;
-    l11 = j0;
-    i0 = (u32)(j0);
-    j1 = l11;
-    i1 = (u32)(j1);
-    i1 = i32_load(j1);
-    j2 = l10;
-    i2 = (u32)(j2);
-    i1 += i2;
-    i32_store(j0, i1);
-    j0 = p0;
-    j1 = 2064ull;
-    j0 += j1;
-    i0 = (u32)(j0);
-    i1 = l26;
-    i32_store16(j0, i1);
-    goto B4;
-    B6:;
-    i0 = p1;
-    i1 = 1u;
-    i0 = i0 == i1;
-    if (i0) {goto B29;}
-    i0 = l22;
-    i1 = 65535u;
-    i0 &= i1;
-    j1 = p0;
-    j2 = 105ull;
-    j1 += j2;
-    i1 = (u32)(j1);
-    i1 = i32_load8_u(j1);
-    i2 = 5u;
-    i1 += i2;
-    l26 = i1;
-    i0 = i0 < i1;
-    if (i0) {goto B30;}
-    j0 = p0;
-    j1 = 34ull;
-    j0 += j1;
-    i0 = (u32)(j0);
-    i0 = i32_load8_u(j0);
-    i1 = 1u;
-    i0 &= i1;
-    i1 = 9u;
-    i0 ^= i1;
-    l27 = i0;
-    goto B26;
-    B30:;
-    i0 = l21;
-    i1 = 255u;
-    i0 &= i1;
-    i1 = l20;
-    i0 = i0 >= i1;
-    if (i0) {goto B29;}
-    i0 = 0u;
-    i1 = l20;
-    i2 = l21;
-    i3 = 1u;
-    i2 += i3;
-    i3 = 255u;
-    i2 &= i3;
-    i1 -= i2;
     l27 = i1;
+    i2 = 7u;
+    i1 <<= (i2 & 31);
+    i2 = 256u;
+    i1 &= i2;
+    j2 = p0;
+    j3 = 123ull;
+    j2 += j3;
+    i2 = (u32)(j2);
+    i2 = i32_load8_u(j2);
+    i1 |= i2;
     i2 = l27;
-    i3 = l20;
-    i2 = i2 > i3;
-    i0 = i2 ? i0 : i1;
-    i1 = 0u;
-    i2 = l26;
-    i3 = l22;
-    i4 = 1u;
-    i3 += i4;
-    i4 = 65535u;
-    i3 &= i4;
-    i2 -= i3;
-    l27 = i2;
-    i3 = l27;
-    i4 = l26;
-    i3 = i3 > i4;
-    i1 = i3 ? i1 : i2;
-    i2 = l20;
-    i1 *= i2;
-    i0 += i1;
-    i1 = 1u;
-    i0 += i1;
-    l26 = i0;
-    i1 = p1;
-    i2 = l26;
-    i3 = p1;
-    i2 = i2 < i3;
-    i0 = i2 ? i0 : i1;
-    l26 = i0;
-    i1 = 128u;
-    i2 = l26;
-    i3 = 128u;
-    i2 = i2 < i3;
-    i0 = i2 ? i0 : i1;
-    l27 = i0;
-    j0 = p0;
-    j1 = 34ull;
-    j0 += j1;
-    i0 = (u32)(j0);
-    i0 = i32_load8_u(j0);
-    i1 = 1u;
-    i0 &= i1;
-    i1 = 9u;
-    i0 ^= i1;
-    l26 = i0;
-    i0 = l22;
-    i1 = 65535u;
-    i0 &= i1;
-    if (i0) {goto B32;}
-    j0 = p0;
-    j1 = 134ull;
-    j0 += j1;
-    i0 = (u32)(j0);
-    i0 = i32_load16_u(j0);
-    l22 = i0;
-    i0 = l21;
-    i1 = 255u;
-    i0 &= i1;
-    if (i0) {goto B33;}
-    i0 = l22;
-    i1 = 65535u;
-    i0 &= i1;
-    if (i0) {goto B33;}
-    j0 = p0;
-    j1 = 2032ull;
-    j0 += j1;
-    i0 = (u32)(j0);
-    j1 = 0ull;
-    i64_store(j0, j1);
-    j0 = p0;
-    j1 = 2040ull;
-    j0 += j1;
-    i0 = (u32)(j0);
-    j0 = i64_load(j0);
-    l10 = j0;
-    j1 = p0;
-    j2 = 2064ull;
-    j1 += j2;
-    l11 = j1;
-    i1 = (u32)(j1);
-    j1 = i64_load16_u(j1);
-    l12 = j1;
-    j2 = 2ull;
-    j1 <<= (j2 & 63);
-    l13 = j1;
-    j0 += j1;
-    i0 = (u32)(j0);
-    i1 = 0u;
-    i32_store(j0, i1);
-    j0 = l12;
-    i0 = !(j0);
-    if (i0) {goto B34;}
-    j0 = l13;
-    i0 = !(j0);
-    if (i0) {goto B34;}
-    j0 = l10;
-    i0 = (u32)(j0);
-    i1 = 0u;
-    j2 = l13;
-    i2 = (u32)(j2);
-    memory_fill(j0, i1, j2);
-    B34:;
-    j0 = l11;
-    i0 = (u32)(j0);
-    i1 = 0u;
-    i32_store16(j0, i1);
-    j0 = p0;
-    j1 = 136ull;
-    j0 += j1;
-    i0 = (u32)(j0);
-    i0 = i32_load16_u(j0);
-    l22 = i0;
-    if (i0) {goto B32;}
-    j0 = p0;
-    j1 = 134ull;
-    j0 += j1;
-    i0 = (u32)(j0);
-    i0 = i32_load16_u(j0);
-    l22 = i0;
-    j0 = p0;
-    j1 = 138ull;
-    j0 += j1;
-    i0 = (u32)(j0);
-    i0 = i32_load8_u(j0);
-    l21 = i0;
-    B33:;
-    i0 = l21;
-    i1 = 255u;
-    i0 &= i1;
-    if (i0) {goto B35;}
-    i0 = l22;
-    i1 = 65535u;
-    i0 &= i1;
-    if (i0) {goto B35;}
-    j0 = p0;
-    j1 = 143ull;
-    j0 += j1;
-    i0 = (u32)(j0);
-    i1 = 0u;
-    i32_store16(j0, i1);
-    j0 = p0;
-    j1 = 142ull;
-    j0 += j1;
-    i0 = (u32)(j0);
-    j1 = p0;
-    j2 = 113ull;
-    j1 += j2;
-    i1 = (u32)(j1);
-    i1 = i32_load8_u(j1);
-    l21 = i1;
-    i2 = 31u;
-    i1 &= i2;
-    i32_store8(j0, i1);
-    j0 = p0;
-    j1 = 140ull;
-    j0 += j1;
-    i0 = (u32)(j0);
-    j1 = p0;
-    j2 = 117ull;
-    j1 += j2;
-    i1 = (u32)(j1);
-    i1 = i32_load16_u(j1);
-    l28 = i1;
-    i2 = 8u;
-    i1 <<= (i2 & 31);
-    i2 = l28;
-    i3 = 8u;
-    i2 >>= (i3 & 31);
-    i1 |= i2;
-    i2 = l21;
-    i3 = 5u;
-    i2 >>= (i3 & 31);
-    i3 = 3u;
-    i2 &= i3;
-    i1 += i2;
-    i32_store16(j0, i1);
-    B35:;
-    j0 = l2;
-    i0 = (u32)(j0);
-    j1 = l7;
-    i64_store(j0 + 6968, j1);
-    j0 = l2;
-    i0 = (u32)(j0);
-    j1 = l8;
-    i64_store(j0 + 6960, j1);
-    j0 = l2;
-    i0 = (u32)(j0);
-    j1 = l9;
-    i64_store(j0 + 6952, j1);
-    j0 = l2;
-    i0 = (u32)(j0);
-    j1 = p0;
-    i64_store(j0 + 6944, j1);
-    j0 = p0;
-    j1 = 106ull;
-    j0 += j1;
-    i0 = (u32)(j0);
-    i0 = i32_load8_u(j0);
-    l21 = i0;
-    i0 = 0u;
-    l29 = i0;
-    goto B31;
-    B32:;
-    j0 = l2;
-    i0 = (u32)(j0);
-    j1 = l7;
-    i64_store(j0 + 6968, j1);
-    j0 = l2;
-    i0 = (u32)(j0);
-    j1 = l8;
-    i64_store(j0 + 6960, j1);
-    j0 = l2;
-    i0 = (u32)(j0);
-    j1 = l9;
-    i64_store(j0 + 6952, j1);
-    j0 = l2;
-    i0 = (u32)(j0);
-    j1 = p0;
-    i64_store(j0 + 6944, j1);
-    i0 = l22;
-    i1 = 65535u;
-    i0 &= i1;
-    j1 = p0;
-    j2 = 106ull;
-    j1 += j2;
-    i1 = (u32)(j1);
-    i1 = i32_load8_u(j1);
-    l21 = i1;
-    i0 = i0 > i1;
-    if (i0) {goto B28;}
-    i0 = l22;
-    i1 = 65535u;
-    i0 &= i1;
-    l29 = i0;
-    j0 = p0;
-    j1 = 134ull;
-    j0 += j1;
-    i0 = (u32)(j0);
-    i0 = i32_load16_u(j0);
-    l22 = i0;
-    B31:;
-    i0 = l22;
-    i1 = 65535u;
-    i0 &= i1;
-    j1 = p0;
-    j2 = 112ull;
-    j1 += j2;
-    i1 = (u32)(j1);
-    i1 = i32_load8_u(j1);
-    l28 = i1;
-    i2 = 7u;
-    i1 <<= (i2 & 31);
-    i2 = 256u;
-    i1 &= i2;
-    j2 = p0;
-    j3 = 123ull;
-    j2 += j3;
-    i2 = (u32)(j2);
-    i2 = i32_load8_u(j2);
-    i1 |= i2;
-    i2 = l28;
-    i3 = 3u;
-    i2 <<= (i3 & 31);
-    i3 = 512u;
-    i2 &= i3;
-    i1 |= i2;
-    i0 = i0 > i1;
-    if (i0) {goto B36;}
-    i0 = 0u;
-    j1 = p0;
-    j2 = 105ull;
-    j1 += j2;
-    i1 = (u32)(j1);
-    i1 = i32_load8_u(j1);
-    i2 = 5u;
-    i1 += i2;
-    l28 = i1;
-    i2 = l21;
-    i3 = 1u;
-    i2 += i3;
-    l21 = i2;
-    i3 = l28;
-    i4 = l21;
-    i3 = i3 < i4;
-    i1 = i3 ? i1 : i2;
-    j2 = p0;
-    j3 = 34ull;
-    j2 += j3;
-    i2 = (u32)(j2);
-    i2 = i32_load8_u(j2);
-    i3 = 1u;
-    i2 &= i3;
-    l28 = i2;
-    i3 = 9u;
-    i2 ^= i3;
-    l30 = i2;
-    i1 *= i2;
-    l21 = i1;
-    i2 = l29;
-    i3 = l30;
-    i2 *= i3;
-    j3 = p0;
-    j4 = 138ull;
-    j3 += j4;
-    i3 = (u32)(j3);
-    i3 = i32_load8_u(j3);
-    i2 += i3;
-    l31 = i2;
-    i1 -= i2;
-    l29 = i1;
-    i2 = l29;
-    i3 = l21;
-    i2 = i2 > i3;
-    i0 = i2 ? i0 : i1;
-    l29 = i0;
-    i1 = l27;
-    i2 = l29;
-    i3 = l27;
-    i2 = i2 < i3;
-    i0 = i2 ? i0 : i1;
-    l30 = i0;
-    j0 = (u64)(i0);
-    l15 = j0;
-    j1 = 3ull;
-    j0 *= j1;
-    l13 = j0;
-    j1 = p0;
-    j2 = 2032ull;
-    j1 += j2;
-    i1 = (u32)(j1);
-    j1 = i64_load(j1);
-    l14 = j1;
-    j0 += j1;
-    l12 = j0;
-    j0 = p0;
-    j1 = 2016ull;
-    j0 += j1;
-    i0 = (u32)(j0);
-    j0 = i64_load(j0);
-    l11 = j0;
-    i0 = l28;
-    i0 = !(i0);
-    if (i0) {goto B37;}
-    j0 = l12;
-    j1 = l11;
-    i0 = j0 <= j1;
-    if (i0) {goto B38;}
-    j0 = l12;
-    j1 = l11;
-    j0 -= j1;
-    l12 = j0;
-    j1 = p0;
-    j2 = 2024ull;
-    j1 += j2;
-    i1 = (u32)(j1);
-    j1 = i64_load(j1);
-    l18 = j1;
-    j2 = l11;
-    j1 -= j2;
-    i0 = j0 <= j1;
-    if (i0) {goto B39;}
-    j0 = p0;
-    j1 = 2008ull;
-    j0 += j1;
-    j1 = l12;
-    i0 = f3(self, j0, j1); m = self->memory; if (NEVER(self->is_broken)) return;
-    i0 = !(i0);
-    if (i0) {goto B38;}
-    j0 = p0;
-    j1 = 2024ull;
-    j0 += j1;
-    i0 = (u32)(j0);
-    j0 = i64_load(j0);
-    l18 = j0;
-    j0 = p0;
-    j1 = 2016ull;
-    j0 += j1;
-    i0 = (u32)(j0);
-    j0 = i64_load(j0);
-    l11 = j0;
-    B39:;
-    j0 = p0;
-    j1 = 2008ull;
-    j0 += j1;
-    l16 = j0;
-    i0 = (u32)(j0);
-    j0 = i64_load(j0);
-    l10 = j0;
-    j0 = l11;
-    j1 = l11;
-    j2 = l12;
-    j1 += j2;
-    l17 = j1;
-    i0 = j0 >= j1;
-    if (i0) {goto B40;}
-    j0 = l12;
-    i0 = !(j0);
-    if (i0) {goto B40;}
-    j0 = l10;
-    j1 = l11;
-    j0 += j1;
-    i0 = (u32)(j0);
-    i1 = 0u;
-    j2 = l12;
-    i2 = (u32)(j2);
-    memory_fill(j0, i1, j2);
-    B40:;
-    j0 = p0;
-    j1 = 2024ull;
-    j0 += j1;
-    i0 = (u32)(j0);
-    j1 = l18;
-    i64_store(j0, j1);
-    j0 = p0;
-    j1 = 2016ull;
-    j0 += j1;
-    i0 = (u32)(j0);
-    j1 = l17;
-    i64_store(j0, j1);
-    j0 = l16;
-    i0 = (u32)(j0);
-    j1 = l10;
-    i64_store(j0, j1);
-    B38:;
-    j0 = p0;
-    j1 = 2008ull;
-    j0 += j1;
-    i0 = (u32)(j0);
-    j0 = i64_load(j0);
-    l18 = j0;
-    j1 = l14;
-    j0 += j1;
-    l11 = j0;
-    j0 = p0;
-    j1 = 34ull;
-    j0 += j1;
-    i0 = (u32)(j0);
-    i0 = i32_load8_u(j0);
-    l28 = i0;
-    i1 = 32u;
-    i0 &= i1;
-    i0 = !(i0);
-    if (i0) {goto B42;}
-    i0 = l21;
-    i1 = l31;
-    i0 = i0 <= i1;
-    if (i0) {goto B41;}
-    j0 = l13;
-    i0 = !(j0);
-    if (i0) {goto B41;}
-    j0 = l11;
-    i0 = (u32)(j0);
-    i1 = 0u;
-    j2 = l13;
-    i2 = (u32)(j2);
-    memory_fill(j0, i1, j2);
-    goto B41;
-    B42:;
-    j0 = p0;
-    j1 = 204ull;
-    j0 += j1;
-    i0 = (u32)(j0);
-    i0 = i32_load8_u(j0);
-    i1 = 32u;
-    i0 &= i1;
-    if (i0) {goto B43;}
-    i0 = l21;
-    i1 = l31;
-    i0 = i0 <= i1;
-    if (i0) {goto B41;}
-    j0 = l5;
-    j1 = p0;
-    j2 = 2002ull;
-    j1 += j2;
-    i1 = (u32)(j1);
-    i1 = i32_load8_u(j1);
-    j2 = p0;
-    j3 = 184ull;
-    j2 += j3;
-    i2 = (u32)(j2);
-    i2 = i32_load8_u(j2);
-    i1 &= i2;
-    j1 = (u64)(i1);
-    j2 = 255ull;
-    j1 &= j2;
-    l12 = j1;
-    j0 += j1;
-    i0 = (u32)(j0);
-    i0 = i32_load8_u(j0);
-    l21 = i0;
-    j0 = l6;
-    j1 = l12;
-    j0 += j1;
-    i0 = (u32)(j0);
-    i0 = i32_load8_u(j0);
-    l28 = i0;
-    j0 = l7;
-    j1 = l12;
-    j0 += j1;
-    i0 = (u32)(j0);
-    i0 = i32_load8_u(j0);
-    l29 = i0;
-    j0 = l15;
-    j1 = 3ull;
-    j0 &= j1;
-    l12 = j0;
-    j0 = 0ull;
-    l10 = j0;
-    i0 = l30;
-    i1 = 4294967295u;
-    i0 += i1;
-    i1 = 3u;
-    i0 = i0 < i1;
-    if (i0) {goto B44;}
-    j0 = l15;
-    j1 = 252ull;
-    j0 &= j1;
-    l15 = j0;
-    j0 = 0ull;
-    l10 = j0;
-    L45: 
-      j0 = l11;
-      i0 = (u32)(j0);
-      i1 = l29;
-      i32_store8(j0, i1);
-      j0 = l11;
-      j1 = 11ull;
-      j0 += j1;
-      i0 = (u32)(j0);
-      i1 = l21;
-      i32_store8(j0, i1);
-      j0 = l11;
-      j1 = 10ull;
-      j0 += j1;
-      i0 = (u32)(j0);
-      i1 = l28;
-      i32_store8(j0, i1);
-      j0 = l11;
-      j1 = 9ull;
-      j0 += j1;
-      i0 = (u32)(j0);
-      i1 = l29;
-      i32_store8(j0, i1);
-      j0 = l11;
-      j1 = 8ull;
-      j0 += j1;
-      i0 = (u32)(j0);
-      i1 = l21;
-      i32_store8(j0, i1);
-      j0 = l11;
-      j1 = 7ull;
-      j0 += j1;
-      i0 = (u32)(j0);
-      i1 = l28;
-      i32_store8(j0, i1);
-      j0 = l11;
-      j1 = 6ull;
-      j0 += j1;
-      i0 = (u32)(j0);
-      i1 = l29;
-      i32_store8(j0, i1);
-      j0 = l11;
-      j1 = 5ull;
-      j0 += j1;
-      i0 = (u32)(j0);
-      i1 = l21;
-      i32_store8(j0, i1);
-      j0 = l11;
-      j1 = 4ull;
-      j0 += j1;
-      i0 = (u32)(j0);
-      i1 = l28;
-      i32_store8(j0, i1);
-      j0 = l11;
-      j1 = 3ull;
-      j0 += j1;
-      i0 = (u32)(j0);
-      i1 = l29;
-      i32_store8(j0, i1);
-      j0 = l11;
-      j1 = 2ull;
-      j0 += j1;
-      i0 = (u32)(j0);
-      i1 = l21;
-      i32_store8(j0, i1);
-      j0 = l11;
-      j1 = 1ull;
-      j0 += j1;
-      i0 = (u32)(j0);
-      i1 = l28;
-      i32_store8(j0, i1);
-      j0 = l11;
-      j1 = 12ull;
-      j0 += j1;
-      l11 = j0;
-      j0 = l15;
-      j1 = l10;
-      j2 = 4ull;
-      j1 += j2;
-      l10 = j1;
-      i0 = j0 != j1;
-      if (i0) {goto L45;}
-    j0 = l12;
-    i0 = !(j0);
-    if (i0) {goto B41;}
-    B44:;
-    j0 = l18;
-    j1 = l14;
-    j2 = l10;
-    j3 = 3ull;
-    j2 *= j3;
-    j1 += j2;
-    j0 += j1;
-    l11 = j0;
-    L46: 
-      j0 = l11;
-      i0 = (u32)(j0);
-      i1 = l29;
-      i32_store8(j0, i1);
-      j0 = l11;
-      j1 = 2ull;
-      j0 += j1;
-      i0 = (u32)(j0);
-      i1 = l21;
-      i32_store8(j0, i1);
-      j0 = l11;
-      j1 = 1ull;
-      j0 += j1;
-      i0 = (u32)(j0);
-      i1 = l28;
-      i32_store8(j0, i1);
-      j0 = l11;
-      j1 = 3ull;
-      j0 += j1;
-      l11 = j0;
-      j0 = l12;
-      j1 = 18446744073709551615ull;
-      j0 += j1;
-      l12 = j0;
-      j1 = 0ull;
-      i0 = j0 != j1;
-      if (i0) {goto L46;}
-      goto B41;
-    { self->is_broken = true; return; }
-    B43:;
-    i0 = l30;
-    i1 = 32u;
-    i0 = i0 > i1;
-    if (i0) {goto B47;}
-    j0 = p0;
-    j1 = 186ull;
-    j0 += j1;
-    i0 = (u32)(j0);
-    i0 = i32_load8_u(j0);
-    l29 = i0;
-    j0 = p0;
-    j1 = 138ull;
-    j0 += j1;
-    i0 = (u32)(j0);
-    j0 = i64_load8_u(j0);
-    l12 = j0;
-    j0 = p0;
-    j1 = 136ull;
-    j0 += j1;
-    i0 = (u32)(j0);
-    j0 = i64_load16_u(j0);
-    l10 = j0;
-    j0 = p0;
-    j1 = 144ull;
-    j0 += j1;
-    i0 = (u32)(j0);
-    i0 = i32_load8_u(j0);
-    i1 = 1u;
-    i0 &= i1;
-    i0 = !(i0);
-    if (i0) {goto B49;}
-    i0 = 0u;
-    l21 = i0;
-    j0 = p0;
-    j1 = 183ull;
-    j0 += j1;
-    i0 = (u32)(j0);
-    i0 = i32_load8_u(j0);
-    i1 = 32u;
-    i0 &= i1;
-    if (i0) {goto B48;}
-    B49:;
-    j0 = p0;
-    j1 = 53ull;
-    j0 += j1;
-    i0 = (u32)(j0);
-    i0 = i32_load8_u(j0);
-    i1 = 1u;
-    i0 &= i1;
-    i0 = !(i0);
-    if (i0) {goto B50;}
-    j0 = p0;
-    j1 = 52ull;
-    j0 += j1;
-    i0 = (u32)(j0);
-    i0 = i32_load8_u(j0);
-    i1 = 64u;
-    i0 &= i1;
-    i0 = !(i0);
-    if (i0) {goto B50;}
-    i0 = l29;
-    i1 = 6u;
-    i0 &= i1;
-    l21 = i0;
-    goto B48;
-    B50:;
-    i0 = l28;
-    i1 = 1u;
-    i0 &= i1;
-    i0 = !(i0);
-    if (i0) {goto B51;}
-    i0 = l29;
-    i1 = 7u;
-    i0 &= i1;
-    l21 = i0;
-    goto B48;
-    B51:;
-    i0 = 0u;
-    i1 = l29;
-    i2 = 7u;
-    i1 &= i2;
-    i2 = 1u;
-    i1 += i2;
-    i2 = l29;
-    i3 = 255u;
-    i2 &= i3;
-    i3 = 8u;
-    i2 = i2 == i3;
-    i0 = i2 ? i0 : i1;
-    l21 = i0;
-    B48:;
-    j0 = l2;
-    j1 = 5ull;
-    j0 += j1;
-    i0 = (u32)(j0);
-    i1 = 0u;
-    j2 = 147ull;
-    i2 = (u32)(j2);
-    memory_fill(j0, i1, j2);
-    j0 = l2;
-    j1 = 6944ull;
-    j0 += j1;
-    i1 = l21;
-    j1 = (u64)(i1);
-    j2 = l12;
-    j1 += j2;
-    l12 = j1;
-    j2 = 3ull;
-    j1 >>= (j2 & 63);
-    j2 = l10;
-    j1 += j2;
-    j2 = l15;
-    j3 = l12;
-    j4 = 7ull;
-    j3 &= j4;
-    l12 = j3;
-    j2 += j3;
-    j3 = 7ull;
-    j2 += j3;
-    j3 = 3ull;
-    j2 >>= (j3 & 63);
-    j3 = l2;
-    j4 = 5ull;
-    j3 += j4;
-    f4(self, j0, j1, j2, j3); if (NEVER(self->is_broken)) return;
-    j0 = l13;
-    i0 = !(j0);
-    if (i0) {goto B41;}
-    j0 = l11;
-    i0 = (u32)(j0);
-    j1 = l2;
-    j2 = 5ull;
-    j1 += j2;
-    j2 = l12;
-    j3 = 3ull;
-    j2 *= j3;
-    j1 += j2;
-    i1 = (u32)(j1);
-    j2 = l13;
-    i2 = (u32)(j2);
-    memory_copy(j0, j1, j2);
-    goto B41;
-    B47:;
-    j0 = p0;
-    j1 = 186ull;
-    j0 += j1;
-    i0 = (u32)(j0);
-    i0 = i32_load8_u(j0);
-    l29 = i0;
-    j0 = p0;
-    j1 = 138ull;
-    j0 += j1;
-    i0 = (u32)(j0);
-    j0 = i64_load8_u(j0);
-    l12 = j0;
-    j0 = p0;
-    j1 = 136ull;
-    j0 += j1;
-    i0 = (u32)(j0);
-    j0 = i64_load16_u(j0);
-    l10 = j0;
-    j0 = p0;
-    j1 = 144ull;
-    j0 += j1;
-    i0 = (u32)(j0);
-    i0 = i32_load8_u(j0);
-    i1 = 1u;
-    i0 &= i1;
-    i0 = !(i0);
-    if (i0) {goto B53;}
-    i0 = 0u;
-    l21 = i0;
-    j0 = p0;
-    j1 = 183ull;
-    j0 += j1;
-    i0 = (u32)(j0);
-    i0 = i32_load8_u(j0);
-    i1 = 32u;
-    i0 &= i1;
-    if (i0) {goto B52;}
-    B53:;
-    j0 = p0;
-    j1 = 53ull;
-    j0 += j1;
-    i0 = (u32)(j0);
-    i0 = i32_load8_u(j0);
-    i1 = 1u;
-    i0 &= i1;
-    i0 = !(i0);
-    if (i0) {goto B54;}
-    j0 = p0;
-    j1 = 52ull;
-    j0 += j1;
-    i0 = (u32)(j0);
-    i0 = i32_load8_u(j0);
-    i1 = 64u;
-    i0 &= i1;
-    i0 = !(i0);
-    if (i0) {goto B54;}
-    i0 = l29;
-    i1 = 6u;
-    i0 &= i1;
-    l21 = i0;
-    goto B52;
-    B54:;
-    i0 = l28;
-    i1 = 1u;
-    i0 &= i1;
-    i0 = !(i0);
-    if (i0) {goto B55;}
-    i0 = l29;
-    i1 = 7u;
-    i0 &= i1;
-    l21 = i0;
-    goto B52;
-    B55:;
-    i0 = 0u;
-    i1 = l29;
-    i2 = 7u;
-    i1 &= i2;
-    i2 = 1u;
-    i1 += i2;
-    i2 = l29;
-    i3 = 255u;
-    i2 &= i3;
-    i3 = 8u;
-    i2 = i2 == i3;
-    i0 = i2 ? i0 : i1;
-    l21 = i0;
-    B52:;
-    j0 = l2;
-    j1 = 5ull;
-    j0 += j1;
-    i0 = (u32)(j0);
-    i1 = 0u;
-    j2 = 435ull;
-    i2 = (u32)(j2);
-    memory_fill(j0, i1, j2);
-    j0 = l2;
-    j1 = 6944ull;
-    j0 += j1;
-    i1 = l21;
-    j1 = (u64)(i1);
-    j2 = l12;
-    j1 += j2;
-    l12 = j1;
-    j2 = 3ull;
-    j1 >>= (j2 & 63);
-    j2 = l10;
-    j1 += j2;
-    j2 = l15;
-    j3 = l12;
-    j4 = 7ull;
-    j3 &= j4;
-    l12 = j3;
-    j2 += j3;
-    j3 = 7ull;
-    j2 += j3;
-    j3 = 3ull;
-    j2 >>= (j3 & 63);
-    j3 = l2;
-    j4 = 5ull;
-    j3 += j4;
-    f4(self, j0, j1, j2, j3); if (NEVER(self->is_broken)) return;
-    j0 = l13;
-    i0 = !(j0);
-    if (i0) {goto B41;}
-    j0 = l11;
-    i0 = (u32)(j0);
-    j1 = l2;
-    j2 = 5ull;
-    j1 += j2;
-    j2 = l12;
-    j3 = 3ull;
-    j2 *= j3;
-    j1 += j2;
-    i1 = (u32)(j1);
-    j2 = l13;
-    i2 = (u32)(j2);
-    memory_copy(j0, j1, j2);
-    B41:;
-    j0 = p0;
-    j1 = 2032ull;
-    j0 += j1;
-    l11 = j0;
-    i0 = (u32)(j0);
-    j1 = l11;
-    i1 = (u32)(j1);
-    j1 = i64_load(j1);
-    j2 = l13;
-    j1 += j2;
-    i64_store(j0, j1);
-    j0 = p0;
-    j1 = 2040ull;
-    j0 += j1;
-    i0 = (u32)(j0);
-    j0 = i64_load(j0);
-    i1 = l22;
-    j1 = (u64)(i1);
-    j2 = 65535ull;
-    j1 &= j2;
-    j2 = 2ull;
-    j1 <<= (j2 & 63);
-    j0 += j1;
-    l11 = j0;
-    i0 = (u32)(j0);
-    j1 = l11;
-    i1 = (u32)(j1);
-    i1 = i32_load(j1);
-    i2 = l30;
-    i1 += i2;
-    i32_store(j0, i1);
-    j0 = p0;
-    j1 = 2064ull;
-    j0 += j1;
-    i0 = (u32)(j0);
-    i1 = l22;
-    i32_store16(j0, i1);
-    goto B36;
-    B37:;
-    j0 = l12;
-    j1 = l11;
-    i0 = j0 <= j1;
-    if (i0) {goto B56;}
-    j0 = l12;
-    j1 = l11;
-    j0 -= j1;
-    l12 = j0;
-    j1 = p0;
-    j2 = 2024ull;
-    j1 += j2;
-    i1 = (u32)(j1);
-    j1 = i64_load(j1);
-    l18 = j1;
-    j2 = l11;
-    j1 -= j2;
-    i0 = j0 <= j1;
-    if (i0) {goto B57;}
-    j0 = p0;
-    j1 = 2008ull;
-    j0 += j1;
-    j1 = l12;
-    i0 = f3(self, j0, j1); m = self->memory; if (NEVER(self->is_broken)) return;
-    i0 = !(i0);
-    if (i0) {goto B56;}
-    j0 = p0;
-    j1 = 2024ull;
-    j0 += j1;
-    i0 = (u32)(j0);
-    j0 = i64_load(j0);
-    l18 = j0;
-    j0 = p0;
-    j1 = 2016ull;
-    j0 += j1;
-    i0 = (u32)(j0);
-    j0 = i64_load(j0);
-    l11 = j0;
-    B57:;
-    j0 = p0;
-    j1 = 2008ull;
-    j0 += j1;
-    l16 = j0;
-    i0 = (u32)(j0);
-    j0 = i64_load(j0);
-    l10 = j0;
-    j0 = l11;
-    j1 = l11;
-    j2 = l12;
-    j1 += j2;
-    l17 = j1;
-    i0 = j0 >= j1;
-    if (i0) {goto B58;}
-    j0 = l12;
-    i0 = !(j0);
-    if (i0) {goto B58;}
-    j0 = l10;
-    j1 = l11;
-    j0 += j1;
-    i0 = (u32)(j0);
-    i1 = 0u;
-    j2 = l12;
-    i2 = (u32)(j2);
-    memory_fill(j0, i1, j2);
-    B58:;
-    j0 = p0;
-    j1 = 2024ull;
-    j0 += j1;
-    i0 = (u32)(j0);
-    j1 = l18;
-    i64_store(j0, j1);
-    j0 = p0;
-    j1 = 2016ull;
-    j0 += j1;
-    i0 = (u32)(j0);
-    j1 = l17;
-    i64_store(j0, j1);
-    j0 = l16;
-    i0 = (u32)(j0);
-    j1 = l10;
-    i64_store(j0, j1);
-    B56:;
-    j0 = p0;
-    j1 = 2008ull;
-    j0 += j1;
-    i0 = (u32)(j0);
-    j0 = i64_load(j0);
-    l18 = j0;
-    j1 = l14;
-    j0 += j1;
-    l11 = j0;
-    j0 = p0;
-    j1 = 34ull;
-    j0 += j1;
-    i0 = (u32)(j0);
-    i0 = i32_load8_u(j0);
-    l28 = i0;
-    i1 = 32u;
-    i0 &= i1;
-    i0 = !(i0);
-    if (i0) {goto B60;}
-    i0 = l21;
-    i1 = l31;
-    i0 = i0 <= i1;
-    if (i0) {goto B59;}
-    j0 = l13;
-    i0 = !(j0);
-    if (i0) {goto B59;}
-    j0 = l11;
-    i0 = (u32)(j0);
-    i1 = 0u;
-    j2 = l13;
-    i2 = (u32)(j2);
-    memory_fill(j0, i1, j2);
-    goto B59;
-    B60:;
-    j0 = p0;
-    j1 = 204ull;
-    j0 += j1;
-    i0 = (u32)(j0);
-    i0 = i32_load8_u(j0);
-    i1 = 32u;
-    i0 &= i1;
-    if (i0) {goto B61;}
-    i0 = l21;
-    i1 = l31;
-    i0 = i0 <= i1;
-    if (i0) {goto B59;}
-    j0 = l5;
-    j1 = p0;
-    j2 = 2002ull;
-    j1 += j2;
-    i1 = (u32)(j1);
-    i1 = i32_load8_u(j1);
-    j2 = p0;
-    j3 = 184ull;
-    j2 += j3;
-    i2 = (u32)(j2);
-    i2 = i32_load8_u(j2);
-    i1 &= i2;
-    j1 = (u64)(i1);
-    j2 = 255ull;
-    j1 &= j2;
-    l12 = j1;
-    j0 += j1;
-    i0 = (u32)(j0);
-    i0 = i32_load8_u(j0);
-    l21 = i0;
-    j0 = l6;
-    j1 = l12;
-    j0 += j1;
-    i0 = (u32)(j0);
-    i0 = i32_load8_u(j0);
-    l28 = i0;
-    j0 = l7;
-    j1 = l12;
-    j0 += j1;
-    i0 = (u32)(j0);
-    i0 = i32_load8_u(j0);
-    l29 = i0;
-    j0 = l15;
-    j1 = 3ull;
-    j0 &= j1;
-    l12 = j0;
-    j0 = 0ull;
-    l10 = j0;
-    i0 = l30;
-    i1 = 4294967295u;
-    i0 += i1;
-    i1 = 3u;
-    i0 = i0 < i1;
-    if (i0) {goto B62;}
-    j0 = l15;
-    j1 = 252ull;
-    j0 &= j1;
-    l15 = j0;
-    j0 = 0ull;
-    l10 = j0;
-    L63: 
-      j0 = l11;
-      i0 = (u32)(j0);
-      i1 = l29;
-      i32_store8(j0, i1);
-      j0 = l11;
-      j1 = 11ull;
-      j0 += j1;
-      i0 = (u32)(j0);
-      i1 = l21;
-      i32_store8(j0, i1);
-      j0 = l11;
-      j1 = 10ull;
-      j0 += j1;
-      i0 = (u32)(j0);
-      i1 = l28;
-      i32_store8(j0, i1);
-      j0 = l11;
-      j1 = 9ull;
-      j0 += j1;
-      i0 = (u32)(j0);
-      i1 = l29;
-      i32_store8(j0, i1);
-      j0 = l11;
-      j1 = 8ull;
-      j0 += j1;
-      i0 = (u32)(j0);
-      i1 = l21;
-      i32_store8(j0, i1);
-      j0 = l11;
-      j1 = 7ull;
-      j0 += j1;
-      i0 = (u32)(j0);
-      i1 = l28;
-      i32_store8(j0, i1);
-      j0 = l11;
-      j1 = 6ull;
-      j0 += j1;
-      i0 = (u32)(j0);
-      i1 = l29;
-      i32_store8(j0, i1);
-      j0 = l11;
-      j1 = 5ull;
-      j0 += j1;
-      i0 = (u32)(j0);
-      i1 = l21;
-      i32_store8(j0, i1);
-      j0 = l11;
-      j1 = 4ull;
-      j0 += j1;
-      i0 = (u32)(j0);
-      i1 = l28;
-      i32_store8(j0, i1);
-      j0 = l11;
-      j1 = 3ull;
-      j0 += j1;
-      i0 = (u32)(j0);
-      i1 = l29;
-      i32_store8(j0, i1);
-      j0 = l11;
-      j1 = 2ull;
-      j0 += j1;
-      i0 = (u32)(j0);
-      i1 = l21;
-      i32_store8(j0, i1);
-      j0 = l11;
-      j1 = 1ull;
-      j0 += j1;
-      i0 = (u32)(j0);
-      i1 = l28;
-      i32_store8(j0, i1);
-      j0 = l11;
-      j1 = 12ull;
-      j0 += j1;
-      l11 = j0;
-      j0 = l15;
-      j1 = l10;
-      j2 = 4ull;
-      j1 += j2;
-      l10 = j1;
-      i0 = j0 != j1;
-      if (i0) {goto L63;}
-    j0 = l12;
-    i0 = !(j0);
-    if (i0) {goto B59;}
-    B62:;
-    j0 = l18;
-    j1 = l14;
-    j2 = l10;
-    j3 = 3ull;
-    j2 *= j3;
-    j1 += j2;
-    j0 += j1;
-    l11 = j0;
-    L64: 
-      j0 = l11;
-      i0 = (u32)(j0);
-      i1 = l29;
-      i32_store8(j0, i1);
-      j0 = l11;
-      j1 = 2ull;
-      j0 += j1;
-      i0 = (u32)(j0);
-      i1 = l21;
-      i32_store8(j0, i1);
-      j0 = l11;
-      j1 = 1ull;
-      j0 += j1;
-      i0 = (u32)(j0);
-      i1 = l28;
-      i32_store8(j0, i1);
-      j0 = l11;
-      j1 = 3ull;
-      j0 += j1;
-      l11 = j0;
-      j0 = l12;
-      j1 = 18446744073709551615ull;
-      j0 += j1;
-      l12 = j0;
-      j1 = 0ull;
-      i0 = j0 != j1;
-      if (i0) {goto L64;}
-      goto B59;
-    { self->is_broken = true; return; }
-    B61:;
-    i0 = l30;
-    i1 = 32u;
-    i0 = i0 > i1;
-    if (i0) {goto B65;}
-    j0 = p0;
-    j1 = 186ull;
-    j0 += j1;
-    i0 = (u32)(j0);
-    i0 = i32_load8_u(j0);
-    l29 = i0;
-    j0 = p0;
-    j1 = 138ull;
-    j0 += j1;
-    i0 = (u32)(j0);
-    i0 = i32_load8_u(j0);
-    l31 = i0;
-    j0 = p0;
-    j1 = 136ull;
-    j0 += j1;
-    i0 = (u32)(j0);
-    j0 = i64_load16_u(j0);
-    l12 = j0;
-    j0 = p0;
-    j1 = 144ull;
-    j0 += j1;
-    i0 = (u32)(j0);
-    i0 = i32_load8_u(j0);
-    i1 = 1u;
-    i0 &= i1;
-    i0 = !(i0);
-    if (i0) {goto B67;}
-    i0 = 0u;
-    l21 = i0;
-    j0 = p0;
-    j1 = 183ull;
-    j0 += j1;
-    i0 = (u32)(j0);
-    i0 = i32_load8_u(j0);
-    i1 = 32u;
-    i0 &= i1;
-    if (i0) {goto B66;}
-    B67:;
-    j0 = p0;
-    j1 = 53ull;
-    j0 += j1;
-    i0 = (u32)(j0);
-    i0 = i32_load8_u(j0);
-    i1 = 1u;
-    i0 &= i1;
-    i0 = !(i0);
-    if (i0) {goto B68;}
-    j0 = p0;
-    j1 = 52ull;
-    j0 += j1;
-    i0 = (u32)(j0);
-    i0 = i32_load8_u(j0);
-    i1 = 64u;
-    i0 &= i1;
-    i0 = !(i0);
-    if (i0) {goto B68;}
-    i0 = l29;
-    i1 = 6u;
-    i0 &= i1;
-    l21 = i0;
-    goto B66;
-    B68:;
-    i0 = l28;
-    i1 = 1u;
-    i0 &= i1;
-    i0 = !(i0);
-    if (i0) {goto B69;}
-    i0 = l29;
-    i1 = 7u;
-    i0 &= i1;
-    l21 = i0;
-    goto B66;
-    B69:;
-    i0 = 0u;
-    i1 = l29;
-    i2 = 7u;
-    i1 &= i2;
-    i2 = 1u;
-    i1 += i2;
-    i2 = l29;
-    i3 = 255u;
-    i2 &= i3;
-    i3 = 8u;
-    i2 = i2 == i3;
-    i0 = i2 ? i0 : i1;
-    l21 = i0;
-    B66:;
-    j0 = l2;
-    j1 = 5ull;
-    j0 += j1;
-    i0 = (u32)(j0);
-    i1 = 0u;
-    j2 = 147ull;
-    i2 = (u32)(j2);
-    memory_fill(j0, i1, j2);
-    j0 = l2;
-    j1 = 6944ull;
-    j0 += j1;
-    i1 = l21;
-    i2 = l31;
-    i1 += i2;
-    l21 = i1;
-    i2 = 65535u;
-    i1 &= i2;
-    i2 = 9u;
-    if (i2 == 0) { self->is_broken = true; return; } i1 = i1 / i2;
-    l28 = i1;
-    j1 = (u64)(i1);
-    j2 = l12;
-    j1 += j2;
-    i2 = l21;
-    i3 = l28;
-    i4 = 9u;
-    i3 *= i4;
-    i2 -= i3;
-    j2 = (u64)(i2);
-    l12 = j2;
-    j3 = l15;
-    j2 += j3;
-    i2 = (u32)(j2);
-    i3 = 8u;
-    i2 += i3;
-    i3 = 255u;
-    i2 &= i3;
-    i3 = 9u;
-    if (i3 == 0) { self->is_broken = true; return; } i2 = i2 / i3;
-    j2 = (u64)(i2);
-    j3 = l2;
-    j4 = 5ull;
-    j3 += j4;
-    f5(self, j0, j1, j2, j3); if (NEVER(self->is_broken)) return;
-    j0 = l13;
-    i0 = !(j0);
-    if (i0) {goto B59;}
-    j0 = l11;
-    i0 = (u32)(j0);
-    j1 = l2;
-    j2 = 5ull;
-    j1 += j2;
-    j2 = l12;
-    j3 = 65535ull;
-    j2 &= j3;
-    j3 = 3ull;
-    j2 *= j3;
-    j1 += j2;
-    i1 = (u32)(j1);
-    j2 = l13;
-    i2 = (u32)(j2);
-    memory_copy(j0, j1, j2);
-    goto B59;
-    B65:;
-    j0 = p0;
-    j1 = 186ull;
-    j0 += j1;
-    i0 = (u32)(j0);
-    i0 = i32_load8_u(j0);
-    l29 = i0;
-    j0 = p0;
-    j1 = 138ull;
-    j0 += j1;
-    i0 = (u32)(j0);
-    i0 = i32_load8_u(j0);
-    l31 = i0;
-    j0 = p0;
-    j1 = 136ull;
-    j0 += j1;
-    i0 = (u32)(j0);
-    j0 = i64_load16_u(j0);
-    l12 = j0;
-    j0 = p0;
-    j1 = 144ull;
-    j0 += j1;
-    i0 = (u32)(j0);
-    i0 = i32_load8_u(j0);
-    i1 = 1u;
-    i0 &= i1;
-    i0 = !(i0);
-    if (i0) {goto B71;}
-    i0 = 0u;
-    l21 = i0;
-    j0 = p0;
-    j1 = 183ull;
-    j0 += j1;
-    i0 = (u32)(j0);
-    i0 = i32_load8_u(j0);
-    i1 = 32u;
-    i0 &= i1;
-    if (i0) {goto B70;}
-    B71:;
-    j0 = p0;
-    j1 = 53ull;
-    j0 += j1;
-    i0 = (u32)(j0);
-    i0 = i32_load8_u(j0);
-    i1 = 1u;
-    i0 &= i1;
-    i0 = !(i0);
-    if (i0) {goto B72;}
-    j0 = p0;
-    j1 = 52ull;
-    j0 += j1;
-    i0 = (u32)(j0);
-    i0 = i32_load8_u(j0);
-    i1 = 64u;
-    i0 &= i1;
-    i0 = !(i0);
-    if (i0) {goto B72;}
-    i0 = l29;
-    i1 = 6u;
-    i0 &= i1;
-    l21 = i0;
-    goto B70;
-    B72:;
-    i0 = l28;
-    i1 = 1u;
-    i0 &= i1;
-    i0 = !(i0);
-    if (i0) {goto B73;}
-    i0 = l29;
-    i1 = 7u;
-    i0 &= i1;
-    l21 = i0;
-    goto B70;
-    B73:;
-    i0 = 0u;
-    i1 = l29;
-    i2 = 7u;
-    i1 &= i2;
-    i2 = 1u;
-    i1 += i2;
-    i2 = l29;
-    i3 = 255u;
-    i2 &= i3;
-    i3 = 8u;
-    i2 = i2 == i3;
-    i0 = i2 ? i0 : i1;
-    l21 = i0;
-    B70:;
-    j0 = l2;
-    j1 = 5ull;
-    j0 += j1;
-    i0 = (u32)(j0);
-    i1 = 0u;
-    j2 = 435ull;
-    i2 = (u32)(j2);
-    memory_fill(j0, i1, j2);
-    j0 = l2;
-    j1 = 6944ull;
-    j0 += j1;
-    i1 = l21;
-    i2 = l31;
-    i1 += i2;
-    l21 = i1;
-    i2 = 65535u;
-    i1 &= i2;
-    i2 = 9u;
-    if (i2 == 0) { self->is_broken = true; return; } i1 = i1 / i2;
-    l28 = i1;
-    j1 = (u64)(i1);
-    j2 = l12;
-    j1 += j2;
-    i2 = l30;
-    i3 = l21;
-    i4 = l28;
-    i5 = 9u;
-    i4 *= i5;
-    i3 -= i4;
-    l21 = i3;
-    i2 += i3;
-    i3 = 8u;
-    i2 += i3;
-    i3 = 255u;
-    i2 &= i3;
-    i3 = 9u;
-    if (i3 == 0) { self->is_broken = true; return; } i2 = i2 / i3;
-    j2 = (u64)(i2);
-    j3 = l2;
-    j4 = 5ull;
-    j3 += j4;
-    f5(self, j0, j1, j2, j3); if (NEVER(self->is_broken)) return;
-    j0 = l13;
-    i0 = !(j0);
-    if (i0) {goto B59;}
-    j0 = l11;
-    i0 = (u32)(j0);
-    j1 = l2;
-    j2 = 5ull;
-    j1 += j2;
-    i2 = l21;
-    i3 = 3u;
-    i2 *= i3;
-    j2 = (u64)(i2);
-    j3 = 65535ull;
-    j2 &= j3;
-    j1 += j2;
-    i1 = (u32)(j1);
-    j2 = l13;
-    i2 = (u32)(j2);
-    memory_copy(j0, j1, j2);
-    B59:;
-    j0 = p0;
-    j1 = 2032ull;
-    j0 += j1;
-    l11 = j0;
-    i0 = (u32)(j0);
-    j1 = l11;
-    i1 = (u32)(j1);
-    j1 = i64_load(j1);
-    j2 = l13;
-    j1 += j2;
-    i64_store(j0, j1);
-    j0 = p0;
-    j1 = 2040ull;
-    j0 += j1;
-    i0 = (u32)(j0);
-    j0 = i64_load(j0);
-    i1 = l22;
-    j1 = (u64)(i1);
-    j2 = 65535ull;
-    j1 &= j2;
-    j2 = 2ull;
-    j1 <<= (j2 & 63);
-    j0 += j1;
-    l11 = j0;
-    i0 = (u32)(j0);
-    j1 = l11;
-    i1 = (u32)(j1);
-    i1 = i32_load(j1);
-    i2 = l30;
-    i1 += i2;
-    i32_store(j0, i1);
-    j0 = p0;
-    j1 = 2064ull;
-    j0 += j1;
-    i0 = (u32)(j0);
-    i1 = l22;
-    i32_store16(j0, i1);
-    B36:;
-    j0 = p0;
-    j1 = 138ull;
-    j0 += j1;
-    i0 = (u32)(j0);
-    i0 = i32_load8_u(j0);
-    l21 = i0;
-    j0 = p0;
-    j1 = 136ull;
-    j0 += j1;
-    i0 = (u32)(j0);
-    i0 = i32_load16_u(j0);
-    l22 = i0;
-    if (i0) {goto B27;}
-    i0 = 0u;
-    l22 = i0;
-    i0 = l21;
-    i1 = 255u;
-    i0 &= i1;
-    if (i0) {goto B27;}
-    j0 = p0;
-    j1 = 134ull;
-    j0 += j1;
-    i0 = (u32)(j0);
-    i0 = i32_load16_u(j0);
-    i1 = 65535u;
-    i0 &= i1;
-    if (i0) {goto B27;}
-    i0 = 0u;
-    l22 = i0;
-    j0 = p0;
-    j1 = 143ull;
-    j0 += j1;
-    i0 = (u32)(j0);
-    i1 = 0u;
-    i32_store16(j0, i1);
-    j0 = p0;
-    j1 = 142ull;
-    j0 += j1;
-    i0 = (u32)(j0);
-    j1 = p0;
-    j2 = 113ull;
-    j1 += j2;
-    i1 = (u32)(j1);
-    i1 = i32_load8_u(j1);
-    l21 = i1;
-    i2 = 31u;
-    i1 &= i2;
-    i32_store8(j0, i1);
-    j0 = p0;
-    j1 = 140ull;
-    j0 += j1;
-    i0 = (u32)(j0);
-    j1 = p0;
-    j2 = 117ull;
-    j1 += j2;
-    i1 = (u32)(j1);
-    i1 = i32_load16_u(j1);
-    l28 = i1;
-    i2 = 8u;
-    i1 <<= (i2 & 31);
-    i2 = l28;
-    i3 = 8u;
-    i2 >>= (i3 & 31);
-    i1 |= i2;
-    i2 = l21;
-    i3 = 5u;
-    i2 >>= (i3 & 31);
-    i3 = 3u;
-    i2 &= i3;
-    i1 += i2;
-    i32_store16(j0, i1);
-    i0 = 0u;
-    l21 = i0;
-    goto B27;
-    B29:;
-    j0 = p0;
-    j1 = 34ull;
-    j0 += j1;
-    i0 = (u32)(j0);
-    i0 = i32_load8_u(j0);
-    i1 = 1u;
-    i0 &= i1;
-    i1 = 9u;
-    i0 ^= i1;
-    l27 = i0;
-    i0 = l22;
-    i1 = 65535u;
-    i0 &= i1;
-    if (i0) {goto B26;}
-    j0 = p0;
-    j1 = 134ull;
-    j0 += j1;
-    i0 = (u32)(j0);
-    i0 = i32_load16_u(j0);
-    l26 = i0;
-    i0 = l21;
-    i1 = 255u;
-    i0 &= i1;
-    if (i0) {goto B74;}
-    i0 = l26;
-    i1 = 65535u;
-    i0 &= i1;
-    if (i0) {goto B74;}
-    j0 = p0;
-    j1 = 2032ull;
-    j0 += j1;
-    i0 = (u32)(j0);
-    j1 = 0ull;
-    i64_store(j0, j1);
-    j0 = p0;
-    j1 = 2040ull;
-    j0 += j1;
-    i0 = (u32)(j0);
-    j0 = i64_load(j0);
-    l10 = j0;
-    j1 = p0;
-    j2 = 2064ull;
-    j1 += j2;
-    l11 = j1;
-    i1 = (u32)(j1);
-    j1 = i64_load16_u(j1);
-    l12 = j1;
-    j2 = 2ull;
-    j1 <<= (j2 & 63);
-    l13 = j1;
-    j0 += j1;
-    i0 = (u32)(j0);
-    i1 = 0u;
-    i32_store(j0, i1);
-    j0 = l12;
-    i0 = !(j0);
-    if (i0) {goto B75;}
-    j0 = l13;
-    i0 = !(j0);
-    if (i0) {goto B75;}
-    j0 = l10;
-    i0 = (u32)(j0);
-    i1 = 0u;
-    j2 = l13;
-    i2 = (u32)(j2);
-    memory_fill(j0, i1, j2);
-    B75:;
-    j0 = l11;
-    i0 = (u32)(j0);
-    i1 = 0u;
-    i32_store16(j0, i1);
-    j0 = p0;
-    j1 = 136ull;
-    j0 += j1;
-    i0 = (u32)(j0);
-    i0 = i32_load16_u(j0);
-    l22 = i0;
-    if (i0) {goto B26;}
-    j0 = p0;
-    j1 = 134ull;
-    j0 += j1;
-    i0 = (u32)(j0);
-    i0 = i32_load16_u(j0);
-    l26 = i0;
-    j0 = p0;
-    j1 = 138ull;
-    j0 += j1;
-    i0 = (u32)(j0);
-    i0 = i32_load8_u(j0);
-    l21 = i0;
-    B74:;
-    i0 = 0u;
-    l22 = i0;
-    i0 = l21;
-    i1 = 255u;
-    i0 &= i1;
-    if (i0) {goto B25;}
-    i0 = l26;
-    i1 = 65535u;
-    i0 &= i1;
-    if (i0) {goto B25;}
-    i0 = 0u;
-    l26 = i0;
-    j0 = p0;
-    j1 = 143ull;
-    j0 += j1;
-    i0 = (u32)(j0);
-    i1 = 0u;
-    i32_store16(j0, i1);
-    j0 = p0;
-    j1 = 142ull;
-    j0 += j1;
-    i0 = (u32)(j0);
-    j1 = p0;
-    j2 = 113ull;
-    j1 += j2;
-    i1 = (u32)(j1);
-    i1 = i32_load8_u(j1);
-    l22 = i1;
-    i2 = 31u;
-    i1 &= i2;
-    i32_store8(j0, i1);
-    j0 = p0;
-    j1 = 140ull;
-    j0 += j1;
-    i0 = (u32)(j0);
-    j1 = p0;
-    j2 = 117ull;
-    j1 += j2;
-    i1 = (u32)(j1);
-    i1 = i32_load16_u(j1);
-    l21 = i1;
-    i2 = 8u;
-    i1 <<= (i2 & 31);
-    i2 = l21;
-    i3 = 8u;
-    i2 >>= (i3 & 31);
-    i1 |= i2;
-    i2 = l22;
-    i3 = 5u;
-    i2 >>= (i3 & 31);
-    i3 = 3u;
-    i2 &= i3;
-    i1 += i2;
-    i32_store16(j0, i1);
-    i0 = 0u;
-    l22 = i0;
-    goto B25;
-    B28:;
-    j0 = p0;
-    j1 = 138ull;
-    j0 += j1;
-    i0 = (u32)(j0);
-    i0 = i32_load8_u(j0);
-    l21 = i0;
-    B27:;
-    i0 = l22;
-    i1 = 65535u;
-    i0 &= i1;
-    i1 = l26;
-    i0 *= i1;
-    i1 = l27;
-    i0 += i1;
-    i1 = l21;
-    i2 = 255u;
-    i1 &= i2;
-    i0 += i1;
-    l21 = i0;
-    j1 = p0;
-    j2 = 105ull;
-    j1 += j2;
-    i1 = (u32)(j1);
-    i1 = i32_load8_u(j1);
-    i2 = 5u;
-    i1 += i2;
-    i2 = l26;
-    i1 *= i2;
-    i0 = i0 >= i1;
-    if (i0) {goto B76;}
-    j0 = p0;
-    j1 = 136ull;
-    j0 += j1;
-    i0 = (u32)(j0);
-    i1 = l21;
-    i2 = 65535u;
-    i1 &= i2;
-    i2 = l26;
-    if (i2 == 0) { self->is_broken = true; return; } i1 = i1 / i2;
-    l22 = i1;
-    i32_store16(j0, i1);
-    j0 = p0;
-    j1 = 138ull;
-    j0 += j1;
-    i0 = (u32)(j0);
-    i1 = l21;
-    i2 = l22;
-    i3 = l26;
-    i2 *= i3;
-    i1 -= i2;
-    l21 = i1;
-    i32_store8(j0, i1);
-    i0 = p1;
-    i1 = l27;
-    i0 -= i1;
-    p1 = i0;
-    goto B15;
-    B76:;
-    j0 = p0;
-    j1 = 134ull;
-    j0 += j1;
-    i0 = (u32)(j0);
-    i0 = i32_load16_u(j0);
-    l21 = i0;
-    i1 = 1u;
-    i0 += i1;
-    l26 = i0;
-    i1 = 65535u;
-    i0 &= i1;
-    j1 = p0;
-    j2 = 111ull;
-    j1 += j2;
-    i1 = (u32)(j1);
-    i1 = i32_load8_u(j1);
-    j2 = p0;
-    j3 = 112ull;
-    j2 += j3;
-    i2 = (u32)(j2);
-    i2 = i32_load8_u(j2);
-    l22 = i2;
-    i3 = 1u;
-    i2 &= i3;
-    i3 = 8u;
-    i2 <<= (i3 & 31);
-    i1 |= i2;
-    i2 = l22;
-    i3 = 4u;
-    i2 <<= (i3 & 31);
-    l22 = i2;
-    i3 = 512u;
-    i2 &= i3;
-    i1 |= i2;
-    i2 = 2u;
-    i1 += i2;
-    i0 = i0 >= i1;
-    if (i0) {goto B78;}
-    j0 = p0;
-    j1 = 138ull;
-    j0 += j1;
-    i0 = (u32)(j0);
-    i1 = 0u;
-    i32_store8(j0, i1);
-    j0 = p0;
-    j1 = 136ull;
-    j0 += j1;
-    i0 = (u32)(j0);
-    i1 = 0u;
-    i32_store16(j0, i1);
-    i0 = l21;
-    i1 = 65535u;
-    i0 &= i1;
-    j1 = p0;
-    j2 = 114ull;
-    j1 += j2;
-    i1 = (u32)(j1);
-    i1 = i32_load8_s(j1);
-    l21 = i1;
-    i2 = 3u;
-    i1 <<= (i2 & 31);
-    i2 = 512u;
-    i1 &= i2;
-    i2 = l22;
-    i3 = 256u;
-    i2 &= i3;
-    j3 = p0;
-    j4 = 129ull;
-    j3 += j4;
-    i3 = (u32)(j3);
-    i3 = i32_load8_u(j3);
-    i2 |= i3;
-    i1 |= i2;
-    i0 = i0 != i1;
-    if (i0) {goto B80;}
-    j0 = p0;
-    j1 = 144ull;
-    j0 += j1;
-    i0 = (u32)(j0);
-    i1 = 1u;
-    i32_store8(j0, i1);
-    j0 = p0;
-    j1 = 140ull;
-    j0 += j1;
-    i0 = (u32)(j0);
-    i1 = 0u;
-    i32_store(j0, i1);
-    goto B79;
-    B80:;
-    i0 = l21;
-    i1 = 4294967295u;
-    i0 = (u32)((s32)i0 > (s32)i1);
-    if (i0) {goto B81;}
-    j0 = p0;
-    j1 = 143ull;
-    j0 += j1;
-    l11 = j0;
-    i0 = (u32)(j0);
-    i0 = i32_load8_u(j0);
-    if (i0) {goto B81;}
-    j0 = l11;
-    i0 = (u32)(j0);
-    i1 = 1u;
-    i32_store8(j0, i1);
-    goto B79;
-    B81:;
-    j0 = p0;
-    j1 = 143ull;
-    j0 += j1;
-    i0 = (u32)(j0);
-    i1 = 0u;
-    i32_store8(j0, i1);
-    j0 = p0;
-    j1 = 142ull;
-    j0 += j1;
-    l11 = j0;
-    i0 = (u32)(j0);
-    i0 = i32_load8_u(j0);
-    l22 = i0;
-    i1 = l21;
-    i2 = 31u;
-    i1 &= i2;
-    i0 = i0 >= i1;
-    if (i0) {goto B82;}
-    j0 = l11;
-    i0 = (u32)(j0);
-    i1 = l22;
-    i2 = 1u;
-    i1 += i2;
-    i32_store8(j0, i1);
-    goto B79;
-    B82:;
-    j0 = l11;
-    i0 = (u32)(j0);
-    i1 = 0u;
-    i32_store8(j0, i1);
-    j0 = p0;
-    j1 = 140ull;
-    j0 += j1;
-    l11 = j0;
-    i0 = (u32)(j0);
-    j1 = p0;
-    j2 = 124ull;
-    j1 += j2;
-    i1 = (u32)(j1);
-    i1 = i32_load8_u(j1);
-    i2 = 1u;
-    i1 <<= (i2 & 31);
-    j2 = l11;
-    i2 = (u32)(j2);
-    i2 = i32_load16_u(j2);
-    i1 += i2;
-    i32_store16(j0, i1);
-    B79:;
-    j0 = p0;
-    j1 = 134ull;
-    j0 += j1;
-    i0 = (u32)(j0);
-    i1 = l26;
-    i32_store16(j0, i1);
-    goto B77;
-    B78:;
-    j0 = l4;
-    i0 = (u32)(j0);
-    j1 = 0ull;
-    i64_store(j0, j1);
-    j0 = l4;
-    i0 = (u32)(j0);
-    j1 = 0ull;
-    i64_store(j0 + 5, j1);
-    j0 = p0;
-    j1 = 132ull;
-    j0 += j1;
-    l11 = j0;
-    i0 = (u32)(j0);
-    j1 = l11;
-    i1 = (u32)(j1);
-    i1 = i32_load8_u(j1);
-    i2 = 1u;
-    i1 += i2;
-    i2 = 31u;
-    i1 &= i2;
-    i32_store8(j0, i1);
-    B77:;
-    i0 = 0u;
-    l21 = i0;
-    i0 = 0u;
-    l22 = i0;
-    i0 = p1;
-    i1 = l27;
-    i0 -= i1;
-    p1 = i0;
-    goto B15;
-    B26:;
-    i0 = l22;
-    i1 = 65535u;
-    i0 &= i1;
-    j1 = p0;
-    j2 = 106ull;
-    j1 += j2;
-    i1 = (u32)(j1);
-    i1 = i32_load8_u(j1);
-    i0 = i0 > i1;
-    if (i0) {goto B24;}
-    j0 = p0;
-    j1 = 134ull;
-    j0 += j1;
-    i0 = (u32)(j0);
-    i0 = i32_load16_u(j0);
-    l26 = i0;
-    B25:;
-    i0 = l26;
-    i1 = 65535u;
-    i0 &= i1;
-    j1 = p0;
-    j2 = 112ull;
-    j1 += j2;
-    i1 = (u32)(j1);
-    i1 = i32_load8_u(j1);
-    l21 = i1;
-    i2 = 7u;
-    i1 <<= (i2 & 31);
-    i2 = 256u;
-    i1 &= i2;
-    j2 = p0;
-    j3 = 123ull;
-    j2 += j3;
-    i2 = (u32)(j2);
-    i2 = i32_load8_u(j2);
-    i1 |= i2;
-    i2 = l21;
-    i3 = 3u;
-    i2 <<= (i3 & 31);
-    i3 = 512u;
-    i2 &= i3;
-    i1 |= i2;
-    i0 = i0 > i1;
-    if (i0) {goto B17;}
-    i0 = 0u;
-    l21 = i0;
-    i0 = 0u;
-    l28 = i0;
-    i0 = 0u;
-    l29 = i0;
-    j0 = p0;
-    j1 = 34ull;
-    j0 += j1;
-    i0 = (u32)(j0);
-    i0 = i32_load8_u(j0);
-    l30 = i0;
-    i1 = 32u;
-    i0 &= i1;
-    if (i0) {goto B18;}
-    j0 = p0;
-    j1 = 204ull;
-    j0 += j1;
-    i0 = (u32)(j0);
-    i0 = i32_load8_u(j0);
-    i1 = 32u;
-    i0 &= i1;
-    if (i0) {goto B83;}
-    j0 = p0;
-    j1 = 184ull;
-    j0 += j1;
-    i0 = (u32)(j0);
-    i0 = i32_load8_u(j0);
-    l22 = i0;
-    goto B19;
-    B83:;
-    j0 = p0;
-    j1 = 53ull;
-    j0 += j1;
-    i0 = (u32)(j0);
-    i0 = i32_load8_u(j0);
-    i1 = 1u;
-    i0 &= i1;
-    l31 = i0;
-    if (i0) {goto B84;}
-    i0 = l30;
-    i1 = 1u;
-    i0 &= i1;
-    l30 = i0;
-    i1 = 9u;
-    i0 ^= i1;
-    l21 = i0;
-    j0 = p0;
-    j1 = 186ull;
-    j0 += j1;
-    i0 = (u32)(j0);
-    i0 = i32_load8_u(j0);
-    l29 = i0;
-    j0 = p0;
-    j1 = 138ull;
-    j0 += j1;
-    i0 = (u32)(j0);
-    i0 = i32_load8_u(j0);
-    l28 = i0;
-    j0 = p0;
-    j1 = 144ull;
-    j0 += j1;
-    i0 = (u32)(j0);
-    i0 = i32_load8_u(j0);
-    i1 = 1u;
-    i0 &= i1;
-    i0 = !(i0);
-    if (i0) {goto B21;}
-    j0 = p0;
-    j1 = 183ull;
-    j0 += j1;
-    i0 = (u32)(j0);
-    i0 = i32_load8_u(j0);
-    i1 = 32u;
-    i0 &= i1;
-    i0 = !(i0);
-    if (i0) {goto B21;}
-    i0 = 0u;
-    l29 = i0;
-    goto B20;
-    B84:;
-    i0 = l30;
-    i1 = 1u;
-    i0 &= i1;
-    l30 = i0;
-    i1 = 9u;
-    i0 ^= i1;
-    l21 = i0;
-    j0 = p0;
-    j1 = 186ull;
-    j0 += j1;
-    i0 = (u32)(j0);
-    i0 = i32_load8_u(j0);
-    l29 = i0;
-    j0 = p0;
-    j1 = 144ull;
-    j0 += j1;
-    i0 = (u32)(j0);
-    i0 = i32_load8_u(j0);
-    l32 = i0;
-    j0 = p0;
-    j1 = 138ull;
-    j0 += j1;
-    i0 = (u32)(j0);
-    i0 = i32_load8_u(j0);
-    l28 = i0;
-    j0 = p0;
-    j1 = 52ull;
-    j0 += j1;
-    i0 = (u32)(j0);
-    i0 = i32_load8_u(j0);
-    i1 = 64u;
-    i0 &= i1;
-    i0 = !(i0);
-    if (i0) {goto B85;}
-    i0 = l32;
-    i1 = 1u;
-    i0 &= i1;
-    i0 = !(i0);
-    if (i0) {goto B87;}
-    i0 = 0u;
-    l30 = i0;
-    j0 = p0;
-    j1 = 183ull;
-    j0 += j1;
-    i0 = (u32)(j0);
-    i0 = i32_load8_u(j0);
-    i1 = 32u;
-    i0 &= i1;
-    if (i0) {goto B86;}
-    B87:;
-    i0 = l29;
-    i1 = 6u;
-    i0 &= i1;
-    l30 = i0;
-    B86:;
-    i0 = l30;
-    i1 = l28;
-    i0 += i1;
-    l28 = i0;
-    i1 = 255u;
-    i0 &= i1;
-    i1 = l21;
-    i0 = i0 >= i1;
-    if (i0) {goto B89;}
-    j0 = p0;
-    j1 = 140ull;
-    j0 += j1;
-    i0 = (u32)(j0);
-    i0 = i32_load16_u(j0);
-    i1 = l22;
-    i0 += i1;
-    l21 = i0;
-    goto B88;
-    B89:;
-    i0 = l28;
-    i1 = l21;
-    i0 -= i1;
-    l28 = i0;
-    i0 = l22;
-    j1 = p0;
-    j2 = 140ull;
-    j1 += j2;
-    i1 = (u32)(j1);
-    i1 = i32_load16_u(j1);
-    i0 += i1;
-    i1 = 1u;
-    i0 += i1;
-    l21 = i0;
-    B88:;
-    i0 = 0u;
-    l22 = i0;
-    i0 = l28;
-    i1 = 255u;
-    i0 &= i1;
-    i1 = 7u;
-    i0 = i0 > i1;
-    if (i0) {goto B19;}
-    j0 = p0;
-    j1 = 125ull;
-    j0 += j1;
-    i0 = (u32)(j0);
-    i0 = i32_load8_u(j0);
-    i1 = 64u;
-    i0 &= i1;
-    i0 = !(i0);
-    if (i0) {goto B91;}
-    i0 = l21;
-    i1 = 2u;
-    i0 <<= (i1 & 31);
-    l21 = i0;
-    goto B90;
-    B91:;
-    j0 = p0;
-    j1 = 128ull;
-    j0 += j1;
-    i0 = (u32)(j0);
-    i0 = i32_load8_u(j0);
-    l22 = i0;
-    i1 = 64u;
-    i0 &= i1;
-    if (i0) {goto B90;}
-    i0 = l21;
-    i1 = 65535u;
-    i0 &= i1;
-    i1 = 15u;
-    i2 = 13u;
-    i3 = l22;
-    i4 = 32u;
-    i3 &= i4;
-    i1 = i3 ? i1 : i2;
-    i0 >>= (i1 & 31);
-    i1 = 1u;
-    i0 &= i1;
-    i1 = l21;
-    i2 = 1u;
-    i1 <<= (i2 & 31);
-    i0 |= i1;
-    l21 = i0;
-    B90:;
-    j0 = p0;
-    i0 = (u32)(j0);
-    j0 = i64_load(j0);
-    i1 = l21;
-    j1 = (u64)(i1);
-    j2 = 65535ull;
-    j1 &= j2;
-    j2 = 2ull;
-    j1 <<= (j2 & 63);
-    j0 += j1;
-    i0 = (u32)(j0);
-    i0 = i32_load(j0);
-    i1 = l28;
-    i2 = 2u;
-    i1 <<= (i2 & 31);
-    i2 = 24u;
-    i1 &= i2;
-    i0 >>= (i1 & 31);
-    l22 = i0;
-    goto B19;
-    B85:;
-    i0 = l32;
-    i1 = 1u;
-    i0 &= i1;
-    if (i0) {goto B23;}
-    goto B22;
-    B24:;
-    j0 = p0;
-    j1 = 138ull;
-    j0 += j1;
-    i0 = (u32)(j0);
-    i0 = i32_load8_u(j0);
-    l21 = i0;
-    goto B16;
-    B23:;
-    j0 = p0;
-    j1 = 183ull;
-    j0 += j1;
-    i0 = (u32)(j0);
-    i0 = i32_load8_u(j0);
-    i1 = 32u;
-    i0 &= i1;
-    i0 = !(i0);
-    if (i0) {goto B22;}
-    i0 = 0u;
-    l29 = i0;
-    goto B20;
-    B22:;
-    j0 = p0;
-    j1 = 52ull;
-    j0 += j1;
-    i0 = (u32)(j0);
-    i0 = i32_load8_u(j0);
-    i1 = 64u;
-    i0 &= i1;
-    i0 = !(i0);
-    if (i0) {goto B21;}
-    i0 = l29;
-    i1 = 6u;
-    i0 &= i1;
-    l29 = i0;
-    goto B20;
-    B21:;
-    i0 = l30;
-    i0 = !(i0);
-    if (i0) {goto B92;}
-    i0 = l29;
-    i1 = 7u;
-    i0 &= i1;
-    l29 = i0;
-    goto B20;
-    B92:;
-    i0 = 0u;
-    i1 = l29;
-    i2 = 7u;
-    i1 &= i2;
-    i2 = 1u;
-    i1 += i2;
-    i2 = l29;
-    i3 = 255u;
-    i2 &= i3;
-    i3 = 8u;
-    i2 = i2 == i3;
-    i0 = i2 ? i0 : i1;
-    l29 = i0;
-    B20:;
-    i0 = l29;
-    i1 = l28;
-    i0 += i1;
-    l28 = i0;
-    i1 = 255u;
-    i0 &= i1;
-    i1 = l21;
-    i0 = i0 >= i1;
-    if (i0) {goto B94;}
-    j0 = p0;
-    j1 = 140ull;
-    j0 += j1;
-    i0 = (u32)(j0);
-    i0 = i32_load16_u(j0);
-    i1 = l22;
-    i0 += i1;
-    l22 = i0;
-    goto B93;
-    B94:;
-    i0 = l28;
-    i1 = l21;
-    i0 -= i1;
-    l28 = i0;
-    i0 = l22;
-    j1 = p0;
-    j2 = 140ull;
-    j1 += j2;
-    i1 = (u32)(j1);
-    i1 = i32_load16_u(j1);
-    i0 += i1;
-    i1 = 1u;
-    i0 += i1;
-    l22 = i0;
-    B93:;
-    i0 = l31;
-    i0 = !(i0);
-    if (i0) {goto B96;}
-    i0 = 0u;
-    l21 = i0;
-    i0 = l28;
-    i1 = 255u;
-    i0 &= i1;
-    i1 = 7u;
-    i0 = i0 > i1;
-    if (i0) {goto B95;}
-    j0 = p0;
-    j1 = 125ull;
-    j0 += j1;
-    i0 = (u32)(j0);
-    i0 = i32_load8_u(j0);
-    i1 = 64u;
-    i0 &= i1;
-    i0 = !(i0);
-    if (i0) {goto B98;}
-    i0 = l22;
-    i1 = 2u;
-    i0 <<= (i1 & 31);
-    l22 = i0;
-    goto B97;
-    B98:;
-    j0 = p0;
-    j1 = 128ull;
-    j0 += j1;
-    i0 = (u32)(j0);
-    i0 = i32_load8_u(j0);
-    l21 = i0;
-    i1 = 64u;
-    i0 &= i1;
-    if (i0) {goto B97;}
-    i0 = l22;
-    i1 = 65535u;
-    i0 &= i1;
-    i1 = 15u;
-    i2 = 13u;
-    i3 = l21;
-    i4 = 32u;
-    i3 &= i4;
-    i1 = i3 ? i1 : i2;
-    i0 >>= (i1 & 31);
-    i1 = 1u;
-    i0 &= i1;
-    i1 = l22;
-    i2 = 1u;
-    i1 <<= (i2 & 31);
-    i0 |= i1;
-    l22 = i0;
-    B97:;
-    j0 = p0;
-    i0 = (u32)(j0);
-    j0 = i64_load(j0);
-    i1 = l22;
-    j1 = (u64)(i1);
-    j2 = 65535ull;
-    j1 &= j2;
-    j2 = 2ull;
-    j1 <<= (j2 & 63);
-    j0 += j1;
-    i0 = (u32)(j0);
-    i0 = i32_load(j0);
-    l22 = i0;
-    i1 = 8u;
-    i0 >>= (i1 & 31);
-    i1 = 255u;
-    i0 &= i1;
-    i1 = 7u;
-    i2 = l28;
-    i1 -= i2;
-    i2 = 255u;
-    i1 &= i2;
-    l21 = i1;
-    i0 >>= (i1 & 31);
-    i1 = 1u;
-    i0 <<= (i1 & 31);
-    i1 = 2u;
-    i0 &= i1;
-    i1 = l22;
-    i2 = 255u;
-    i1 &= i2;
-    i2 = l21;
-    i1 >>= (i2 & 31);
-    i2 = 1u;
-    i1 &= i2;
-    i0 |= i1;
-    i1 = l22;
-    i2 = 16u;
-    i1 >>= (i2 & 31);
-    i2 = 255u;
-    i1 &= i2;
-    i2 = l21;
-    i1 >>= (i2 & 31);
-    i2 = 2u;
-    i1 <<= (i2 & 31);
-    i2 = 4u;
-    i1 &= i2;
-    i0 |= i1;
-    i1 = l22;
-    i2 = 24u;
-    i1 >>= (i2 & 31);
-    i2 = l21;
-    i1 >>= (i2 & 31);
-    i2 = 3u;
-    i1 <<= (i2 & 31);
-    i2 = 8u;
-    i1 &= i2;
-    i0 |= i1;
-    l21 = i0;
-    goto B95;
-    B96:;
-    j0 = p0;
-    j1 = 125ull;
-    j0 += j1;
-    i0 = (u32)(j0);
-    i0 = i32_load8_u(j0);
-    l32 = i0;
-    i1 = 64u;
-    i0 &= i1;
-    i0 = !(i0);
-    if (i0) {goto B100;}
-    i0 = l22;
-    i1 = 2u;
-    i0 <<= (i1 & 31);
-    l21 = i0;
-    goto B99;
-    B100:;
-    i0 = l22;
-    l21 = i0;
-    j0 = p0;
-    j1 = 128ull;
-    j0 += j1;
-    i0 = (u32)(j0);
-    i0 = i32_load8_u(j0);
-    l29 = i0;
-    i1 = 64u;
-    i0 &= i1;
-    if (i0) {goto B99;}
-    i0 = l22;
-    i1 = 65535u;
-    i0 &= i1;
-    i1 = 15u;
-    i2 = 13u;
-    i3 = l29;
-    i4 = 32u;
-    i3 &= i4;
-    i1 = i3 ? i1 : i2;
-    i0 >>= (i1 & 31);
-    i1 = 1u;
-    i0 &= i1;
-    i1 = l22;
-    i2 = 1u;
-    i1 <<= (i2 & 31);
-    i0 |= i1;
-    l21 = i0;
-    B99:;
-    j0 = p0;
-    j1 = 142ull;
-    j0 += j1;
-    i0 = (u32)(j0);
-    i0 = i32_load8_u(j0);
-    l29 = i0;
-    j0 = p0;
-    i0 = (u32)(j0);
-    j0 = i64_load(j0);
-    l11 = j0;
-    i1 = l21;
-    j1 = (u64)(i1);
-    j2 = 65535ull;
-    j1 &= j2;
-    j2 = 2ull;
-    j1 <<= (j2 & 63);
-    j0 += j1;
-    i0 = (u32)(j0);
-    i0 = i32_load(j0);
-    l33 = i0;
-    i1 = 8u;
-    i0 >>= (i1 & 31);
-    l21 = i0;
-    j0 = p0;
-    j1 = 132ull;
-    j0 += j1;
-    i0 = (u32)(j0);
-    i0 = i32_load8_u(j0);
-    l30 = i0;
-    i0 = l22;
-    i1 = 65535u;
-    i0 &= i1;
-    j1 = p0;
-    j2 = 119ull;
-    j1 += j2;
-    i1 = (u32)(j1);
-    i1 = i32_load16_u(j1);
-    l22 = i1;
-    i2 = 8u;
-    i1 <<= (i2 & 31);
-    i2 = l22;
-    i3 = 8u;
-    i2 >>= (i3 & 31);
-    i1 |= i2;
-    i2 = 65535u;
-    i1 &= i2;
-    i0 = i0 != i1;
-    if (i0) {goto B103;}
-    j0 = p0;
-    j1 = 115ull;
-    j0 += j1;
-    i0 = (u32)(j0);
-    i0 = i32_load8_u(j0);
-    l22 = i0;
-    i1 = 32u;
-    i0 &= i1;
-    if (i0) {goto B103;}
-    i0 = l22;
-    i1 = 31u;
-    i0 &= i1;
-    i1 = l29;
-    i2 = 255u;
-    i1 &= i2;
-    l22 = i1;
-    i0 = i0 > i1;
-    if (i0) {goto B103;}
-    i0 = l22;
-    j1 = p0;
-    j2 = 116ull;
-    j1 += j2;
-    i1 = (u32)(j1);
-    i1 = i32_load8_u(j1);
-    i2 = 31u;
-    i1 &= i2;
-    i0 = i0 > i1;
-    if (i0) {goto B103;}
-    i0 = l30;
-    i1 = 8u;
-    i0 &= i1;
-    i0 = !(i0);
-    if (i0) {goto B102;}
-    B103:;
-    j0 = p0;
-    j1 = 183ull;
-    j0 += j1;
-    i0 = (u32)(j0);
-    i0 = i32_load8_u(j0);
-    l31 = i0;
-    i1 = 8u;
-    i0 &= i1;
-    l22 = i0;
-    i0 = l21;
-    i0 = (u32)(s32)(s8)(u8)(i0);
-    i1 = 4294967295u;
-    i0 = (u32)((s32)i0 > (s32)i1);
-    if (i0) {goto B104;}
-    i0 = l22;
-    i0 = !(i0);
-    if (i0) {goto B104;}
-    i0 = l30;
-    i1 = 255u;
-    i0 &= i1;
-    i1 = 15u;
-    i0 = i0 > i1;
-    if (i0) {goto B101;}
-    B104:;
-    i0 = l21;
-    i1 = 119u;
-    i0 &= i1;
-    i1 = 1u;
-    i0 = i0 != i1;
-    if (i0) {goto B105;}
-    i0 = l31;
-    i1 = 2u;
-    i0 &= i1;
-    i0 = !(i0);
-    if (i0) {goto B105;}
-    i0 = l29;
-    i1 = 255u;
-    i0 &= i1;
-    i1 = l32;
-    i2 = 31u;
-    i1 &= i2;
-    i0 = i0 == i1;
-    if (i0) {goto B102;}
-    B105:;
-    i0 = l29;
-    j0 = (u64)(i0);
-    j1 = 255ull;
-    j0 &= j1;
-    l12 = j0;
-    j0 = p0;
-    j1 = 36ull;
-    j0 += j1;
-    i0 = (u32)(j0);
-    i0 = i32_load8_u(j0);
-    l29 = i0;
-    i0 = l21;
-    i1 = 8u;
-    i0 &= i1;
-    i0 = !(i0);
-    if (i0) {goto B107;}
-    i0 = l29;
-    i1 = 2u;
-    i0 >>= (i1 & 31);
-    i1 = 3u;
-    i0 &= i1;
-    i1 = l29;
-    i2 = 3u;
-    i1 >>= (i2 & 31);
-    i2 = 4u;
-    i1 &= i2;
-    i0 |= i1;
-    l29 = i0;
-    goto B106;
-    B107:;
-    i0 = l29;
-    i1 = 2u;
-    i0 >>= (i1 & 31);
-    i1 = 4u;
-    i0 &= i1;
-    i1 = l29;
-    i2 = 3u;
-    i1 &= i2;
-    i0 |= i1;
-    l29 = i0;
-    B106:;
-    j0 = l11;
-    j1 = l12;
-    j2 = 2ull;
-    j1 <<= (j2 & 63);
-    i2 = l33;
-    i3 = 7u;
-    i2 <<= (i3 & 31);
-    i3 = 32640u;
-    i2 &= i3;
-    j2 = (u64)(i2);
-    j1 += j2;
-    i2 = l29;
-    i3 = 16u;
-    i2 <<= (i3 & 31);
-    j2 = (u64)(i2);
-    j1 |= j2;
-    i2 = l29;
-    i3 = 13u;
-    i2 <<= (i3 & 31);
-    i3 = 32768u;
-    i2 &= i3;
-    j2 = (u64)(i2);
-    j1 += j2;
-    j2 = 262140ull;
-    j1 &= j2;
-    j0 += j1;
-    j1 = 2ull;
-    j0 += j1;
-    i0 = (u32)(j0);
-    i0 = i32_load16_u(j0);
-    l29 = i0;
-    i0 = l28;
-    i1 = 255u;
-    i0 &= i1;
-    l28 = i0;
-    i1 = 8u;
-    i0 = i0 < i1;
-    if (i0) {goto B108;}
-    i0 = l33;
-    i1 = 224u;
-    i0 &= i1;
-    i1 = 192u;
-    i0 = i0 != i1;
-    if (i0) {goto B101;}
-    i0 = l31;
-    i1 = 4u;
-    i0 &= i1;
-    i0 = !(i0);
-    if (i0) {goto B101;}
-    i0 = l29;
-    i1 = 1u;
-    i0 &= i1;
-    if (i0) {goto B102;}
-    goto B101;
-    B108:;
-    i0 = l29;
-    i1 = l28;
-    i0 <<= (i1 & 31);
-    i1 = 128u;
-    i0 &= i1;
-    i0 = !(i0);
-    if (i0) {goto B101;}
-    B102:;
-    i0 = l21;
-    i1 = 15u;
-    i0 &= i1;
-    l21 = i0;
-    goto B95;
-    B101:;
-    i0 = l21;
-    i1 = 240u;
-    i0 &= i1;
-    i1 = 4u;
-    i0 >>= (i1 & 31);
-    l21 = i0;
-    i1 = 7u;
-    i0 &= i1;
-    i1 = l21;
-    i2 = l22;
-    i0 = i2 ? i0 : i1;
-    l21 = i0;
-    B95:;
-    j0 = l3;
-    i1 = l21;
-    j1 = (u64)(i1);
-    j0 += j1;
-    i0 = (u32)(j0);
-    i0 = i32_load8_u(j0);
-    l22 = i0;
-    B19:;
-    j0 = l5;
-    j1 = p0;
-    j2 = 2002ull;
-    j1 += j2;
-    i1 = (u32)(j1);
-    i1 = i32_load8_u(j1);
-    i2 = l22;
-    i1 &= i2;
-    j1 = (u64)(i1);
-    j2 = 255ull;
-    j1 &= j2;
-    l11 = j1;
-    j0 += j1;
-    i0 = (u32)(j0);
-    i0 = i32_load8_u(j0);
-    l29 = i0;
-    j0 = l6;
-    j1 = l11;
-    j0 += j1;
-    i0 = (u32)(j0);
-    i0 = i32_load8_u(j0);
-    l28 = i0;
-    j0 = l7;
-    j1 = l11;
-    j0 += j1;
-    i0 = (u32)(j0);
-    i0 = i32_load8_u(j0);
-    l21 = i0;
-    B18:;
-    j0 = p0;
-    j1 = 2008ull;
-    j0 += j1;
-    l12 = j0;
-    i0 = (u32)(j0);
-    j0 = i64_load(j0);
-    j1 = p0;
-    j2 = 2016ull;
-    j1 += j2;
-    l10 = j1;
-    i1 = (u32)(j1);
-    j1 = i64_load(j1);
-    l11 = j1;
-    j2 = p0;
-    j3 = 2032ull;
-    j2 += j3;
-    l13 = j2;
-    i2 = (u32)(j2);
-    j2 = i64_load(j2);
-    l14 = j2;
-    j3 = l11;
-    j4 = l14;
-    i3 = j3 < j4;
-    j1 = i3 ? j1 : j2;
-    l11 = j1;
-    j0 += j1;
-    i0 = (u32)(j0);
-    i1 = l21;
-    i32_store8(j0, i1);
-    j0 = l12;
-    i0 = (u32)(j0);
-    j0 = i64_load(j0);
-    j1 = l11;
-    j0 += j1;
-    j1 = 1ull;
-    j0 += j1;
-    i0 = (u32)(j0);
-    i1 = l28;
-    i32_store8(j0, i1);
-    j0 = l12;
-    i0 = (u32)(j0);
-    j0 = i64_load(j0);
-    j1 = l11;
-    j0 += j1;
-    j1 = 2ull;
-    j0 += j1;
-    i0 = (u32)(j0);
-    i1 = l29;
-    i32_store8(j0, i1);
-    j0 = l10;
-    i0 = (u32)(j0);
-    j1 = l11;
-    j2 = 3ull;
-    j1 += j2;
-    i64_store(j0, j1);
-    j0 = l13;
-    i0 = (u32)(j0);
-    j1 = l13;
-    i1 = (u32)(j1);
-    j1 = i64_load(j1);
-    j2 = 3ull;
-    j1 += j2;
-    i64_store(j0, j1);
-    j0 = p0;
-    j1 = 2040ull;
-    j0 += j1;
-    i0 = (u32)(j0);
-    j0 = i64_load(j0);
-    i1 = l26;
-    j1 = (u64)(i1);
-    j2 = 65535ull;
-    j1 &= j2;
-    j2 = 2ull;
-    j1 <<= (j2 & 63);
-    j0 += j1;
-    l11 = j0;
-    i0 = (u32)(j0);
-    j1 = l11;
-    i1 = (u32)(j1);
-    i1 = i32_load(j1);
-    i2 = 1u;
-    i1 += i2;
-    i32_store(j0, i1);
-    j0 = p0;
-    j1 = 2064ull;
-    j0 += j1;
-    i0 = (u32)(j0);
-    i1 = l26;
-    i32_store16(j0, i1);
-    j0 = p0;
-    j1 = 136ull;
-    j0 += j1;
-    i0 = (u32)(j0);
-    i0 = i32_load16_u(j0);
-    l22 = i0;
-    B17:;
-    j0 = p0;
-    j1 = 138ull;
-    j0 += j1;
-    i0 = (u32)(j0);
-    i0 = i32_load8_u(j0);
-    l21 = i0;
-    i0 = l22;
-    i1 = 65535u;
-    i0 &= i1;
-    if (i0) {goto B16;}
-    i0 = 0u;
-    l22 = i0;
-    i0 = l21;
-    i1 = 255u;
-    i0 &= i1;
-    if (i0) {goto B16;}
-    j0 = p0;
-    j1 = 134ull;
-    j0 += j1;
-    i0 = (u32)(j0);
-    i0 = i32_load16_u(j0);
-    i1 = 65535u;
-    i0 &= i1;
-    if (i0) {goto B16;}
-    i0 = 0u;
-    l22 = i0;
-    j0 = p0;
-    j1 = 143ull;
-    j0 += j1;
-    i0 = (u32)(j0);
-    i1 = 0u;
-    i32_store16(j0, i1);
-    j0 = p0;
-    j1 = 142ull;
-    j0 += j1;
-    i0 = (u32)(j0);
-    j1 = p0;
-    j2 = 113ull;
-    j1 += j2;
-    i1 = (u32)(j1);
-    i1 = i32_load8_u(j1);
-    l21 = i1;
-    i2 = 31u;
-    i1 &= i2;
-    i32_store8(j0, i1);
-    j0 = p0;
-    j1 = 140ull;
-    j0 += j1;
-    i0 = (u32)(j0);
-    j1 = p0;
-    j2 = 117ull;
-    j1 += j2;
-    i1 = (u32)(j1);
-    i1 = i32_load16_u(j1);
-    l26 = i1;
-    i2 = 8u;
-    i1 <<= (i2 & 31);
-    i2 = l26;
-    i3 = 8u;
-    i2 >>= (i3 & 31);
-    i1 |= i2;
-    i2 = l21;
-    i3 = 5u;
-    i2 >>= (i3 & 31);
-    i3 = 3u;
-    i2 &= i3;
-    i1 += i2;
-    i32_store16(j0, i1);
-    i0 = 0u;
-    l21 = i0;
-    B16:;
-    i0 = l21;
-    i1 = 1u;
-    i0 += i1;
-    l21 = i0;
-    i1 = 255u;
-    i0 &= i1;
-    i1 = l27;
-    i0 = i0 >= i1;
-    if (i0) {goto B110;}
-    j0 = p0;
-    j1 = 138ull;
-    j0 += j1;
-    i0 = (u32)(j0);
-    i1 = l21;
-    i32_store8(j0, i1);
-    goto B109;
-    B110:;
-    i0 = l22;
-    i1 = 1u;
-    i0 += i1;
-    l22 = i0;
-    i1 = 65535u;
-    i0 &= i1;
-    j1 = p0;
-    j2 = 105ull;
-    j1 += j2;
-    i1 = (u32)(j1);
-    i1 = i32_load8_u(j1);
-    i2 = 5u;
-    i1 += i2;
-    i0 = i0 >= i1;
-    if (i0) {goto B111;}
-    j0 = p0;
-    j1 = 136ull;
-    j0 += j1;
-    i0 = (u32)(j0);
-    i1 = l22;
-    i32_store16(j0, i1);
-    i0 = 0u;
-    l21 = i0;
-    j0 = p0;
-    j1 = 138ull;
-    j0 += j1;
-    i0 = (u32)(j0);
-    i1 = 0u;
-    i32_store8(j0, i1);
-    goto B109;
-    B111:;
-    j0 = p0;
-    j1 = 134ull;
-    j0 += j1;
-    i0 = (u32)(j0);
-    i0 = i32_load16_u(j0);
-    l21 = i0;
-    i1 = 1u;
-    i0 += i1;
-    l26 = i0;
-    i1 = 65535u;
-    i0 &= i1;
-    j1 = p0;
-    j2 = 111ull;
-    j1 += j2;
-    i1 = (u32)(j1);
-    i1 = i32_load8_u(j1);
-    j2 = p0;
-    j3 = 112ull;
-    j2 += j3;
-    i2 = (u32)(j2);
-    i2 = i32_load8_u(j2);
-    l22 = i2;
-    i3 = 1u;
-    i2 &= i3;
-    i3 = 8u;
-    i2 <<= (i3 & 31);
-    i1 |= i2;
-    i2 = l22;
-    i3 = 4u;
-    i2 <<= (i3 & 31);
-    l22 = i2;
-    i3 = 512u;
-    i2 &= i3;
-    i1 |= i2;
-    i2 = 2u;
-    i1 += i2;
-    i0 = i0 >= i1;
-    if (i0) {goto B113;}
-    j0 = p0;
-    j1 = 138ull;
-    j0 += j1;
-    i0 = (u32)(j0);
-    i1 = 0u;
-    i32_store8(j0, i1);
-    j0 = p0;
-    j1 = 136ull;
-    j0 += j1;
-    i0 = (u32)(j0);
-    i1 = 0u;
-    i32_store16(j0, i1);
-    i0 = l21;
-    i1 = 65535u;
-    i0 &= i1;
-    j1 = p0;
-    j2 = 114ull;
-    j1 += j2;
-    i1 = (u32)(j1);
-    i1 = i32_load8_s(j1);
-    l21 = i1;
-    i2 = 3u;
-    i1 <<= (i2 & 31);
-    i2 = 512u;
-    i1 &= i2;
-    i2 = l22;
-    i3 = 256u;
-    i2 &= i3;
-    j3 = p0;
-    j4 = 129ull;
-    j3 += j4;
-    i3 = (u32)(j3);
-    i3 = i32_load8_u(j3);
-    i2 |= i3;
-    i1 |= i2;
-    i0 = i0 != i1;
-    if (i0) {goto B115;}
-    j0 = p0;
-    j1 = 144ull;
-    j0 += j1;
-    i0 = (u32)(j0);
-    i1 = 1u;
-    i32_store8(j0, i1);
-    j0 = p0;
-    j1 = 140ull;
-    j0 += j1;
-    i0 = (u32)(j0);
-    i1 = 0u;
-    i32_store(j0, i1);
-    goto B114;
-    B115:;
-    i0 = l21;
-    i1 = 4294967295u;
-    i0 = (u32)((s32)i0 > (s32)i1);
-    if (i0) {goto B116;}
-    j0 = p0;
-    j1 = 143ull;
-    j0 += j1;
-    l11 = j0;
-    i0 = (u32)(j0);
-    i0 = i32_load8_u(j0);
-    if (i0) {goto B116;}
-    j0 = l11;
-    i0 = (u32)(j0);
-    i1 = 1u;
-    i32_store8(j0, i1);
-    goto B114;
-    B116:;
-    j0 = p0;
-    j1 = 143ull;
-    j0 += j1;
-    i0 = (u32)(j0);
-    i1 = 0u;
-    i32_store8(j0, i1);
-    j0 = p0;
-    j1 = 142ull;
-    j0 += j1;
-    l11 = j0;
-    i0 = (u32)(j0);
-    i0 = i32_load8_u(j0);
-    l22 = i0;
-    i1 = l21;
-    i2 = 31u;
-    i1 &= i2;
-    i0 = i0 >= i1;
-    if (i0) {goto B117;}
-    j0 = l11;
-    i0 = (u32)(j0);
-    i1 = l22;
-    i2 = 1u;
-    i1 += i2;
-    i32_store8(j0, i1);
-    goto B114;
-    B117:;
-    j0 = l11;
-    i0 = (u32)(j0);
-    i1 = 0u;
-    i32_store8(j0, i1);
-    j0 = p0;
-    j1 = 140ull;
-    j0 += j1;
-    l11 = j0;
-    i0 = (u32)(j0);
-    j1 = p0;
-    j2 = 124ull;
-    j1 += j2;
-    i1 = (u32)(j1);
-    i1 = i32_load8_u(j1);
-    i2 = 1u;
-    i1 <<= (i2 & 31);
-    j2 = l11;
-    i2 = (u32)(j2);
-    i2 = i32_load16_u(j2);
-    i1 += i2;
-    i32_store16(j0, i1);
-    B114:;
-    j0 = p0;
-    j1 = 134ull;
-    j0 += j1;
-    i0 = (u32)(j0);
-    i1 = l26;
-    i32_store16(j0, i1);
-    goto B112;
-    B113:;
-    j0 = l4;
-    i0 = (u32)(j0);
-    j1 = 0ull;
-    i64_store(j0, j1);
-    j0 = l4;
-    i0 = (u32)(j0);
-    j1 = 0ull;
-    i64_store(j0 + 5, j1);
-    j0 = p0;
-    j1 = 132ull;
-    j0 += j1;
-    l11 = j0;
-    i0 = (u32)(j0);
-    j1 = l11;
-    i1 = (u32)(j1);
-    i1 = i32_load8_u(j1);
-    i2 = 1u;
-    i1 += i2;
-    i2 = 31u;
-    i1 &= i2;
-    i32_store8(j0, i1);
-    B112:;
-    i0 = 0u;
-    l22 = i0;
-    i0 = 0u;
-    l21 = i0;
-    B109:;
-    i0 = p1;
-    i1 = 4294967295u;
-    i0 += i1;
-    p1 = i0;
-    B15:;
-    i0 = 0u;
-    l26 = i0;
-    goto B2;
-    B5:;
-    i0 = l22;
-    i1 = l21;
-    i2 = 255u;
-    i1 &= i2;
-    l21 = i1;
-    i0 = i0 <= i1;
-    if (i0) {goto B118;}
-    j0 = p0;
-    j1 = 144ull;
-    j0 += j1;
-    i0 = (u32)(j0);
-    i0 = i32_load8_u(j0);
-    l23 = i0;
-    j0 = p0;
-    j1 = 134ull;
-    j0 += j1;
-    i0 = (u32)(j0);
-    i0 = i32_load16_u(j0);
-    l25 = i0;
-    j0 = p0;
-    j1 = 140ull;
-    j0 += j1;
-    i0 = (u32)(j0);
-    i0 = i32_load16_u(j0);
-    l28 = i0;
-    l24 = i0;
-    goto B3;
-    B118:;
-    j0 = p0;
-    j1 = 134ull;
-    j0 += j1;
-    i0 = (u32)(j0);
-    i0 = i32_load16_u(j0);
-    l25 = i0;
-    j1 = p0;
-    j2 = 112ull;
-    j1 += j2;
-    i1 = (u32)(j1);
-    i1 = i32_load8_u(j1);
-    l22 = i1;
-    i2 = 7u;
-    i1 <<= (i2 & 31);
-    i2 = 256u;
-    i1 &= i2;
-    j2 = p0;
-    j3 = 123ull;
-    j2 += j3;
-    i2 = (u32)(j2);
-    i2 = i32_load8_u(j2);
-    i1 |= i2;
-    i2 = l22;
     i3 = 3u;
     i2 <<= (i3 & 31);
     i3 = 512u;
@@ -4399,30 +783,202 @@ static void f2(module *self, u64 p0, u32 p1) {
     i0 = i32_load8_u(j0);
     i1 = 5u;
     i0 += i1;
-    l22 = i0;
-    i1 = l21;
+    l27 = i0;
+    i1 = l26;
     i2 = 1u;
     i1 += i2;
-    l21 = i1;
-    i2 = l22;
-    i3 = l21;
+    l26 = i1;
+    i2 = l27;
+    i3 = l26;
     i2 = i2 < i3;
     i0 = i2 ? i0 : i1;
-    l24 = i0;
     j0 = (u64)(i0);
-    l13 = j0;
+    j1 = p0;
+    j2 = 34ull;
+    j1 += j2;
+    i1 = (u32)(j1);
+    i1 = i32_load8_u(j1);
+    i2 = 1u;
+    i1 &= i2;
+    i2 = 9u;
+    i1 ^= i2;
+    j1 = (u64)(i1);
+    j0 *= j1;
+    l11 = j0;
+    j1 = 3ull;
+    j0 *= j1;
+    l12 = j0;
+    j1 = p0;
+    j2 = 2032ull;
+    j1 += j2;
+    i1 = (u32)(j1);
+    j1 = i64_load(j1);
+    l15 = j1;
+    j0 += j1;
+    l16 = j0;
+    j1 = p0;
+    j2 = 2016ull;
+    j1 += j2;
+    i1 = (u32)(j1);
+    j1 = i64_load(j1);
+    l13 = j1;
+    i0 = j0 <= j1;
+    if (i0) {goto B11;}
+    j0 = l16;
+    j1 = l13;
+    j0 -= j1;
+    l16 = j0;
+    j1 = p0;
+    j2 = 2024ull;
+    j1 += j2;
+    i1 = (u32)(j1);
+    j1 = i64_load(j1);
+    l17 = j1;
+    j2 = l13;
+    j1 -= j2;
+    i0 = j0 <= j1;
+    if (i0) {goto B12;}
+    j0 = p0;
+    j1 = 2008ull;
+    j0 += j1;
+    j1 = l16;
+    i0 = f3(self, j0, j1); m = self->memory; if (NEVER(self->is_broken)) return;
+    i0 = !(i0);
+    if (i0) {goto B11;}
+    j0 = p0;
+    j1 = 2024ull;
+    j0 += j1;
+    i0 = (u32)(j0);
+    j0 = i64_load(j0);
+    l17 = j0;
     j0 = p0;
     j1 = 2016ull;
     j0 += j1;
     i0 = (u32)(j0);
     j0 = i64_load(j0);
-    l11 = j0;
+    l13 = j0;
+    B12:;
     j0 = p0;
-    j1 = 2032ull;
+    j1 = 2008ull;
+    j0 += j1;
+    l18 = j0;
+    i0 = (u32)(j0);
+    j0 = i64_load(j0);
+    l19 = j0;
+    j0 = l13;
+    j1 = l13;
+    j2 = l16;
+    j1 += j2;
+    l20 = j1;
+    i0 = j0 >= j1;
+    if (i0) {goto B13;}
+    j0 = l16;
+    i0 = !(j0);
+    if (i0) {goto B13;}
+    j0 = l19;
+    j1 = l13;
+    j0 += j1;
+    i0 = (u32)(j0);
+    i1 = 0u;
+    j2 = l16;
+    i2 = (u32)(j2);
+    memory_fill(j0, i1, j2);
+    B13:;
+    j0 = p0;
+    j1 = 2024ull;
+    j0 += j1;
+    i0 = (u32)(j0);
+    j1 = l17;
+    i64_store(j0, j1);
+    j0 = p0;
+    j1 = 2016ull;
+    j0 += j1;
+    i0 = (u32)(j0);
+    j1 = l20;
+    i64_store(j0, j1);
+    j0 = l18;
+    i0 = (u32)(j0);
+    j1 = l19;
+    i64_store(j0, j1);
+    B11:;
+    j0 = l14;
+    j1 = 65535ull;
+    j0 &= j1;
+    l13 = j0;
+    j0 = l12;
+    i0 = !(j0);
+    if (i0) {goto B14;}
+    j0 = p0;
+    j1 = 2008ull;
     j0 += j1;
     i0 = (u32)(j0);
     j0 = i64_load(j0);
+    l14 = j0;
+    j1 = l15;
+    j0 += j1;
+    i0 = (u32)(j0);
+    j1 = l14;
+    j2 = l15;
+    j3 = l12;
+    j2 -= j3;
+    j1 += j2;
+    i1 = (u32)(j1);
+    j2 = l12;
+    i2 = (u32)(j2);
+    memory_copy(j0, j1, j2);
+    B14:;
+    j0 = p0;
+    j1 = 2032ull;
+    j0 += j1;
+    l14 = j0;
+    i0 = (u32)(j0);
+    j1 = l14;
+    i1 = (u32)(j1);
+    j1 = i64_load(j1);
+    j2 = l12;
+    j1 += j2;
+    i64_store(j0, j1);
+    j0 = p0;
+    j1 = 2040ull;
+    j0 += j1;
+    i0 = (u32)(j0);
+    j0 = i64_load(j0);
+    j1 = l13;
+    j2 = 2ull;
+    j1 <<= (j2 & 63);
+    j0 += j1;
     l12 = j0;
+    i0 = (u32)(j0);
+    j1 = l12;
+    i1 = (u32)(j1);
+    i1 = i32_load(j1);
+    j2 = l11;
+    i2 = (u32)(j2);
+    i1 += i2;
+    i32_store(j0, i1);
+    j0 = p0;
+    j1 = 2064ull;
+    j0 += j1;
+    i0 = (u32)(j0);
+    i1 = l25;
+    i32_store16(j0, i1);
+    goto B4;
+    B6:;
+    i0 = p1;
+    i1 = 1u;
+    i0 = i0 == i1;
+    if (i0) {goto B27;}
+    i0 = l27;
+    j1 = p0;
+    j2 = 105ull;
+    j1 += j2;
+    i1 = (u32)(j1);
+    i1 = i32_load8_u(j1);
+    i2 = 5u;
+    i1 += i2;
+    l25 = i1;
+    i0 = i0 < i1;
+    if (i0) {goto B28;}
     j0 = p0;
     j1 = 34ull;
     j0 += j1;
@@ -4430,101 +986,197 @@ static void f2(module *self, u64 p0, u32 p1) {
     i0 = i32_load8_u(j0);
     i1 = 1u;
     i0 &= i1;
-    i0 = !(i0);
-    if (i0) {goto B123;}
-    j0 = l13;
-    j1 = 24ull;
-    j0 *= j1;
-    l15 = j0;
-    j1 = l12;
-    j0 += j1;
-    l13 = j0;
-    j1 = l11;
-    i0 = j0 <= j1;
-    if (i0) {goto B124;}
-    j0 = l13;
-    j1 = l11;
-    j0 -= j1;
-    l13 = j0;
-    j1 = p0;
-    j2 = 2024ull;
-    j1 += j2;
-    i1 = (u32)(j1);
-    j1 = i64_load(j1);
-    l18 = j1;
-    j2 = l11;
-    j1 -= j2;
-    i0 = j0 <= j1;
-    if (i0) {goto B125;}
+    i1 = 9u;
+    i0 ^= i1;
+    l28 = i0;
+    goto B26;
+    B28:;
+    i0 = l26;
+    i1 = 255u;
+    i0 &= i1;
+    i1 = l21;
+    i0 = i0 >= i1;
+    if (i0) {goto B27;}
+    i0 = 0u;
+    i1 = l21;
+    i2 = l26;
+    i3 = 1u;
+    i2 += i3;
+    i3 = 255u;
+    i2 &= i3;
+    i1 -= i2;
+    l28 = i1;
+    i2 = l28;
+    i3 = l21;
+    i2 = i2 > i3;
+    i0 = i2 ? i0 : i1;
+    i1 = 0u;
+    i2 = l25;
+    i3 = l27;
+    i4 = 1u;
+    i3 += i4;
+    i4 = 65535u;
+    i3 &= i4;
+    i2 -= i3;
+    l28 = i2;
+    i3 = l28;
+    i4 = l25;
+    i3 = i3 > i4;
+    i1 = i3 ? i1 : i2;
+    i2 = l21;
+    i1 *= i2;
+    i0 += i1;
+    i1 = 1u;
+    i0 += i1;
+    l25 = i0;
+    i1 = p1;
+    i2 = l25;
+    i3 = p1;
+    i2 = i2 < i3;
+    i0 = i2 ? i0 : i1;
+    l25 = i0;
+    i1 = 128u;
+    i2 = l25;
+    i3 = 128u;
+    i2 = i2 < i3;
+    i0 = i2 ? i0 : i1;
+    l25 = i0;
     j0 = p0;
-    j1 = 2008ull;
-    j0 += j1;
-    j1 = l13;
-    i0 = f3(self, j0, j1); m = self->memory; if (NEVER(self->is_broken)) return;
-    i0 = !(i0);
-    if (i0) {goto B124;}
-    j0 = p0;
-    j1 = 2024ull;
+    j1 = 34ull;
     j0 += j1;
     i0 = (u32)(j0);
-    j0 = i64_load(j0);
-    l18 = j0;
+    i0 = i32_load8_u(j0);
+    l29 = i0;
+    i0 = l27;
+    if (i0) {goto B31;}
     j0 = p0;
-    j1 = 2016ull;
+    j1 = 134ull;
+    j0 += j1;
+    i0 = (u32)(j0);
+    i0 = i32_load16_u(j0);
+    l28 = i0;
+    i0 = l26;
+    i1 = 255u;
+    i0 &= i1;
+    if (i0) {goto B32;}
+    i0 = l28;
+    i1 = 65535u;
+    i0 &= i1;
+    if (i0) {goto B32;}
+    j0 = p0;
+    j1 = 2032ull;
+    j0 += j1;
+    i0 = (u32)(j0);
+    j1 = 0ull;
+    i64_store(j0, j1);
+    j0 = p0;
+    j1 = 2040ull;
     j0 += j1;
     i0 = (u32)(j0);
     j0 = i64_load(j0);
     l11 = j0;
-    B125:;
-    j0 = p0;
-    j1 = 2008ull;
-    j0 += j1;
-    l16 = j0;
-    i0 = (u32)(j0);
-    j0 = i64_load(j0);
-    l10 = j0;
-    j0 = l11;
-    j1 = l11;
-    j2 = l13;
+    j1 = p0;
+    j2 = 2064ull;
     j1 += j2;
-    l17 = j1;
-    i0 = j0 >= j1;
-    if (i0) {goto B126;}
-    j0 = l13;
-    i0 = !(j0);
-    if (i0) {goto B126;}
-    j0 = l10;
-    j1 = l11;
+    l12 = j1;
+    i1 = (u32)(j1);
+    j1 = i64_load16_u(j1);
+    l13 = j1;
+    j2 = 2ull;
+    j1 <<= (j2 & 63);
+    l14 = j1;
     j0 += j1;
     i0 = (u32)(j0);
     i1 = 0u;
-    j2 = l13;
+    i32_store(j0, i1);
+    j0 = l13;
+    i0 = !(j0);
+    if (i0) {goto B33;}
+    j0 = l14;
+    i0 = !(j0);
+    if (i0) {goto B33;}
+    j0 = l11;
+    i0 = (u32)(j0);
+    i1 = 0u;
+    j2 = l14;
     i2 = (u32)(j2);
     memory_fill(j0, i1, j2);
-    B126:;
+    B33:;
+    j0 = l12;
+    i0 = (u32)(j0);
+    i1 = 0u;
+    i32_store16(j0, i1);
     j0 = p0;
-    j1 = 2024ull;
+    j1 = 136ull;
     j0 += j1;
     i0 = (u32)(j0);
-    j1 = l18;
-    i64_store(j0, j1);
+    i0 = i32_load16_u(j0);
+    l27 = i0;
+    if (i0) {goto B31;}
     j0 = p0;
-    j1 = 2016ull;
+    j1 = 134ull;
     j0 += j1;
     i0 = (u32)(j0);
-    j1 = l17;
-    i64_store(j0, j1);
-    j0 = l16;
-    i0 = (u32)(j0);
-    j1 = l10;
-    i64_store(j0, j1);
-    B124:;
+    i0 = i32_load16_u(j0);
+    l28 = i0;
     j0 = p0;
-    j1 = 2008ull;
+    j1 = 138ull;
     j0 += j1;
     i0 = (u32)(j0);
-    j0 = i64_load(j0);
-    l13 = j0;
+    i0 = i32_load8_u(j0);
+    l26 = i0;
+    B32:;
+    i0 = l26;
+    i1 = 255u;
+    i0 &= i1;
+    if (i0) {goto B34;}
+    i0 = l28;
+    i1 = 65535u;
+    i0 &= i1;
+    if (i0) {goto B34;}
+    j0 = p0;
+    j1 = 143ull;
+    j0 += j1;
+    i0 = (u32)(j0);
+    i1 = 0u;
+    i32_store16(j0, i1);
+    j0 = p0;
+    j1 = 142ull;
+    j0 += j1;
+    i0 = (u32)(j0);
+    j1 = p0;
+    j2 = 113ull;
+    j1 += j2;
+    i1 = (u32)(j1);
+    i1 = i32_load8_u(j1);
+    l27 = i1;
+    i2 = 31u;
+    i1 &= i2;
+    i32_store8(j0, i1);
+    j0 = p0;
+    j1 = 140ull;
+    j0 += j1;
+    i0 = (u32)(j0);
+    j1 = p0;
+    j2 = 117ull;
+    j1 += j2;
+    i1 = (u32)(j1);
+    i1 = i32_load16_u(j1);
+    l26 = i1;
+    i2 = 8u;
+    i1 <<= (i2 & 31);
+    i2 = l26;
+    i3 = 8u;
+    i2 >>= (i3 & 31);
+    i1 |= i2;
+    i2 = l27;
+    i3 = 5u;
+    i2 >>= (i3 & 31);
+    i3 = 3u;
+    i2 &= i3;
+    i1 += i2;
+    i32_store16(j0, i1);
+    B34:;
     j0 = l2;
     i0 = (u32)(j0);
     j1 = l7;
@@ -4535,7 +1187,3019 @@ static void f2(module *self, u64 p0, u32 p1) {
     i64_store(j0 + 6960, j1);
     j0 = l2;
     i0 = (u32)(j0);
+    j1 = l10;
+    i64_store(j0 + 6952, j1);
+    j0 = l2;
+    i0 = (u32)(j0);
+    j1 = p0;
+    i64_store(j0 + 6944, j1);
+    j0 = p0;
+    j1 = 106ull;
+    j0 += j1;
+    i0 = (u32)(j0);
+    i0 = i32_load8_u(j0);
+    l26 = i0;
+    i0 = 0u;
+    l27 = i0;
+    goto B30;
+    B31:;
+    j0 = l2;
+    i0 = (u32)(j0);
+    j1 = l7;
+    i64_store(j0 + 6968, j1);
+    j0 = l2;
+    i0 = (u32)(j0);
+    j1 = l8;
+    i64_store(j0 + 6960, j1);
+    j0 = l2;
+    i0 = (u32)(j0);
+    j1 = l10;
+    i64_store(j0 + 6952, j1);
+    j0 = l2;
+    i0 = (u32)(j0);
+    j1 = p0;
+    i64_store(j0 + 6944, j1);
+    i0 = l27;
+    j1 = p0;
+    j2 = 106ull;
+    j1 += j2;
+    i1 = (u32)(j1);
+    i1 = i32_load8_u(j1);
+    l26 = i1;
+    i0 = i0 > i1;
+    if (i0) {goto B29;}
+    j0 = p0;
+    j1 = 134ull;
+    j0 += j1;
+    i0 = (u32)(j0);
+    i0 = i32_load16_u(j0);
+    l28 = i0;
+    B30:;
+    i0 = l28;
+    i1 = 65535u;
+    i0 &= i1;
+    j1 = p0;
+    j2 = 112ull;
+    j1 += j2;
+    i1 = (u32)(j1);
+    i1 = i32_load8_u(j1);
+    l30 = i1;
+    i2 = 7u;
+    i1 <<= (i2 & 31);
+    i2 = 256u;
+    i1 &= i2;
+    j2 = p0;
+    j3 = 123ull;
+    j2 += j3;
+    i2 = (u32)(j2);
+    i2 = i32_load8_u(j2);
+    i1 |= i2;
+    i2 = l30;
+    i3 = 3u;
+    i2 <<= (i3 & 31);
+    i3 = 512u;
+    i2 &= i3;
+    i1 |= i2;
+    i0 = i0 > i1;
+    if (i0) {goto B29;}
+    i0 = 0u;
+    j1 = p0;
+    j2 = 105ull;
+    j1 += j2;
+    i1 = (u32)(j1);
+    i1 = i32_load8_u(j1);
+    i2 = 5u;
+    i1 += i2;
+    l30 = i1;
+    i2 = l26;
+    i3 = 1u;
+    i2 += i3;
+    l26 = i2;
+    i3 = l30;
+    i4 = l26;
+    i3 = i3 < i4;
+    i1 = i3 ? i1 : i2;
+    j2 = p0;
+    j3 = 34ull;
+    j2 += j3;
+    i2 = (u32)(j2);
+    i2 = i32_load8_u(j2);
+    i3 = 1u;
+    i2 &= i3;
+    l30 = i2;
+    i3 = 9u;
+    i2 ^= i3;
+    l31 = i2;
+    i1 *= i2;
+    l26 = i1;
+    i2 = l27;
+    i3 = l31;
+    i2 *= i3;
+    j3 = p0;
+    j4 = 138ull;
+    j3 += j4;
+    i3 = (u32)(j3);
+    i3 = i32_load8_u(j3);
+    i2 += i3;
+    l32 = i2;
+    i1 -= i2;
+    l27 = i1;
+    i2 = l27;
+    i3 = l26;
+    i2 = i2 > i3;
+    i0 = i2 ? i0 : i1;
+    l27 = i0;
+    i1 = l25;
+    i2 = l27;
+    i3 = l25;
+    i2 = i2 < i3;
+    i0 = i2 ? i0 : i1;
+    l31 = i0;
+    j0 = (u64)(i0);
+    l16 = j0;
+    j1 = 3ull;
+    j0 *= j1;
+    l14 = j0;
+    j1 = p0;
+    j2 = 2032ull;
+    j1 += j2;
+    i1 = (u32)(j1);
+    j1 = i64_load(j1);
+    l15 = j1;
+    j0 += j1;
+    l13 = j0;
+    j0 = p0;
+    j1 = 2016ull;
+    j0 += j1;
+    i0 = (u32)(j0);
+    j0 = i64_load(j0);
+    l12 = j0;
+    i0 = l30;
+    i0 = !(i0);
+    if (i0) {goto B35;}
+    j0 = l13;
+    j1 = l12;
+    i0 = j0 <= j1;
+    if (i0) {goto B36;}
+    j0 = l13;
+    j1 = l12;
+    j0 -= j1;
+    l13 = j0;
+    j1 = p0;
+    j2 = 2024ull;
+    j1 += j2;
+    i1 = (u32)(j1);
+    j1 = i64_load(j1);
+    l19 = j1;
+    j2 = l12;
+    j1 -= j2;
+    i0 = j0 <= j1;
+    if (i0) {goto B37;}
+    j0 = p0;
+    j1 = 2008ull;
+    j0 += j1;
+    j1 = l13;
+    i0 = f3(self, j0, j1); m = self->memory; if (NEVER(self->is_broken)) return;
+    i0 = !(i0);
+    if (i0) {goto B36;}
+    j0 = p0;
+    j1 = 2024ull;
+    j0 += j1;
+    i0 = (u32)(j0);
+    j0 = i64_load(j0);
+    l19 = j0;
+    j0 = p0;
+    j1 = 2016ull;
+    j0 += j1;
+    i0 = (u32)(j0);
+    j0 = i64_load(j0);
+    l12 = j0;
+    B37:;
+    j0 = p0;
+    j1 = 2008ull;
+    j0 += j1;
+    l17 = j0;
+    i0 = (u32)(j0);
+    j0 = i64_load(j0);
+    l11 = j0;
+    j0 = l12;
+    j1 = l12;
+    j2 = l13;
+    j1 += j2;
+    l18 = j1;
+    i0 = j0 >= j1;
+    if (i0) {goto B38;}
+    j0 = l13;
+    i0 = !(j0);
+    if (i0) {goto B38;}
+    j0 = l11;
+    j1 = l12;
+    j0 += j1;
+    i0 = (u32)(j0);
+    i1 = 0u;
+    j2 = l13;
+    i2 = (u32)(j2);
+    memory_fill(j0, i1, j2);
+    B38:;
+    j0 = p0;
+    j1 = 2024ull;
+    j0 += j1;
+    i0 = (u32)(j0);
+    j1 = l19;
+    i64_store(j0, j1);
+    j0 = p0;
+    j1 = 2016ull;
+    j0 += j1;
+    i0 = (u32)(j0);
+    j1 = l18;
+    i64_store(j0, j1);
+    j0 = l17;
+    i0 = (u32)(j0);
+    j1 = l11;
+    i64_store(j0, j1);
+    B36:;
+    j0 = p0;
+    j1 = 2008ull;
+    j0 += j1;
+    i0 = (u32)(j0);
+    j0 = i64_load(j0);
+    l19 = j0;
+    j1 = l15;
+    j0 += j1;
+    l12 = j0;
+    j0 = p0;
+    j1 = 34ull;
+    j0 += j1;
+    i0 = (u32)(j0);
+    i0 = i32_load8_u(j0);
+    l27 = i0;
+    i1 = 32u;
+    i0 &= i1;
+    i0 = !(i0);
+    if (i0) {goto B40;}
+    i0 = l26;
+    i1 = l32;
+    i0 = i0 <= i1;
+    if (i0) {goto B39;}
+    j0 = l14;
+    i0 = !(j0);
+    if (i0) {goto B39;}
+    j0 = l12;
+    i0 = (u32)(j0);
+    i1 = 0u;
+    j2 = l14;
+    i2 = (u32)(j2);
+    memory_fill(j0, i1, j2);
+    goto B39;
+    B40:;
+    j0 = p0;
+    j1 = 204ull;
+    j0 += j1;
+    i0 = (u32)(j0);
+    i0 = i32_load8_u(j0);
+    i1 = 32u;
+    i0 &= i1;
+    if (i0) {goto B41;}
+    i0 = l26;
+    i1 = l32;
+    i0 = i0 <= i1;
+    if (i0) {goto B39;}
+    j0 = l5;
+    j1 = p0;
+    j2 = 2002ull;
+    j1 += j2;
+    i1 = (u32)(j1);
+    i1 = i32_load8_u(j1);
+    j2 = p0;
+    j3 = 184ull;
+    j2 += j3;
+    i2 = (u32)(j2);
+    i2 = i32_load8_u(j2);
+    i1 &= i2;
+    j1 = (u64)(i1);
+    j2 = 255ull;
+    j1 &= j2;
+    l13 = j1;
+    j0 += j1;
+    i0 = (u32)(j0);
+    i0 = i32_load8_u(j0);
+    l27 = i0;
+    j0 = l6;
+    j1 = l13;
+    j0 += j1;
+    i0 = (u32)(j0);
+    i0 = i32_load8_u(j0);
+    l26 = i0;
+    j0 = l7;
+    j1 = l13;
+    j0 += j1;
+    i0 = (u32)(j0);
+    i0 = i32_load8_u(j0);
+    l30 = i0;
+    j0 = l16;
+    j1 = 3ull;
+    j0 &= j1;
+    l13 = j0;
+    j0 = 0ull;
+    l11 = j0;
+    i0 = l31;
+    i1 = 4294967295u;
+    i0 += i1;
+    i1 = 3u;
+    i0 = i0 < i1;
+    if (i0) {goto B42;}
+    j0 = l16;
+    j1 = 252ull;
+    j0 &= j1;
+    l16 = j0;
+    j0 = 0ull;
+    l11 = j0;
+    L43: 
+      j0 = l12;
+      i0 = (u32)(j0);
+      i1 = l30;
+      i32_store8(j0, i1);
+      j0 = l12;
+      j1 = 11ull;
+      j0 += j1;
+      i0 = (u32)(j0);
+      i1 = l27;
+      i32_store8(j0, i1);
+      j0 = l12;
+      j1 = 10ull;
+      j0 += j1;
+      i0 = (u32)(j0);
+      i1 = l26;
+      i32_store8(j0, i1);
+      j0 = l12;
+      j1 = 9ull;
+      j0 += j1;
+      i0 = (u32)(j0);
+      i1 = l30;
+      i32_store8(j0, i1);
+      j0 = l12;
+      j1 = 8ull;
+      j0 += j1;
+      i0 = (u32)(j0);
+      i1 = l27;
+      i32_store8(j0, i1);
+      j0 = l12;
+      j1 = 7ull;
+      j0 += j1;
+      i0 = (u32)(j0);
+      i1 = l26;
+      i32_store8(j0, i1);
+      j0 = l12;
+      j1 = 6ull;
+      j0 += j1;
+      i0 = (u32)(j0);
+      i1 = l30;
+      i32_store8(j0, i1);
+      j0 = l12;
+      j1 = 5ull;
+      j0 += j1;
+      i0 = (u32)(j0);
+      i1 = l27;
+      i32_store8(j0, i1);
+      j0 = l12;
+      j1 = 4ull;
+      j0 += j1;
+      i0 = (u32)(j0);
+      i1 = l26;
+      i32_store8(j0, i1);
+      j0 = l12;
+      j1 = 3ull;
+      j0 += j1;
+      i0 = (u32)(j0);
+      i1 = l30;
+      i32_store8(j0, i1);
+      j0 = l12;
+      j1 = 2ull;
+      j0 += j1;
+      i0 = (u32)(j0);
+      i1 = l27;
+      i32_store8(j0, i1);
+      j0 = l12;
+      j1 = 1ull;
+      j0 += j1;
+      i0 = (u32)(j0);
+      i1 = l26;
+      i32_store8(j0, i1);
+      j0 = l12;
+      j1 = 12ull;
+      j0 += j1;
+      l12 = j0;
+      j0 = l16;
+      j1 = l11;
+      j2 = 4ull;
+      j1 += j2;
+      l11 = j1;
+      i0 = j0 != j1;
+      if (i0) {goto L43;}
+    j0 = l13;
+    i0 = !(j0);
+    if (i0) {goto B39;}
+    B42:;
+    j0 = l19;
+    j1 = l15;
+    j2 = l11;
+    j3 = 3ull;
+    j2 *= j3;
+    j1 += j2;
+    j0 += j1;
+    l12 = j0;
+    L44: 
+      j0 = l12;
+      i0 = (u32)(j0);
+      i1 = l30;
+      i32_store8(j0, i1);
+      j0 = l12;
+      j1 = 2ull;
+      j0 += j1;
+      i0 = (u32)(j0);
+      i1 = l27;
+      i32_store8(j0, i1);
+      j0 = l12;
+      j1 = 1ull;
+      j0 += j1;
+      i0 = (u32)(j0);
+      i1 = l26;
+      i32_store8(j0, i1);
+      j0 = l12;
+      j1 = 3ull;
+      j0 += j1;
+      l12 = j0;
+      j0 = l13;
+      j1 = 18446744073709551615ull;
+      j0 += j1;
+      l13 = j0;
+      j1 = 0ull;
+      i0 = j0 != j1;
+      if (i0) {goto L44;}
+      goto B39;
+    { self->is_broken = true; return; }
+    B41:;
+    i0 = l31;
+    i1 = 32u;
+    i0 = i0 > i1;
+    if (i0) {goto B45;}
+    j0 = p0;
+    j1 = 186ull;
+    j0 += j1;
+    i0 = (u32)(j0);
+    i0 = i32_load8_u(j0);
+    l30 = i0;
+    j0 = p0;
+    j1 = 138ull;
+    j0 += j1;
+    i0 = (u32)(j0);
+    j0 = i64_load8_u(j0);
+    l13 = j0;
+    j0 = p0;
+    j1 = 136ull;
+    j0 += j1;
+    i0 = (u32)(j0);
+    j0 = i64_load16_u(j0);
+    l11 = j0;
+    j0 = p0;
+    j1 = 144ull;
+    j0 += j1;
+    i0 = (u32)(j0);
+    i0 = i32_load8_u(j0);
+    i1 = 1u;
+    i0 &= i1;
+    i0 = !(i0);
+    if (i0) {goto B47;}
+    i0 = 0u;
+    l26 = i0;
+    j0 = p0;
+    j1 = 183ull;
+    j0 += j1;
+    i0 = (u32)(j0);
+    i0 = i32_load8_u(j0);
+    i1 = 32u;
+    i0 &= i1;
+    if (i0) {goto B46;}
+    B47:;
+    j0 = p0;
+    j1 = 53ull;
+    j0 += j1;
+    i0 = (u32)(j0);
+    i0 = i32_load8_u(j0);
+    i1 = 1u;
+    i0 &= i1;
+    i0 = !(i0);
+    if (i0) {goto B48;}
+    j0 = p0;
+    j1 = 52ull;
+    j0 += j1;
+    i0 = (u32)(j0);
+    i0 = i32_load8_u(j0);
+    i1 = 64u;
+    i0 &= i1;
+    i0 = !(i0);
+    if (i0) {goto B48;}
+    i0 = l30;
+    i1 = 6u;
+    i0 &= i1;
+    l26 = i0;
+    goto B46;
+    B48:;
+    i0 = l27;
+    i1 = 1u;
+    i0 &= i1;
+    i0 = !(i0);
+    if (i0) {goto B49;}
+    i0 = l30;
+    i1 = 7u;
+    i0 &= i1;
+    l26 = i0;
+    goto B46;
+    B49:;
+    i0 = 0u;
+    i1 = l30;
+    i2 = 7u;
+    i1 &= i2;
+    i2 = 1u;
+    i1 += i2;
+    i2 = l30;
+    i3 = 255u;
+    i2 &= i3;
+    i3 = 8u;
+    i2 = i2 == i3;
+    i0 = i2 ? i0 : i1;
+    l26 = i0;
+    B46:;
+    j0 = l2;
+    j1 = 5ull;
+    j0 += j1;
+    i0 = (u32)(j0);
+    i1 = 0u;
+    j2 = 147ull;
+    i2 = (u32)(j2);
+    memory_fill(j0, i1, j2);
+    j0 = l2;
+    j1 = 6944ull;
+    j0 += j1;
+    i1 = l26;
+    j1 = (u64)(i1);
+    j2 = l13;
+    j1 += j2;
+    l13 = j1;
+    j2 = 3ull;
+    j1 >>= (j2 & 63);
+    j2 = l11;
+    j1 += j2;
+    j2 = l16;
+    j3 = l13;
+    j4 = 7ull;
+    j3 &= j4;
+    l13 = j3;
+    j2 += j3;
+    j3 = 7ull;
+    j2 += j3;
+    j3 = 3ull;
+    j2 >>= (j3 & 63);
+    j3 = l2;
+    j4 = 5ull;
+    j3 += j4;
+    f4(self, j0, j1, j2, j3); if (NEVER(self->is_broken)) return;
+    j0 = l14;
+    i0 = !(j0);
+    if (i0) {goto B39;}
+    j0 = l12;
+    i0 = (u32)(j0);
+    j1 = l2;
+    j2 = 5ull;
+    j1 += j2;
+    j2 = l13;
+    j3 = 3ull;
+    j2 *= j3;
+    j1 += j2;
+    i1 = (u32)(j1);
+    j2 = l14;
+    i2 = (u32)(j2);
+    memory_copy(j0, j1, j2);
+    goto B39;
+    B45:;
+    j0 = p0;
+    j1 = 186ull;
+    j0 += j1;
+    i0 = (u32)(j0);
+    i0 = i32_load8_u(j0);
+    l30 = i0;
+    j0 = p0;
+    j1 = 138ull;
+    j0 += j1;
+    i0 = (u32)(j0);
+    j0 = i64_load8_u(j0);
+    l13 = j0;
+    j0 = p0;
+    j1 = 136ull;
+    j0 += j1;
+    i0 = (u32)(j0);
+    j0 = i64_load16_u(j0);
+    l11 = j0;
+    j0 = p0;
+    j1 = 144ull;
+    j0 += j1;
+    i0 = (u32)(j0);
+    i0 = i32_load8_u(j0);
+    i1 = 1u;
+    i0 &= i1;
+    i0 = !(i0);
+    if (i0) {goto B51;}
+    i0 = 0u;
+    l26 = i0;
+    j0 = p0;
+    j1 = 183ull;
+    j0 += j1;
+    i0 = (u32)(j0);
+    i0 = i32_load8_u(j0);
+    i1 = 32u;
+    i0 &= i1;
+    if (i0) {goto B50;}
+    B51:;
+    j0 = p0;
+    j1 = 53ull;
+    j0 += j1;
+    i0 = (u32)(j0);
+    i0 = i32_load8_u(j0);
+    i1 = 1u;
+    i0 &= i1;
+    i0 = !(i0);
+    if (i0) {goto B52;}
+    j0 = p0;
+    j1 = 52ull;
+    j0 += j1;
+    i0 = (u32)(j0);
+    i0 = i32_load8_u(j0);
+    i1 = 64u;
+    i0 &= i1;
+    i0 = !(i0);
+    if (i0) {goto B52;}
+    i0 = l30;
+    i1 = 6u;
+    i0 &= i1;
+    l26 = i0;
+    goto B50;
+    B52:;
+    i0 = l27;
+    i1 = 1u;
+    i0 &= i1;
+    i0 = !(i0);
+    if (i0) {goto B53;}
+    i0 = l30;
+    i1 = 7u;
+    i0 &= i1;
+    l26 = i0;
+    goto B50;
+    B53:;
+    i0 = 0u;
+    i1 = l30;
+    i2 = 7u;
+    i1 &= i2;
+    i2 = 1u;
+    i1 += i2;
+    i2 = l30;
+    i3 = 255u;
+    i2 &= i3;
+    i3 = 8u;
+    i2 = i2 == i3;
+    i0 = i2 ? i0 : i1;
+    l26 = i0;
+    B50:;
+    j0 = l2;
+    j1 = 5ull;
+    j0 += j1;
+    i0 = (u32)(j0);
+    i1 = 0u;
+    j2 = 435ull;
+    i2 = (u32)(j2);
+    memory_fill(j0, i1, j2);
+    j0 = l2;
+    j1 = 6944ull;
+    j0 += j1;
+    i1 = l26;
+    j1 = (u64)(i1);
+    j2 = l13;
+    j1 += j2;
+    l13 = j1;
+    j2 = 3ull;
+    j1 >>= (j2 & 63);
+    j2 = l11;
+    j1 += j2;
+    j2 = l16;
+    j3 = l13;
+    j4 = 7ull;
+    j3 &= j4;
+    l13 = j3;
+    j2 += j3;
+    j3 = 7ull;
+    j2 += j3;
+    j3 = 3ull;
+    j2 >>= (j3 & 63);
+    j3 = l2;
+    j4 = 5ull;
+    j3 += j4;
+    f4(self, j0, j1, j2, j3); if (NEVER(self->is_broken)) return;
+    j0 = l14;
+    i0 = !(j0);
+    if (i0) {goto B39;}
+    j0 = l12;
+    i0 = (u32)(j0);
+    j1 = l2;
+    j2 = 5ull;
+    j1 += j2;
+    j2 = l13;
+    j3 = 3ull;
+    j2 *= j3;
+    j1 += j2;
+    i1 = (u32)(j1);
+    j2 = l14;
+    i2 = (u32)(j2);
+    memory_copy(j0, j1, j2);
+    B39:;
+    j0 = p0;
+    j1 = 2032ull;
+    j0 += j1;
+    l12 = j0;
+    i0 = (u32)(j0);
+    j1 = l12;
+    i1 = (u32)(j1);
+    j1 = i64_load(j1);
+    j2 = l14;
+    j1 += j2;
+    i64_store(j0, j1);
+    j0 = p0;
+    j1 = 2040ull;
+    j0 += j1;
+    i0 = (u32)(j0);
+    j0 = i64_load(j0);
+    i1 = l28;
+    j1 = (u64)(i1);
+    j2 = 65535ull;
+    j1 &= j2;
+    j2 = 2ull;
+    j1 <<= (j2 & 63);
+    j0 += j1;
+    l12 = j0;
+    i0 = (u32)(j0);
+    j1 = l12;
+    i1 = (u32)(j1);
+    i1 = i32_load(j1);
+    i2 = l31;
+    i1 += i2;
+    i32_store(j0, i1);
+    j0 = p0;
+    j1 = 2064ull;
+    j0 += j1;
+    i0 = (u32)(j0);
+    i1 = l28;
+    i32_store16(j0, i1);
+    goto B29;
+    B35:;
+    j0 = l13;
+    j1 = l12;
+    i0 = j0 <= j1;
+    if (i0) {goto B54;}
+    j0 = l13;
+    j1 = l12;
+    j0 -= j1;
+    l13 = j0;
+    j1 = p0;
+    j2 = 2024ull;
+    j1 += j2;
+    i1 = (u32)(j1);
+    j1 = i64_load(j1);
+    l19 = j1;
+    j2 = l12;
+    j1 -= j2;
+    i0 = j0 <= j1;
+    if (i0) {goto B55;}
+    j0 = p0;
+    j1 = 2008ull;
+    j0 += j1;
+    j1 = l13;
+    i0 = f3(self, j0, j1); m = self->memory; if (NEVER(self->is_broken)) return;
+    i0 = !(i0);
+    if (i0) {goto B54;}
+    j0 = p0;
+    j1 = 2024ull;
+    j0 += j1;
+    i0 = (u32)(j0);
+    j0 = i64_load(j0);
+    l19 = j0;
+    j0 = p0;
+    j1 = 2016ull;
+    j0 += j1;
+    i0 = (u32)(j0);
+    j0 = i64_load(j0);
+    l12 = j0;
+    B55:;
+    j0 = p0;
+    j1 = 2008ull;
+    j0 += j1;
+    l17 = j0;
+    i0 = (u32)(j0);
+    j0 = i64_load(j0);
+    l11 = j0;
+    j0 = l12;
+    j1 = l12;
+    j2 = l13;
+    j1 += j2;
+    l18 = j1;
+    i0 = j0 >= j1;
+    if (i0) {goto B56;}
+    j0 = l13;
+    i0 = !(j0);
+    if (i0) {goto B56;}
+    j0 = l11;
+    j1 = l12;
+    j0 += j1;
+    i0 = (u32)(j0);
+    i1 = 0u;
+    j2 = l13;
+    i2 = (u32)(j2);
+    memory_fill(j0, i1, j2);
+    B56:;
+    j0 = p0;
+    j1 = 2024ull;
+    j0 += j1;
+    i0 = (u32)(j0);
+    j1 = l19;
+    i64_store(j0, j1);
+    j0 = p0;
+    j1 = 2016ull;
+    j0 += j1;
+    i0 = (u32)(j0);
+    j1 = l18;
+    i64_store(j0, j1);
+    j0 = l17;
+    i0 = (u32)(j0);
+    j1 = l11;
+    i64_store(j0, j1);
+    B54:;
+    j0 = p0;
+    j1 = 2008ull;
+    j0 += j1;
+    i0 = (u32)(j0);
+    j0 = i64_load(j0);
+    l19 = j0;
+    j1 = l15;
+    j0 += j1;
+    l12 = j0;
+    j0 = p0;
+    j1 = 34ull;
+    j0 += j1;
+    i0 = (u32)(j0);
+    i0 = i32_load8_u(j0);
+    l27 = i0;
+    i1 = 32u;
+    i0 &= i1;
+    i0 = !(i0);
+    if (i0) {goto B58;}
+    i0 = l26;
+    i1 = l32;
+    i0 = i0 <= i1;
+    if (i0) {goto B57;}
+    j0 = l14;
+    i0 = !(j0);
+    if (i0) {goto B57;}
+    j0 = l12;
+    i0 = (u32)(j0);
+    i1 = 0u;
+    j2 = l14;
+    i2 = (u32)(j2);
+    memory_fill(j0, i1, j2);
+    goto B57;
+    B58:;
+    j0 = p0;
+    j1 = 204ull;
+    j0 += j1;
+    i0 = (u32)(j0);
+    i0 = i32_load8_u(j0);
+    i1 = 32u;
+    i0 &= i1;
+    if (i0) {goto B59;}
+    i0 = l26;
+    i1 = l32;
+    i0 = i0 <= i1;
+    if (i0) {goto B57;}
+    j0 = l5;
+    j1 = p0;
+    j2 = 2002ull;
+    j1 += j2;
+    i1 = (u32)(j1);
+    i1 = i32_load8_u(j1);
+    j2 = p0;
+    j3 = 184ull;
+    j2 += j3;
+    i2 = (u32)(j2);
+    i2 = i32_load8_u(j2);
+    i1 &= i2;
+    j1 = (u64)(i1);
+    j2 = 255ull;
+    j1 &= j2;
+    l13 = j1;
+    j0 += j1;
+    i0 = (u32)(j0);
+    i0 = i32_load8_u(j0);
+    l27 = i0;
+    j0 = l6;
+    j1 = l13;
+    j0 += j1;
+    i0 = (u32)(j0);
+    i0 = i32_load8_u(j0);
+    l26 = i0;
+    j0 = l7;
+    j1 = l13;
+    j0 += j1;
+    i0 = (u32)(j0);
+    i0 = i32_load8_u(j0);
+    l30 = i0;
+    j0 = l16;
+    j1 = 3ull;
+    j0 &= j1;
+    l13 = j0;
+    j0 = 0ull;
+    l11 = j0;
+    i0 = l31;
+    i1 = 4294967295u;
+    i0 += i1;
+    i1 = 3u;
+    i0 = i0 < i1;
+    if (i0) {goto B60;}
+    j0 = l16;
+    j1 = 252ull;
+    j0 &= j1;
+    l16 = j0;
+    j0 = 0ull;
+    l11 = j0;
+    L61: 
+      j0 = l12;
+      i0 = (u32)(j0);
+      i1 = l30;
+      i32_store8(j0, i1);
+      j0 = l12;
+      j1 = 11ull;
+      j0 += j1;
+      i0 = (u32)(j0);
+      i1 = l27;
+      i32_store8(j0, i1);
+      j0 = l12;
+      j1 = 10ull;
+      j0 += j1;
+      i0 = (u32)(j0);
+      i1 = l26;
+      i32_store8(j0, i1);
+      j0 = l12;
+      j1 = 9ull;
+      j0 += j1;
+      i0 = (u32)(j0);
+      i1 = l30;
+      i32_store8(j0, i1);
+      j0 = l12;
+      j1 = 8ull;
+      j0 += j1;
+      i0 = (u32)(j0);
+      i1 = l27;
+      i32_store8(j0, i1);
+      j0 = l12;
+      j1 = 7ull;
+      j0 += j1;
+      i0 = (u32)(j0);
+      i1 = l26;
+      i32_store8(j0, i1);
+      j0 = l12;
+      j1 = 6ull;
+      j0 += j1;
+      i0 = (u32)(j0);
+      i1 = l30;
+      i32_store8(j0, i1);
+      j0 = l12;
+      j1 = 5ull;
+      j0 += j1;
+      i0 = (u32)(j0);
+      i1 = l27;
+      i32_store8(j0, i1);
+      j0 = l12;
+      j1 = 4ull;
+      j0 += j1;
+      i0 = (u32)(j0);
+      i1 = l26;
+      i32_store8(j0, i1);
+      j0 = l12;
+      j1 = 3ull;
+      j0 += j1;
+      i0 = (u32)(j0);
+      i1 = l30;
+      i32_store8(j0, i1);
+      j0 = l12;
+      j1 = 2ull;
+      j0 += j1;
+      i0 = (u32)(j0);
+      i1 = l27;
+      i32_store8(j0, i1);
+      j0 = l12;
+      j1 = 1ull;
+      j0 += j1;
+      i0 = (u32)(j0);
+      i1 = l26;
+      i32_store8(j0, i1);
+      j0 = l12;
+      j1 = 12ull;
+      j0 += j1;
+      l12 = j0;
+      j0 = l16;
+      j1 = l11;
+      j2 = 4ull;
+      j1 += j2;
+      l11 = j1;
+      i0 = j0 != j1;
+      if (i0) {goto L61;}
+    j0 = l13;
+    i0 = !(j0);
+    if (i0) {goto B57;}
+    B60:;
+    j0 = l19;
+    j1 = l15;
+    j2 = l11;
+    j3 = 3ull;
+    j2 *= j3;
+    j1 += j2;
+    j0 += j1;
+    l12 = j0;
+    L62: 
+      j0 = l12;
+      i0 = (u32)(j0);
+      i1 = l30;
+      i32_store8(j0, i1);
+      j0 = l12;
+      j1 = 2ull;
+      j0 += j1;
+      i0 = (u32)(j0);
+      i1 = l27;
+      i32_store8(j0, i1);
+      j0 = l12;
+      j1 = 1ull;
+      j0 += j1;
+      i0 = (u32)(j0);
+      i1 = l26;
+      i32_store8(j0, i1);
+      j0 = l12;
+      j1 = 3ull;
+      j0 += j1;
+      l12 = j0;
+      j0 = l13;
+      j1 = 18446744073709551615ull;
+      j0 += j1;
+      l13 = j0;
+      j1 = 0ull;
+      i0 = j0 != j1;
+      if (i0) {goto L62;}
+      goto B57;
+    { self->is_broken = true; return; }
+    B59:;
+    i0 = l31;
+    i1 = 32u;
+    i0 = i0 > i1;
+    if (i0) {goto B63;}
+    j0 = p0;
+    j1 = 186ull;
+    j0 += j1;
+    i0 = (u32)(j0);
+    i0 = i32_load8_u(j0);
+    l30 = i0;
+    j0 = p0;
+    j1 = 138ull;
+    j0 += j1;
+    i0 = (u32)(j0);
+    i0 = i32_load8_u(j0);
+    l32 = i0;
+    j0 = p0;
+    j1 = 136ull;
+    j0 += j1;
+    i0 = (u32)(j0);
+    j0 = i64_load16_u(j0);
+    l13 = j0;
+    j0 = p0;
+    j1 = 144ull;
+    j0 += j1;
+    i0 = (u32)(j0);
+    i0 = i32_load8_u(j0);
+    i1 = 1u;
+    i0 &= i1;
+    i0 = !(i0);
+    if (i0) {goto B65;}
+    i0 = 0u;
+    l26 = i0;
+    j0 = p0;
+    j1 = 183ull;
+    j0 += j1;
+    i0 = (u32)(j0);
+    i0 = i32_load8_u(j0);
+    i1 = 32u;
+    i0 &= i1;
+    if (i0) {goto B64;}
+    B65:;
+    j0 = p0;
+    j1 = 53ull;
+    j0 += j1;
+    i0 = (u32)(j0);
+    i0 = i32_load8_u(j0);
+    i1 = 1u;
+    i0 &= i1;
+    i0 = !(i0);
+    if (i0) {goto B66;}
+    j0 = p0;
+    j1 = 52ull;
+    j0 += j1;
+    i0 = (u32)(j0);
+    i0 = i32_load8_u(j0);
+    i1 = 64u;
+    i0 &= i1;
+    i0 = !(i0);
+    if (i0) {goto B66;}
+    i0 = l30;
+    i1 = 6u;
+    i0 &= i1;
+    l26 = i0;
+    goto B64;
+    B66:;
+    i0 = l27;
+    i1 = 1u;
+    i0 &= i1;
+    i0 = !(i0);
+    if (i0) {goto B67;}
+    i0 = l30;
+    i1 = 7u;
+    i0 &= i1;
+    l26 = i0;
+    goto B64;
+    B67:;
+    i0 = 0u;
+    i1 = l30;
+    i2 = 7u;
+    i1 &= i2;
+    i2 = 1u;
+    i1 += i2;
+    i2 = l30;
+    i3 = 255u;
+    i2 &= i3;
+    i3 = 8u;
+    i2 = i2 == i3;
+    i0 = i2 ? i0 : i1;
+    l26 = i0;
+    B64:;
+    j0 = l2;
+    j1 = 5ull;
+    j0 += j1;
+    i0 = (u32)(j0);
+    i1 = 0u;
+    j2 = 147ull;
+    i2 = (u32)(j2);
+    memory_fill(j0, i1, j2);
+    j0 = l2;
+    j1 = 6944ull;
+    j0 += j1;
+    i1 = l26;
+    i2 = l32;
+    i1 += i2;
+    l27 = i1;
+    i2 = 65535u;
+    i1 &= i2;
+    i2 = 9u;
+    if (i2 == 0) { self->is_broken = true; return; } i1 = i1 / i2;
+    l26 = i1;
+    j1 = (u64)(i1);
+    j2 = l13;
+    j1 += j2;
+    i2 = l27;
+    i3 = l26;
+    i4 = 9u;
+    i3 *= i4;
+    i2 -= i3;
+    j2 = (u64)(i2);
+    l13 = j2;
+    j3 = l16;
+    j2 += j3;
+    i2 = (u32)(j2);
+    i3 = 8u;
+    i2 += i3;
+    i3 = 255u;
+    i2 &= i3;
+    i3 = 9u;
+    if (i3 == 0) { self->is_broken = true; return; } i2 = i2 / i3;
+    j2 = (u64)(i2);
+    j3 = l2;
+    j4 = 5ull;
+    j3 += j4;
+    f5(self, j0, j1, j2, j3); if (NEVER(self->is_broken)) return;
+    j0 = l14;
+    i0 = !(j0);
+    if (i0) {goto B57;}
+    j0 = l12;
+    i0 = (u32)(j0);
+    j1 = l2;
+    j2 = 5ull;
+    j1 += j2;
+    j2 = l13;
+    j3 = 65535ull;
+    j2 &= j3;
+    j3 = 3ull;
+    j2 *= j3;
+    j1 += j2;
+    i1 = (u32)(j1);
+    j2 = l14;
+    i2 = (u32)(j2);
+    memory_copy(j0, j1, j2);
+    goto B57;
+    B63:;
+    j0 = p0;
+    j1 = 186ull;
+    j0 += j1;
+    i0 = (u32)(j0);
+    i0 = i32_load8_u(j0);
+    l30 = i0;
+    j0 = p0;
+    j1 = 138ull;
+    j0 += j1;
+    i0 = (u32)(j0);
+    i0 = i32_load8_u(j0);
+    l32 = i0;
+    j0 = p0;
+    j1 = 136ull;
+    j0 += j1;
+    i0 = (u32)(j0);
+    j0 = i64_load16_u(j0);
+    l13 = j0;
+    j0 = p0;
+    j1 = 144ull;
+    j0 += j1;
+    i0 = (u32)(j0);
+    i0 = i32_load8_u(j0);
+    i1 = 1u;
+    i0 &= i1;
+    i0 = !(i0);
+    if (i0) {goto B69;}
+    i0 = 0u;
+    l26 = i0;
+    j0 = p0;
+    j1 = 183ull;
+    j0 += j1;
+    i0 = (u32)(j0);
+    i0 = i32_load8_u(j0);
+    i1 = 32u;
+    i0 &= i1;
+    if (i0) {goto B68;}
+    B69:;
+    j0 = p0;
+    j1 = 53ull;
+    j0 += j1;
+    i0 = (u32)(j0);
+    i0 = i32_load8_u(j0);
+    i1 = 1u;
+    i0 &= i1;
+    i0 = !(i0);
+    if (i0) {goto B70;}
+    j0 = p0;
+    j1 = 52ull;
+    j0 += j1;
+    i0 = (u32)(j0);
+    i0 = i32_load8_u(j0);
+    i1 = 64u;
+    i0 &= i1;
+    i0 = !(i0);
+    if (i0) {goto B70;}
+    i0 = l30;
+    i1 = 6u;
+    i0 &= i1;
+    l26 = i0;
+    goto B68;
+    B70:;
+    i0 = l27;
+    i1 = 1u;
+    i0 &= i1;
+    i0 = !(i0);
+    if (i0) {goto B71;}
+    i0 = l30;
+    i1 = 7u;
+    i0 &= i1;
+    l26 = i0;
+    goto B68;
+    B71:;
+    i0 = 0u;
+    i1 = l30;
+    i2 = 7u;
+    i1 &= i2;
+    i2 = 1u;
+    i1 += i2;
+    i2 = l30;
+    i3 = 255u;
+    i2 &= i3;
+    i3 = 8u;
+    i2 = i2 == i3;
+    i0 = i2 ? i0 : i1;
+    l26 = i0;
+    B68:;
+    j0 = l2;
+    j1 = 5ull;
+    j0 += j1;
+    i0 = (u32)(j0);
+    i1 = 0u;
+    j2 = 435ull;
+    i2 = (u32)(j2);
+    memory_fill(j0, i1, j2);
+    j0 = l2;
+    j1 = 6944ull;
+    j0 += j1;
+    i1 = l26;
+    i2 = l32;
+    i1 += i2;
+    l27 = i1;
+    i2 = 65535u;
+    i1 &= i2;
+    i2 = 9u;
+    if (i2 == 0) { self->is_broken = true; return; } i1 = i1 / i2;
+    l26 = i1;
+    j1 = (u64)(i1);
+    j2 = l13;
+    j1 += j2;
+    i2 = l31;
+    i3 = l27;
+    i4 = l26;
+    i5 = 9u;
+    i4 *= i5;
+    i3 -= i4;
+    l27 = i3;
+    i2 += i3;
+    i3 = 8u;
+    i2 += i3;
+    i3 = 255u;
+    i2 &= i3;
+    i3 = 9u;
+    if (i3 == 0) { self->is_broken = true; return; } i2 = i2 / i3;
+    j2 = (u64)(i2);
+    j3 = l2;
+    j4 = 5ull;
+    j3 += j4;
+    f5(self, j0, j1, j2, j3); if (NEVER(self->is_broken)) return;
+    j0 = l14;
+    i0 = !(j0);
+    if (i0) {goto B57;}
+    j0 = l12;
+    i0 = (u32)(j0);
+    j1 = l2;
+    j2 = 5ull;
+    j1 += j2;
+    i2 = l27;
+    i3 = 3u;
+    i2 *= i3;
+    j2 = (u64)(i2);
+    j3 = 65535ull;
+    j2 &= j3;
+    j1 += j2;
+    i1 = (u32)(j1);
+    j2 = l14;
+    i2 = (u32)(j2);
+    memory_copy(j0, j1, j2);
+    B57:;
+    j0 = p0;
+    j1 = 2032ull;
+    j0 += j1;
+    l12 = j0;
+    i0 = (u32)(j0);
+    j1 = l12;
+    i1 = (u32)(j1);
+    j1 = i64_load(j1);
+    j2 = l14;
+    j1 += j2;
+    i64_store(j0, j1);
+    j0 = p0;
+    j1 = 2040ull;
+    j0 += j1;
+    i0 = (u32)(j0);
+    j0 = i64_load(j0);
+    i1 = l28;
+    j1 = (u64)(i1);
+    j2 = 65535ull;
+    j1 &= j2;
+    j2 = 2ull;
+    j1 <<= (j2 & 63);
+    j0 += j1;
+    l12 = j0;
+    i0 = (u32)(j0);
+    j1 = l12;
+    i1 = (u32)(j1);
+    i1 = i32_load(j1);
+    i2 = l31;
+    i1 += i2;
+    i32_store(j0, i1);
+    j0 = p0;
+    j1 = 2064ull;
+    j0 += j1;
+    i0 = (u32)(j0);
+    i1 = l28;
+    i32_store16(j0, i1);
+    B29:;
+    j0 = l9;
+    j1 = l10;
+    i2 = l29;
+    i3 = 1u;
+    i2 &= i3;
+    i3 = 9u;
+    i2 ^= i3;
+    i3 = l25;
+    f6(self, j0, j1, i2, i3); if (NEVER(self->is_broken)) return;
+    i0 = p1;
+    i1 = l25;
+    i0 -= i1;
+    p1 = i0;
+    goto B15;
+    B27:;
+    j0 = p0;
+    j1 = 34ull;
+    j0 += j1;
+    i0 = (u32)(j0);
+    i0 = i32_load8_u(j0);
+    i1 = 1u;
+    i0 &= i1;
+    i1 = 9u;
+    i0 ^= i1;
+    l28 = i0;
+    i0 = l27;
+    if (i0) {goto B26;}
+    j0 = p0;
+    j1 = 134ull;
+    j0 += j1;
+    i0 = (u32)(j0);
+    i0 = i32_load16_u(j0);
+    l25 = i0;
+    i0 = l26;
+    i1 = 255u;
+    i0 &= i1;
+    if (i0) {goto B72;}
+    i0 = l25;
+    i1 = 65535u;
+    i0 &= i1;
+    if (i0) {goto B72;}
+    j0 = p0;
+    j1 = 2032ull;
+    j0 += j1;
+    i0 = (u32)(j0);
+    j1 = 0ull;
+    i64_store(j0, j1);
+    j0 = p0;
+    j1 = 2040ull;
+    j0 += j1;
+    i0 = (u32)(j0);
+    j0 = i64_load(j0);
+    l11 = j0;
+    j1 = p0;
+    j2 = 2064ull;
+    j1 += j2;
+    l12 = j1;
+    i1 = (u32)(j1);
+    j1 = i64_load16_u(j1);
+    l13 = j1;
+    j2 = 2ull;
+    j1 <<= (j2 & 63);
+    l14 = j1;
+    j0 += j1;
+    i0 = (u32)(j0);
+    i1 = 0u;
+    i32_store(j0, i1);
+    j0 = l13;
+    i0 = !(j0);
+    if (i0) {goto B73;}
+    j0 = l14;
+    i0 = !(j0);
+    if (i0) {goto B73;}
+    j0 = l11;
+    i0 = (u32)(j0);
+    i1 = 0u;
+    j2 = l14;
+    i2 = (u32)(j2);
+    memory_fill(j0, i1, j2);
+    B73:;
+    j0 = l12;
+    i0 = (u32)(j0);
+    i1 = 0u;
+    i32_store16(j0, i1);
+    j0 = p0;
+    j1 = 136ull;
+    j0 += j1;
+    i0 = (u32)(j0);
+    i0 = i32_load16_u(j0);
+    l27 = i0;
+    if (i0) {goto B26;}
+    j0 = p0;
+    j1 = 134ull;
+    j0 += j1;
+    i0 = (u32)(j0);
+    i0 = i32_load16_u(j0);
+    l25 = i0;
+    j0 = p0;
+    j1 = 138ull;
+    j0 += j1;
+    i0 = (u32)(j0);
+    i0 = i32_load8_u(j0);
+    l26 = i0;
+    B72:;
+    i0 = 0u;
+    l27 = i0;
+    i0 = l26;
+    i1 = 255u;
+    i0 &= i1;
+    if (i0) {goto B25;}
+    i0 = l25;
+    i1 = 65535u;
+    i0 &= i1;
+    if (i0) {goto B25;}
+    i0 = 0u;
+    l25 = i0;
+    j0 = p0;
+    j1 = 143ull;
+    j0 += j1;
+    i0 = (u32)(j0);
+    i1 = 0u;
+    i32_store16(j0, i1);
+    j0 = p0;
+    j1 = 142ull;
+    j0 += j1;
+    i0 = (u32)(j0);
+    j1 = p0;
+    j2 = 113ull;
+    j1 += j2;
+    i1 = (u32)(j1);
+    i1 = i32_load8_u(j1);
+    l27 = i1;
+    i2 = 31u;
+    i1 &= i2;
+    i32_store8(j0, i1);
+    j0 = p0;
+    j1 = 140ull;
+    j0 += j1;
+    i0 = (u32)(j0);
+    j1 = p0;
+    j2 = 117ull;
+    j1 += j2;
+    i1 = (u32)(j1);
+    i1 = i32_load16_u(j1);
+    l26 = i1;
+    i2 = 8u;
+    i1 <<= (i2 & 31);
+    i2 = l26;
+    i3 = 8u;
+    i2 >>= (i3 & 31);
+    i1 |= i2;
+    i2 = l27;
+    i3 = 5u;
+    i2 >>= (i3 & 31);
+    i3 = 3u;
+    i2 &= i3;
+    i1 += i2;
+    i32_store16(j0, i1);
+    i0 = 0u;
+    l27 = i0;
+    goto B25;
+    B26:;
+    i0 = l27;
+    j1 = p0;
+    j2 = 106ull;
+    j1 += j2;
+    i1 = (u32)(j1);
+    i1 = i32_load8_u(j1);
+    i0 = i0 > i1;
+    if (i0) {goto B24;}
+    j0 = p0;
+    j1 = 134ull;
+    j0 += j1;
+    i0 = (u32)(j0);
+    i0 = i32_load16_u(j0);
+    l25 = i0;
+    B25:;
+    i0 = l25;
+    i1 = 65535u;
+    i0 &= i1;
+    j1 = p0;
+    j2 = 112ull;
+    j1 += j2;
+    i1 = (u32)(j1);
+    i1 = i32_load8_u(j1);
+    l26 = i1;
+    i2 = 7u;
+    i1 <<= (i2 & 31);
+    i2 = 256u;
+    i1 &= i2;
+    j2 = p0;
+    j3 = 123ull;
+    j2 += j3;
+    i2 = (u32)(j2);
+    i2 = i32_load8_u(j2);
+    i1 |= i2;
+    i2 = l26;
+    i3 = 3u;
+    i2 <<= (i3 & 31);
+    i3 = 512u;
+    i2 &= i3;
+    i1 |= i2;
+    i0 = i0 > i1;
+    if (i0) {goto B17;}
+    i0 = 0u;
+    l26 = i0;
+    i0 = 0u;
+    l29 = i0;
+    i0 = 0u;
+    l30 = i0;
+    j0 = p0;
+    j1 = 34ull;
+    j0 += j1;
+    i0 = (u32)(j0);
+    i0 = i32_load8_u(j0);
+    l31 = i0;
+    i1 = 32u;
+    i0 &= i1;
+    if (i0) {goto B18;}
+    j0 = p0;
+    j1 = 204ull;
+    j0 += j1;
+    i0 = (u32)(j0);
+    i0 = i32_load8_u(j0);
+    i1 = 32u;
+    i0 &= i1;
+    if (i0) {goto B74;}
+    j0 = p0;
+    j1 = 184ull;
+    j0 += j1;
+    i0 = (u32)(j0);
+    i0 = i32_load8_u(j0);
+    l27 = i0;
+    goto B19;
+    B74:;
+    j0 = p0;
+    j1 = 53ull;
+    j0 += j1;
+    i0 = (u32)(j0);
+    i0 = i32_load8_u(j0);
+    i1 = 1u;
+    i0 &= i1;
+    l32 = i0;
+    if (i0) {goto B75;}
+    i0 = l31;
+    i1 = 1u;
+    i0 &= i1;
+    l31 = i0;
+    i1 = 9u;
+    i0 ^= i1;
+    l26 = i0;
+    j0 = p0;
+    j1 = 186ull;
+    j0 += j1;
+    i0 = (u32)(j0);
+    i0 = i32_load8_u(j0);
+    l30 = i0;
+    j0 = p0;
+    j1 = 138ull;
+    j0 += j1;
+    i0 = (u32)(j0);
+    i0 = i32_load8_u(j0);
+    l29 = i0;
+    j0 = p0;
+    j1 = 144ull;
+    j0 += j1;
+    i0 = (u32)(j0);
+    i0 = i32_load8_u(j0);
+    i1 = 1u;
+    i0 &= i1;
+    i0 = !(i0);
+    if (i0) {goto B21;}
+    j0 = p0;
+    j1 = 183ull;
+    j0 += j1;
+    i0 = (u32)(j0);
+    i0 = i32_load8_u(j0);
+    i1 = 32u;
+    i0 &= i1;
+    i0 = !(i0);
+    if (i0) {goto B21;}
+    i0 = 0u;
+    l30 = i0;
+    goto B20;
+    B75:;
+    i0 = l31;
+    i1 = 1u;
+    i0 &= i1;
+    l31 = i0;
+    i1 = 9u;
+    i0 ^= i1;
+    l26 = i0;
+    j0 = p0;
+    j1 = 186ull;
+    j0 += j1;
+    i0 = (u32)(j0);
+    i0 = i32_load8_u(j0);
+    l30 = i0;
+    j0 = p0;
+    j1 = 144ull;
+    j0 += j1;
+    i0 = (u32)(j0);
+    i0 = i32_load8_u(j0);
+    l33 = i0;
+    j0 = p0;
+    j1 = 138ull;
+    j0 += j1;
+    i0 = (u32)(j0);
+    i0 = i32_load8_u(j0);
+    l29 = i0;
+    j0 = p0;
+    j1 = 52ull;
+    j0 += j1;
+    i0 = (u32)(j0);
+    i0 = i32_load8_u(j0);
+    i1 = 64u;
+    i0 &= i1;
+    i0 = !(i0);
+    if (i0) {goto B76;}
+    i0 = l33;
+    i1 = 1u;
+    i0 &= i1;
+    i0 = !(i0);
+    if (i0) {goto B78;}
+    i0 = 0u;
+    l31 = i0;
+    j0 = p0;
+    j1 = 183ull;
+    j0 += j1;
+    i0 = (u32)(j0);
+    i0 = i32_load8_u(j0);
+    i1 = 32u;
+    i0 &= i1;
+    if (i0) {goto B77;}
+    B78:;
+    i0 = l30;
+    i1 = 6u;
+    i0 &= i1;
+    l31 = i0;
+    B77:;
+    i0 = l31;
+    i1 = l29;
+    i0 += i1;
+    l29 = i0;
+    i1 = 255u;
+    i0 &= i1;
+    i1 = l26;
+    i0 = i0 >= i1;
+    if (i0) {goto B80;}
+    j0 = p0;
+    j1 = 140ull;
+    j0 += j1;
+    i0 = (u32)(j0);
+    i0 = i32_load16_u(j0);
+    i1 = l27;
+    i0 += i1;
+    l26 = i0;
+    goto B79;
+    B80:;
+    i0 = l29;
+    i1 = l26;
+    i0 -= i1;
+    l29 = i0;
+    i0 = l27;
+    j1 = p0;
+    j2 = 140ull;
+    j1 += j2;
+    i1 = (u32)(j1);
+    i1 = i32_load16_u(j1);
+    i0 += i1;
+    i1 = 1u;
+    i0 += i1;
+    l26 = i0;
+    B79:;
+    i0 = 0u;
+    l27 = i0;
+    i0 = l29;
+    i1 = 255u;
+    i0 &= i1;
+    i1 = 7u;
+    i0 = i0 > i1;
+    if (i0) {goto B19;}
+    j0 = p0;
+    j1 = 125ull;
+    j0 += j1;
+    i0 = (u32)(j0);
+    i0 = i32_load8_u(j0);
+    i1 = 64u;
+    i0 &= i1;
+    i0 = !(i0);
+    if (i0) {goto B82;}
+    i0 = l26;
+    i1 = 2u;
+    i0 <<= (i1 & 31);
+    l26 = i0;
+    goto B81;
+    B82:;
+    j0 = p0;
+    j1 = 128ull;
+    j0 += j1;
+    i0 = (u32)(j0);
+    i0 = i32_load8_u(j0);
+    l27 = i0;
+    i1 = 64u;
+    i0 &= i1;
+    if (i0) {goto B81;}
+    i0 = l26;
+    i1 = 65535u;
+    i0 &= i1;
+    i1 = 15u;
+    i2 = 13u;
+    i3 = l27;
+    i4 = 32u;
+    i3 &= i4;
+    i1 = i3 ? i1 : i2;
+    i0 >>= (i1 & 31);
+    i1 = 1u;
+    i0 &= i1;
+    i1 = l26;
+    i2 = 1u;
+    i1 <<= (i2 & 31);
+    i0 |= i1;
+    l26 = i0;
+    B81:;
+    j0 = p0;
+    i0 = (u32)(j0);
+    j0 = i64_load(j0);
+    i1 = l26;
+    j1 = (u64)(i1);
+    j2 = 65535ull;
+    j1 &= j2;
+    j2 = 2ull;
+    j1 <<= (j2 & 63);
+    j0 += j1;
+    i0 = (u32)(j0);
+    i0 = i32_load(j0);
+    i1 = l29;
+    i2 = 2u;
+    i1 <<= (i2 & 31);
+    i2 = 24u;
+    i1 &= i2;
+    i0 >>= (i1 & 31);
+    l27 = i0;
+    goto B19;
+    B76:;
+    i0 = l33;
+    i1 = 1u;
+    i0 &= i1;
+    if (i0) {goto B23;}
+    goto B22;
+    B24:;
+    j0 = p0;
+    j1 = 138ull;
+    j0 += j1;
+    i0 = (u32)(j0);
+    i0 = i32_load8_u(j0);
+    l26 = i0;
+    goto B16;
+    B23:;
+    j0 = p0;
+    j1 = 183ull;
+    j0 += j1;
+    i0 = (u32)(j0);
+    i0 = i32_load8_u(j0);
+    i1 = 32u;
+    i0 &= i1;
+    i0 = !(i0);
+    if (i0) {goto B22;}
+    i0 = 0u;
+    l30 = i0;
+    goto B20;
+    B22:;
+    j0 = p0;
+    j1 = 52ull;
+    j0 += j1;
+    i0 = (u32)(j0);
+    i0 = i32_load8_u(j0);
+    i1 = 64u;
+    i0 &= i1;
+    i0 = !(i0);
+    if (i0) {goto B21;}
+    i0 = l30;
+    i1 = 6u;
+    i0 &= i1;
+    l30 = i0;
+    goto B20;
+    B21:;
+    i0 = l31;
+    i0 = !(i0);
+    if (i0) {goto B83;}
+    i0 = l30;
+    i1 = 7u;
+    i0 &= i1;
+    l30 = i0;
+    goto B20;
+    B83:;
+    i0 = 0u;
+    i1 = l30;
+    i2 = 7u;
+    i1 &= i2;
+    i2 = 1u;
+    i1 += i2;
+    i2 = l30;
+    i3 = 255u;
+    i2 &= i3;
+    i3 = 8u;
+    i2 = i2 == i3;
+    i0 = i2 ? i0 : i1;
+    l30 = i0;
+    B20:;
+    i0 = l30;
+    i1 = l29;
+    i0 += i1;
+    l29 = i0;
+    i1 = 255u;
+    i0 &= i1;
+    i1 = l26;
+    i0 = i0 >= i1;
+    if (i0) {goto B85;}
+    j0 = p0;
+    j1 = 140ull;
+    j0 += j1;
+    i0 = (u32)(j0);
+    i0 = i32_load16_u(j0);
+    i1 = l27;
+    i0 += i1;
+    l27 = i0;
+    goto B84;
+    B85:;
+    i0 = l29;
+    i1 = l26;
+    i0 -= i1;
+    l29 = i0;
+    i0 = l27;
+    j1 = p0;
+    j2 = 140ull;
+    j1 += j2;
+    i1 = (u32)(j1);
+    i1 = i32_load16_u(j1);
+    i0 += i1;
+    i1 = 1u;
+    i0 += i1;
+    l27 = i0;
+    B84:;
+    i0 = l32;
+    i0 = !(i0);
+    if (i0) {goto B87;}
+    i0 = 0u;
+    l26 = i0;
+    i0 = l29;
+    i1 = 255u;
+    i0 &= i1;
+    i1 = 7u;
+    i0 = i0 > i1;
+    if (i0) {goto B86;}
+    j0 = p0;
+    j1 = 125ull;
+    j0 += j1;
+    i0 = (u32)(j0);
+    i0 = i32_load8_u(j0);
+    i1 = 64u;
+    i0 &= i1;
+    i0 = !(i0);
+    if (i0) {goto B89;}
+    i0 = l27;
+    i1 = 2u;
+    i0 <<= (i1 & 31);
+    l27 = i0;
+    goto B88;
+    B89:;
+    j0 = p0;
+    j1 = 128ull;
+    j0 += j1;
+    i0 = (u32)(j0);
+    i0 = i32_load8_u(j0);
+    l26 = i0;
+    i1 = 64u;
+    i0 &= i1;
+    if (i0) {goto B88;}
+    i0 = l27;
+    i1 = 65535u;
+    i0 &= i1;
+    i1 = 15u;
+    i2 = 13u;
+    i3 = l26;
+    i4 = 32u;
+    i3 &= i4;
+    i1 = i3 ? i1 : i2;
+    i0 >>= (i1 & 31);
+    i1 = 1u;
+    i0 &= i1;
+    i1 = l27;
+    i2 = 1u;
+    i1 <<= (i2 & 31);
+    i0 |= i1;
+    l27 = i0;
+    B88:;
+    j0 = p0;
+    i0 = (u32)(j0);
+    j0 = i64_load(j0);
+    i1 = l27;
+    j1 = (u64)(i1);
+    j2 = 65535ull;
+    j1 &= j2;
+    j2 = 2ull;
+    j1 <<= (j2 & 63);
+    j0 += j1;
+    i0 = (u32)(j0);
+    i0 = i32_load(j0);
+    l27 = i0;
+    i1 = 8u;
+    i0 >>= (i1 & 31);
+    i1 = 255u;
+    i0 &= i1;
+    i1 = 7u;
+    i2 = l29;
+    i1 -= i2;
+    i2 = 255u;
+    i1 &= i2;
+    l26 = i1;
+    i0 >>= (i1 & 31);
+    i1 = 1u;
+    i0 <<= (i1 & 31);
+    i1 = 2u;
+    i0 &= i1;
+    i1 = l27;
+    i2 = 255u;
+    i1 &= i2;
+    i2 = l26;
+    i1 >>= (i2 & 31);
+    i2 = 1u;
+    i1 &= i2;
+    i0 |= i1;
+    i1 = l27;
+    i2 = 16u;
+    i1 >>= (i2 & 31);
+    i2 = 255u;
+    i1 &= i2;
+    i2 = l26;
+    i1 >>= (i2 & 31);
+    i2 = 2u;
+    i1 <<= (i2 & 31);
+    i2 = 4u;
+    i1 &= i2;
+    i0 |= i1;
+    i1 = l27;
+    i2 = 24u;
+    i1 >>= (i2 & 31);
+    i2 = l26;
+    i1 >>= (i2 & 31);
+    i2 = 3u;
+    i1 <<= (i2 & 31);
+    i2 = 8u;
+    i1 &= i2;
+    i0 |= i1;
+    l26 = i0;
+    goto B86;
+    B87:;
+    j0 = p0;
+    j1 = 125ull;
+    j0 += j1;
+    i0 = (u32)(j0);
+    i0 = i32_load8_u(j0);
+    l33 = i0;
+    i1 = 64u;
+    i0 &= i1;
+    i0 = !(i0);
+    if (i0) {goto B91;}
+    i0 = l27;
+    i1 = 2u;
+    i0 <<= (i1 & 31);
+    l26 = i0;
+    goto B90;
+    B91:;
+    i0 = l27;
+    l26 = i0;
+    j0 = p0;
+    j1 = 128ull;
+    j0 += j1;
+    i0 = (u32)(j0);
+    i0 = i32_load8_u(j0);
+    l30 = i0;
+    i1 = 64u;
+    i0 &= i1;
+    if (i0) {goto B90;}
+    i0 = l27;
+    i1 = 65535u;
+    i0 &= i1;
+    i1 = 15u;
+    i2 = 13u;
+    i3 = l30;
+    i4 = 32u;
+    i3 &= i4;
+    i1 = i3 ? i1 : i2;
+    i0 >>= (i1 & 31);
+    i1 = 1u;
+    i0 &= i1;
+    i1 = l27;
+    i2 = 1u;
+    i1 <<= (i2 & 31);
+    i0 |= i1;
+    l26 = i0;
+    B90:;
+    j0 = p0;
+    j1 = 142ull;
+    j0 += j1;
+    i0 = (u32)(j0);
+    i0 = i32_load8_u(j0);
+    l30 = i0;
+    j0 = p0;
+    i0 = (u32)(j0);
+    j0 = i64_load(j0);
+    l12 = j0;
+    i1 = l26;
+    j1 = (u64)(i1);
+    j2 = 65535ull;
+    j1 &= j2;
+    j2 = 2ull;
+    j1 <<= (j2 & 63);
+    j0 += j1;
+    i0 = (u32)(j0);
+    i0 = i32_load(j0);
+    l34 = i0;
+    i1 = 8u;
+    i0 >>= (i1 & 31);
+    l26 = i0;
+    j0 = p0;
+    j1 = 132ull;
+    j0 += j1;
+    i0 = (u32)(j0);
+    i0 = i32_load8_u(j0);
+    l31 = i0;
+    i0 = l27;
+    i1 = 65535u;
+    i0 &= i1;
+    j1 = p0;
+    j2 = 119ull;
+    j1 += j2;
+    i1 = (u32)(j1);
+    i1 = i32_load16_u(j1);
+    l27 = i1;
+    i2 = 8u;
+    i1 <<= (i2 & 31);
+    i2 = l27;
+    i3 = 8u;
+    i2 >>= (i3 & 31);
+    i1 |= i2;
+    i2 = 65535u;
+    i1 &= i2;
+    i0 = i0 != i1;
+    if (i0) {goto B94;}
+    j0 = p0;
+    j1 = 115ull;
+    j0 += j1;
+    i0 = (u32)(j0);
+    i0 = i32_load8_u(j0);
+    l27 = i0;
+    i1 = 32u;
+    i0 &= i1;
+    if (i0) {goto B94;}
+    i0 = l27;
+    i1 = 31u;
+    i0 &= i1;
+    i1 = l30;
+    i2 = 255u;
+    i1 &= i2;
+    l27 = i1;
+    i0 = i0 > i1;
+    if (i0) {goto B94;}
+    i0 = l27;
+    j1 = p0;
+    j2 = 116ull;
+    j1 += j2;
+    i1 = (u32)(j1);
+    i1 = i32_load8_u(j1);
+    i2 = 31u;
+    i1 &= i2;
+    i0 = i0 > i1;
+    if (i0) {goto B94;}
+    i0 = l31;
+    i1 = 8u;
+    i0 &= i1;
+    i0 = !(i0);
+    if (i0) {goto B93;}
+    B94:;
+    j0 = p0;
+    j1 = 183ull;
+    j0 += j1;
+    i0 = (u32)(j0);
+    i0 = i32_load8_u(j0);
+    l32 = i0;
+    i1 = 8u;
+    i0 &= i1;
+    l27 = i0;
+    i0 = l26;
+    i0 = (u32)(s32)(s8)(u8)(i0);
+    i1 = 4294967295u;
+    i0 = (u32)((s32)i0 > (s32)i1);
+    if (i0) {goto B95;}
+    i0 = l27;
+    i0 = !(i0);
+    if (i0) {goto B95;}
+    i0 = l31;
+    i1 = 255u;
+    i0 &= i1;
+    i1 = 15u;
+    i0 = i0 > i1;
+    if (i0) {goto B92;}
+    B95:;
+    i0 = l26;
+    i1 = 119u;
+    i0 &= i1;
+    i1 = 1u;
+    i0 = i0 != i1;
+    if (i0) {goto B96;}
+    i0 = l32;
+    i1 = 2u;
+    i0 &= i1;
+    i0 = !(i0);
+    if (i0) {goto B96;}
+    i0 = l30;
+    i1 = 255u;
+    i0 &= i1;
+    i1 = l33;
+    i2 = 31u;
+    i1 &= i2;
+    i0 = i0 == i1;
+    if (i0) {goto B93;}
+    B96:;
+    i0 = l30;
+    j0 = (u64)(i0);
+    j1 = 255ull;
+    j0 &= j1;
+    l13 = j0;
+    j0 = p0;
+    j1 = 36ull;
+    j0 += j1;
+    i0 = (u32)(j0);
+    i0 = i32_load8_u(j0);
+    l30 = i0;
+    i0 = l26;
+    i1 = 8u;
+    i0 &= i1;
+    i0 = !(i0);
+    if (i0) {goto B98;}
+    i0 = l30;
+    i1 = 2u;
+    i0 >>= (i1 & 31);
+    i1 = 3u;
+    i0 &= i1;
+    i1 = l30;
+    i2 = 3u;
+    i1 >>= (i2 & 31);
+    i2 = 4u;
+    i1 &= i2;
+    i0 |= i1;
+    l30 = i0;
+    goto B97;
+    B98:;
+    i0 = l30;
+    i1 = 2u;
+    i0 >>= (i1 & 31);
+    i1 = 4u;
+    i0 &= i1;
+    i1 = l30;
+    i2 = 3u;
+    i1 &= i2;
+    i0 |= i1;
+    l30 = i0;
+    B97:;
+    j0 = l12;
+    j1 = l13;
+    j2 = 2ull;
+    j1 <<= (j2 & 63);
+    i2 = l34;
+    i3 = 7u;
+    i2 <<= (i3 & 31);
+    i3 = 32640u;
+    i2 &= i3;
+    j2 = (u64)(i2);
+    j1 += j2;
+    i2 = l30;
+    i3 = 16u;
+    i2 <<= (i3 & 31);
+    j2 = (u64)(i2);
+    j1 |= j2;
+    i2 = l30;
+    i3 = 13u;
+    i2 <<= (i3 & 31);
+    i3 = 32768u;
+    i2 &= i3;
+    j2 = (u64)(i2);
+    j1 += j2;
+    j2 = 262140ull;
+    j1 &= j2;
+    j0 += j1;
+    j1 = 2ull;
+    j0 += j1;
+    i0 = (u32)(j0);
+    i0 = i32_load16_u(j0);
+    l30 = i0;
+    i0 = l29;
+    i1 = 255u;
+    i0 &= i1;
+    l29 = i0;
+    i1 = 8u;
+    i0 = i0 < i1;
+    if (i0) {goto B99;}
+    i0 = l34;
+    i1 = 224u;
+    i0 &= i1;
+    i1 = 192u;
+    i0 = i0 != i1;
+    if (i0) {goto B92;}
+    i0 = l32;
+    i1 = 4u;
+    i0 &= i1;
+    i0 = !(i0);
+    if (i0) {goto B92;}
+    i0 = l30;
+    i1 = 1u;
+    i0 &= i1;
+    if (i0) {goto B93;}
+    goto B92;
+    B99:;
+    i0 = l30;
+    i1 = l29;
+    i0 <<= (i1 & 31);
+    i1 = 128u;
+    i0 &= i1;
+    i0 = !(i0);
+    if (i0) {goto B92;}
+    B93:;
+    i0 = l26;
+    i1 = 15u;
+    i0 &= i1;
+    l26 = i0;
+    goto B86;
+    B92:;
+    i0 = l26;
+    i1 = 240u;
+    i0 &= i1;
+    i1 = 4u;
+    i0 >>= (i1 & 31);
+    l26 = i0;
+    i1 = 7u;
+    i0 &= i1;
+    i1 = l26;
+    i2 = l27;
+    i0 = i2 ? i0 : i1;
+    l26 = i0;
+    B86:;
+    j0 = l3;
+    i1 = l26;
+    j1 = (u64)(i1);
+    j0 += j1;
+    i0 = (u32)(j0);
+    i0 = i32_load8_u(j0);
+    l27 = i0;
+    B19:;
+    j0 = l5;
+    j1 = p0;
+    j2 = 2002ull;
+    j1 += j2;
+    i1 = (u32)(j1);
+    i1 = i32_load8_u(j1);
+    i2 = l27;
+    i1 &= i2;
+    j1 = (u64)(i1);
+    j2 = 255ull;
+    j1 &= j2;
+    l12 = j1;
+    j0 += j1;
+    i0 = (u32)(j0);
+    i0 = i32_load8_u(j0);
+    l30 = i0;
+    j0 = l6;
+    j1 = l12;
+    j0 += j1;
+    i0 = (u32)(j0);
+    i0 = i32_load8_u(j0);
+    l29 = i0;
+    j0 = l7;
+    j1 = l12;
+    j0 += j1;
+    i0 = (u32)(j0);
+    i0 = i32_load8_u(j0);
+    l26 = i0;
+    B18:;
+    j0 = p0;
+    j1 = 2008ull;
+    j0 += j1;
+    l13 = j0;
+    i0 = (u32)(j0);
+    j0 = i64_load(j0);
+    j1 = p0;
+    j2 = 2016ull;
+    j1 += j2;
+    l11 = j1;
+    i1 = (u32)(j1);
+    j1 = i64_load(j1);
+    l12 = j1;
+    j2 = p0;
+    j3 = 2032ull;
+    j2 += j3;
+    l14 = j2;
+    i2 = (u32)(j2);
+    j2 = i64_load(j2);
+    l15 = j2;
+    j3 = l12;
+    j4 = l15;
+    i3 = j3 < j4;
+    j1 = i3 ? j1 : j2;
+    l12 = j1;
+    j0 += j1;
+    i0 = (u32)(j0);
+    i1 = l26;
+    i32_store8(j0, i1);
+    j0 = l13;
+    i0 = (u32)(j0);
+    j0 = i64_load(j0);
+    j1 = l12;
+    j0 += j1;
+    j1 = 1ull;
+    j0 += j1;
+    i0 = (u32)(j0);
+    i1 = l29;
+    i32_store8(j0, i1);
+    j0 = l13;
+    i0 = (u32)(j0);
+    j0 = i64_load(j0);
+    j1 = l12;
+    j0 += j1;
+    j1 = 2ull;
+    j0 += j1;
+    i0 = (u32)(j0);
+    i1 = l30;
+    i32_store8(j0, i1);
+    j0 = l11;
+    i0 = (u32)(j0);
+    j1 = l12;
+    j2 = 3ull;
+    j1 += j2;
+    i64_store(j0, j1);
+    j0 = l14;
+    i0 = (u32)(j0);
+    j1 = l14;
+    i1 = (u32)(j1);
+    j1 = i64_load(j1);
+    j2 = 3ull;
+    j1 += j2;
+    i64_store(j0, j1);
+    j0 = p0;
+    j1 = 2040ull;
+    j0 += j1;
+    i0 = (u32)(j0);
+    j0 = i64_load(j0);
+    i1 = l25;
+    j1 = (u64)(i1);
+    j2 = 65535ull;
+    j1 &= j2;
+    j2 = 2ull;
+    j1 <<= (j2 & 63);
+    j0 += j1;
+    l12 = j0;
+    i0 = (u32)(j0);
+    j1 = l12;
+    i1 = (u32)(j1);
+    i1 = i32_load(j1);
+    i2 = 1u;
+    i1 += i2;
+    i32_store(j0, i1);
+    j0 = p0;
+    j1 = 2064ull;
+    j0 += j1;
+    i0 = (u32)(j0);
+    i1 = l25;
+    i32_store16(j0, i1);
+    j0 = p0;
+    j1 = 136ull;
+    j0 += j1;
+    i0 = (u32)(j0);
+    i0 = i32_load16_u(j0);
+    l27 = i0;
+    B17:;
+    j0 = p0;
+    j1 = 138ull;
+    j0 += j1;
+    i0 = (u32)(j0);
+    i0 = i32_load8_u(j0);
+    l26 = i0;
+    i0 = l27;
+    i1 = 65535u;
+    i0 &= i1;
+    if (i0) {goto B16;}
+    i0 = 0u;
+    l27 = i0;
+    i0 = l26;
+    i1 = 255u;
+    i0 &= i1;
+    if (i0) {goto B16;}
+    j0 = p0;
+    j1 = 134ull;
+    j0 += j1;
+    i0 = (u32)(j0);
+    i0 = i32_load16_u(j0);
+    i1 = 65535u;
+    i0 &= i1;
+    if (i0) {goto B16;}
+    i0 = 0u;
+    l27 = i0;
+    j0 = p0;
+    j1 = 143ull;
+    j0 += j1;
+    i0 = (u32)(j0);
+    i1 = 0u;
+    i32_store16(j0, i1);
+    j0 = p0;
+    j1 = 142ull;
+    j0 += j1;
+    i0 = (u32)(j0);
+    j1 = p0;
+    j2 = 113ull;
+    j1 += j2;
+    i1 = (u32)(j1);
+    i1 = i32_load8_u(j1);
+    l26 = i1;
+    i2 = 31u;
+    i1 &= i2;
+    i32_store8(j0, i1);
+    j0 = p0;
+    j1 = 140ull;
+    j0 += j1;
+    i0 = (u32)(j0);
+    j1 = p0;
+    j2 = 117ull;
+    j1 += j2;
+    i1 = (u32)(j1);
+    i1 = i32_load16_u(j1);
+    l25 = i1;
+    i2 = 8u;
+    i1 <<= (i2 & 31);
+    i2 = l25;
+    i3 = 8u;
+    i2 >>= (i3 & 31);
+    i1 |= i2;
+    i2 = l26;
+    i3 = 5u;
+    i2 >>= (i3 & 31);
+    i3 = 3u;
+    i2 &= i3;
+    i1 += i2;
+    i32_store16(j0, i1);
+    i0 = 0u;
+    l26 = i0;
+    B16:;
+    i0 = l26;
+    i1 = 1u;
+    i0 += i1;
+    l26 = i0;
+    i1 = 255u;
+    i0 &= i1;
+    i1 = l28;
+    i0 = i0 >= i1;
+    if (i0) {goto B101;}
+    j0 = p0;
+    j1 = 138ull;
+    j0 += j1;
+    i0 = (u32)(j0);
+    i1 = l26;
+    i32_store8(j0, i1);
+    goto B100;
+    B101:;
+    i0 = l27;
+    i1 = 1u;
+    i0 += i1;
+    l27 = i0;
+    i1 = 65535u;
+    i0 &= i1;
+    j1 = p0;
+    j2 = 105ull;
+    j1 += j2;
+    i1 = (u32)(j1);
+    i1 = i32_load8_u(j1);
+    i2 = 5u;
+    i1 += i2;
+    i0 = i0 >= i1;
+    if (i0) {goto B102;}
+    j0 = p0;
+    j1 = 136ull;
+    j0 += j1;
+    i0 = (u32)(j0);
+    i1 = l27;
+    i32_store16(j0, i1);
+    j0 = p0;
+    j1 = 138ull;
+    j0 += j1;
+    i0 = (u32)(j0);
+    i1 = 0u;
+    i32_store8(j0, i1);
+    goto B100;
+    B102:;
+    j0 = p0;
+    j1 = 134ull;
+    j0 += j1;
+    i0 = (u32)(j0);
+    i0 = i32_load16_u(j0);
+    l26 = i0;
+    i1 = 1u;
+    i0 += i1;
+    l25 = i0;
+    i1 = 65535u;
+    i0 &= i1;
+    j1 = p0;
+    j2 = 111ull;
+    j1 += j2;
+    i1 = (u32)(j1);
+    i1 = i32_load8_u(j1);
+    j2 = p0;
+    j3 = 112ull;
+    j2 += j3;
+    i2 = (u32)(j2);
+    i2 = i32_load8_u(j2);
+    l27 = i2;
+    i3 = 1u;
+    i2 &= i3;
+    i3 = 8u;
+    i2 <<= (i3 & 31);
+    i1 |= i2;
+    i2 = l27;
+    i3 = 4u;
+    i2 <<= (i3 & 31);
+    l27 = i2;
+    i3 = 512u;
+    i2 &= i3;
+    i1 |= i2;
+    i2 = 2u;
+    i1 += i2;
+    i0 = i0 >= i1;
+    if (i0) {goto B103;}
+    j0 = p0;
+    j1 = 138ull;
+    j0 += j1;
+    i0 = (u32)(j0);
+    i1 = 0u;
+    i32_store8(j0, i1);
+    j0 = p0;
+    j1 = 136ull;
+    j0 += j1;
+    i0 = (u32)(j0);
+    i1 = 0u;
+    i32_store16(j0, i1);
+    i0 = l26;
+    i1 = 65535u;
+    i0 &= i1;
+    j1 = p0;
+    j2 = 114ull;
+    j1 += j2;
+    i1 = (u32)(j1);
+    i1 = i32_load8_s(j1);
+    l26 = i1;
+    i2 = 3u;
+    i1 <<= (i2 & 31);
+    i2 = 512u;
+    i1 &= i2;
+    i2 = l27;
+    i3 = 256u;
+    i2 &= i3;
+    j3 = p0;
+    j4 = 129ull;
+    j3 += j4;
+    i3 = (u32)(j3);
+    i3 = i32_load8_u(j3);
+    i2 |= i3;
+    i1 |= i2;
+    i0 = i0 != i1;
+    if (i0) {goto B105;}
+    j0 = p0;
+    j1 = 144ull;
+    j0 += j1;
+    i0 = (u32)(j0);
+    i1 = 1u;
+    i32_store8(j0, i1);
+    j0 = p0;
+    j1 = 140ull;
+    j0 += j1;
+    i0 = (u32)(j0);
+    i1 = 0u;
+    i32_store(j0, i1);
+    goto B104;
+    B105:;
+    i0 = l26;
+    i1 = 4294967295u;
+    i0 = (u32)((s32)i0 > (s32)i1);
+    if (i0) {goto B106;}
+    j0 = p0;
+    j1 = 143ull;
+    j0 += j1;
+    l12 = j0;
+    i0 = (u32)(j0);
+    i0 = i32_load8_u(j0);
+    if (i0) {goto B106;}
+    j0 = l12;
+    i0 = (u32)(j0);
+    i1 = 1u;
+    i32_store8(j0, i1);
+    goto B104;
+    B106:;
+    j0 = p0;
+    j1 = 143ull;
+    j0 += j1;
+    i0 = (u32)(j0);
+    i1 = 0u;
+    i32_store8(j0, i1);
+    j0 = p0;
+    j1 = 142ull;
+    j0 += j1;
+    l12 = j0;
+    i0 = (u32)(j0);
+    i0 = i32_load8_u(j0);
+    l27 = i0;
+    i1 = l26;
+    i2 = 31u;
+    i1 &= i2;
+    i0 = i0 >= i1;
+    if (i0) {goto B107;}
+    j0 = l12;
+    i0 = (u32)(j0);
+    i1 = l27;
+    i2 = 1u;
+    i1 += i2;
+    i32_store8(j0, i1);
+    goto B104;
+    B107:;
+    j0 = l12;
+    i0 = (u32)(j0);
+    i1 = 0u;
+    i32_store8(j0, i1);
+    j0 = p0;
+    j1 = 140ull;
+    j0 += j1;
+    l12 = j0;
+    i0 = (u32)(j0);
+    j1 = p0;
+    j2 = 124ull;
+    j1 += j2;
+    i1 = (u32)(j1);
+    i1 = i32_load8_u(j1);
+    i2 = 1u;
+    i1 <<= (i2 & 31);
+    j2 = l12;
+    i2 = (u32)(j2);
+    i2 = i32_load16_u(j2);
+    i1 += i2;
+    i32_store16(j0, i1);
+    B104:;
+    j0 = p0;
+    j1 = 134ull;
+    j0 += j1;
+    i0 = (u32)(j0);
+    i1 = l25;
+    i32_store16(j0, i1);
+    goto B100;
+    B103:;
+    j0 = l4;
+    i0 = (u32)(j0);
+    j1 = 0ull;
+    i64_store(j0, j1);
+    j0 = l4;
+    i0 = (u32)(j0);
+    j1 = 0ull;
+    i64_store(j0 + 5, j1);
+    j0 = l9;
+    i0 = (u32)(j0);
     j1 = l9;
+    i1 = (u32)(j1);
+    i1 = i32_load8_u(j1);
+    i2 = 1u;
+    i1 += i2;
+    i2 = 31u;
+    i1 &= i2;
+    i32_store8(j0, i1);
+    B100:;
+    i0 = p1;
+    i1 = 4294967295u;
+    i0 += i1;
+    p1 = i0;
+    B15:;
+    i0 = 0u;
+    l25 = i0;
+    goto B2;
+    B5:;
+    i0 = l27;
+    i1 = l26;
+    i2 = 255u;
+    i1 &= i2;
+    l26 = i1;
+    i0 = i0 <= i1;
+    if (i0) {goto B108;}
+    j0 = p0;
+    j1 = 144ull;
+    j0 += j1;
+    i0 = (u32)(j0);
+    i0 = i32_load8_u(j0);
+    l22 = i0;
+    j0 = p0;
+    j1 = 134ull;
+    j0 += j1;
+    i0 = (u32)(j0);
+    i0 = i32_load16_u(j0);
+    l24 = i0;
+    j0 = p0;
+    j1 = 140ull;
+    j0 += j1;
+    i0 = (u32)(j0);
+    i0 = i32_load16_u(j0);
+    l29 = i0;
+    l23 = i0;
+    goto B3;
+    B108:;
+    j0 = p0;
+    j1 = 134ull;
+    j0 += j1;
+    i0 = (u32)(j0);
+    i0 = i32_load16_u(j0);
+    l24 = i0;
+    j1 = p0;
+    j2 = 112ull;
+    j1 += j2;
+    i1 = (u32)(j1);
+    i1 = i32_load8_u(j1);
+    l27 = i1;
+    i2 = 7u;
+    i1 <<= (i2 & 31);
+    i2 = 256u;
+    i1 &= i2;
+    j2 = p0;
+    j3 = 123ull;
+    j2 += j3;
+    i2 = (u32)(j2);
+    i2 = i32_load8_u(j2);
+    i1 |= i2;
+    i2 = l27;
+    i3 = 3u;
+    i2 <<= (i3 & 31);
+    i3 = 512u;
+    i2 &= i3;
+    i1 |= i2;
+    i0 = i0 > i1;
+    if (i0) {goto B4;}
+    i0 = l24;
+    j0 = (u64)(i0);
+    l15 = j0;
+    j0 = p0;
+    j1 = 105ull;
+    j0 += j1;
+    i0 = (u32)(j0);
+    i0 = i32_load8_u(j0);
+    i1 = 5u;
+    i0 += i1;
+    l27 = i0;
+    i1 = l26;
+    i2 = 1u;
+    i1 += i2;
+    l26 = i1;
+    i2 = l27;
+    i3 = l26;
+    i2 = i2 < i3;
+    i0 = i2 ? i0 : i1;
+    l23 = i0;
+    j0 = (u64)(i0);
+    l14 = j0;
+    j0 = p0;
+    j1 = 2016ull;
+    j0 += j1;
+    i0 = (u32)(j0);
+    j0 = i64_load(j0);
+    l12 = j0;
+    j0 = p0;
+    j1 = 2032ull;
+    j0 += j1;
+    i0 = (u32)(j0);
+    j0 = i64_load(j0);
+    l13 = j0;
+    j0 = p0;
+    j1 = 34ull;
+    j0 += j1;
+    i0 = (u32)(j0);
+    i0 = i32_load8_u(j0);
+    i1 = 1u;
+    i0 &= i1;
+    i0 = !(i0);
+    if (i0) {goto B113;}
+    j0 = l14;
+    j1 = 24ull;
+    j0 *= j1;
+    l16 = j0;
+    j1 = l13;
+    j0 += j1;
+    l14 = j0;
+    j1 = l12;
+    i0 = j0 <= j1;
+    if (i0) {goto B114;}
+    j0 = l14;
+    j1 = l12;
+    j0 -= j1;
+    l14 = j0;
+    j1 = p0;
+    j2 = 2024ull;
+    j1 += j2;
+    i1 = (u32)(j1);
+    j1 = i64_load(j1);
+    l19 = j1;
+    j2 = l12;
+    j1 -= j2;
+    i0 = j0 <= j1;
+    if (i0) {goto B115;}
+    j0 = p0;
+    j1 = 2008ull;
+    j0 += j1;
+    j1 = l14;
+    i0 = f3(self, j0, j1); m = self->memory; if (NEVER(self->is_broken)) return;
+    i0 = !(i0);
+    if (i0) {goto B114;}
+    j0 = p0;
+    j1 = 2024ull;
+    j0 += j1;
+    i0 = (u32)(j0);
+    j0 = i64_load(j0);
+    l19 = j0;
+    j0 = p0;
+    j1 = 2016ull;
+    j0 += j1;
+    i0 = (u32)(j0);
+    j0 = i64_load(j0);
+    l12 = j0;
+    B115:;
+    j0 = p0;
+    j1 = 2008ull;
+    j0 += j1;
+    l17 = j0;
+    i0 = (u32)(j0);
+    j0 = i64_load(j0);
+    l11 = j0;
+    j0 = l12;
+    j1 = l12;
+    j2 = l14;
+    j1 += j2;
+    l18 = j1;
+    i0 = j0 >= j1;
+    if (i0) {goto B116;}
+    j0 = l14;
+    i0 = !(j0);
+    if (i0) {goto B116;}
+    j0 = l11;
+    j1 = l12;
+    j0 += j1;
+    i0 = (u32)(j0);
+    i1 = 0u;
+    j2 = l14;
+    i2 = (u32)(j2);
+    memory_fill(j0, i1, j2);
+    B116:;
+    j0 = p0;
+    j1 = 2024ull;
+    j0 += j1;
+    i0 = (u32)(j0);
+    j1 = l19;
+    i64_store(j0, j1);
+    j0 = p0;
+    j1 = 2016ull;
+    j0 += j1;
+    i0 = (u32)(j0);
+    j1 = l18;
+    i64_store(j0, j1);
+    j0 = l17;
+    i0 = (u32)(j0);
+    j1 = l11;
+    i64_store(j0, j1);
+    B114:;
+    j0 = p0;
+    j1 = 2008ull;
+    j0 += j1;
+    i0 = (u32)(j0);
+    j0 = i64_load(j0);
+    l14 = j0;
+    j0 = l2;
+    i0 = (u32)(j0);
+    j1 = l7;
+    i64_store(j0 + 6968, j1);
+    j0 = l2;
+    i0 = (u32)(j0);
+    j1 = l8;
+    i64_store(j0 + 6960, j1);
+    j0 = l2;
+    i0 = (u32)(j0);
+    j1 = l10;
     i64_store(j0 + 6952, j1);
     j0 = l2;
     i0 = (u32)(j0);
@@ -4548,7 +4212,7 @@ static void f2(module *self, u64 p0, u32 p1) {
     i0 = i32_load8_u(j0);
     i1 = 5u;
     i0 += i1;
-    l22 = i0;
+    l27 = i0;
     j1 = p0;
     j2 = 106ull;
     j1 += j2;
@@ -4556,40 +4220,474 @@ static void f2(module *self, u64 p0, u32 p1) {
     i1 = i32_load8_u(j1);
     i2 = 1u;
     i1 += i2;
-    l21 = i1;
-    i2 = l22;
-    i3 = l21;
+    l26 = i1;
+    i2 = l27;
+    i3 = l26;
     i2 = i2 < i3;
     i0 = i2 ? i0 : i1;
     j0 = (u64)(i0);
-    l11 = j0;
-    j0 = l13;
-    j1 = l12;
+    l12 = j0;
+    j0 = l14;
+    j1 = l13;
     j0 += j1;
-    l13 = j0;
+    l14 = j0;
     j0 = p0;
     j1 = 34ull;
     j0 += j1;
     i0 = (u32)(j0);
     i0 = i32_load8_u(j0);
-    l22 = i0;
+    l27 = i0;
+    i1 = 32u;
+    i0 &= i1;
+    i0 = !(i0);
+    if (i0) {goto B117;}
+    j0 = l12;
+    j1 = 24ull;
+    j0 *= j1;
+    l12 = j0;
+    i0 = !(j0);
+    if (i0) {goto B109;}
+    j0 = l14;
+    i0 = (u32)(j0);
+    i1 = 0u;
+    j2 = l12;
+    i2 = (u32)(j2);
+    memory_fill(j0, i1, j2);
+    goto B109;
+    B117:;
+    j0 = p0;
+    j1 = 204ull;
+    j0 += j1;
+    i0 = (u32)(j0);
+    i0 = i32_load8_u(j0);
+    i1 = 32u;
+    i0 &= i1;
+    if (i0) {goto B118;}
+    j0 = l5;
+    j1 = p0;
+    j2 = 2002ull;
+    j1 += j2;
+    i1 = (u32)(j1);
+    i1 = i32_load8_u(j1);
+    j2 = p0;
+    j3 = 184ull;
+    j2 += j3;
+    i2 = (u32)(j2);
+    i2 = i32_load8_u(j2);
+    i1 &= i2;
+    j1 = (u64)(i1);
+    j2 = 255ull;
+    j1 &= j2;
+    l13 = j1;
+    j0 += j1;
+    i0 = (u32)(j0);
+    i0 = i32_load8_u(j0);
+    l27 = i0;
+    j0 = l6;
+    j1 = l13;
+    j0 += j1;
+    i0 = (u32)(j0);
+    i0 = i32_load8_u(j0);
+    l26 = i0;
+    j0 = l7;
+    j1 = l13;
+    j0 += j1;
+    i0 = (u32)(j0);
+    i0 = i32_load8_u(j0);
+    l25 = i0;
+    j0 = l12;
+    j1 = 24ull;
+    j0 *= j1;
+    l11 = j0;
+    j0 = 0ull;
+    l13 = j0;
+    L119: 
+      j0 = l14;
+      j1 = l13;
+      j0 += j1;
+      l12 = j0;
+      i0 = (u32)(j0);
+      i1 = l25;
+      i32_store8(j0, i1);
+      j0 = l12;
+      j1 = 23ull;
+      j0 += j1;
+      i0 = (u32)(j0);
+      i1 = l27;
+      i32_store8(j0, i1);
+      j0 = l12;
+      j1 = 22ull;
+      j0 += j1;
+      i0 = (u32)(j0);
+      i1 = l26;
+      i32_store8(j0, i1);
+      j0 = l12;
+      j1 = 21ull;
+      j0 += j1;
+      i0 = (u32)(j0);
+      i1 = l25;
+      i32_store8(j0, i1);
+      j0 = l12;
+      j1 = 20ull;
+      j0 += j1;
+      i0 = (u32)(j0);
+      i1 = l27;
+      i32_store8(j0, i1);
+      j0 = l12;
+      j1 = 19ull;
+      j0 += j1;
+      i0 = (u32)(j0);
+      i1 = l26;
+      i32_store8(j0, i1);
+      j0 = l12;
+      j1 = 18ull;
+      j0 += j1;
+      i0 = (u32)(j0);
+      i1 = l25;
+      i32_store8(j0, i1);
+      j0 = l12;
+      j1 = 17ull;
+      j0 += j1;
+      i0 = (u32)(j0);
+      i1 = l27;
+      i32_store8(j0, i1);
+      j0 = l12;
+      j1 = 16ull;
+      j0 += j1;
+      i0 = (u32)(j0);
+      i1 = l26;
+      i32_store8(j0, i1);
+      j0 = l12;
+      j1 = 15ull;
+      j0 += j1;
+      i0 = (u32)(j0);
+      i1 = l25;
+      i32_store8(j0, i1);
+      j0 = l12;
+      j1 = 14ull;
+      j0 += j1;
+      i0 = (u32)(j0);
+      i1 = l27;
+      i32_store8(j0, i1);
+      j0 = l12;
+      j1 = 13ull;
+      j0 += j1;
+      i0 = (u32)(j0);
+      i1 = l26;
+      i32_store8(j0, i1);
+      j0 = l12;
+      j1 = 12ull;
+      j0 += j1;
+      i0 = (u32)(j0);
+      i1 = l25;
+      i32_store8(j0, i1);
+      j0 = l12;
+      j1 = 11ull;
+      j0 += j1;
+      i0 = (u32)(j0);
+      i1 = l27;
+      i32_store8(j0, i1);
+      j0 = l12;
+      j1 = 10ull;
+      j0 += j1;
+      i0 = (u32)(j0);
+      i1 = l26;
+      i32_store8(j0, i1);
+      j0 = l12;
+      j1 = 9ull;
+      j0 += j1;
+      i0 = (u32)(j0);
+      i1 = l25;
+      i32_store8(j0, i1);
+      j0 = l12;
+      j1 = 8ull;
+      j0 += j1;
+      i0 = (u32)(j0);
+      i1 = l27;
+      i32_store8(j0, i1);
+      j0 = l12;
+      j1 = 7ull;
+      j0 += j1;
+      i0 = (u32)(j0);
+      i1 = l26;
+      i32_store8(j0, i1);
+      j0 = l12;
+      j1 = 6ull;
+      j0 += j1;
+      i0 = (u32)(j0);
+      i1 = l25;
+      i32_store8(j0, i1);
+      j0 = l12;
+      j1 = 5ull;
+      j0 += j1;
+      i0 = (u32)(j0);
+      i1 = l27;
+      i32_store8(j0, i1);
+      j0 = l12;
+      j1 = 4ull;
+      j0 += j1;
+      i0 = (u32)(j0);
+      i1 = l26;
+      i32_store8(j0, i1);
+      j0 = l12;
+      j1 = 3ull;
+      j0 += j1;
+      i0 = (u32)(j0);
+      i1 = l25;
+      i32_store8(j0, i1);
+      j0 = l12;
+      j1 = 2ull;
+      j0 += j1;
+      i0 = (u32)(j0);
+      i1 = l27;
+      i32_store8(j0, i1);
+      j0 = l12;
+      j1 = 1ull;
+      j0 += j1;
+      i0 = (u32)(j0);
+      i1 = l26;
+      i32_store8(j0, i1);
+      j0 = l11;
+      j1 = l13;
+      j2 = 24ull;
+      j1 += j2;
+      l13 = j1;
+      i0 = j0 != j1;
+      if (i0) {goto L119;}
+      goto B109;
+    { self->is_broken = true; return; }
+    B118:;
+    j0 = p0;
+    j1 = 186ull;
+    j0 += j1;
+    i0 = (u32)(j0);
+    i0 = i32_load8_u(j0);
+    l26 = i0;
+    j0 = p0;
+    j1 = 144ull;
+    j0 += j1;
+    i0 = (u32)(j0);
+    i0 = i32_load8_u(j0);
+    i1 = 1u;
+    i0 &= i1;
+    i0 = !(i0);
+    if (i0) {goto B120;}
+    j0 = p0;
+    j1 = 183ull;
+    j0 += j1;
+    i0 = (u32)(j0);
+    i0 = i32_load8_u(j0);
+    i1 = 32u;
+    i0 &= i1;
+    if (i0) {goto B111;}
+    B120:;
+    j0 = p0;
+    j1 = 53ull;
+    j0 += j1;
+    i0 = (u32)(j0);
+    i0 = i32_load8_u(j0);
+    i1 = 1u;
+    i0 &= i1;
+    i0 = !(i0);
+    if (i0) {goto B121;}
+    j0 = p0;
+    j1 = 52ull;
+    j0 += j1;
+    i0 = (u32)(j0);
+    i0 = i32_load8_u(j0);
+    i1 = 64u;
+    i0 &= i1;
+    i0 = !(i0);
+    if (i0) {goto B121;}
+    i0 = l26;
+    i1 = 6u;
+    i0 &= i1;
+    l27 = i0;
+    goto B112;
+    B121:;
+    i0 = l27;
+    i1 = 1u;
+    i0 &= i1;
+    i0 = !(i0);
+    if (i0) {goto B122;}
+    i0 = l26;
+    i1 = 7u;
+    i0 &= i1;
+    l27 = i0;
+    goto B112;
+    B122:;
+    i0 = l26;
+    i1 = 255u;
+    i0 &= i1;
+    i1 = 8u;
+    i0 = i0 == i1;
+    if (i0) {goto B111;}
+    i0 = l26;
+    i1 = 7u;
+    i0 &= i1;
+    i1 = 1u;
+    i0 += i1;
+    l27 = i0;
+    goto B110;
+    B113:;
+    j0 = l14;
+    j1 = 27ull;
+    j0 *= j1;
+    l16 = j0;
+    j1 = l13;
+    j0 += j1;
+    l14 = j0;
+    j1 = l12;
+    i0 = j0 <= j1;
+    if (i0) {goto B123;}
+    j0 = l14;
+    j1 = l12;
+    j0 -= j1;
+    l14 = j0;
+    j1 = p0;
+    j2 = 2024ull;
+    j1 += j2;
+    i1 = (u32)(j1);
+    j1 = i64_load(j1);
+    l19 = j1;
+    j2 = l12;
+    j1 -= j2;
+    i0 = j0 <= j1;
+    if (i0) {goto B124;}
+    j0 = p0;
+    j1 = 2008ull;
+    j0 += j1;
+    j1 = l14;
+    i0 = f3(self, j0, j1); m = self->memory; if (NEVER(self->is_broken)) return;
+    i0 = !(i0);
+    if (i0) {goto B123;}
+    j0 = p0;
+    j1 = 2024ull;
+    j0 += j1;
+    i0 = (u32)(j0);
+    j0 = i64_load(j0);
+    l19 = j0;
+    j0 = p0;
+    j1 = 2016ull;
+    j0 += j1;
+    i0 = (u32)(j0);
+    j0 = i64_load(j0);
+    l12 = j0;
+    B124:;
+    j0 = p0;
+    j1 = 2008ull;
+    j0 += j1;
+    l17 = j0;
+    i0 = (u32)(j0);
+    j0 = i64_load(j0);
+    l11 = j0;
+    j0 = l12;
+    j1 = l12;
+    j2 = l14;
+    j1 += j2;
+    l18 = j1;
+    i0 = j0 >= j1;
+    if (i0) {goto B125;}
+    j0 = l14;
+    i0 = !(j0);
+    if (i0) {goto B125;}
+    j0 = l11;
+    j1 = l12;
+    j0 += j1;
+    i0 = (u32)(j0);
+    i1 = 0u;
+    j2 = l14;
+    i2 = (u32)(j2);
+    memory_fill(j0, i1, j2);
+    B125:;
+    j0 = p0;
+    j1 = 2024ull;
+    j0 += j1;
+    i0 = (u32)(j0);
+    j1 = l19;
+    i64_store(j0, j1);
+    j0 = p0;
+    j1 = 2016ull;
+    j0 += j1;
+    i0 = (u32)(j0);
+    j1 = l18;
+    i64_store(j0, j1);
+    j0 = l17;
+    i0 = (u32)(j0);
+    j1 = l11;
+    i64_store(j0, j1);
+    B123:;
+    j0 = p0;
+    j1 = 2008ull;
+    j0 += j1;
+    i0 = (u32)(j0);
+    j0 = i64_load(j0);
+    l14 = j0;
+    j0 = l2;
+    i0 = (u32)(j0);
+    j1 = l7;
+    i64_store(j0 + 6968, j1);
+    j0 = l2;
+    i0 = (u32)(j0);
+    j1 = l8;
+    i64_store(j0 + 6960, j1);
+    j0 = l2;
+    i0 = (u32)(j0);
+    j1 = l10;
+    i64_store(j0 + 6952, j1);
+    j0 = l2;
+    i0 = (u32)(j0);
+    j1 = p0;
+    i64_store(j0 + 6944, j1);
+    j0 = p0;
+    j1 = 105ull;
+    j0 += j1;
+    i0 = (u32)(j0);
+    i0 = i32_load8_u(j0);
+    i1 = 5u;
+    i0 += i1;
+    l27 = i0;
+    j1 = p0;
+    j2 = 106ull;
+    j1 += j2;
+    i1 = (u32)(j1);
+    i1 = i32_load8_u(j1);
+    i2 = 1u;
+    i1 += i2;
+    l26 = i1;
+    i2 = l27;
+    i3 = l26;
+    i2 = i2 < i3;
+    i0 = i2 ? i0 : i1;
+    j0 = (u64)(i0);
+    l12 = j0;
+    j0 = l14;
+    j1 = l13;
+    j0 += j1;
+    l14 = j0;
+    j0 = p0;
+    j1 = 34ull;
+    j0 += j1;
+    i0 = (u32)(j0);
+    i0 = i32_load8_u(j0);
+    l27 = i0;
     i1 = 32u;
     i0 &= i1;
     i0 = !(i0);
     if (i0) {goto B127;}
-    j0 = l11;
-    j1 = 24ull;
+    j0 = l12;
+    j1 = 27ull;
     j0 *= j1;
-    l11 = j0;
+    l12 = j0;
     i0 = !(j0);
-    if (i0) {goto B119;}
-    j0 = l13;
+    if (i0) {goto B126;}
+    j0 = l14;
     i0 = (u32)(j0);
     i1 = 0u;
-    j2 = l11;
+    j2 = l12;
     i2 = (u32)(j2);
     memory_fill(j0, i1, j2);
-    goto B119;
+    goto B126;
     B127:;
     j0 = p0;
     j1 = 204ull;
@@ -4614,183 +4712,201 @@ static void f2(module *self, u64 p0, u32 p1) {
     j1 = (u64)(i1);
     j2 = 255ull;
     j1 &= j2;
-    l12 = j1;
+    l13 = j1;
     j0 += j1;
     i0 = (u32)(j0);
     i0 = i32_load8_u(j0);
-    l22 = i0;
+    l27 = i0;
     j0 = l6;
-    j1 = l12;
-    j0 += j1;
-    i0 = (u32)(j0);
-    i0 = i32_load8_u(j0);
-    l21 = i0;
-    j0 = l7;
-    j1 = l12;
+    j1 = l13;
     j0 += j1;
     i0 = (u32)(j0);
     i0 = i32_load8_u(j0);
     l26 = i0;
-    j0 = l11;
-    j1 = 24ull;
+    j0 = l7;
+    j1 = l13;
+    j0 += j1;
+    i0 = (u32)(j0);
+    i0 = i32_load8_u(j0);
+    l25 = i0;
+    j0 = l12;
+    j1 = 27ull;
     j0 *= j1;
-    l10 = j0;
+    l11 = j0;
     j0 = 0ull;
-    l12 = j0;
+    l13 = j0;
     L129: 
-      j0 = l13;
-      j1 = l12;
+      j0 = l14;
+      j1 = l13;
       j0 += j1;
-      l11 = j0;
+      l12 = j0;
+      i0 = (u32)(j0);
+      i1 = l25;
+      i32_store8(j0, i1);
+      j0 = l12;
+      j1 = 26ull;
+      j0 += j1;
+      i0 = (u32)(j0);
+      i1 = l27;
+      i32_store8(j0, i1);
+      j0 = l12;
+      j1 = 25ull;
+      j0 += j1;
       i0 = (u32)(j0);
       i1 = l26;
       i32_store8(j0, i1);
-      j0 = l11;
+      j0 = l12;
+      j1 = 24ull;
+      j0 += j1;
+      i0 = (u32)(j0);
+      i1 = l25;
+      i32_store8(j0, i1);
+      j0 = l12;
       j1 = 23ull;
       j0 += j1;
       i0 = (u32)(j0);
-      i1 = l22;
+      i1 = l27;
       i32_store8(j0, i1);
-      j0 = l11;
+      j0 = l12;
       j1 = 22ull;
       j0 += j1;
       i0 = (u32)(j0);
-      i1 = l21;
+      i1 = l26;
       i32_store8(j0, i1);
-      j0 = l11;
+      j0 = l12;
       j1 = 21ull;
       j0 += j1;
       i0 = (u32)(j0);
-      i1 = l26;
+      i1 = l25;
       i32_store8(j0, i1);
-      j0 = l11;
+      j0 = l12;
       j1 = 20ull;
       j0 += j1;
       i0 = (u32)(j0);
-      i1 = l22;
+      i1 = l27;
       i32_store8(j0, i1);
-      j0 = l11;
+      j0 = l12;
       j1 = 19ull;
       j0 += j1;
       i0 = (u32)(j0);
-      i1 = l21;
+      i1 = l26;
       i32_store8(j0, i1);
-      j0 = l11;
+      j0 = l12;
       j1 = 18ull;
       j0 += j1;
       i0 = (u32)(j0);
-      i1 = l26;
+      i1 = l25;
       i32_store8(j0, i1);
-      j0 = l11;
+      j0 = l12;
       j1 = 17ull;
       j0 += j1;
       i0 = (u32)(j0);
-      i1 = l22;
+      i1 = l27;
       i32_store8(j0, i1);
-      j0 = l11;
+      j0 = l12;
       j1 = 16ull;
       j0 += j1;
       i0 = (u32)(j0);
-      i1 = l21;
+      i1 = l26;
       i32_store8(j0, i1);
-      j0 = l11;
+      j0 = l12;
       j1 = 15ull;
       j0 += j1;
       i0 = (u32)(j0);
-      i1 = l26;
+      i1 = l25;
       i32_store8(j0, i1);
-      j0 = l11;
+      j0 = l12;
       j1 = 14ull;
       j0 += j1;
       i0 = (u32)(j0);
-      i1 = l22;
+      i1 = l27;
       i32_store8(j0, i1);
-      j0 = l11;
+      j0 = l12;
       j1 = 13ull;
       j0 += j1;
       i0 = (u32)(j0);
-      i1 = l21;
+      i1 = l26;
       i32_store8(j0, i1);
-      j0 = l11;
+      j0 = l12;
       j1 = 12ull;
       j0 += j1;
       i0 = (u32)(j0);
-      i1 = l26;
+      i1 = l25;
       i32_store8(j0, i1);
-      j0 = l11;
+      j0 = l12;
       j1 = 11ull;
       j0 += j1;
       i0 = (u32)(j0);
-      i1 = l22;
+      i1 = l27;
       i32_store8(j0, i1);
-      j0 = l11;
+      j0 = l12;
       j1 = 10ull;
       j0 += j1;
       i0 = (u32)(j0);
-      i1 = l21;
+      i1 = l26;
       i32_store8(j0, i1);
-      j0 = l11;
+      j0 = l12;
       j1 = 9ull;
       j0 += j1;
       i0 = (u32)(j0);
-      i1 = l26;
+      i1 = l25;
       i32_store8(j0, i1);
-      j0 = l11;
+      j0 = l12;
       j1 = 8ull;
       j0 += j1;
       i0 = (u32)(j0);
-      i1 = l22;
+      i1 = l27;
       i32_store8(j0, i1);
-      j0 = l11;
+      j0 = l12;
       j1 = 7ull;
       j0 += j1;
       i0 = (u32)(j0);
-      i1 = l21;
+      i1 = l26;
       i32_store8(j0, i1);
-      j0 = l11;
+      j0 = l12;
       j1 = 6ull;
       j0 += j1;
       i0 = (u32)(j0);
-      i1 = l26;
+      i1 = l25;
       i32_store8(j0, i1);
-      j0 = l11;
+      j0 = l12;
       j1 = 5ull;
       j0 += j1;
       i0 = (u32)(j0);
-      i1 = l22;
+      i1 = l27;
       i32_store8(j0, i1);
-      j0 = l11;
+      j0 = l12;
       j1 = 4ull;
       j0 += j1;
       i0 = (u32)(j0);
-      i1 = l21;
+      i1 = l26;
       i32_store8(j0, i1);
-      j0 = l11;
+      j0 = l12;
       j1 = 3ull;
+      j0 += j1;
+      i0 = (u32)(j0);
+      i1 = l25;
+      i32_store8(j0, i1);
+      j0 = l12;
+      j1 = 2ull;
+      j0 += j1;
+      i0 = (u32)(j0);
+      i1 = l27;
+      i32_store8(j0, i1);
+      j0 = l12;
+      j1 = 1ull;
       j0 += j1;
       i0 = (u32)(j0);
       i1 = l26;
       i32_store8(j0, i1);
       j0 = l11;
-      j1 = 2ull;
-      j0 += j1;
-      i0 = (u32)(j0);
-      i1 = l22;
-      i32_store8(j0, i1);
-      j0 = l11;
-      j1 = 1ull;
-      j0 += j1;
-      i0 = (u32)(j0);
-      i1 = l21;
-      i32_store8(j0, i1);
-      j0 = l10;
-      j1 = l12;
-      j2 = 24ull;
+      j1 = l13;
+      j2 = 27ull;
       j1 += j2;
-      l12 = j1;
+      l13 = j1;
       i0 = j0 != j1;
       if (i0) {goto L129;}
-      goto B119;
+      goto B126;
     { self->is_broken = true; return; }
     B128:;
     j0 = p0;
@@ -4798,468 +4914,16 @@ static void f2(module *self, u64 p0, u32 p1) {
     j0 += j1;
     i0 = (u32)(j0);
     i0 = i32_load8_u(j0);
-    l21 = i0;
+    l26 = i0;
     j0 = p0;
     j1 = 144ull;
     j0 += j1;
     i0 = (u32)(j0);
     i0 = i32_load8_u(j0);
-    i1 = 1u;
-    i0 &= i1;
-    i0 = !(i0);
-    if (i0) {goto B130;}
-    j0 = p0;
-    j1 = 183ull;
-    j0 += j1;
-    i0 = (u32)(j0);
-    i0 = i32_load8_u(j0);
-    i1 = 32u;
-    i0 &= i1;
-    if (i0) {goto B121;}
-    B130:;
-    j0 = p0;
-    j1 = 53ull;
-    j0 += j1;
-    i0 = (u32)(j0);
-    i0 = i32_load8_u(j0);
-    i1 = 1u;
-    i0 &= i1;
-    i0 = !(i0);
-    if (i0) {goto B131;}
-    j0 = p0;
-    j1 = 52ull;
-    j0 += j1;
-    i0 = (u32)(j0);
-    i0 = i32_load8_u(j0);
-    i1 = 64u;
-    i0 &= i1;
-    i0 = !(i0);
-    if (i0) {goto B131;}
-    i0 = l21;
-    i1 = 6u;
-    i0 &= i1;
-    l22 = i0;
-    goto B122;
-    B131:;
-    i0 = l22;
     i1 = 1u;
     i0 &= i1;
     i0 = !(i0);
     if (i0) {goto B132;}
-    i0 = l21;
-    i1 = 7u;
-    i0 &= i1;
-    l22 = i0;
-    goto B122;
-    B132:;
-    i0 = l21;
-    i1 = 255u;
-    i0 &= i1;
-    i1 = 8u;
-    i0 = i0 == i1;
-    if (i0) {goto B121;}
-    i0 = l21;
-    i1 = 7u;
-    i0 &= i1;
-    i1 = 1u;
-    i0 += i1;
-    l22 = i0;
-    goto B120;
-    B123:;
-    j0 = l13;
-    j1 = 27ull;
-    j0 *= j1;
-    l15 = j0;
-    j1 = l12;
-    j0 += j1;
-    l13 = j0;
-    j1 = l11;
-    i0 = j0 <= j1;
-    if (i0) {goto B133;}
-    j0 = l13;
-    j1 = l11;
-    j0 -= j1;
-    l13 = j0;
-    j1 = p0;
-    j2 = 2024ull;
-    j1 += j2;
-    i1 = (u32)(j1);
-    j1 = i64_load(j1);
-    l18 = j1;
-    j2 = l11;
-    j1 -= j2;
-    i0 = j0 <= j1;
-    if (i0) {goto B134;}
-    j0 = p0;
-    j1 = 2008ull;
-    j0 += j1;
-    j1 = l13;
-    i0 = f3(self, j0, j1); m = self->memory; if (NEVER(self->is_broken)) return;
-    i0 = !(i0);
-    if (i0) {goto B133;}
-    j0 = p0;
-    j1 = 2024ull;
-    j0 += j1;
-    i0 = (u32)(j0);
-    j0 = i64_load(j0);
-    l18 = j0;
-    j0 = p0;
-    j1 = 2016ull;
-    j0 += j1;
-    i0 = (u32)(j0);
-    j0 = i64_load(j0);
-    l11 = j0;
-    B134:;
-    j0 = p0;
-    j1 = 2008ull;
-    j0 += j1;
-    l16 = j0;
-    i0 = (u32)(j0);
-    j0 = i64_load(j0);
-    l10 = j0;
-    j0 = l11;
-    j1 = l11;
-    j2 = l13;
-    j1 += j2;
-    l17 = j1;
-    i0 = j0 >= j1;
-    if (i0) {goto B135;}
-    j0 = l13;
-    i0 = !(j0);
-    if (i0) {goto B135;}
-    j0 = l10;
-    j1 = l11;
-    j0 += j1;
-    i0 = (u32)(j0);
-    i1 = 0u;
-    j2 = l13;
-    i2 = (u32)(j2);
-    memory_fill(j0, i1, j2);
-    B135:;
-    j0 = p0;
-    j1 = 2024ull;
-    j0 += j1;
-    i0 = (u32)(j0);
-    j1 = l18;
-    i64_store(j0, j1);
-    j0 = p0;
-    j1 = 2016ull;
-    j0 += j1;
-    i0 = (u32)(j0);
-    j1 = l17;
-    i64_store(j0, j1);
-    j0 = l16;
-    i0 = (u32)(j0);
-    j1 = l10;
-    i64_store(j0, j1);
-    B133:;
-    j0 = p0;
-    j1 = 2008ull;
-    j0 += j1;
-    i0 = (u32)(j0);
-    j0 = i64_load(j0);
-    l13 = j0;
-    j0 = l2;
-    i0 = (u32)(j0);
-    j1 = l7;
-    i64_store(j0 + 6968, j1);
-    j0 = l2;
-    i0 = (u32)(j0);
-    j1 = l8;
-    i64_store(j0 + 6960, j1);
-    j0 = l2;
-    i0 = (u32)(j0);
-    j1 = l9;
-    i64_store(j0 + 6952, j1);
-    j0 = l2;
-    i0 = (u32)(j0);
-    j1 = p0;
-    i64_store(j0 + 6944, j1);
-    j0 = p0;
-    j1 = 105ull;
-    j0 += j1;
-    i0 = (u32)(j0);
-    i0 = i32_load8_u(j0);
-    i1 = 5u;
-    i0 += i1;
-    l22 = i0;
-    j1 = p0;
-    j2 = 106ull;
-    j1 += j2;
-    i1 = (u32)(j1);
-    i1 = i32_load8_u(j1);
-    i2 = 1u;
-    i1 += i2;
-    l21 = i1;
-    i2 = l22;
-    i3 = l21;
-    i2 = i2 < i3;
-    i0 = i2 ? i0 : i1;
-    j0 = (u64)(i0);
-    l11 = j0;
-    j0 = l13;
-    j1 = l12;
-    j0 += j1;
-    l13 = j0;
-    j0 = p0;
-    j1 = 34ull;
-    j0 += j1;
-    i0 = (u32)(j0);
-    i0 = i32_load8_u(j0);
-    l22 = i0;
-    i1 = 32u;
-    i0 &= i1;
-    i0 = !(i0);
-    if (i0) {goto B137;}
-    j0 = l11;
-    j1 = 27ull;
-    j0 *= j1;
-    l11 = j0;
-    i0 = !(j0);
-    if (i0) {goto B136;}
-    j0 = l13;
-    i0 = (u32)(j0);
-    i1 = 0u;
-    j2 = l11;
-    i2 = (u32)(j2);
-    memory_fill(j0, i1, j2);
-    goto B136;
-    B137:;
-    j0 = p0;
-    j1 = 204ull;
-    j0 += j1;
-    i0 = (u32)(j0);
-    i0 = i32_load8_u(j0);
-    i1 = 32u;
-    i0 &= i1;
-    if (i0) {goto B138;}
-    j0 = l5;
-    j1 = p0;
-    j2 = 2002ull;
-    j1 += j2;
-    i1 = (u32)(j1);
-    i1 = i32_load8_u(j1);
-    j2 = p0;
-    j3 = 184ull;
-    j2 += j3;
-    i2 = (u32)(j2);
-    i2 = i32_load8_u(j2);
-    i1 &= i2;
-    j1 = (u64)(i1);
-    j2 = 255ull;
-    j1 &= j2;
-    l12 = j1;
-    j0 += j1;
-    i0 = (u32)(j0);
-    i0 = i32_load8_u(j0);
-    l22 = i0;
-    j0 = l6;
-    j1 = l12;
-    j0 += j1;
-    i0 = (u32)(j0);
-    i0 = i32_load8_u(j0);
-    l21 = i0;
-    j0 = l7;
-    j1 = l12;
-    j0 += j1;
-    i0 = (u32)(j0);
-    i0 = i32_load8_u(j0);
-    l26 = i0;
-    j0 = l11;
-    j1 = 27ull;
-    j0 *= j1;
-    l10 = j0;
-    j0 = 0ull;
-    l12 = j0;
-    L139: 
-      j0 = l13;
-      j1 = l12;
-      j0 += j1;
-      l11 = j0;
-      i0 = (u32)(j0);
-      i1 = l26;
-      i32_store8(j0, i1);
-      j0 = l11;
-      j1 = 26ull;
-      j0 += j1;
-      i0 = (u32)(j0);
-      i1 = l22;
-      i32_store8(j0, i1);
-      j0 = l11;
-      j1 = 25ull;
-      j0 += j1;
-      i0 = (u32)(j0);
-      i1 = l21;
-      i32_store8(j0, i1);
-      j0 = l11;
-      j1 = 24ull;
-      j0 += j1;
-      i0 = (u32)(j0);
-      i1 = l26;
-      i32_store8(j0, i1);
-      j0 = l11;
-      j1 = 23ull;
-      j0 += j1;
-      i0 = (u32)(j0);
-      i1 = l22;
-      i32_store8(j0, i1);
-      j0 = l11;
-      j1 = 22ull;
-      j0 += j1;
-      i0 = (u32)(j0);
-      i1 = l21;
-      i32_store8(j0, i1);
-      j0 = l11;
-      j1 = 21ull;
-      j0 += j1;
-      i0 = (u32)(j0);
-      i1 = l26;
-      i32_store8(j0, i1);
-      j0 = l11;
-      j1 = 20ull;
-      j0 += j1;
-      i0 = (u32)(j0);
-      i1 = l22;
-      i32_store8(j0, i1);
-      j0 = l11;
-      j1 = 19ull;
-      j0 += j1;
-      i0 = (u32)(j0);
-      i1 = l21;
-      i32_store8(j0, i1);
-      j0 = l11;
-      j1 = 18ull;
-      j0 += j1;
-      i0 = (u32)(j0);
-      i1 = l26;
-      i32_store8(j0, i1);
-      j0 = l11;
-      j1 = 17ull;
-      j0 += j1;
-      i0 = (u32)(j0);
-      i1 = l22;
-      i32_store8(j0, i1);
-      j0 = l11;
-      j1 = 16ull;
-      j0 += j1;
-      i0 = (u32)(j0);
-      i1 = l21;
-      i32_store8(j0, i1);
-      j0 = l11;
-      j1 = 15ull;
-      j0 += j1;
-      i0 = (u32)(j0);
-      i1 = l26;
-      i32_store8(j0, i1);
-      j0 = l11;
-      j1 = 14ull;
-      j0 += j1;
-      i0 = (u32)(j0);
-      i1 = l22;
-      i32_store8(j0, i1);
-      j0 = l11;
-      j1 = 13ull;
-      j0 += j1;
-      i0 = (u32)(j0);
-      i1 = l21;
-      i32_store8(j0, i1);
-      j0 = l11;
-      j1 = 12ull;
-      j0 += j1;
-      i0 = (u32)(j0);
-      i1 = l26;
-      i32_store8(j0, i1);
-      j0 = l11;
-      j1 = 11ull;
-      j0 += j1;
-      i0 = (u32)(j0);
-      i1 = l22;
-      i32_store8(j0, i1);
-      j0 = l11;
-      j1 = 10ull;
-      j0 += j1;
-      i0 = (u32)(j0);
-      i1 = l21;
-      i32_store8(j0, i1);
-      j0 = l11;
-      j1 = 9ull;
-      j0 += j1;
-      i0 = (u32)(j0);
-      i1 = l26;
-      i32_store8(j0, i1);
-      j0 = l11;
-      j1 = 8ull;
-      j0 += j1;
-      i0 = (u32)(j0);
-      i1 = l22;
-      i32_store8(j0, i1);
-      j0 = l11;
-      j1 = 7ull;
-      j0 += j1;
-      i0 = (u32)(j0);
-      i1 = l21;
-      i32_store8(j0, i1);
-      j0 = l11;
-      j1 = 6ull;
-      j0 += j1;
-      i0 = (u32)(j0);
-      i1 = l26;
-      i32_store8(j0, i1);
-      j0 = l11;
-      j1 = 5ull;
-      j0 += j1;
-      i0 = (u32)(j0);
-      i1 = l22;
-      i32_store8(j0, i1);
-      j0 = l11;
-      j1 = 4ull;
-      j0 += j1;
-      i0 = (u32)(j0);
-      i1 = l21;
-      i32_store8(j0, i1);
-      j0 = l11;
-      j1 = 3ull;
-      j0 += j1;
-      i0 = (u32)(j0);
-      i1 = l26;
-      i32_store8(j0, i1);
-      j0 = l11;
-      j1 = 2ull;
-      j0 += j1;
-      i0 = (u32)(j0);
-      i1 = l22;
-      i32_store8(j0, i1);
-      j0 = l11;
-      j1 = 1ull;
-      j0 += j1;
-      i0 = (u32)(j0);
-      i1 = l21;
-      i32_store8(j0, i1);
-      j0 = l10;
-      j1 = l12;
-      j2 = 27ull;
-      j1 += j2;
-      l12 = j1;
-      i0 = j0 != j1;
-      if (i0) {goto L139;}
-      goto B136;
-    { self->is_broken = true; return; }
-    B138:;
-    j0 = p0;
-    j1 = 186ull;
-    j0 += j1;
-    i0 = (u32)(j0);
-    i0 = i32_load8_u(j0);
-    l21 = i0;
-    j0 = p0;
-    j1 = 144ull;
-    j0 += j1;
-    i0 = (u32)(j0);
-    i0 = i32_load8_u(j0);
-    i1 = 1u;
-    i0 &= i1;
-    i0 = !(i0);
-    if (i0) {goto B142;}
     j0 = p0;
     j1 = 183ull;
     j0 += j1;
@@ -5267,8 +4931,8 @@ static void f2(module *self, u64 p0, u32 p1) {
     i0 = i32_load8_u(j0);
     i1 = 32u;
     i0 &= i1;
-    if (i0) {goto B141;}
-    B142:;
+    if (i0) {goto B131;}
+    B132:;
     j0 = p0;
     j1 = 53ull;
     j0 += j1;
@@ -5277,7 +4941,7 @@ static void f2(module *self, u64 p0, u32 p1) {
     i1 = 1u;
     i0 &= i1;
     i0 = !(i0);
-    if (i0) {goto B144;}
+    if (i0) {goto B134;}
     j0 = p0;
     j1 = 52ull;
     j0 += j1;
@@ -5286,50 +4950,50 @@ static void f2(module *self, u64 p0, u32 p1) {
     i1 = 64u;
     i0 &= i1;
     i0 = !(i0);
-    if (i0) {goto B144;}
-    i0 = l21;
+    if (i0) {goto B134;}
+    i0 = l26;
     i1 = 6u;
     i0 &= i1;
-    l22 = i0;
-    goto B143;
-    B144:;
-    i0 = l22;
+    l27 = i0;
+    goto B133;
+    B134:;
+    i0 = l27;
     i1 = 1u;
     i0 &= i1;
     i0 = !(i0);
-    if (i0) {goto B145;}
-    i0 = l21;
+    if (i0) {goto B135;}
+    i0 = l26;
     i1 = 7u;
     i0 &= i1;
-    l22 = i0;
-    goto B143;
-    B145:;
-    i0 = l21;
+    l27 = i0;
+    goto B133;
+    B135:;
+    i0 = l26;
     i1 = 255u;
     i0 &= i1;
     i1 = 8u;
     i0 = i0 == i1;
-    if (i0) {goto B141;}
-    i0 = l21;
+    if (i0) {goto B131;}
+    i0 = l26;
     i1 = 7u;
     i0 &= i1;
     i1 = 1u;
     i0 += i1;
-    l22 = i0;
-    goto B140;
-    B143:;
-    i0 = l22;
-    if (i0) {goto B140;}
-    B141:;
+    l27 = i0;
+    goto B130;
+    B133:;
+    i0 = l27;
+    if (i0) {goto B130;}
+    B131:;
     j0 = l2;
     j1 = 6944ull;
     j0 += j1;
     j1 = 0ull;
-    j2 = l11;
-    j3 = l13;
+    j2 = l12;
+    j3 = l14;
     f5(self, j0, j1, j2, j3); if (NEVER(self->is_broken)) return;
-    goto B136;
-    B140:;
+    goto B126;
+    B130:;
     j0 = l2;
     j1 = 5ull;
     j0 += j1;
@@ -5342,43 +5006,43 @@ static void f2(module *self, u64 p0, u32 p1) {
     j1 = 6944ull;
     j0 += j1;
     j1 = 0ull;
-    j2 = l11;
+    j2 = l12;
     j3 = 1ull;
     j2 += j3;
     j3 = l2;
     j4 = 5ull;
     j3 += j4;
     f5(self, j0, j1, j2, j3); if (NEVER(self->is_broken)) return;
-    j0 = l11;
+    j0 = l12;
     j1 = 27ull;
     j0 *= j1;
-    l11 = j0;
+    l12 = j0;
     i0 = !(j0);
-    if (i0) {goto B136;}
-    j0 = l13;
+    if (i0) {goto B126;}
+    j0 = l14;
     i0 = (u32)(j0);
     j1 = l2;
     j2 = 5ull;
     j1 += j2;
-    i2 = l22;
+    i2 = l27;
     j2 = (u64)(i2);
     j3 = 3ull;
     j2 *= j3;
     j1 += j2;
     i1 = (u32)(j1);
-    j2 = l11;
+    j2 = l12;
     i2 = (u32)(j2);
     memory_copy(j0, j1, j2);
-    B136:;
+    B126:;
     j0 = p0;
     j1 = 2032ull;
     j0 += j1;
-    l11 = j0;
+    l12 = j0;
     i0 = (u32)(j0);
-    j1 = l11;
+    j1 = l12;
     i1 = (u32)(j1);
     j1 = i64_load(j1);
-    j2 = l15;
+    j2 = l16;
     j1 += j2;
     i64_store(j0, j1);
     j0 = p0;
@@ -5386,16 +5050,16 @@ static void f2(module *self, u64 p0, u32 p1) {
     j0 += j1;
     i0 = (u32)(j0);
     j0 = i64_load(j0);
-    j1 = l14;
+    j1 = l15;
     j2 = 2ull;
     j1 <<= (j2 & 63);
     j0 += j1;
-    l11 = j0;
+    l12 = j0;
     i0 = (u32)(j0);
-    j1 = l11;
+    j1 = l12;
     i1 = (u32)(j1);
     i1 = i32_load(j1);
-    i2 = l24;
+    i2 = l23;
     i3 = 9u;
     i2 *= i3;
     i1 += i2;
@@ -5404,22 +5068,22 @@ static void f2(module *self, u64 p0, u32 p1) {
     j1 = 2064ull;
     j0 += j1;
     i0 = (u32)(j0);
-    i1 = l25;
+    i1 = l24;
     i32_store16(j0, i1);
     goto B4;
-    B122:;
-    i0 = l22;
-    if (i0) {goto B120;}
-    B121:;
+    B112:;
+    i0 = l27;
+    if (i0) {goto B110;}
+    B111:;
     j0 = l2;
     j1 = 6944ull;
     j0 += j1;
     j1 = 0ull;
-    j2 = l11;
-    j3 = l13;
+    j2 = l12;
+    j3 = l14;
     f4(self, j0, j1, j2, j3); if (NEVER(self->is_broken)) return;
-    goto B119;
-    B120:;
+    goto B109;
+    B110:;
     j0 = l2;
     j1 = 5ull;
     j0 += j1;
@@ -5432,43 +5096,43 @@ static void f2(module *self, u64 p0, u32 p1) {
     j1 = 6944ull;
     j0 += j1;
     j1 = 0ull;
-    j2 = l11;
+    j2 = l12;
     j3 = 1ull;
     j2 += j3;
     j3 = l2;
     j4 = 5ull;
     j3 += j4;
     f4(self, j0, j1, j2, j3); if (NEVER(self->is_broken)) return;
-    j0 = l11;
+    j0 = l12;
     j1 = 24ull;
     j0 *= j1;
-    l11 = j0;
+    l12 = j0;
     i0 = !(j0);
-    if (i0) {goto B119;}
-    j0 = l13;
+    if (i0) {goto B109;}
+    j0 = l14;
     i0 = (u32)(j0);
     j1 = l2;
     j2 = 5ull;
     j1 += j2;
-    i2 = l22;
+    i2 = l27;
     j2 = (u64)(i2);
     j3 = 3ull;
     j2 *= j3;
     j1 += j2;
     i1 = (u32)(j1);
-    j2 = l11;
+    j2 = l12;
     i2 = (u32)(j2);
     memory_copy(j0, j1, j2);
-    B119:;
+    B109:;
     j0 = p0;
     j1 = 2032ull;
     j0 += j1;
-    l11 = j0;
+    l12 = j0;
     i0 = (u32)(j0);
-    j1 = l11;
+    j1 = l12;
     i1 = (u32)(j1);
     j1 = i64_load(j1);
-    j2 = l15;
+    j2 = l16;
     j1 += j2;
     i64_store(j0, j1);
     j0 = p0;
@@ -5476,16 +5140,16 @@ static void f2(module *self, u64 p0, u32 p1) {
     j0 += j1;
     i0 = (u32)(j0);
     j0 = i64_load(j0);
-    j1 = l14;
+    j1 = l15;
     j2 = 2ull;
     j1 <<= (j2 & 63);
     j0 += j1;
-    l11 = j0;
+    l12 = j0;
     i0 = (u32)(j0);
-    j1 = l11;
+    j1 = l12;
     i1 = (u32)(j1);
     i1 = i32_load(j1);
-    i2 = l24;
+    i2 = l23;
     i3 = 3u;
     i2 <<= (i3 & 31);
     i1 += i2;
@@ -5494,7 +5158,7 @@ static void f2(module *self, u64 p0, u32 p1) {
     j1 = 2064ull;
     j0 += j1;
     i0 = (u32)(j0);
-    i1 = l25;
+    i1 = l24;
     i32_store16(j0, i1);
     B4:;
     j0 = p0;
@@ -5502,52 +5166,52 @@ static void f2(module *self, u64 p0, u32 p1) {
     j0 += j1;
     i0 = (u32)(j0);
     i0 = i32_load8_u(j0);
-    l23 = i0;
+    l22 = i0;
     j0 = p0;
     j1 = 140ull;
     j0 += j1;
     i0 = (u32)(j0);
     i0 = i32_load16_u(j0);
-    l24 = i0;
+    l23 = i0;
     j0 = p0;
     j1 = 134ull;
     j0 += j1;
     i0 = (u32)(j0);
     i0 = i32_load16_u(j0);
-    l25 = i0;
+    l24 = i0;
     j0 = p0;
     j1 = 136ull;
     j0 += j1;
     i0 = (u32)(j0);
     i0 = i32_load16_u(j0);
     i0 = !(i0);
-    if (i0) {goto B146;}
-    i0 = l24;
-    l28 = i0;
+    if (i0) {goto B136;}
+    i0 = l23;
+    l29 = i0;
     goto B3;
-    B146:;
+    B136:;
     j0 = p0;
     j1 = 138ull;
     j0 += j1;
     i0 = (u32)(j0);
     i0 = i32_load8_u(j0);
     i0 = !(i0);
-    if (i0) {goto B147;}
-    i0 = l24;
-    l28 = i0;
+    if (i0) {goto B137;}
+    i0 = l23;
+    l29 = i0;
     goto B3;
-    B147:;
-    i0 = l25;
+    B137:;
+    i0 = l24;
     i1 = 65535u;
     i0 &= i1;
     i0 = !(i0);
-    if (i0) {goto B148;}
-    i0 = l24;
-    l28 = i0;
+    if (i0) {goto B138;}
+    i0 = l23;
+    l29 = i0;
     goto B3;
-    B148:;
+    B138:;
     i0 = 0u;
-    l25 = i0;
+    l24 = i0;
     j0 = p0;
     j1 = 143ull;
     j0 += j1;
@@ -5563,7 +5227,7 @@ static void f2(module *self, u64 p0, u32 p1) {
     j1 += j2;
     i1 = (u32)(j1);
     i1 = i32_load8_u(j1);
-    l22 = i1;
+    l27 = i1;
     i2 = 31u;
     i1 &= i2;
     i32_store8(j0, i1);
@@ -5576,32 +5240,32 @@ static void f2(module *self, u64 p0, u32 p1) {
     j1 += j2;
     i1 = (u32)(j1);
     i1 = i32_load16_u(j1);
-    l21 = i1;
+    l26 = i1;
     i2 = 8u;
     i1 <<= (i2 & 31);
-    i2 = l21;
+    i2 = l26;
     i3 = 8u;
     i2 >>= (i3 & 31);
     i1 |= i2;
-    i2 = l22;
+    i2 = l27;
     i3 = 5u;
     i2 >>= (i3 & 31);
     i3 = 3u;
     i2 &= i3;
     i1 += i2;
-    l28 = i1;
+    l29 = i1;
     i32_store16(j0, i1);
     B3:;
     i0 = p1;
-    i1 = l27;
+    i1 = l28;
     i0 -= i1;
     p1 = i0;
     i0 = 1u;
-    l26 = i0;
-    i0 = l25;
+    l25 = i0;
+    i0 = l24;
     i1 = 1u;
     i0 += i1;
-    l21 = i0;
+    l26 = i0;
     i1 = 65535u;
     i0 &= i1;
     j1 = p0;
@@ -5614,23 +5278,23 @@ static void f2(module *self, u64 p0, u32 p1) {
     j2 += j3;
     i2 = (u32)(j2);
     i2 = i32_load8_u(j2);
-    l22 = i2;
+    l27 = i2;
     i3 = 1u;
     i2 &= i3;
     i3 = 8u;
     i2 <<= (i3 & 31);
     i1 |= i2;
-    i2 = l22;
+    i2 = l27;
     i3 = 4u;
     i2 <<= (i3 & 31);
-    l22 = i2;
+    l27 = i2;
     i3 = 512u;
     i2 &= i3;
     i1 |= i2;
     i2 = 2u;
     i1 += i2;
     i0 = i0 >= i1;
-    if (i0) {goto B150;}
+    if (i0) {goto B139;}
     j0 = p0;
     j1 = 138ull;
     j0 += j1;
@@ -5643,7 +5307,7 @@ static void f2(module *self, u64 p0, u32 p1) {
     i0 = (u32)(j0);
     i1 = 0u;
     i32_store16(j0, i1);
-    i0 = l25;
+    i0 = l24;
     i1 = 65535u;
     i0 &= i1;
     j1 = p0;
@@ -5651,12 +5315,12 @@ static void f2(module *self, u64 p0, u32 p1) {
     j1 += j2;
     i1 = (u32)(j1);
     i1 = i32_load8_s(j1);
-    l27 = i1;
+    l28 = i1;
     i2 = 3u;
     i1 <<= (i2 & 31);
     i2 = 512u;
     i1 &= i2;
-    i2 = l22;
+    i2 = l27;
     i3 = 256u;
     i2 &= i3;
     j3 = p0;
@@ -5667,7 +5331,7 @@ static void f2(module *self, u64 p0, u32 p1) {
     i2 |= i3;
     i1 |= i2;
     i0 = i0 != i1;
-    if (i0) {goto B152;}
+    if (i0) {goto B141;}
     j0 = p0;
     j1 = 144ull;
     j0 += j1;
@@ -5680,25 +5344,25 @@ static void f2(module *self, u64 p0, u32 p1) {
     i0 = (u32)(j0);
     i1 = 0u;
     i32_store(j0, i1);
-    goto B151;
-    B152:;
-    i0 = l27;
+    goto B140;
+    B141:;
+    i0 = l28;
     i1 = 4294967295u;
     i0 = (u32)((s32)i0 > (s32)i1);
-    if (i0) {goto B153;}
+    if (i0) {goto B142;}
     j0 = p0;
     j1 = 143ull;
     j0 += j1;
-    l11 = j0;
+    l12 = j0;
     i0 = (u32)(j0);
     i0 = i32_load8_u(j0);
-    if (i0) {goto B153;}
-    j0 = l11;
+    if (i0) {goto B142;}
+    j0 = l12;
     i0 = (u32)(j0);
     i1 = 1u;
     i32_store8(j0, i1);
-    goto B151;
-    B153:;
+    goto B140;
+    B142:;
     j0 = p0;
     j1 = 143ull;
     j0 += j1;
@@ -5708,24 +5372,24 @@ static void f2(module *self, u64 p0, u32 p1) {
     j0 = p0;
     j1 = 142ull;
     j0 += j1;
-    l11 = j0;
+    l12 = j0;
     i0 = (u32)(j0);
     i0 = i32_load8_u(j0);
-    l22 = i0;
-    i1 = l27;
+    l27 = i0;
+    i1 = l28;
     i2 = 31u;
     i1 &= i2;
     i0 = i0 >= i1;
-    if (i0) {goto B154;}
-    j0 = l11;
+    if (i0) {goto B143;}
+    j0 = l12;
     i0 = (u32)(j0);
-    i1 = l22;
+    i1 = l27;
     i2 = 1u;
     i1 += i2;
     i32_store8(j0, i1);
-    goto B151;
-    B154:;
-    j0 = l11;
+    goto B140;
+    B143:;
+    j0 = l12;
     i0 = (u32)(j0);
     i1 = 0u;
     i32_store8(j0, i1);
@@ -5740,18 +5404,18 @@ static void f2(module *self, u64 p0, u32 p1) {
     i1 = i32_load8_u(j1);
     i2 = 1u;
     i1 <<= (i2 & 31);
-    i2 = l28;
+    i2 = l29;
     i1 += i2;
     i32_store16(j0, i1);
-    B151:;
+    B140:;
     j0 = p0;
     j1 = 134ull;
     j0 += j1;
     i0 = (u32)(j0);
-    i1 = l21;
+    i1 = l26;
     i32_store16(j0, i1);
-    goto B149;
-    B150:;
+    goto B2;
+    B139:;
     j0 = l4;
     i0 = (u32)(j0);
     j1 = 0ull;
@@ -5760,12 +5424,9 @@ static void f2(module *self, u64 p0, u32 p1) {
     i0 = (u32)(j0);
     j1 = 0ull;
     i64_store(j0 + 5, j1);
-    j0 = p0;
-    j1 = 132ull;
-    j0 += j1;
-    l11 = j0;
+    j0 = l9;
     i0 = (u32)(j0);
-    j1 = l11;
+    j1 = l9;
     i1 = (u32)(j1);
     i1 = i32_load8_u(j1);
     i2 = 1u;
@@ -5773,11 +5434,6 @@ static void f2(module *self, u64 p0, u32 p1) {
     i2 = 31u;
     i1 &= i2;
     i32_store8(j0, i1);
-    B149:;
-    i0 = 0u;
-    l22 = i0;
-    i0 = 0u;
-    l21 = i0;
     B2:;
     i0 = p1;
     if (i0) {goto L1;}
@@ -5857,7 +5513,7 @@ static u32 f3(module *self, u64 p0, u64 p1) {
   j2 = l3;
   j3 = p1;
   j4 = 1ull;
-  f150(self, j0, j1, j2, j3, j4); m = self->memory; if (NEVER(self->is_broken)) return ZAK_BROKEN;
+  f153(self, j0, j1, j2, j3, j4); m = self->memory; if (NEVER(self->is_broken)) return ZAK_BROKEN;
   j0 = l2;
   i0 = (u32)(j0);
   j0 = i64_load(j0 + 16u);
@@ -5875,7 +5531,7 @@ static u32 f3(module *self, u64 p0, u64 p1) {
   j0 = l2;
   j1 = l5;
   j2 = 1ull;
-  f148(self, j0, j1, j2); m = self->memory; if (NEVER(self->is_broken)) return ZAK_BROKEN;
+  f151(self, j0, j1, j2); m = self->memory; if (NEVER(self->is_broken)) return ZAK_BROKEN;
   j0 = l2;
   i0 = (u32)(j0);
   j0 = i64_load(j0);
@@ -6228,7 +5884,7 @@ static void f4(module *self, u64 p0, u64 p1, u64 p2, u64 p3) {
   j2 += j3;
   i2 = (u32)(j2);
   j2 = i64_load(j2);
-  f6(self, j0, j1, j2);
+  f7(self, j0, j1, j2);
   j0 = l4;
   i0 = (u32)(j0);
   j1 = l4;
@@ -6599,7 +6255,7 @@ static void f4(module *self, u64 p0, u64 p1, u64 p2, u64 p3) {
   j1 = 144ull;
   j0 += j1;
   j1 = p0;
-  f7(self, j0, j1);
+  f8(self, j0, j1);
   j0 = l4;
   i0 = (u32)(j0);
   i0 = i32_load8_u(j0 + 155u);
@@ -7876,7 +7532,7 @@ static void f5(module *self, u64 p0, u64 p1, u64 p2, u64 p3) {
   j2 += j3;
   i2 = (u32)(j2);
   j2 = i64_load(j2);
-  f6(self, j0, j1, j2);
+  f7(self, j0, j1, j2);
   j0 = l4;
   i0 = (u32)(j0);
   j1 = l4;
@@ -8264,7 +7920,7 @@ static void f5(module *self, u64 p0, u64 p1, u64 p2, u64 p3) {
   j1 = 144ull;
   j0 += j1;
   j1 = p0;
-  f7(self, j0, j1);
+  f8(self, j0, j1);
   j0 = l4;
   i0 = (u32)(j0);
   i0 = i32_load8_u(j0 + 155u);
@@ -9247,7 +8903,313 @@ static void f5(module *self, u64 p0, u64 p1, u64 p2, u64 p3) {
   self->g0 = j0;
 }
 
-static void f6(module *self, u64 p0, u64 p1, u64 p2) {
+static void f6(module *self, u64 p0, u64 p1, u32 p2, u32 p3) {
+  u32 l4 = 0, l5 = 0, l6 = 0;
+  u64 l7 = 0;
+  u8 *m = self->memory;
+  u32 i0, i1, i2, i3;
+  u64 j0, j1, j2, j3;
+  j0 = p0;
+  j1 = 6ull;
+  j0 += j1;
+  i0 = (u32)(j0);
+  i0 = i32_load8_u(j0);
+  l4 = i0;
+  j0 = p0;
+  i0 = (u32)(j0);
+  i0 = i32_load16_u(j0 + 4u);
+  l5 = i0;
+  if (i0) {goto B0;}
+  i0 = l4;
+  i1 = 255u;
+  i0 &= i1;
+  if (i0) {goto B0;}
+  j0 = p0;
+  i0 = (u32)(j0);
+  i0 = i32_load16_u(j0 + 2u);
+  i1 = 65535u;
+  i0 &= i1;
+  if (i0) {goto B0;}
+  j0 = p0;
+  j1 = 8ull;
+  j0 += j1;
+  i0 = (u32)(j0);
+  j1 = p1;
+  j2 = 37ull;
+  j1 += j2;
+  i1 = (u32)(j1);
+  i1 = i32_load16_u(j1);
+  l4 = i1;
+  i2 = 8u;
+  i1 <<= (i2 & 31);
+  i2 = l4;
+  i3 = 8u;
+  i2 >>= (i3 & 31);
+  i1 |= i2;
+  j2 = p1;
+  j3 = 33ull;
+  j2 += j3;
+  l7 = j2;
+  i2 = (u32)(j2);
+  i2 = i32_load8_u(j2);
+  i3 = 5u;
+  i2 >>= (i3 & 31);
+  i3 = 3u;
+  i2 &= i3;
+  i1 += i2;
+  i32_store16(j0, i1);
+  j0 = l7;
+  i0 = (u32)(j0);
+  i0 = i32_load8_u(j0);
+  l6 = i0;
+  i0 = 0u;
+  l4 = i0;
+  j0 = p0;
+  j1 = 11ull;
+  j0 += j1;
+  i0 = (u32)(j0);
+  i1 = 0u;
+  i32_store16(j0, i1);
+  j0 = p0;
+  j1 = 10ull;
+  j0 += j1;
+  i0 = (u32)(j0);
+  i1 = l6;
+  i2 = 31u;
+  i1 &= i2;
+  i32_store8(j0, i1);
+  B0:;
+  i0 = l5;
+  i1 = p2;
+  i2 = 255u;
+  i1 &= i2;
+  l6 = i1;
+  i0 *= i1;
+  i1 = p3;
+  i0 += i1;
+  i1 = l4;
+  i2 = 255u;
+  i1 &= i2;
+  i0 += i1;
+  l4 = i0;
+  j1 = p1;
+  j2 = 25ull;
+  j1 += j2;
+  i1 = (u32)(j1);
+  i1 = i32_load8_u(j1);
+  i2 = 5u;
+  i1 += i2;
+  i2 = l6;
+  i1 *= i2;
+  i0 = i0 >= i1;
+  if (i0) {goto B1;}
+  j0 = p0;
+  i0 = (u32)(j0);
+  i1 = l4;
+  i2 = 65535u;
+  i1 &= i2;
+  i2 = l6;
+  if (i2 == 0) { self->is_broken = true; return; } i1 = i1 / i2;
+  l6 = i1;
+  i32_store16(j0 + 4, i1);
+  j0 = p0;
+  j1 = 6ull;
+  j0 += j1;
+  i0 = (u32)(j0);
+  i1 = l4;
+  i2 = l6;
+  i3 = p2;
+  i2 *= i3;
+  i1 -= i2;
+  i32_store8(j0, i1);
+  goto Bfunc;
+  B1:;
+  j0 = p0;
+  j1 = 2ull;
+  j0 += j1;
+  i0 = (u32)(j0);
+  i0 = i32_load16_u(j0);
+  p2 = i0;
+  i1 = 1u;
+  i0 += i1;
+  l6 = i0;
+  i1 = 65535u;
+  i0 &= i1;
+  j1 = p1;
+  j2 = 31ull;
+  j1 += j2;
+  i1 = (u32)(j1);
+  i1 = i32_load8_u(j1);
+  j2 = p1;
+  j3 = 32ull;
+  j2 += j3;
+  l7 = j2;
+  i2 = (u32)(j2);
+  i2 = i32_load8_u(j2);
+  l4 = i2;
+  i3 = 1u;
+  i2 &= i3;
+  i3 = 8u;
+  i2 <<= (i3 & 31);
+  i1 |= i2;
+  i2 = l4;
+  i3 = 4u;
+  i2 <<= (i3 & 31);
+  i3 = 512u;
+  i2 &= i3;
+  i1 |= i2;
+  i2 = 2u;
+  i1 += i2;
+  i0 = i0 >= i1;
+  if (i0) {goto B2;}
+  j0 = p0;
+  i0 = (u32)(j0);
+  i1 = 0u;
+  i32_store16(j0 + 4, i1);
+  j0 = p0;
+  j1 = 6ull;
+  j0 += j1;
+  i0 = (u32)(j0);
+  i1 = 0u;
+  i32_store8(j0, i1);
+  i0 = p2;
+  i1 = 65535u;
+  i0 &= i1;
+  j1 = l7;
+  i1 = (u32)(j1);
+  i1 = i32_load8_u(j1);
+  i2 = 4u;
+  i1 <<= (i2 & 31);
+  i2 = 256u;
+  i1 &= i2;
+  j2 = p1;
+  j3 = 49ull;
+  j2 += j3;
+  i2 = (u32)(j2);
+  i2 = i32_load8_u(j2);
+  i1 |= i2;
+  j2 = p1;
+  j3 = 34ull;
+  j2 += j3;
+  i2 = (u32)(j2);
+  i2 = i32_load8_s(j2);
+  l4 = i2;
+  i3 = 3u;
+  i2 <<= (i3 & 31);
+  i3 = 512u;
+  i2 &= i3;
+  i1 |= i2;
+  i0 = i0 != i1;
+  if (i0) {goto B4;}
+  j0 = p0;
+  j1 = 12ull;
+  j0 += j1;
+  i0 = (u32)(j0);
+  i1 = 1u;
+  i32_store8(j0, i1);
+  j0 = p0;
+  j1 = 8ull;
+  j0 += j1;
+  i0 = (u32)(j0);
+  i1 = 0u;
+  i32_store(j0, i1);
+  goto B3;
+  B4:;
+  i0 = l4;
+  i1 = 4294967295u;
+  i0 = (u32)((s32)i0 > (s32)i1);
+  if (i0) {goto B5;}
+  j0 = p0;
+  j1 = 11ull;
+  j0 += j1;
+  l7 = j0;
+  i0 = (u32)(j0);
+  i0 = i32_load8_u(j0);
+  if (i0) {goto B5;}
+  j0 = l7;
+  i0 = (u32)(j0);
+  i1 = 1u;
+  i32_store8(j0, i1);
+  goto B3;
+  B5:;
+  j0 = p0;
+  j1 = 11ull;
+  j0 += j1;
+  i0 = (u32)(j0);
+  i1 = 0u;
+  i32_store8(j0, i1);
+  j0 = p0;
+  j1 = 10ull;
+  j0 += j1;
+  l7 = j0;
+  i0 = (u32)(j0);
+  i0 = i32_load8_u(j0);
+  p2 = i0;
+  i1 = l4;
+  i2 = 31u;
+  i1 &= i2;
+  i0 = i0 >= i1;
+  if (i0) {goto B6;}
+  j0 = l7;
+  i0 = (u32)(j0);
+  i1 = p2;
+  i2 = 1u;
+  i1 += i2;
+  i32_store8(j0, i1);
+  goto B3;
+  B6:;
+  j0 = l7;
+  i0 = (u32)(j0);
+  i1 = 0u;
+  i32_store8(j0, i1);
+  j0 = p0;
+  j1 = 8ull;
+  j0 += j1;
+  l7 = j0;
+  i0 = (u32)(j0);
+  j1 = p1;
+  j2 = 44ull;
+  j1 += j2;
+  i1 = (u32)(j1);
+  i1 = i32_load8_u(j1);
+  i2 = 1u;
+  i1 <<= (i2 & 31);
+  j2 = l7;
+  i2 = (u32)(j2);
+  i2 = i32_load16_u(j2);
+  i1 += i2;
+  i32_store16(j0, i1);
+  B3:;
+  j0 = p0;
+  j1 = 2ull;
+  j0 += j1;
+  i0 = (u32)(j0);
+  i1 = l6;
+  i32_store16(j0, i1);
+  goto Bfunc;
+  B2:;
+  j0 = p0;
+  i0 = (u32)(j0);
+  j1 = 0ull;
+  i64_store(j0 + 1, j1);
+  j0 = p0;
+  i0 = (u32)(j0);
+  j1 = 0ull;
+  i64_store(j0 + 6, j1);
+  j0 = p0;
+  i0 = (u32)(j0);
+  j1 = p0;
+  i1 = (u32)(j1);
+  i1 = i32_load8_u(j1);
+  i2 = 1u;
+  i1 += i2;
+  i2 = 31u;
+  i1 &= i2;
+  i32_store8(j0, i1);
+  Bfunc:;
+}
+
+static void f7(module *self, u64 p0, u64 p1, u64 p2) {
   u32 l4 = 0, l5 = 0, l6 = 0, l7 = 0, l8 = 0, l9 = 0, l10 = 0, l11 = 0, 
       l12 = 0, l13 = 0, l14 = 0, l15 = 0, l16 = 0, l17 = 0, l18 = 0, l19 = 0;
   u64 l3 = 0;
@@ -9598,7 +9560,7 @@ static void f6(module *self, u64 p0, u64 p1, u64 p2) {
   i32_store(j0, i1);
 }
 
-static void f7(module *self, u64 p0, u64 p1) {
+static void f8(module *self, u64 p0, u64 p1) {
   u32 l4 = 0, l5 = 0, l6 = 0, l7 = 0, l8 = 0, l9 = 0, l10 = 0;
   u64 l2 = 0, l3 = 0;
   u8 *m = self->memory;
@@ -9791,7 +9753,7 @@ static void f7(module *self, u64 p0, u64 p1) {
   i32_store16(j0 + 6, i1);
 }
 
-static u32 f8(module *self, u64 p0, u64 p1, u64 p2, u64 p3) {
+static u32 f9(module *self, u64 p0, u64 p1, u64 p2, u64 p3) {
   u32 l4 = 0, l5 = 0, l6 = 0;
   u8 *m = self->memory;
   u32 i0, i1, i2, i3, i4;
@@ -9872,7 +9834,7 @@ static u32 f8(module *self, u64 p0, u64 p1, u64 p2, u64 p3) {
   return i0;
 }
 
-static void f9(module *self, u64 p0, u64 p1, u64 p2, u64 p3) {
+static void f10(module *self, u64 p0, u64 p1, u64 p2, u64 p3) {
   u32 l13 = 0;
   u64 l4 = 0, l5 = 0, l6 = 0, l7 = 0, l8 = 0, l9 = 0, l10 = 0, l11 = 0, 
       l12 = 0;
@@ -9898,7 +9860,7 @@ static void f9(module *self, u64 p0, u64 p1, u64 p2, u64 p3) {
   if (i0) {goto B1;}
   j0 = p1;
   j1 = p3;
-  i0 = f10(self, j0, j1); m = self->memory; if (NEVER(self->is_broken)) return;
+  i0 = f11(self, j0, j1); m = self->memory; if (NEVER(self->is_broken)) return;
   if (i0) {goto B2;}
   j0 = 9ull;
   p3 = j0;
@@ -10098,7 +10060,7 @@ static void f9(module *self, u64 p0, u64 p1, u64 p2, u64 p3) {
   i64_store(j0, j1);
 }
 
-static u32 f10(module *self, u64 p0, u64 p1) {
+static u32 f11(module *self, u64 p0, u64 p1) {
   u32 l6 = 0;
   u64 l2 = 0, l3 = 0, l4 = 0, l5 = 0;
   u8 *m = self->memory;
@@ -10167,7 +10129,7 @@ static u32 f10(module *self, u64 p0, u64 p1) {
   j2 = l3;
   j3 = p1;
   j4 = 1ull;
-  f150(self, j0, j1, j2, j3, j4); m = self->memory; if (NEVER(self->is_broken)) return ZAK_BROKEN;
+  f153(self, j0, j1, j2, j3, j4); m = self->memory; if (NEVER(self->is_broken)) return ZAK_BROKEN;
   j0 = l2;
   i0 = (u32)(j0);
   j0 = i64_load(j0 + 16u);
@@ -10185,7 +10147,7 @@ static u32 f10(module *self, u64 p0, u64 p1) {
   j0 = l2;
   j1 = l5;
   j2 = 1ull;
-  f148(self, j0, j1, j2); m = self->memory; if (NEVER(self->is_broken)) return ZAK_BROKEN;
+  f151(self, j0, j1, j2); m = self->memory; if (NEVER(self->is_broken)) return ZAK_BROKEN;
   j0 = l2;
   i0 = (u32)(j0);
   j0 = i64_load(j0);
@@ -10220,7 +10182,7 @@ static u32 f10(module *self, u64 p0, u64 p1) {
   return i0;
 }
 
-static void f11(module *self, u64 p0, u64 p1, u32 p2) {
+static void f12(module *self, u64 p0, u64 p1, u32 p2) {
   u64 l3 = 0, l4 = 0, l5 = 0, l6 = 0, l7 = 0, l8 = 0, l9 = 0;
   u8 *m = self->memory;
   u32 i0, i1, i2, i3;
@@ -10254,7 +10216,7 @@ static void f11(module *self, u64 p0, u64 p1, u32 p2) {
   if (i0) {goto B1;}
   j0 = p1;
   j1 = 2ull;
-  i0 = f10(self, j0, j1); m = self->memory; if (NEVER(self->is_broken)) return;
+  i0 = f11(self, j0, j1); m = self->memory; if (NEVER(self->is_broken)) return;
   if (i0) {goto B2;}
   j0 = 9ull;
   p1 = j0;
@@ -10337,7 +10299,7 @@ static void f11(module *self, u64 p0, u64 p1, u32 p2) {
   self->g0 = j0;
 }
 
-static void f12(module *self, u64 p0, u64 p1, u64 p2, u64 p3) {
+static void f13(module *self, u64 p0, u64 p1, u64 p2, u64 p3) {
   u32 l15 = 0, l16 = 0, l17 = 0, l18 = 0, l19 = 0, l20 = 0, l21 = 0, l22 = 0;
   u64 l4 = 0, l5 = 0, l6 = 0, l7 = 0, l8 = 0, l9 = 0, l10 = 0, l11 = 0, 
       l12 = 0, l13 = 0, l14 = 0;
@@ -11332,7 +11294,7 @@ static void f12(module *self, u64 p0, u64 p1, u64 p2, u64 p3) {
   if (i0) {goto B88;}
   j0 = p1;
   j1 = 1ull;
-  i0 = f10(self, j0, j1); m = self->memory; if (NEVER(self->is_broken)) return;
+  i0 = f11(self, j0, j1); m = self->memory; if (NEVER(self->is_broken)) return;
   i0 = !(i0);
   if (i0) {goto B2;}
   j0 = p1;
@@ -13656,7 +13618,7 @@ static void f12(module *self, u64 p0, u64 p1, u64 p2, u64 p3) {
   j1 = l13;
   j2 = l11;
   j3 = 1048800ull;
-  f13(self, j0, j1, j2, j3); if (NEVER(self->is_broken)) return;
+  f14(self, j0, j1, j2, j3); if (NEVER(self->is_broken)) return;
   j0 = l4;
   i0 = (u32)(j0);
   i0 = i32_load8_u(j0 + 32u);
@@ -13675,7 +13637,7 @@ static void f12(module *self, u64 p0, u64 p1, u64 p2, u64 p3) {
   i2 = (u32)(j2);
   j2 = i64_load(j2 + 56u);
   j3 = 1048803ull;
-  f13(self, j0, j1, j2, j3); if (NEVER(self->is_broken)) return;
+  f14(self, j0, j1, j2, j3); if (NEVER(self->is_broken)) return;
   j0 = l4;
   i0 = (u32)(j0);
   i0 = i32_load8_u(j0 + 32u);
@@ -13694,7 +13656,7 @@ static void f12(module *self, u64 p0, u64 p1, u64 p2, u64 p3) {
   i2 = (u32)(j2);
   j2 = i64_load(j2 + 56u);
   j3 = 1048806ull;
-  f13(self, j0, j1, j2, j3); if (NEVER(self->is_broken)) return;
+  f14(self, j0, j1, j2, j3); if (NEVER(self->is_broken)) return;
   j0 = l4;
   i0 = (u32)(j0);
   i0 = i32_load8_u(j0 + 32u);
@@ -13713,7 +13675,7 @@ static void f12(module *self, u64 p0, u64 p1, u64 p2, u64 p3) {
   i2 = (u32)(j2);
   j2 = i64_load(j2 + 56u);
   j3 = 1048809ull;
-  f13(self, j0, j1, j2, j3); if (NEVER(self->is_broken)) return;
+  f14(self, j0, j1, j2, j3); if (NEVER(self->is_broken)) return;
   j0 = l4;
   i0 = (u32)(j0);
   i0 = i32_load8_u(j0 + 32u);
@@ -13729,7 +13691,7 @@ static void f12(module *self, u64 p0, u64 p1, u64 p2, u64 p3) {
   j2 = l4;
   i2 = (u32)(j2);
   j2 = i64_load(j2 + 56u);
-  f14(self, j0, j1, j2); m = self->memory; if (NEVER(self->is_broken)) return;
+  f15(self, j0, j1, j2); m = self->memory; if (NEVER(self->is_broken)) return;
   j0 = l4;
   i0 = (u32)(j0);
   i0 = i32_load8_u(j0);
@@ -13795,7 +13757,7 @@ static void f12(module *self, u64 p0, u64 p1, u64 p2, u64 p3) {
   if (i0) {goto B227;}
   j0 = p1;
   j1 = 1ull;
-  i0 = f10(self, j0, j1); m = self->memory; if (NEVER(self->is_broken)) return;
+  i0 = f11(self, j0, j1); m = self->memory; if (NEVER(self->is_broken)) return;
   i0 = !(i0);
   if (i0) {goto B226;}
   j0 = p1;
@@ -13843,7 +13805,7 @@ static void f12(module *self, u64 p0, u64 p1, u64 p2, u64 p3) {
   if (i0) {goto B228;}
   j0 = p1;
   j1 = 2ull;
-  i0 = f10(self, j0, j1); m = self->memory; if (NEVER(self->is_broken)) return;
+  i0 = f11(self, j0, j1); m = self->memory; if (NEVER(self->is_broken)) return;
   i0 = !(i0);
   if (i0) {goto B226;}
   j0 = p1;
@@ -13898,7 +13860,7 @@ static void f12(module *self, u64 p0, u64 p1, u64 p2, u64 p3) {
   if (i0) {goto B229;}
   j0 = p1;
   j1 = 2ull;
-  i0 = f10(self, j0, j1); m = self->memory; if (NEVER(self->is_broken)) return;
+  i0 = f11(self, j0, j1); m = self->memory; if (NEVER(self->is_broken)) return;
   i0 = !(i0);
   if (i0) {goto B226;}
   j0 = p1;
@@ -13947,7 +13909,7 @@ static void f12(module *self, u64 p0, u64 p1, u64 p2, u64 p3) {
   if (i0) {goto B230;}
   j0 = p1;
   j1 = 2ull;
-  i0 = f10(self, j0, j1); m = self->memory; if (NEVER(self->is_broken)) return;
+  i0 = f11(self, j0, j1); m = self->memory; if (NEVER(self->is_broken)) return;
   i0 = !(i0);
   if (i0) {goto B226;}
   j0 = p1;
@@ -14002,7 +13964,7 @@ static void f12(module *self, u64 p0, u64 p1, u64 p2, u64 p3) {
   if (i0) {goto B231;}
   j0 = p1;
   j1 = 2ull;
-  i0 = f10(self, j0, j1); m = self->memory; if (NEVER(self->is_broken)) return;
+  i0 = f11(self, j0, j1); m = self->memory; if (NEVER(self->is_broken)) return;
   i0 = !(i0);
   if (i0) {goto B226;}
   j0 = p1;
@@ -14051,7 +14013,7 @@ static void f12(module *self, u64 p0, u64 p1, u64 p2, u64 p3) {
   if (i0) {goto B232;}
   j0 = p1;
   j1 = 2ull;
-  i0 = f10(self, j0, j1); m = self->memory; if (NEVER(self->is_broken)) return;
+  i0 = f11(self, j0, j1); m = self->memory; if (NEVER(self->is_broken)) return;
   i0 = !(i0);
   if (i0) {goto B226;}
   j0 = p1;
@@ -14105,7 +14067,7 @@ static void f12(module *self, u64 p0, u64 p1, u64 p2, u64 p3) {
   if (i0) {goto B233;}
   j0 = p1;
   j1 = p3;
-  i0 = f10(self, j0, j1); m = self->memory; if (NEVER(self->is_broken)) return;
+  i0 = f11(self, j0, j1); m = self->memory; if (NEVER(self->is_broken)) return;
   i0 = !(i0);
   if (i0) {goto B226;}
   j0 = p1;
@@ -14267,7 +14229,7 @@ static void f12(module *self, u64 p0, u64 p1, u64 p2, u64 p3) {
   i0 = !(j0);
   if (i0) {goto B2;}
   j0 = l10;
-  f151(self, j0);
+  f154(self, j0);
   goto B2;
   B225:;
   j0 = p1;
@@ -14290,7 +14252,7 @@ static void f12(module *self, u64 p0, u64 p1, u64 p2, u64 p3) {
   i0 = !(j0);
   if (i0) {goto B1;}
   j0 = l10;
-  f151(self, j0);
+  f154(self, j0);
   goto B1;
   B21:;
   i0 = l15;
@@ -17423,7 +17385,7 @@ static void f12(module *self, u64 p0, u64 p1, u64 p2, u64 p3) {
   if (i0) {goto B426;}
   j0 = p1;
   j1 = 1ull;
-  i0 = f10(self, j0, j1); m = self->memory; if (NEVER(self->is_broken)) return;
+  i0 = f11(self, j0, j1); m = self->memory; if (NEVER(self->is_broken)) return;
   i0 = !(i0);
   if (i0) {goto B2;}
   j0 = p1;
@@ -17477,7 +17439,7 @@ static void f12(module *self, u64 p0, u64 p1, u64 p2, u64 p3) {
   if (i0) {goto B427;}
   j0 = p1;
   j1 = 2ull;
-  i0 = f10(self, j0, j1); m = self->memory; if (NEVER(self->is_broken)) return;
+  i0 = f11(self, j0, j1); m = self->memory; if (NEVER(self->is_broken)) return;
   i0 = !(i0);
   if (i0) {goto B2;}
   j0 = p1;
@@ -17539,7 +17501,7 @@ static void f12(module *self, u64 p0, u64 p1, u64 p2, u64 p3) {
   j3 = 127ull;
   j2 += j3;
   j3 = 1ull;
-  f9(self, j0, j1, j2, j3); m = self->memory; if (NEVER(self->is_broken)) return;
+  f10(self, j0, j1, j2, j3); m = self->memory; if (NEVER(self->is_broken)) return;
   j0 = l4;
   i0 = (u32)(j0);
   i0 = i32_load8_u(j0 + 32u);
@@ -17553,7 +17515,7 @@ static void f12(module *self, u64 p0, u64 p1, u64 p2, u64 p3) {
   if (i0) {goto B428;}
   j0 = p1;
   j1 = 1ull;
-  i0 = f10(self, j0, j1); m = self->memory; if (NEVER(self->is_broken)) return;
+  i0 = f11(self, j0, j1); m = self->memory; if (NEVER(self->is_broken)) return;
   i0 = !(i0);
   if (i0) {goto B2;}
   j0 = p1;
@@ -17607,7 +17569,7 @@ static void f12(module *self, u64 p0, u64 p1, u64 p2, u64 p3) {
   if (i0) {goto B429;}
   j0 = p1;
   j1 = 2ull;
-  i0 = f10(self, j0, j1); m = self->memory; if (NEVER(self->is_broken)) return;
+  i0 = f11(self, j0, j1); m = self->memory; if (NEVER(self->is_broken)) return;
   i0 = !(i0);
   if (i0) {goto B2;}
   j0 = p1;
@@ -17662,7 +17624,7 @@ static void f12(module *self, u64 p0, u64 p1, u64 p2, u64 p3) {
   i4 = 255u;
   i3 &= i4;
   i2 |= i3;
-  f11(self, j0, j1, i2); m = self->memory; if (NEVER(self->is_broken)) return;
+  f12(self, j0, j1, i2); m = self->memory; if (NEVER(self->is_broken)) return;
   j0 = l4;
   i0 = (u32)(j0);
   i0 = i32_load8_u(j0);
@@ -17676,7 +17638,7 @@ static void f12(module *self, u64 p0, u64 p1, u64 p2, u64 p3) {
   if (i0) {goto B430;}
   j0 = p1;
   j1 = 1ull;
-  i0 = f10(self, j0, j1); m = self->memory; if (NEVER(self->is_broken)) return;
+  i0 = f11(self, j0, j1); m = self->memory; if (NEVER(self->is_broken)) return;
   i0 = !(i0);
   if (i0) {goto B2;}
   j0 = p1;
@@ -17730,7 +17692,7 @@ static void f12(module *self, u64 p0, u64 p1, u64 p2, u64 p3) {
   if (i0) {goto B431;}
   j0 = p1;
   j1 = 2ull;
-  i0 = f10(self, j0, j1); m = self->memory; if (NEVER(self->is_broken)) return;
+  i0 = f11(self, j0, j1); m = self->memory; if (NEVER(self->is_broken)) return;
   i0 = !(i0);
   if (i0) {goto B2;}
   j0 = p1;
@@ -17784,7 +17746,7 @@ static void f12(module *self, u64 p0, u64 p1, u64 p2, u64 p3) {
   if (i0) {goto B432;}
   j0 = p1;
   j1 = 1ull;
-  i0 = f10(self, j0, j1); m = self->memory; if (NEVER(self->is_broken)) return;
+  i0 = f11(self, j0, j1); m = self->memory; if (NEVER(self->is_broken)) return;
   i0 = !(i0);
   if (i0) {goto B2;}
   j0 = p1;
@@ -17838,7 +17800,7 @@ static void f12(module *self, u64 p0, u64 p1, u64 p2, u64 p3) {
   if (i0) {goto B433;}
   j0 = p1;
   j1 = 2ull;
-  i0 = f10(self, j0, j1); m = self->memory; if (NEVER(self->is_broken)) return;
+  i0 = f11(self, j0, j1); m = self->memory; if (NEVER(self->is_broken)) return;
   i0 = !(i0);
   if (i0) {goto B2;}
   j0 = p1;
@@ -17892,7 +17854,7 @@ static void f12(module *self, u64 p0, u64 p1, u64 p2, u64 p3) {
   if (i0) {goto B434;}
   j0 = p1;
   j1 = 1ull;
-  i0 = f10(self, j0, j1); m = self->memory; if (NEVER(self->is_broken)) return;
+  i0 = f11(self, j0, j1); m = self->memory; if (NEVER(self->is_broken)) return;
   i0 = !(i0);
   if (i0) {goto B2;}
   j0 = p1;
@@ -17946,7 +17908,7 @@ static void f12(module *self, u64 p0, u64 p1, u64 p2, u64 p3) {
   if (i0) {goto B435;}
   j0 = p1;
   j1 = 4ull;
-  i0 = f10(self, j0, j1); m = self->memory; if (NEVER(self->is_broken)) return;
+  i0 = f11(self, j0, j1); m = self->memory; if (NEVER(self->is_broken)) return;
   i0 = !(i0);
   if (i0) {goto B2;}
   j0 = p1;
@@ -18002,7 +17964,7 @@ static void f12(module *self, u64 p0, u64 p1, u64 p2, u64 p3) {
   j3 = 95ull;
   j2 += j3;
   j3 = 1ull;
-  f9(self, j0, j1, j2, j3); m = self->memory; if (NEVER(self->is_broken)) return;
+  f10(self, j0, j1, j2, j3); m = self->memory; if (NEVER(self->is_broken)) return;
   j0 = l4;
   i0 = (u32)(j0);
   i0 = i32_load8_u(j0 + 96u);
@@ -18016,7 +17978,7 @@ static void f12(module *self, u64 p0, u64 p1, u64 p2, u64 p3) {
   if (i0) {goto B436;}
   j0 = p1;
   j1 = 1ull;
-  i0 = f10(self, j0, j1); m = self->memory; if (NEVER(self->is_broken)) return;
+  i0 = f11(self, j0, j1); m = self->memory; if (NEVER(self->is_broken)) return;
   i0 = !(i0);
   if (i0) {goto B2;}
   j0 = p1;
@@ -18070,7 +18032,7 @@ static void f12(module *self, u64 p0, u64 p1, u64 p2, u64 p3) {
   if (i0) {goto B437;}
   j0 = p1;
   j1 = 4ull;
-  i0 = f10(self, j0, j1); m = self->memory; if (NEVER(self->is_broken)) return;
+  i0 = f11(self, j0, j1); m = self->memory; if (NEVER(self->is_broken)) return;
   i0 = !(i0);
   if (i0) {goto B2;}
   j0 = p1;
@@ -18121,7 +18083,7 @@ static void f12(module *self, u64 p0, u64 p1, u64 p2, u64 p3) {
   i4 = 255u;
   i3 &= i4;
   i2 |= i3;
-  f11(self, j0, j1, i2); m = self->memory; if (NEVER(self->is_broken)) return;
+  f12(self, j0, j1, i2); m = self->memory; if (NEVER(self->is_broken)) return;
   j0 = l4;
   i0 = (u32)(j0);
   i0 = i32_load8_u(j0 + 64u);
@@ -18135,7 +18097,7 @@ static void f12(module *self, u64 p0, u64 p1, u64 p2, u64 p3) {
   if (i0) {goto B438;}
   j0 = p1;
   j1 = 1ull;
-  i0 = f10(self, j0, j1); m = self->memory; if (NEVER(self->is_broken)) return;
+  i0 = f11(self, j0, j1); m = self->memory; if (NEVER(self->is_broken)) return;
   i0 = !(i0);
   if (i0) {goto B2;}
   j0 = p1;
@@ -18189,7 +18151,7 @@ static void f12(module *self, u64 p0, u64 p1, u64 p2, u64 p3) {
   if (i0) {goto B439;}
   j0 = p1;
   j1 = 4ull;
-  i0 = f10(self, j0, j1); m = self->memory; if (NEVER(self->is_broken)) return;
+  i0 = f11(self, j0, j1); m = self->memory; if (NEVER(self->is_broken)) return;
   i0 = !(i0);
   if (i0) {goto B2;}
   j0 = p1;
@@ -18237,7 +18199,7 @@ static void f12(module *self, u64 p0, u64 p1, u64 p2, u64 p3) {
   if (i0) {goto B440;}
   j0 = p1;
   j1 = 1ull;
-  i0 = f10(self, j0, j1); m = self->memory; if (NEVER(self->is_broken)) return;
+  i0 = f11(self, j0, j1); m = self->memory; if (NEVER(self->is_broken)) return;
   i0 = !(i0);
   if (i0) {goto B2;}
   j0 = p1;
@@ -18291,7 +18253,7 @@ static void f12(module *self, u64 p0, u64 p1, u64 p2, u64 p3) {
   if (i0) {goto B441;}
   j0 = p1;
   j1 = 4ull;
-  i0 = f10(self, j0, j1); m = self->memory; if (NEVER(self->is_broken)) return;
+  i0 = f11(self, j0, j1); m = self->memory; if (NEVER(self->is_broken)) return;
   i0 = !(i0);
   if (i0) {goto B2;}
   j0 = p1;
@@ -18339,7 +18301,7 @@ static void f12(module *self, u64 p0, u64 p1, u64 p2, u64 p3) {
   if (i0) {goto B442;}
   j0 = p1;
   j1 = 1ull;
-  i0 = f10(self, j0, j1); m = self->memory; if (NEVER(self->is_broken)) return;
+  i0 = f11(self, j0, j1); m = self->memory; if (NEVER(self->is_broken)) return;
   i0 = !(i0);
   if (i0) {goto B2;}
   j0 = p1;
@@ -18393,7 +18355,7 @@ static void f12(module *self, u64 p0, u64 p1, u64 p2, u64 p3) {
   if (i0) {goto B443;}
   j0 = p1;
   j1 = 4ull;
-  i0 = f10(self, j0, j1); m = self->memory; if (NEVER(self->is_broken)) return;
+  i0 = f11(self, j0, j1); m = self->memory; if (NEVER(self->is_broken)) return;
   i0 = !(i0);
   if (i0) {goto B2;}
   j0 = p1;
@@ -18443,7 +18405,7 @@ static void f12(module *self, u64 p0, u64 p1, u64 p2, u64 p3) {
   j1 = l10;
   j2 = 1048796ull;
   j3 = 4ull;
-  i0 = f8(self, j0, j1, j2, j3);
+  i0 = f9(self, j0, j1, j2, j3);
   i0 = !(i0);
   if (i0) {goto B10;}
   j0 = l4;
@@ -19005,7 +18967,7 @@ static void f12(module *self, u64 p0, u64 p1, u64 p2, u64 p3) {
   j0 += j1;
   j1 = p3;
   j2 = l5;
-  f15(self, j0, j1, j2); if (NEVER(self->is_broken)) return;
+  f16(self, j0, j1, j2); if (NEVER(self->is_broken)) return;
   j0 = l4;
   i0 = (u32)(j0);
   i0 = i32_load8_u(j0 + 32u);
@@ -19323,7 +19285,7 @@ static void f12(module *self, u64 p0, u64 p1, u64 p2, u64 p3) {
   j1 = l6;
   j2 = 1048823ull;
   j3 = 3ull;
-  i0 = f8(self, j0, j1, j2, j3);
+  i0 = f9(self, j0, j1, j2, j3);
   i0 = !(i0);
   if (i0) {goto B475;}
   i0 = 0u;
@@ -19365,7 +19327,7 @@ static void f12(module *self, u64 p0, u64 p1, u64 p2, u64 p3) {
   j1 = l6;
   j2 = 1048826ull;
   j3 = 5ull;
-  i0 = f8(self, j0, j1, j2, j3);
+  i0 = f9(self, j0, j1, j2, j3);
   i0 = !(i0);
   if (i0) {goto B10;}
   i0 = 0u;
@@ -19569,7 +19531,7 @@ static void f12(module *self, u64 p0, u64 p1, u64 p2, u64 p3) {
   if (i0) {goto B485;}
   j0 = p1;
   j1 = 2ull;
-  i0 = f10(self, j0, j1); m = self->memory; if (NEVER(self->is_broken)) return;
+  i0 = f11(self, j0, j1); m = self->memory; if (NEVER(self->is_broken)) return;
   i0 = !(i0);
   if (i0) {goto B2;}
   j0 = p1;
@@ -19636,7 +19598,7 @@ static void f12(module *self, u64 p0, u64 p1, u64 p2, u64 p3) {
   if (i0) {goto B488;}
   j0 = p1;
   j1 = 3ull;
-  i0 = f10(self, j0, j1); m = self->memory; if (NEVER(self->is_broken)) return;
+  i0 = f11(self, j0, j1); m = self->memory; if (NEVER(self->is_broken)) return;
   i0 = !(i0);
   if (i0) {goto B2;}
   j0 = p1;
@@ -19692,7 +19654,7 @@ static void f12(module *self, u64 p0, u64 p1, u64 p2, u64 p3) {
   if (i0) {goto B489;}
   j0 = p1;
   j1 = 2ull;
-  i0 = f10(self, j0, j1); m = self->memory; if (NEVER(self->is_broken)) return;
+  i0 = f11(self, j0, j1); m = self->memory; if (NEVER(self->is_broken)) return;
   i0 = !(i0);
   if (i0) {goto B2;}
   j0 = p1;
@@ -19759,7 +19721,7 @@ static void f12(module *self, u64 p0, u64 p1, u64 p2, u64 p3) {
   if (i0) {goto B492;}
   j0 = p1;
   j1 = 2ull;
-  i0 = f10(self, j0, j1); m = self->memory; if (NEVER(self->is_broken)) return;
+  i0 = f11(self, j0, j1); m = self->memory; if (NEVER(self->is_broken)) return;
   i0 = !(i0);
   if (i0) {goto B2;}
   j0 = p1;
@@ -19826,7 +19788,7 @@ static void f12(module *self, u64 p0, u64 p1, u64 p2, u64 p3) {
   if (i0) {goto B495;}
   j0 = p1;
   j1 = 3ull;
-  i0 = f10(self, j0, j1); m = self->memory; if (NEVER(self->is_broken)) return;
+  i0 = f11(self, j0, j1); m = self->memory; if (NEVER(self->is_broken)) return;
   i0 = !(i0);
   if (i0) {goto B2;}
   j0 = p1;
@@ -19885,7 +19847,7 @@ static void f12(module *self, u64 p0, u64 p1, u64 p2, u64 p3) {
   if (i0) {goto B496;}
   j0 = p1;
   j1 = 2ull;
-  i0 = f10(self, j0, j1); m = self->memory; if (NEVER(self->is_broken)) return;
+  i0 = f11(self, j0, j1); m = self->memory; if (NEVER(self->is_broken)) return;
   i0 = !(i0);
   if (i0) {goto B2;}
   j0 = p1;
@@ -19934,7 +19896,7 @@ static void f12(module *self, u64 p0, u64 p1, u64 p2, u64 p3) {
   if (i0) {goto B497;}
   j0 = p1;
   j1 = 2ull;
-  i0 = f10(self, j0, j1); m = self->memory; if (NEVER(self->is_broken)) return;
+  i0 = f11(self, j0, j1); m = self->memory; if (NEVER(self->is_broken)) return;
   i0 = !(i0);
   if (i0) {goto B2;}
   j0 = p1;
@@ -19986,7 +19948,7 @@ static void f12(module *self, u64 p0, u64 p1, u64 p2, u64 p3) {
   if (i0) {goto B498;}
   j0 = p1;
   j1 = 2ull;
-  i0 = f10(self, j0, j1); m = self->memory; if (NEVER(self->is_broken)) return;
+  i0 = f11(self, j0, j1); m = self->memory; if (NEVER(self->is_broken)) return;
   i0 = !(i0);
   if (i0) {goto B2;}
   j0 = p1;
@@ -20053,7 +20015,7 @@ static void f12(module *self, u64 p0, u64 p1, u64 p2, u64 p3) {
   if (i0) {goto B501;}
   j0 = p1;
   j1 = 2ull;
-  i0 = f10(self, j0, j1); m = self->memory; if (NEVER(self->is_broken)) return;
+  i0 = f11(self, j0, j1); m = self->memory; if (NEVER(self->is_broken)) return;
   i0 = !(i0);
   if (i0) {goto B2;}
   j0 = p1;
@@ -20143,7 +20105,7 @@ static void f12(module *self, u64 p0, u64 p1, u64 p2, u64 p3) {
   self->g0 = j0;
 }
 
-static void f13(module *self, u64 p0, u64 p1, u64 p2, u64 p3) {
+static void f14(module *self, u64 p0, u64 p1, u64 p2, u64 p3) {
   u32 l9 = 0;
   u64 l4 = 0, l5 = 0, l6 = 0, l7 = 0, l8 = 0;
   u8 *m = self->memory;
@@ -20546,7 +20508,7 @@ static void f13(module *self, u64 p0, u64 p1, u64 p2, u64 p3) {
   Bfunc:;
 }
 
-static void f14(module *self, u64 p0, u64 p1, u64 p2) {
+static void f15(module *self, u64 p0, u64 p1, u64 p2) {
   u32 l12 = 0, l13 = 0, l14 = 0, l15 = 0, l16 = 0;
   u64 l3 = 0, l4 = 0, l5 = 0, l6 = 0, l7 = 0, l8 = 0, l9 = 0, l10 = 0, 
       l11 = 0;
@@ -20816,7 +20778,7 @@ static void f14(module *self, u64 p0, u64 p1, u64 p2) {
       j1 >>= (j2 & 63);
       l8 = j1;
       j2 = 1ull;
-      f148(self, j0, j1, j2); m = self->memory; if (NEVER(self->is_broken)) return;
+      f151(self, j0, j1, j2); m = self->memory; if (NEVER(self->is_broken)) return;
       i0 = 1u;
       l12 = i0;
       j0 = l3;
@@ -21040,7 +21002,7 @@ static void f14(module *self, u64 p0, u64 p1, u64 p2) {
       if (i0) {goto B11;}
       B19:;
       j0 = l4;
-      f151(self, j0);
+      f154(self, j0);
       goto B11;
       B13:;
       j0 = p2;
@@ -21160,7 +21122,7 @@ static void f14(module *self, u64 p0, u64 p1, u64 p2) {
   self->g0 = j0;
 }
 
-static void f15(module *self, u64 p0, u64 p1, u64 p2) {
+static void f16(module *self, u64 p0, u64 p1, u64 p2) {
   u32 l9 = 0, l10 = 0;
   u64 l3 = 0, l4 = 0, l5 = 0, l6 = 0, l7 = 0, l8 = 0;
   u8 *m = self->memory;
@@ -21889,7 +21851,7 @@ static void f15(module *self, u64 p0, u64 p1, u64 p2) {
   Bfunc:;
 }
 
-static void f16(module *self, u64 p0, u64 p1) {
+static void f17(module *self, u64 p0, u64 p1) {
   u32 l8 = 0, l9 = 0, l10 = 0, l11 = 0, l12 = 0, l13 = 0, l14 = 0, l15 = 0, 
       l16 = 0, l17 = 0, l18 = 0, l19 = 0, l20 = 0, l21 = 0, l22 = 0, l23 = 0;
   u64 l2 = 0, l3 = 0, l4 = 0, l5 = 0, l6 = 0, l7 = 0;
@@ -22727,7 +22689,7 @@ static void f16(module *self, u64 p0, u64 p1) {
   Bfunc:;
 }
 
-static u32 f17(module *self, u64 p0) {
+static u32 f18(module *self, u64 p0) {
   u32 l2 = 0, l3 = 0, l4 = 0;
   u64 l1 = 0;
   u8 *m = self->memory;
@@ -22751,7 +22713,7 @@ static u32 f17(module *self, u64 p0) {
   i2 = (u32)(j2);
   i2 = i32_load16_u(j2);
   l3 = i2;
-  f18(self, j0, i1, i2);
+  f19(self, j0, i1, i2);
   j0 = l1;
   i0 = (u32)(j0);
   i0 = i32_load8_u(j0 + 8u);
@@ -22948,7 +22910,7 @@ static u32 f17(module *self, u64 p0) {
   return i0;
 }
 
-static void f18(module *self, u64 p0, u32 p1, u32 p2) {
+static void f19(module *self, u64 p0, u32 p1, u32 p2) {
   u32 l12 = 0, l13 = 0, l14 = 0, l15 = 0, l16 = 0, l17 = 0, l18 = 0, l19 = 0, 
       l20 = 0, l21 = 0, l22 = 0, l23 = 0, l24 = 0, l25 = 0, l26 = 0, l27 = 0, 
       l28 = 0, l29 = 0, l30 = 0, l31 = 0, l32 = 0, l33 = 0, l34 = 0, l35 = 0, 
@@ -24076,7 +24038,7 @@ static void f18(module *self, u64 p0, u32 p1, u32 p2) {
   Bfunc:;
 }
 
-static void f19(module *self, u64 p0, u64 p1, u64 p2) {
+static void f20(module *self, u64 p0, u64 p1, u64 p2) {
   u32 l12 = 0, l13 = 0, l14 = 0, l15 = 0, l16 = 0, l17 = 0, l18 = 0;
   u64 l3 = 0, l4 = 0, l5 = 0, l6 = 0, l7 = 0, l8 = 0, l9 = 0, l10 = 0, 
       l11 = 0;
@@ -25847,7 +25809,7 @@ static void f19(module *self, u64 p0, u64 p1, u64 p2) {
   self->g0 = j0;
 }
 
-static void f20(module *self, u64 p0) {
+static void f21(module *self, u64 p0) {
   u32 l11 = 0;
   u64 l1 = 0, l2 = 0, l3 = 0, l4 = 0, l5 = 0, l6 = 0, l7 = 0, l8 = 0, 
       l9 = 0, l10 = 0;
@@ -25872,7 +25834,7 @@ static void f20(module *self, u64 p0) {
   j0 += j1;
   j1 = 262144ull;
   j2 = 4ull;
-  f148(self, j0, j1, j2); m = self->memory; if (NEVER(self->is_broken)) return;
+  f151(self, j0, j1, j2); m = self->memory; if (NEVER(self->is_broken)) return;
   j0 = l1;
   i0 = (u32)(j0);
   j0 = i64_load(j0 + 32u);
@@ -25895,7 +25857,7 @@ static void f20(module *self, u64 p0) {
   j0 += j1;
   j1 = 7077888ull;
   j2 = 1ull;
-  f148(self, j0, j1, j2); m = self->memory; if (NEVER(self->is_broken)) return;
+  f151(self, j0, j1, j2); m = self->memory; if (NEVER(self->is_broken)) return;
   j0 = l1;
   i0 = (u32)(j0);
   j0 = i64_load(j0 + 24u);
@@ -25918,7 +25880,7 @@ static void f20(module *self, u64 p0) {
   j0 = l1;
   j1 = 4096ull;
   j2 = 4ull;
-  f148(self, j0, j1, j2); m = self->memory; if (NEVER(self->is_broken)) return;
+  f151(self, j0, j1, j2); m = self->memory; if (NEVER(self->is_broken)) return;
   j0 = l1;
   i0 = (u32)(j0);
   j0 = i64_load(j0);
@@ -25927,7 +25889,7 @@ static void f20(module *self, u64 p0) {
   i0 &= i1;
   if (i0) {goto B3;}
   j0 = l4;
-  f151(self, j0);
+  f154(self, j0);
   j0 = 9ull;
   l3 = j0;
   goto B1;
@@ -26000,7 +25962,7 @@ static void f20(module *self, u64 p0) {
   j1 = l1;
   j2 = 2624ull;
   j1 += j2;
-  f21(self, j0, j1);
+  f22(self, j0, j1);
   j0 = l1;
   j1 = 2368ull;
   j0 += j1;
@@ -26479,7 +26441,7 @@ static void f20(module *self, u64 p0) {
   l3 = j0;
   B1:;
   j0 = l2;
-  f151(self, j0);
+  f154(self, j0);
   j0 = p0;
   j1 = 8ull;
   j0 += j1;
@@ -26505,7 +26467,7 @@ static void f20(module *self, u64 p0) {
   self->g0 = j0;
 }
 
-static void f21(module *self, u64 p0, u64 p1) {
+static void f22(module *self, u64 p0, u64 p1) {
   u32 l3 = 0, l4 = 0, l5 = 0, l6 = 0, l7 = 0, l8 = 0, l9 = 0, l10 = 0, 
       l11 = 0, l12 = 0, l13 = 0, l14 = 0, l15 = 0, l16 = 0, l17 = 0, l18 = 0, 
       l19 = 0, l20 = 0, l21 = 0, l22 = 0, l23 = 0, l24 = 0, l25 = 0, l26 = 0, 
@@ -27138,7 +27100,7 @@ static void f21(module *self, u64 p0, u64 p1) {
   i32_store8(j0, i1);
 }
 
-static void f22(module *self, u64 p0, u64 p1, u64 p2) {
+static void f23(module *self, u64 p0, u64 p1, u64 p2) {
   u32 l12 = 0, l13 = 0, l14 = 0, l15 = 0, l16 = 0, l17 = 0, l18 = 0, l19 = 0;
   u64 l3 = 0, l4 = 0, l5 = 0, l6 = 0, l7 = 0, l8 = 0, l9 = 0, l10 = 0, 
       l11 = 0;
@@ -27851,7 +27813,7 @@ static void f22(module *self, u64 p0, u64 p1, u64 p2) {
   j1 = 1024ull;
   j0 += j1;
   j1 = l7;
-  f21(self, j0, j1);
+  f22(self, j0, j1);
   j0 = p0;
   j1 = 196ull;
   j0 += j1;
@@ -29082,7 +29044,7 @@ static void f22(module *self, u64 p0, u64 p1, u64 p2) {
   self->g0 = j0;
 }
 
-static void f23(module *self, u64 p0, u64 p1, u64 p2, u64 p3, u64 p4, u64 p5, u64 p6) {
+static void f24(module *self, u64 p0, u64 p1, u64 p2, u64 p3, u64 p4, u64 p5, u64 p6) {
   u32 l18 = 0, l19 = 0, l20 = 0, l21 = 0, l22 = 0, l23 = 0, l24 = 0, l25 = 0, 
       l26 = 0, l27 = 0, l28 = 0, l29 = 0, l30 = 0, l31 = 0, l32 = 0, l33 = 0, 
       l34 = 0, l35 = 0, l36 = 0, l37 = 0, l38 = 0, l39 = 0, l40 = 0, l41 = 0, 
@@ -29094,7 +29056,7 @@ static void f23(module *self, u64 p0, u64 p1, u64 p2, u64 p3, u64 p4, u64 p5, u6
       l15 = 0, l16 = 0, l17 = 0;
   u8 *m = self->memory;
   u32 i0, i1, i2, i3, i4, i5, i6;
-  u64 j0, j1, j2, j3, j4, j5;
+  u64 j0, j1, j2, j3, j4, j5, j6;
   j0 = self->g0;
   j1 = 320ull;
   j0 -= j1;
@@ -29104,7 +29066,7 @@ static void f23(module *self, u64 p0, u64 p1, u64 p2, u64 p3, u64 p4, u64 p5, u6
   j1 = 168ull;
   j0 += j1;
   j1 = p4;
-  f16(self, j0, j1);
+  f17(self, j0, j1);
   j0 = l7;
   i0 = (u32)(j0);
   i0 = i32_load8_u(j0 + 168u);
@@ -29694,18 +29656,18 @@ static void f23(module *self, u64 p0, u64 p1, u64 p2, u64 p3, u64 p4, u64 p5, u6
   l8 = j0;
   i0 = (u32)(j0);
   j0 = i64_load(j0);
-  p5 = j0;
+  p6 = j0;
   j1 = 16777216ull;
   i0 = j0 > j1;
   if (i0) {goto B24;}
   j0 = l8;
   i0 = (u32)(j0);
-  j1 = p5;
+  j1 = p6;
   j2 = 3ull;
   j1 += j2;
-  p5 = j1;
+  p6 = j1;
   i64_store(j0, j1);
-  j0 = p5;
+  j0 = p6;
   j1 = p1;
   j2 = 2104ull;
   j1 += j2;
@@ -29719,7 +29681,7 @@ static void f23(module *self, u64 p0, u64 p1, u64 p2, u64 p3, u64 p4, u64 p5, u6
   l9 = j0;
   i0 = (u32)(j0);
   j0 = i64_load(j0);
-  p6 = j0;
+  p5 = j0;
   j1 = p1;
   j2 = 2080ull;
   j1 += j2;
@@ -29735,7 +29697,7 @@ static void f23(module *self, u64 p0, u64 p1, u64 p2, u64 p3, u64 p4, u64 p5, u6
   j1 = 2072ull;
   j0 += j1;
   j1 = 3ull;
-  i0 = f10(self, j0, j1); m = self->memory; if (NEVER(self->is_broken)) return;
+  i0 = f11(self, j0, j1); m = self->memory; if (NEVER(self->is_broken)) return;
   i0 = !(i0);
   if (i0) {goto B24;}
   j0 = p1;
@@ -29743,7 +29705,7 @@ static void f23(module *self, u64 p0, u64 p1, u64 p2, u64 p3, u64 p4, u64 p5, u6
   j0 += j1;
   i0 = (u32)(j0);
   j0 = i64_load(j0);
-  p6 = j0;
+  p5 = j0;
   j0 = p1;
   j1 = 2080ull;
   j0 += j1;
@@ -29760,7 +29722,7 @@ static void f23(module *self, u64 p0, u64 p1, u64 p2, u64 p3, u64 p4, u64 p5, u6
   p2 = j0;
   j1 = l8;
   j0 += j1;
-  p5 = j0;
+  p6 = j0;
   i0 = (u32)(j0);
   i1 = l27;
   i2 = 65280u;
@@ -29768,17 +29730,17 @@ static void f23(module *self, u64 p0, u64 p1, u64 p2, u64 p3, u64 p4, u64 p5, u6
   i2 = 8u;
   i1 >>= (i2 & 31);
   i32_store8(j0 + 2, i1);
-  j0 = p5;
+  j0 = p6;
   i0 = (u32)(j0);
   i1 = l27;
   i32_store8(j0 + 1, i1);
-  j0 = p5;
+  j0 = p6;
   i0 = (u32)(j0);
   i1 = 3u;
   i32_store8(j0, i1);
   j0 = l9;
   i0 = (u32)(j0);
-  j1 = p6;
+  j1 = p5;
   i64_store(j0, j1);
   j0 = l10;
   i0 = (u32)(j0);
@@ -29796,7 +29758,7 @@ static void f23(module *self, u64 p0, u64 p1, u64 p2, u64 p3, u64 p4, u64 p5, u6
   j0 += j1;
   j1 = p1;
   i2 = l27;
-  f24(self, j0, j1, i2); if (NEVER(self->is_broken)) return;
+  f25(self, j0, j1, i2); if (NEVER(self->is_broken)) return;
   i0 = 1u;
   l18 = i0;
   i0 = 0u;
@@ -29804,87 +29766,87 @@ static void f23(module *self, u64 p0, u64 p1, u64 p2, u64 p3, u64 p4, u64 p5, u6
   j0 = p1;
   i1 = l58;
   i2 = 0u;
-  i0 = f25(self, j0, i1, i2); m = self->memory; if (NEVER(self->is_broken)) return;
+  i0 = f26(self, j0, i1, i2); m = self->memory; if (NEVER(self->is_broken)) return;
   l21 = i0;
   j0 = p1;
   i1 = l58;
   i2 = 1u;
-  i0 = f25(self, j0, i1, i2); m = self->memory; if (NEVER(self->is_broken)) return;
+  i0 = f26(self, j0, i1, i2); m = self->memory; if (NEVER(self->is_broken)) return;
   l24 = i0;
   j0 = p1;
   i1 = l58;
   i2 = 2u;
-  i0 = f25(self, j0, i1, i2); m = self->memory; if (NEVER(self->is_broken)) return;
+  i0 = f26(self, j0, i1, i2); m = self->memory; if (NEVER(self->is_broken)) return;
   l73 = i0;
   j0 = p1;
   i1 = l58;
   i2 = 3u;
-  i0 = f25(self, j0, i1, i2); m = self->memory; if (NEVER(self->is_broken)) return;
+  i0 = f26(self, j0, i1, i2); m = self->memory; if (NEVER(self->is_broken)) return;
   l28 = i0;
   j0 = p1;
   i1 = l58;
   i2 = 4u;
-  i0 = f25(self, j0, i1, i2); m = self->memory; if (NEVER(self->is_broken)) return;
+  i0 = f26(self, j0, i1, i2); m = self->memory; if (NEVER(self->is_broken)) return;
   l29 = i0;
   j0 = p1;
   i1 = l58;
   i2 = 5u;
-  i0 = f25(self, j0, i1, i2); m = self->memory; if (NEVER(self->is_broken)) return;
+  i0 = f26(self, j0, i1, i2); m = self->memory; if (NEVER(self->is_broken)) return;
   l22 = i0;
   j0 = p1;
   i1 = l58;
   i2 = 6u;
-  i0 = f25(self, j0, i1, i2); m = self->memory; if (NEVER(self->is_broken)) return;
+  i0 = f26(self, j0, i1, i2); m = self->memory; if (NEVER(self->is_broken)) return;
   l60 = i0;
   j0 = p1;
   i1 = l58;
   i2 = 7u;
-  i0 = f25(self, j0, i1, i2); m = self->memory; if (NEVER(self->is_broken)) return;
+  i0 = f26(self, j0, i1, i2); m = self->memory; if (NEVER(self->is_broken)) return;
   l27 = i0;
   j0 = p1;
   i1 = l58;
   i2 = 8u;
-  i0 = f25(self, j0, i1, i2); m = self->memory; if (NEVER(self->is_broken)) return;
+  i0 = f26(self, j0, i1, i2); m = self->memory; if (NEVER(self->is_broken)) return;
   l40 = i0;
   j0 = p1;
   i1 = l58;
   i2 = 9u;
-  i0 = f25(self, j0, i1, i2); m = self->memory; if (NEVER(self->is_broken)) return;
+  i0 = f26(self, j0, i1, i2); m = self->memory; if (NEVER(self->is_broken)) return;
   l68 = i0;
   j0 = p1;
   i1 = l58;
   i2 = 10u;
-  i0 = f25(self, j0, i1, i2); m = self->memory; if (NEVER(self->is_broken)) return;
+  i0 = f26(self, j0, i1, i2); m = self->memory; if (NEVER(self->is_broken)) return;
   l69 = i0;
   j0 = p1;
   i1 = l58;
   i2 = 11u;
-  i0 = f25(self, j0, i1, i2); m = self->memory; if (NEVER(self->is_broken)) return;
+  i0 = f26(self, j0, i1, i2); m = self->memory; if (NEVER(self->is_broken)) return;
   l19 = i0;
   j0 = p1;
   i1 = l58;
   i2 = 12u;
-  i0 = f25(self, j0, i1, i2); m = self->memory; if (NEVER(self->is_broken)) return;
+  i0 = f26(self, j0, i1, i2); m = self->memory; if (NEVER(self->is_broken)) return;
   l23 = i0;
   j0 = p1;
   i1 = l58;
   i2 = 13u;
-  i0 = f25(self, j0, i1, i2); m = self->memory; if (NEVER(self->is_broken)) return;
+  i0 = f26(self, j0, i1, i2); m = self->memory; if (NEVER(self->is_broken)) return;
   l26 = i0;
   j0 = p1;
   i1 = l58;
   i2 = 14u;
-  i0 = f25(self, j0, i1, i2); m = self->memory; if (NEVER(self->is_broken)) return;
+  i0 = f26(self, j0, i1, i2); m = self->memory; if (NEVER(self->is_broken)) return;
   l31 = i0;
   j0 = p1;
   i1 = l58;
   i2 = 15u;
-  i0 = f25(self, j0, i1, i2); m = self->memory; if (NEVER(self->is_broken)) return;
+  i0 = f26(self, j0, i1, i2); m = self->memory; if (NEVER(self->is_broken)) return;
   l57 = i0;
   j0 = p1;
   i1 = l58;
   i2 = 17u;
-  i0 = f25(self, j0, i1, i2); m = self->memory; if (NEVER(self->is_broken)) return;
+  i0 = f26(self, j0, i1, i2); m = self->memory; if (NEVER(self->is_broken)) return;
   j0 = (u64)(i0);
   j1 = 255ull;
   j0 &= j1;
@@ -29895,7 +29857,7 @@ static void f23(module *self, u64 p0, u64 p1, u64 p2, u64 p3, u64 p4, u64 p5, u6
   j2 = 255ull;
   j1 &= j2;
   j0 |= j1;
-  p5 = j0;
+  p6 = j0;
   i0 = l31;
   j0 = (u64)(i0);
   j1 = 56ull;
@@ -29975,7 +29937,7 @@ static void f23(module *self, u64 p0, u64 p1, u64 p2, u64 p3, u64 p4, u64 p5, u6
   j0 = 0ull;
   l9 = j0;
   j0 = 0ull;
-  p5 = j0;
+  p6 = j0;
   j0 = l7;
   i0 = (u32)(j0);
   i0 = i32_load16_u(j0 + 176u);
@@ -29988,7 +29950,7 @@ static void f23(module *self, u64 p0, u64 p1, u64 p2, u64 p3, u64 p4, u64 p5, u6
   i0 = l68;
   if (i0) {goto B27;}
   j0 = 0ull;
-  p5 = j0;
+  p6 = j0;
   j0 = 0ull;
   l9 = j0;
   goto B26;
@@ -30000,9 +29962,9 @@ static void f23(module *self, u64 p0, u64 p1, u64 p2, u64 p3, u64 p4, u64 p5, u6
   j1 = (u64)(i1);
   j2 = 3ull;
   j1 *= j2;
-  p6 = j1;
+  p5 = j1;
   j2 = 1ull;
-  f148(self, j0, j1, j2); m = self->memory; if (NEVER(self->is_broken)) return;
+  f151(self, j0, j1, j2); m = self->memory; if (NEVER(self->is_broken)) return;
   i0 = 1u;
   l59 = i0;
   j0 = 0ull;
@@ -30019,21 +29981,21 @@ static void f23(module *self, u64 p0, u64 p1, u64 p2, u64 p3, u64 p4, u64 p5, u6
   i0 = (u32)(j0);
   j0 = i64_load(j0 + 48u);
   l9 = j0;
-  j0 = p6;
+  j0 = p5;
   j1 = 18446744073709551615ull;
   j0 += j1;
-  p5 = j0;
+  p6 = j0;
   i0 = !(j0);
   if (i0) {goto B28;}
   j0 = l9;
   i0 = (u32)(j0);
   i1 = 0u;
-  j2 = p5;
+  j2 = p6;
   i2 = (u32)(j2);
   memory_fill(j0, i1, j2);
   B28:;
   j0 = l9;
-  j1 = p5;
+  j1 = p6;
   j0 += j1;
   i0 = (u32)(j0);
   i1 = 0u;
@@ -30043,7 +30005,7 @@ static void f23(module *self, u64 p0, u64 p1, u64 p2, u64 p3, u64 p4, u64 p5, u6
   j0 += j1;
   j1 = 24ull;
   j2 = 8ull;
-  f148(self, j0, j1, j2); m = self->memory; if (NEVER(self->is_broken)) return;
+  f151(self, j0, j1, j2); m = self->memory; if (NEVER(self->is_broken)) return;
   i0 = 1u;
   l59 = i0;
   j0 = l7;
@@ -30054,21 +30016,21 @@ static void f23(module *self, u64 p0, u64 p1, u64 p2, u64 p3, u64 p4, u64 p5, u6
   i0 &= i1;
   if (i0) {goto B29;}
   j0 = l9;
-  f151(self, j0);
+  f154(self, j0);
   goto B11;
   B29:;
   j0 = l7;
   i0 = (u32)(j0);
   j0 = i64_load(j0 + 32u);
-  p5 = j0;
+  p6 = j0;
   i0 = (u32)(j0);
-  j1 = p6;
+  j1 = p5;
   i64_store(j0 + 16, j1);
-  j0 = p5;
+  j0 = p6;
   i0 = (u32)(j0);
-  j1 = p6;
+  j1 = p5;
   i64_store(j0 + 8, j1);
-  j0 = p5;
+  j0 = p6;
   i0 = (u32)(j0);
   j1 = l9;
   i64_store(j0, j1);
@@ -30081,18 +30043,18 @@ static void f23(module *self, u64 p0, u64 p1, u64 p2, u64 p3, u64 p4, u64 p5, u6
   l8 = j0;
   i0 = (u32)(j0);
   j0 = i64_load(j0);
-  p6 = j0;
+  p5 = j0;
   j1 = 16777216ull;
   i0 = j0 > j1;
   if (i0) {goto B30;}
   j0 = l8;
   i0 = (u32)(j0);
-  j1 = p6;
+  j1 = p5;
   j2 = 4ull;
   j1 += j2;
-  p6 = j1;
+  p5 = j1;
   i64_store(j0, j1);
-  j0 = p6;
+  j0 = p5;
   j1 = p1;
   j2 = 2104ull;
   j1 += j2;
@@ -30106,7 +30068,7 @@ static void f23(module *self, u64 p0, u64 p1, u64 p2, u64 p3, u64 p4, u64 p5, u6
   l10 = j0;
   i0 = (u32)(j0);
   j0 = i64_load(j0);
-  p6 = j0;
+  p5 = j0;
   j1 = p1;
   j2 = 2080ull;
   j1 += j2;
@@ -30122,7 +30084,7 @@ static void f23(module *self, u64 p0, u64 p1, u64 p2, u64 p3, u64 p4, u64 p5, u6
   j1 = 2072ull;
   j0 += j1;
   j1 = 4ull;
-  i0 = f10(self, j0, j1); m = self->memory; if (NEVER(self->is_broken)) return;
+  i0 = f11(self, j0, j1); m = self->memory; if (NEVER(self->is_broken)) return;
   i0 = !(i0);
   if (i0) {goto B30;}
   j0 = p1;
@@ -30130,7 +30092,7 @@ static void f23(module *self, u64 p0, u64 p1, u64 p2, u64 p3, u64 p4, u64 p5, u6
   j0 += j1;
   i0 = (u32)(j0);
   j0 = i64_load(j0);
-  p6 = j0;
+  p5 = j0;
   j0 = p1;
   j1 = 2080ull;
   j0 += j1;
@@ -30156,7 +30118,7 @@ static void f23(module *self, u64 p0, u64 p1, u64 p2, u64 p3, u64 p4, u64 p5, u6
   i32_store(j0, i1);
   j0 = l10;
   i0 = (u32)(j0);
-  j1 = p6;
+  j1 = p5;
   i64_store(j0, j1);
   j0 = l11;
   i0 = (u32)(j0);
@@ -30188,7 +30150,7 @@ static void f23(module *self, u64 p0, u64 p1, u64 p2, u64 p3, u64 p4, u64 p5, u6
   i0 = l68;
   i0 = !(i0);
   if (i0) {goto B32;}
-  j0 = p5;
+  j0 = p6;
   j1 = 8ull;
   j0 += j1;
   i0 = (u32)(j0);
@@ -30214,14 +30176,14 @@ static void f23(module *self, u64 p0, u64 p1, u64 p2, u64 p3, u64 p4, u64 p5, u6
     j0 = p1;
     j1 = 2096ull;
     j0 += j1;
-    p6 = j0;
+    p5 = j0;
     i0 = (u32)(j0);
     j0 = i64_load(j0);
     l10 = j0;
     j1 = 16777216ull;
     i0 = j0 > j1;
     if (i0) {goto B34;}
-    j0 = p6;
+    j0 = p5;
     i0 = (u32)(j0);
     j1 = l10;
     j2 = 3ull;
@@ -30249,7 +30211,7 @@ static void f23(module *self, u64 p0, u64 p1, u64 p2, u64 p3, u64 p4, u64 p5, u6
     l12 = j1;
     i1 = (u32)(j1);
     j1 = i64_load(j1);
-    p6 = j1;
+    p5 = j1;
     j0 -= j1;
     j1 = 2ull;
     i0 = j0 > j1;
@@ -30258,7 +30220,7 @@ static void f23(module *self, u64 p0, u64 p1, u64 p2, u64 p3, u64 p4, u64 p5, u6
     j1 = 2072ull;
     j0 += j1;
     j1 = 3ull;
-    i0 = f10(self, j0, j1); m = self->memory; if (NEVER(self->is_broken)) return;
+    i0 = f11(self, j0, j1); m = self->memory; if (NEVER(self->is_broken)) return;
     i0 = !(i0);
     if (i0) {goto B34;}
     j0 = p1;
@@ -30272,7 +30234,7 @@ static void f23(module *self, u64 p0, u64 p1, u64 p2, u64 p3, u64 p4, u64 p5, u6
     j0 += j1;
     i0 = (u32)(j0);
     j0 = i64_load(j0);
-    p6 = j0;
+    p5 = j0;
     B35:;
     j0 = p1;
     j1 = 2072ull;
@@ -30281,7 +30243,7 @@ static void f23(module *self, u64 p0, u64 p1, u64 p2, u64 p3, u64 p4, u64 p5, u6
     i0 = (u32)(j0);
     j0 = i64_load(j0);
     l16 = j0;
-    j1 = p6;
+    j1 = p5;
     j0 += j1;
     l17 = j0;
     i0 = (u32)(j0);
@@ -30297,7 +30259,7 @@ static void f23(module *self, u64 p0, u64 p1, u64 p2, u64 p3, u64 p4, u64 p5, u6
     i64_store(j0, j1);
     j0 = l12;
     i0 = (u32)(j0);
-    j1 = p6;
+    j1 = p5;
     j2 = 3ull;
     j1 += j2;
     i64_store(j0, j1);
@@ -30316,7 +30278,7 @@ static void f23(module *self, u64 p0, u64 p1, u64 p2, u64 p3, u64 p4, u64 p5, u6
     j0 = (u64)(i0);
     j1 = 255ull;
     j0 &= j1;
-    p6 = j0;
+    p5 = j0;
     j0 = p1;
     j1 = 1999ull;
     j0 += j1;
@@ -30337,7 +30299,7 @@ static void f23(module *self, u64 p0, u64 p1, u64 p2, u64 p3, u64 p4, u64 p5, u6
     i1 += i2;
     i32_store8(j0, i1);
     j0 = p3;
-    j1 = p6;
+    j1 = p5;
     j0 += j1;
     i0 = (u32)(j0);
     i0 = i32_load8_u(j0);
@@ -30347,7 +30309,7 @@ static void f23(module *self, u64 p0, u64 p1, u64 p2, u64 p3, u64 p4, u64 p5, u6
     goto B36;
     B38:;
     j0 = l14;
-    j1 = p6;
+    j1 = p5;
     j0 += j1;
     i0 = (u32)(j0);
     i0 = i32_load8_u(j0);
@@ -30357,7 +30319,7 @@ static void f23(module *self, u64 p0, u64 p1, u64 p2, u64 p3, u64 p4, u64 p5, u6
     goto B36;
     B37:;
     j0 = l13;
-    j1 = p6;
+    j1 = p5;
     j0 += j1;
     i0 = (u32)(j0);
     i0 = i32_load8_u(j0);
@@ -30371,7 +30333,7 @@ static void f23(module *self, u64 p0, u64 p1, u64 p2, u64 p3, u64 p4, u64 p5, u6
     i0 = (u32)(j0);
     i1 = l27;
     i32_store8(j0, i1);
-    j0 = p5;
+    j0 = p6;
     i0 = (u32)(j0);
     j0 = i64_load(j0);
     j1 = l8;
@@ -30411,8 +30373,6 @@ static void f23(module *self, u64 p0, u64 p1, u64 p2, u64 p3, u64 p4, u64 p5, u6
   B13:;
   j0 = 0ull;
   l8 = j0;
-  i0 = 1u;
-  l58 = i0;
   j0 = p2;
   i0 = (u32)(j0);
   i0 = i32_load8_u(j0);
@@ -30420,19 +30380,10 @@ static void f23(module *self, u64 p0, u64 p1, u64 p2, u64 p3, u64 p4, u64 p5, u6
   if (i0) {goto B40;}
   i0 = 2u;
   l18 = i0;
+  i0 = 1u;
+  l58 = i0;
   goto B1;
   B40:;
-  i0 = l27;
-  i1 = 4294967293u;
-  i0 += i1;
-  i1 = 251u;
-  i0 &= i1;
-  i0 = !(i0);
-  if (i0) {goto B41;}
-  i0 = 5u;
-  l18 = i0;
-  goto B1;
-  B41:;
   j0 = l7;
   i0 = (u32)(j0);
   j0 = i64_load(j0 + 172u);
@@ -30440,49 +30391,70 @@ static void f23(module *self, u64 p0, u64 p1, u64 p2, u64 p3, u64 p4, u64 p5, u6
   j1 = 32ull;
   j0 >>= (j1 & 63);
   l10 = j0;
-  i0 = (u32)(j0);
-  i1 = 65535u;
-  i0 &= i1;
-  j1 = l9;
-  i1 = (u32)(j1);
-  l59 = i1;
-  i2 = 16u;
-  i1 >>= (i2 & 31);
+  i0 = 5u;
+  l59 = i0;
+  i0 = 1u;
+  l58 = i0;
+  i0 = l27;
+  i1 = 4294967293u;
   i0 += i1;
-  i1 = 256u;
-  i0 = i0 <= i1;
-  if (i0) {goto B42;}
+  i1 = 251u;
+  i0 &= i1;
+  if (i0) {goto B41;}
   i0 = 8u;
-  l18 = i0;
-  goto B1;
-  B42:;
-  j0 = l9;
-  j1 = 281474976710656ull;
-  j0 &= j1;
-  i0 = !(j0);
-  if (i0) {goto B43;}
-  j0 = p6;
-  j1 = l10;
-  j2 = 65535ull;
-  j1 &= j2;
-  j2 = l9;
-  j3 = 255ull;
-  j2 &= j3;
-  j1 *= j2;
-  i0 = j0 == j1;
-  if (i0) {goto B43;}
-  i0 = 10u;
-  l18 = i0;
-  goto B1;
-  B43:;
+  i1 = 0u;
+  j2 = l10;
+  i2 = (u32)(j2);
+  i3 = 65535u;
+  i2 &= i3;
+  j3 = l9;
+  i3 = (u32)(j3);
+  i4 = 16u;
+  i3 >>= (i4 & 31);
+  i2 += i3;
+  i3 = 256u;
+  i2 = i2 > i3;
+  l58 = i2;
+  i0 = i2 ? i0 : i1;
+  l59 = i0;
+  B41:;
+  i0 = l58;
+  i1 = l58;
+  j2 = p6;
+  j3 = l9;
+  j4 = 15ull;
+  j3 <<= (j4 & 63);
+  j4 = 63ull;
+  j3 = (u64)((s64)j3 >> (j4 & 63));
+  j4 = l10;
+  j5 = 65535ull;
+  j4 &= j5;
+  j5 = l9;
+  j6 = 255ull;
+  j5 &= j6;
+  j4 *= j5;
+  j3 &= j4;
+  i2 = j2 != j3;
+  l18 = i2;
+  j3 = l9;
+  j4 = 281474976710656ull;
+  j3 &= j4;
+  i3 = !(j3);
+  l21 = i3;
+  i1 = i3 ? i1 : i2;
+  i0 |= i1;
+  i1 = 1u;
+  i0 &= i1;
+  if (i0) {goto B42;}
   j0 = l7;
   j1 = 184ull;
   j0 += j1;
   i1 = l27;
-  i2 = l59;
+  j2 = l9;
+  i2 = (u32)(j2);
   i3 = 255u;
   i2 &= i3;
-  f18(self, j0, i1, i2);
+  f19(self, j0, i1, i2);
   i0 = 1u;
   l21 = i0;
   j0 = l7;
@@ -30490,13 +30462,13 @@ static void f23(module *self, u64 p0, u64 p1, u64 p2, u64 p3, u64 p4, u64 p5, u6
   i0 = i32_load8_u(j0 + 184u);
   i1 = 1u;
   i0 = i0 == i1;
-  if (i0) {goto B44;}
+  if (i0) {goto B43;}
   j0 = 0ull;
   l8 = j0;
   i0 = 12u;
   l18 = i0;
   goto B5;
-  B44:;
+  B43:;
   j0 = l7;
   i0 = (u32)(j0);
   i0 = i32_load8_u(j0 + 255u);
@@ -30536,86 +30508,86 @@ static void f23(module *self, u64 p0, u64 p1, u64 p2, u64 p3, u64 p4, u64 p5, u6
   j4 = l7;
   i4 = (u32)(j4);
   i4 = i32_load8_u(j4 + 200u);
-  f26(self, j0, j1, j2, j3, i4); m = self->memory; if (NEVER(self->is_broken)) return;
+  f27(self, j0, j1, j2, j3, i4); m = self->memory; if (NEVER(self->is_broken)) return;
   j0 = p1;
   i1 = l58;
   i2 = 9u;
-  f27(self, j0, i1, i2); m = self->memory; if (NEVER(self->is_broken)) return;
+  f28(self, j0, i1, i2); m = self->memory; if (NEVER(self->is_broken)) return;
   j0 = p1;
   i1 = l58;
   i2 = 1u;
   i1 += i2;
   l59 = i1;
   i2 = l22;
-  f27(self, j0, i1, i2); m = self->memory; if (NEVER(self->is_broken)) return;
+  f28(self, j0, i1, i2); m = self->memory; if (NEVER(self->is_broken)) return;
   j0 = p1;
   i1 = l58;
   i2 = 10u;
-  f27(self, j0, i1, i2); m = self->memory; if (NEVER(self->is_broken)) return;
+  f28(self, j0, i1, i2); m = self->memory; if (NEVER(self->is_broken)) return;
   j0 = p1;
   i1 = l59;
   i2 = l18;
   i3 = 8u;
   i2 >>= (i3 & 31);
-  f27(self, j0, i1, i2); m = self->memory; if (NEVER(self->is_broken)) return;
+  f28(self, j0, i1, i2); m = self->memory; if (NEVER(self->is_broken)) return;
   j0 = p1;
   i1 = l58;
   i2 = 11u;
-  f27(self, j0, i1, i2); m = self->memory; if (NEVER(self->is_broken)) return;
+  f28(self, j0, i1, i2); m = self->memory; if (NEVER(self->is_broken)) return;
   j0 = p1;
   i1 = l59;
   i2 = l18;
-  f27(self, j0, i1, i2); m = self->memory; if (NEVER(self->is_broken)) return;
+  f28(self, j0, i1, i2); m = self->memory; if (NEVER(self->is_broken)) return;
   j0 = p1;
   i1 = l58;
   i2 = 18u;
-  f27(self, j0, i1, i2); m = self->memory; if (NEVER(self->is_broken)) return;
+  f28(self, j0, i1, i2); m = self->memory; if (NEVER(self->is_broken)) return;
   j0 = p1;
   i1 = l59;
   i2 = l29;
-  f27(self, j0, i1, i2); m = self->memory; if (NEVER(self->is_broken)) return;
+  f28(self, j0, i1, i2); m = self->memory; if (NEVER(self->is_broken)) return;
   j0 = p1;
   i1 = l58;
   i2 = 20u;
-  f27(self, j0, i1, i2); m = self->memory; if (NEVER(self->is_broken)) return;
+  f28(self, j0, i1, i2); m = self->memory; if (NEVER(self->is_broken)) return;
   j0 = p1;
   i1 = l59;
   i2 = l21;
-  f27(self, j0, i1, i2); m = self->memory; if (NEVER(self->is_broken)) return;
+  f28(self, j0, i1, i2); m = self->memory; if (NEVER(self->is_broken)) return;
   j0 = p1;
   i1 = l58;
   i2 = 12u;
-  f27(self, j0, i1, i2); m = self->memory; if (NEVER(self->is_broken)) return;
+  f28(self, j0, i1, i2); m = self->memory; if (NEVER(self->is_broken)) return;
   i0 = 0u;
   l21 = i0;
   j0 = p1;
   i1 = l59;
   i2 = 0u;
-  f27(self, j0, i1, i2); m = self->memory; if (NEVER(self->is_broken)) return;
+  f28(self, j0, i1, i2); m = self->memory; if (NEVER(self->is_broken)) return;
   j0 = p1;
   i1 = l58;
   i2 = 13u;
-  f27(self, j0, i1, i2); m = self->memory; if (NEVER(self->is_broken)) return;
+  f28(self, j0, i1, i2); m = self->memory; if (NEVER(self->is_broken)) return;
   j0 = p1;
   i1 = l59;
   i2 = 0u;
-  f27(self, j0, i1, i2); m = self->memory; if (NEVER(self->is_broken)) return;
+  f28(self, j0, i1, i2); m = self->memory; if (NEVER(self->is_broken)) return;
   j0 = p1;
   i1 = l58;
   i2 = 14u;
-  f27(self, j0, i1, i2); m = self->memory; if (NEVER(self->is_broken)) return;
+  f28(self, j0, i1, i2); m = self->memory; if (NEVER(self->is_broken)) return;
   j0 = p1;
   i1 = l59;
   i2 = 0u;
-  f27(self, j0, i1, i2); m = self->memory; if (NEVER(self->is_broken)) return;
+  f28(self, j0, i1, i2); m = self->memory; if (NEVER(self->is_broken)) return;
   j0 = p1;
   i1 = l58;
   i2 = 15u;
-  f27(self, j0, i1, i2); m = self->memory; if (NEVER(self->is_broken)) return;
+  f28(self, j0, i1, i2); m = self->memory; if (NEVER(self->is_broken)) return;
   j0 = p1;
   i1 = l59;
   i2 = 0u;
-  f27(self, j0, i1, i2); m = self->memory; if (NEVER(self->is_broken)) return;
+  f28(self, j0, i1, i2); m = self->memory; if (NEVER(self->is_broken)) return;
   j0 = p2;
   i0 = (u32)(j0);
   j1 = 0ull;
@@ -30665,6 +30637,21 @@ static void f23(module *self, u64 p0, u64 p1, u64 p2, u64 p3, u64 p4, u64 p5, u6
   i1 = l18;
   i32_store16(j0 + 24, i1);
   goto B6;
+  B42:;
+  i0 = l59;
+  i1 = 0u;
+  i2 = 10u;
+  i3 = 0u;
+  i4 = l18;
+  i2 = i4 ? i2 : i3;
+  i3 = l21;
+  i1 = i3 ? i1 : i2;
+  i2 = l58;
+  i0 = i2 ? i0 : i1;
+  l18 = i0;
+  i0 = 1u;
+  l58 = i0;
+  goto B1;
   B12:;
   j0 = l7;
   i0 = (u32)(j0);
@@ -30700,11 +30687,11 @@ static void f23(module *self, u64 p0, u64 p1, u64 p2, u64 p3, u64 p4, u64 p5, u6
   i0 = (u32)(j0);
   i0 = i32_load8_u(j0);
   l27 = i0;
-  if (i0) {goto B45;}
+  if (i0) {goto B44;}
   i0 = 2u;
   l18 = i0;
   goto B5;
-  B45:;
+  B44:;
   j0 = l7;
   j1 = 272ull;
   j0 += j1;
@@ -30712,7 +30699,7 @@ static void f23(module *self, u64 p0, u64 p1, u64 p2, u64 p3, u64 p4, u64 p5, u6
   j2 = 288ull;
   j1 += j2;
   j2 = p2;
-  f28(self, j0, j1, j2);
+  f29(self, j0, j1, j2);
   j0 = l7;
   j1 = 160ull;
   j0 += j1;
@@ -30721,11 +30708,11 @@ static void f23(module *self, u64 p0, u64 p1, u64 p2, u64 p3, u64 p4, u64 p5, u6
   j1 += j2;
   j2 = p2;
   j3 = p6;
-  f29(self, j0, j1, j2, j3);
+  f30(self, j0, j1, j2, j3);
   j0 = l7;
   i0 = (u32)(j0);
   i0 = i32_load8_u(j0 + 160u);
-  if (i0) {goto B55;}
+  if (i0) {goto B54;}
   j0 = l7;
   i0 = (u32)(j0);
   i0 = i32_load8_u(j0 + 283u);
@@ -30802,25 +30789,25 @@ static void f23(module *self, u64 p0, u64 p1, u64 p2, u64 p3, u64 p4, u64 p5, u6
   j0 = l9;
   i0 = (u32)(j0);
   switch (i0) {
-    case 0: goto B70;
-    case 1: goto B69;
-    case 2: goto B68;
-    case 3: goto B67;
-    case 4: goto B66;
-    case 5: goto B65;
-    case 6: goto B64;
-    case 7: goto B63;
-    case 8: goto B62;
-    case 9: goto B61;
-    case 10: goto B60;
-    case 11: goto B59;
-    case 12: goto B58;
-    case 13: goto B57;
-    case 14: goto B56;
-    case 15: goto B46;
-    default: goto B70;
+    case 0: goto B69;
+    case 1: goto B68;
+    case 2: goto B67;
+    case 3: goto B66;
+    case 4: goto B65;
+    case 5: goto B64;
+    case 6: goto B63;
+    case 7: goto B62;
+    case 8: goto B61;
+    case 9: goto B60;
+    case 10: goto B59;
+    case 11: goto B58;
+    case 12: goto B57;
+    case 13: goto B56;
+    case 14: goto B55;
+    case 15: goto B45;
+    default: goto B69;
   }
-  B70:;
+  B69:;
   j0 = p1;
   j1 = p2;
   j2 = 28ull;
@@ -30829,7 +30816,7 @@ static void f23(module *self, u64 p0, u64 p1, u64 p2, u64 p3, u64 p4, u64 p5, u6
   i1 = i32_load16_u(j1);
   l58 = i1;
   i2 = 10u;
-  f27(self, j0, i1, i2); m = self->memory; if (NEVER(self->is_broken)) return;
+  f28(self, j0, i1, i2); m = self->memory; if (NEVER(self->is_broken)) return;
   j0 = p1;
   i1 = l58;
   i2 = 1u;
@@ -30838,23 +30825,23 @@ static void f23(module *self, u64 p0, u64 p1, u64 p2, u64 p3, u64 p4, u64 p5, u6
   i2 = l73;
   i3 = 8u;
   i2 >>= (i3 & 31);
-  f27(self, j0, i1, i2); m = self->memory; if (NEVER(self->is_broken)) return;
+  f28(self, j0, i1, i2); m = self->memory; if (NEVER(self->is_broken)) return;
   j0 = p1;
   i1 = l58;
   i2 = 11u;
-  f27(self, j0, i1, i2); m = self->memory; if (NEVER(self->is_broken)) return;
+  f28(self, j0, i1, i2); m = self->memory; if (NEVER(self->is_broken)) return;
   j0 = p1;
   i1 = l27;
   i2 = l73;
-  f27(self, j0, i1, i2); m = self->memory; if (NEVER(self->is_broken)) return;
+  f28(self, j0, i1, i2); m = self->memory; if (NEVER(self->is_broken)) return;
   j0 = p2;
   j1 = 24ull;
   j0 += j1;
   i0 = (u32)(j0);
   i1 = l73;
   i32_store16(j0, i1);
-  goto B48;
-  B69:;
+  goto B47;
+  B68:;
   j0 = p2;
   j1 = l10;
   j2 = 1ull;
@@ -30868,9 +30855,9 @@ static void f23(module *self, u64 p0, u64 p1, u64 p2, u64 p3, u64 p4, u64 p5, u6
   j0 = p1;
   j1 = p2;
   i2 = l18;
-  f30(self, j0, j1, i2); m = self->memory; if (NEVER(self->is_broken)) return;
-  goto B48;
-  B68:;
+  f31(self, j0, j1, i2); m = self->memory; if (NEVER(self->is_broken)) return;
+  goto B47;
+  B67:;
   j0 = p2;
   j1 = 24ull;
   j0 += j1;
@@ -30887,8 +30874,8 @@ static void f23(module *self, u64 p0, u64 p1, u64 p2, u64 p3, u64 p4, u64 p5, u6
   i0 = (u32)(j0);
   i0 = i32_load16_u(j0);
   l60 = i0;
-  goto B48;
-  B67:;
+  goto B47;
+  B66:;
   j0 = p2;
   j1 = 4ull;
   j0 += j1;
@@ -30903,7 +30890,7 @@ static void f23(module *self, u64 p0, u64 p1, u64 p2, u64 p3, u64 p4, u64 p5, u6
   i1 = i32_load16_u(j1);
   l58 = i1;
   i2 = 12u;
-  f27(self, j0, i1, i2); m = self->memory; if (NEVER(self->is_broken)) return;
+  f28(self, j0, i1, i2); m = self->memory; if (NEVER(self->is_broken)) return;
   j0 = p1;
   i1 = l58;
   i2 = 1u;
@@ -30923,15 +30910,15 @@ static void f23(module *self, u64 p0, u64 p1, u64 p2, u64 p3, u64 p4, u64 p5, u6
   l27 = i2;
   i3 = 8u;
   i2 >>= (i3 & 31);
-  f27(self, j0, i1, i2); m = self->memory; if (NEVER(self->is_broken)) return;
+  f28(self, j0, i1, i2); m = self->memory; if (NEVER(self->is_broken)) return;
   j0 = p1;
   i1 = l58;
   i2 = 13u;
-  f27(self, j0, i1, i2); m = self->memory; if (NEVER(self->is_broken)) return;
+  f28(self, j0, i1, i2); m = self->memory; if (NEVER(self->is_broken)) return;
   j0 = p1;
   i1 = l24;
   i2 = l27;
-  f27(self, j0, i1, i2); m = self->memory; if (NEVER(self->is_broken)) return;
+  f28(self, j0, i1, i2); m = self->memory; if (NEVER(self->is_broken)) return;
   j0 = p2;
   j1 = 6ull;
   j0 += j1;
@@ -30947,9 +30934,9 @@ static void f23(module *self, u64 p0, u64 p1, u64 p2, u64 p3, u64 p4, u64 p5, u6
   j0 = p1;
   j1 = p2;
   i2 = l18;
-  f30(self, j0, j1, i2); m = self->memory; if (NEVER(self->is_broken)) return;
-  goto B48;
-  B66:;
+  f31(self, j0, j1, i2); m = self->memory; if (NEVER(self->is_broken)) return;
+  goto B47;
+  B65:;
   j0 = l7;
   i0 = (u32)(j0);
   i1 = 0u;
@@ -30978,7 +30965,7 @@ static void f23(module *self, u64 p0, u64 p1, u64 p2, u64 p3, u64 p4, u64 p5, u6
   i1 >>= (i2 & 31);
   l27 = i1;
   i0 = i0 < i1;
-  if (i0) {goto B48;}
+  if (i0) {goto B47;}
   j0 = p2;
   j1 = 2ull;
   j0 += j1;
@@ -30999,7 +30986,7 @@ static void f23(module *self, u64 p0, u64 p1, u64 p2, u64 p3, u64 p4, u64 p5, u6
   i1 &= i2;
   l58 = i1;
   i0 = i0 <= i1;
-  if (i0) {goto B48;}
+  if (i0) {goto B47;}
   j0 = l7;
   i0 = (u32)(j0);
   i1 = l73;
@@ -31054,9 +31041,9 @@ static void f23(module *self, u64 p0, u64 p1, u64 p2, u64 p3, u64 p4, u64 p5, u6
   j4 = l7;
   j5 = 304ull;
   j4 += j5;
-  f31(self, j0, j1, j2, i3, j4); m = self->memory; if (NEVER(self->is_broken)) return;
-  goto B48;
-  B65:;
+  f32(self, j0, j1, j2, i3, j4); m = self->memory; if (NEVER(self->is_broken)) return;
+  goto B47;
+  B64:;
   j0 = l7;
   i0 = (u32)(j0);
   i1 = 0u;
@@ -31085,7 +31072,7 @@ static void f23(module *self, u64 p0, u64 p1, u64 p2, u64 p3, u64 p4, u64 p5, u6
   i1 >>= (i2 & 31);
   l27 = i1;
   i0 = i0 < i1;
-  if (i0) {goto B48;}
+  if (i0) {goto B47;}
   j0 = p2;
   j1 = 2ull;
   j0 += j1;
@@ -31106,7 +31093,7 @@ static void f23(module *self, u64 p0, u64 p1, u64 p2, u64 p3, u64 p4, u64 p5, u6
   i1 &= i2;
   l58 = i1;
   i0 = i0 <= i1;
-  if (i0) {goto B48;}
+  if (i0) {goto B47;}
   j0 = l7;
   i0 = (u32)(j0);
   i1 = l73;
@@ -31165,9 +31152,9 @@ static void f23(module *self, u64 p0, u64 p1, u64 p2, u64 p3, u64 p4, u64 p5, u6
   j4 = l7;
   j5 = 304ull;
   j4 += j5;
-  f31(self, j0, j1, j2, i3, j4); m = self->memory; if (NEVER(self->is_broken)) return;
-  goto B48;
-  B64:;
+  f32(self, j0, j1, j2, i3, j4); m = self->memory; if (NEVER(self->is_broken)) return;
+  goto B47;
+  B63:;
   j0 = p2;
   j1 = l10;
   j2 = 1ull;
@@ -31197,7 +31184,7 @@ static void f23(module *self, u64 p0, u64 p1, u64 p2, u64 p3, u64 p4, u64 p5, u6
   i0 += i1;
   i1 = 251u;
   i0 &= i1;
-  if (i0) {goto B71;}
+  if (i0) {goto B70;}
   i0 = l59;
   i1 = 1u;
   i0 <<= (i1 & 31);
@@ -31228,63 +31215,63 @@ static void f23(module *self, u64 p0, u64 p1, u64 p2, u64 p3, u64 p4, u64 p5, u6
   l8 = j0;
   i0 = (u32)(j0);
   j0 = i64_load(j0);
-  p5 = j0;
+  p6 = j0;
   j1 = 16777216ull;
   i0 = j0 > j1;
-  if (i0) {goto B72;}
+  if (i0) {goto B71;}
   j0 = l8;
   i0 = (u32)(j0);
-  j1 = p5;
+  j1 = p6;
   j2 = 5ull;
   j1 += j2;
-  p5 = j1;
+  p6 = j1;
   i64_store(j0, j1);
-  j0 = p5;
+  j0 = p6;
   j1 = p1;
   j2 = 2104ull;
   j1 += j2;
   i1 = (u32)(j1);
   j1 = i64_load(j1);
   i0 = j0 > j1;
-  if (i0) {goto B72;}
+  if (i0) {goto B71;}
   j0 = p1;
   j1 = 2088ull;
   j0 += j1;
   l9 = j0;
   i0 = (u32)(j0);
   j0 = i64_load(j0);
-  p6 = j0;
+  p5 = j0;
   j1 = p1;
   j2 = 2080ull;
   j1 += j2;
   l10 = j1;
   i1 = (u32)(j1);
   j1 = i64_load(j1);
-  p5 = j1;
+  p6 = j1;
   j0 -= j1;
   j1 = 4ull;
   i0 = j0 > j1;
-  if (i0) {goto B73;}
+  if (i0) {goto B72;}
   j0 = p1;
   j1 = 2072ull;
   j0 += j1;
   j1 = 5ull;
-  i0 = f10(self, j0, j1); m = self->memory; if (NEVER(self->is_broken)) return;
+  i0 = f11(self, j0, j1); m = self->memory; if (NEVER(self->is_broken)) return;
   i0 = !(i0);
-  if (i0) {goto B72;}
+  if (i0) {goto B71;}
   j0 = p1;
   j1 = 2088ull;
   j0 += j1;
   i0 = (u32)(j0);
   j0 = i64_load(j0);
-  p6 = j0;
+  p5 = j0;
   j0 = p1;
   j1 = 2080ull;
   j0 += j1;
   i0 = (u32)(j0);
   j0 = i64_load(j0);
-  p5 = j0;
-  B73:;
+  p6 = j0;
+  B72:;
   j0 = p1;
   j1 = 2072ull;
   j0 += j1;
@@ -31292,7 +31279,7 @@ static void f23(module *self, u64 p0, u64 p1, u64 p2, u64 p3, u64 p4, u64 p5, u6
   i0 = (u32)(j0);
   j0 = i64_load(j0);
   p2 = j0;
-  j1 = p5;
+  j1 = p6;
   j0 += j1;
   l15 = j0;
   i0 = (u32)(j0);
@@ -31304,11 +31291,11 @@ static void f23(module *self, u64 p0, u64 p1, u64 p2, u64 p3, u64 p4, u64 p5, u6
   i32_store8(j0, i1);
   j0 = l9;
   i0 = (u32)(j0);
-  j1 = p6;
+  j1 = p5;
   i64_store(j0, j1);
   j0 = l10;
   i0 = (u32)(j0);
-  j1 = p5;
+  j1 = p6;
   j2 = 5ull;
   j1 += j2;
   i64_store(j0, j1);
@@ -31316,13 +31303,13 @@ static void f23(module *self, u64 p0, u64 p1, u64 p2, u64 p3, u64 p4, u64 p5, u6
   i0 = (u32)(j0);
   j1 = p2;
   i64_store(j0, j1);
-  B72:;
+  B71:;
   j0 = l7;
   j1 = 64ull;
   j0 += j1;
   j1 = p1;
   i2 = l58;
-  f32(self, j0, j1, i2);
+  f33(self, j0, j1, i2);
   i0 = l58;
   i1 = 1u;
   i0 += i1;
@@ -31341,7 +31328,7 @@ static void f23(module *self, u64 p0, u64 p1, u64 p2, u64 p3, u64 p4, u64 p5, u6
   l8 = j0;
   j1 = 16777216ull;
   i0 = j0 > j1;
-  if (i0) {goto B74;}
+  if (i0) {goto B73;}
   j0 = p1;
   j1 = 2096ull;
   j0 += j1;
@@ -31358,14 +31345,14 @@ static void f23(module *self, u64 p0, u64 p1, u64 p2, u64 p3, u64 p4, u64 p5, u6
   i1 = (u32)(j1);
   j1 = i64_load(j1);
   i0 = j0 > j1;
-  if (i0) {goto B74;}
+  if (i0) {goto B73;}
   j0 = p1;
   j1 = 2088ull;
   j0 += j1;
-  p6 = j0;
+  p5 = j0;
   i0 = (u32)(j0);
   j0 = i64_load(j0);
-  p5 = j0;
+  p6 = j0;
   j1 = p1;
   j2 = 2080ull;
   j1 += j2;
@@ -31376,27 +31363,27 @@ static void f23(module *self, u64 p0, u64 p1, u64 p2, u64 p3, u64 p4, u64 p5, u6
   j0 -= j1;
   j1 = 4ull;
   i0 = j0 > j1;
-  if (i0) {goto B75;}
+  if (i0) {goto B74;}
   j0 = p1;
   j1 = 2072ull;
   j0 += j1;
   j1 = 5ull;
-  i0 = f10(self, j0, j1); m = self->memory; if (NEVER(self->is_broken)) return;
+  i0 = f11(self, j0, j1); m = self->memory; if (NEVER(self->is_broken)) return;
   i0 = !(i0);
-  if (i0) {goto B74;}
+  if (i0) {goto B73;}
   j0 = p1;
   j1 = 2088ull;
   j0 += j1;
   i0 = (u32)(j0);
   j0 = i64_load(j0);
-  p5 = j0;
+  p6 = j0;
   j0 = p1;
   j1 = 2080ull;
   j0 += j1;
   i0 = (u32)(j0);
   j0 = i64_load(j0);
   l8 = j0;
-  B75:;
+  B74:;
   j0 = p1;
   j1 = 2072ull;
   j0 += j1;
@@ -31414,9 +31401,9 @@ static void f23(module *self, u64 p0, u64 p1, u64 p2, u64 p3, u64 p4, u64 p5, u6
   i0 = (u32)(j0);
   i1 = 7u;
   i32_store8(j0, i1);
-  j0 = p6;
+  j0 = p5;
   i0 = (u32)(j0);
-  j1 = p5;
+  j1 = p6;
   i64_store(j0, j1);
   j0 = l9;
   i0 = (u32)(j0);
@@ -31428,13 +31415,13 @@ static void f23(module *self, u64 p0, u64 p1, u64 p2, u64 p3, u64 p4, u64 p5, u6
   i0 = (u32)(j0);
   j1 = l11;
   i64_store(j0, j1);
-  B74:;
+  B73:;
   j0 = l7;
   j1 = 56ull;
   j0 += j1;
   j1 = p1;
   i2 = l58;
-  f32(self, j0, j1, i2);
+  f33(self, j0, j1, i2);
   i0 = 4294967295u;
   j1 = l7;
   i1 = (u32)(j1);
@@ -31457,11 +31444,11 @@ static void f23(module *self, u64 p0, u64 p1, u64 p2, u64 p3, u64 p4, u64 p5, u6
   l59 = i0;
   j0 = l12;
   l8 = j0;
-  goto B46;
-  B71:;
+  goto B45;
+  B70:;
   i0 = l58;
   i0 = !(i0);
-  if (i0) {goto B78;}
+  if (i0) {goto B77;}
   i0 = 0u;
   l73 = i0;
   i0 = 1u;
@@ -31474,26 +31461,26 @@ static void f23(module *self, u64 p0, u64 p1, u64 p2, u64 p3, u64 p4, u64 p5, u6
   i1 = 4294967293u;
   i0 += i1;
   switch (i0) {
-    case 0: goto B77;
-    case 1: goto B76;
-    case 2: goto B76;
-    case 3: goto B76;
-    case 4: goto B77;
-    case 5: goto B76;
-    case 6: goto B76;
-    case 7: goto B76;
-    case 8: goto B76;
-    case 9: goto B76;
-    case 10: goto B76;
-    case 11: goto B76;
-    case 12: goto B76;
-    case 13: goto B76;
-    case 14: goto B76;
-    case 15: goto B76;
-    case 16: goto B79;
-    default: goto B76;
+    case 0: goto B76;
+    case 1: goto B75;
+    case 2: goto B75;
+    case 3: goto B75;
+    case 4: goto B76;
+    case 5: goto B75;
+    case 6: goto B75;
+    case 7: goto B75;
+    case 8: goto B75;
+    case 9: goto B75;
+    case 10: goto B75;
+    case 11: goto B75;
+    case 12: goto B75;
+    case 13: goto B75;
+    case 14: goto B75;
+    case 15: goto B75;
+    case 16: goto B78;
+    default: goto B75;
   }
-  B79:;
+  B78:;
   i0 = 8u;
   l24 = i0;
   i0 = 2u;
@@ -31502,10 +31489,10 @@ static void f23(module *self, u64 p0, u64 p1, u64 p2, u64 p3, u64 p4, u64 p5, u6
   l73 = i0;
   i0 = 0u;
   l26 = i0;
-  goto B76;
-  B78:;
-  { self->is_broken = true; return; }
+  goto B75;
   B77:;
+  { self->is_broken = true; return; }
+  B76:;
   i0 = 2u;
   l24 = i0;
   i0 = 0u;
@@ -31514,7 +31501,7 @@ static void f23(module *self, u64 p0, u64 p1, u64 p2, u64 p3, u64 p4, u64 p5, u6
   l73 = i0;
   i0 = 0u;
   l28 = i0;
-  B76:;
+  B75:;
   j0 = p2;
   j1 = 32ull;
   j0 += j1;
@@ -31546,15 +31533,15 @@ static void f23(module *self, u64 p0, u64 p1, u64 p2, u64 p3, u64 p4, u64 p5, u6
   l23 = i0;
   i0 = l26;
   i0 = !(i0);
-  if (i0) {goto B80;}
+  if (i0) {goto B79;}
   j0 = p1;
   i1 = 5u;
   i2 = 8u;
-  f33(self, j0, i1, i2); m = self->memory; if (NEVER(self->is_broken)) return;
-  B80:;
+  f34(self, j0, i1, i2); m = self->memory; if (NEVER(self->is_broken)) return;
+  B79:;
   i0 = l23;
   i0 = !(i0);
-  if (i0) {goto B82;}
+  if (i0) {goto B81;}
   i0 = l24;
   i1 = l58;
   i0 *= i1;
@@ -31592,15 +31579,15 @@ static void f23(module *self, u64 p0, u64 p1, u64 p2, u64 p3, u64 p4, u64 p5, u6
   l19 = i0;
   i0 = l28;
   switch (i0) {
-    case 0: goto B85;
-    case 1: goto B84;
-    case 2: goto B83;
-    default: goto B85;
+    case 0: goto B84;
+    case 1: goto B83;
+    case 2: goto B82;
+    default: goto B84;
   }
-  B85:;
+  B84:;
   j0 = p4;
   i0 = !(j0);
-  if (i0) {goto B81;}
+  if (i0) {goto B80;}
   j0 = l7;
   j1 = 184ull;
   j0 += j1;
@@ -31609,15 +31596,15 @@ static void f23(module *self, u64 p0, u64 p1, u64 p2, u64 p3, u64 p4, u64 p5, u6
   j2 = p4;
   i2 = (u32)(j2);
   memory_fill(j0, i1, j2);
-  goto B81;
-  B84:;
+  goto B80;
+  B83:;
   j0 = 0ull;
   l8 = j0;
   j0 = l7;
   j1 = 184ull;
   j0 += j1;
-  p5 = j0;
-  L86: 
+  p6 = j0;
+  L85: 
     i0 = l69;
     j1 = l8;
     i1 = (u32)(j1);
@@ -31630,14 +31617,14 @@ static void f23(module *self, u64 p0, u64 p1, u64 p2, u64 p3, u64 p4, u64 p5, u6
     j0 = p1;
     j1 = 2096ull;
     j0 += j1;
-    p6 = j0;
+    p5 = j0;
     i0 = (u32)(j0);
     j0 = i64_load(j0);
     l9 = j0;
     j1 = 16777216ull;
     i0 = j0 > j1;
-    if (i0) {goto B87;}
-    j0 = p6;
+    if (i0) {goto B86;}
+    j0 = p5;
     i0 = (u32)(j0);
     j1 = l9;
     j2 = 5ull;
@@ -31651,7 +31638,7 @@ static void f23(module *self, u64 p0, u64 p1, u64 p2, u64 p3, u64 p4, u64 p5, u6
     i1 = (u32)(j1);
     j1 = i64_load(j1);
     i0 = j0 > j1;
-    if (i0) {goto B87;}
+    if (i0) {goto B86;}
     j0 = p1;
     j1 = 2088ull;
     j0 += j1;
@@ -31665,18 +31652,18 @@ static void f23(module *self, u64 p0, u64 p1, u64 p2, u64 p3, u64 p4, u64 p5, u6
     l11 = j1;
     i1 = (u32)(j1);
     j1 = i64_load(j1);
-    p6 = j1;
+    p5 = j1;
     j0 -= j1;
     j1 = 4ull;
     i0 = j0 > j1;
-    if (i0) {goto B88;}
+    if (i0) {goto B87;}
     j0 = p1;
     j1 = 2072ull;
     j0 += j1;
     j1 = 5ull;
-    i0 = f10(self, j0, j1); m = self->memory; if (NEVER(self->is_broken)) return;
+    i0 = f11(self, j0, j1); m = self->memory; if (NEVER(self->is_broken)) return;
     i0 = !(i0);
-    if (i0) {goto B87;}
+    if (i0) {goto B86;}
     j0 = p1;
     j1 = 2088ull;
     j0 += j1;
@@ -31688,8 +31675,8 @@ static void f23(module *self, u64 p0, u64 p1, u64 p2, u64 p3, u64 p4, u64 p5, u6
     j0 += j1;
     i0 = (u32)(j0);
     j0 = i64_load(j0);
-    p6 = j0;
-    B88:;
+    p5 = j0;
+    B87:;
     j0 = p1;
     j1 = 2072ull;
     j0 += j1;
@@ -31697,7 +31684,7 @@ static void f23(module *self, u64 p0, u64 p1, u64 p2, u64 p3, u64 p4, u64 p5, u6
     i0 = (u32)(j0);
     j0 = i64_load(j0);
     l15 = j0;
-    j1 = p6;
+    j1 = p5;
     j0 += j1;
     l16 = j0;
     i0 = (u32)(j0);
@@ -31713,7 +31700,7 @@ static void f23(module *self, u64 p0, u64 p1, u64 p2, u64 p3, u64 p4, u64 p5, u6
     i64_store(j0, j1);
     j0 = l11;
     i0 = (u32)(j0);
-    j1 = p6;
+    j1 = p5;
     j2 = 5ull;
     j1 += j2;
     i64_store(j0, j1);
@@ -31721,14 +31708,14 @@ static void f23(module *self, u64 p0, u64 p1, u64 p2, u64 p3, u64 p4, u64 p5, u6
     i0 = (u32)(j0);
     j1 = l15;
     i64_store(j0, j1);
-    B87:;
+    B86:;
     j0 = l7;
     j1 = 72ull;
     j0 += j1;
     j1 = p1;
     i2 = l58;
-    f32(self, j0, j1, i2);
-    j0 = p5;
+    f33(self, j0, j1, i2);
+    j0 = p6;
     i0 = (u32)(j0);
     i1 = 0u;
     j2 = l7;
@@ -31741,10 +31728,10 @@ static void f23(module *self, u64 p0, u64 p1, u64 p2, u64 p3, u64 p4, u64 p5, u6
     i3 = i32_load8_u(j3 + 72u);
     i1 = i3 ? i1 : i2;
     i32_store8(j0, i1);
-    j0 = p5;
+    j0 = p6;
     j1 = 1ull;
     j0 += j1;
-    p5 = j0;
+    p6 = j0;
     j0 = l8;
     j1 = 1ull;
     j0 += j1;
@@ -31755,13 +31742,13 @@ static void f23(module *self, u64 p0, u64 p1, u64 p2, u64 p3, u64 p4, u64 p5, u6
     p4 = j0;
     i0 = !(j0);
     i0 = !(i0);
-    if (i0) {goto L86;}
-    goto B82;
+    if (i0) {goto L85;}
+    goto B81;
   { self->is_broken = true; return; }
-  B83:;
+  B82:;
   j0 = 0ull;
   l15 = j0;
-  L89: 
+  L88: 
     i0 = l69;
     j1 = l15;
     i1 = (u32)(j1);
@@ -31777,7 +31764,7 @@ static void f23(module *self, u64 p0, u64 p1, u64 p2, u64 p3, u64 p4, u64 p5, u6
     l24 = i0;
     i0 = 0u;
     l18 = i0;
-    L90: 
+    L89: 
       i0 = l73;
       i1 = l27;
       i0 += i1;
@@ -31788,32 +31775,32 @@ static void f23(module *self, u64 p0, u64 p1, u64 p2, u64 p3, u64 p4, u64 p5, u6
       l8 = j0;
       i0 = (u32)(j0);
       j0 = i64_load(j0);
-      p5 = j0;
+      p6 = j0;
       j1 = 16777216ull;
       i0 = j0 > j1;
-      if (i0) {goto B91;}
+      if (i0) {goto B90;}
       j0 = l8;
       i0 = (u32)(j0);
-      j1 = p5;
+      j1 = p6;
       j2 = 5ull;
       j1 += j2;
-      p5 = j1;
+      p6 = j1;
       i64_store(j0, j1);
-      j0 = p5;
+      j0 = p6;
       j1 = p1;
       j2 = 2104ull;
       j1 += j2;
       i1 = (u32)(j1);
       j1 = i64_load(j1);
       i0 = j0 > j1;
-      if (i0) {goto B91;}
+      if (i0) {goto B90;}
       j0 = p1;
       j1 = 2088ull;
       j0 += j1;
-      p6 = j0;
+      p5 = j0;
       i0 = (u32)(j0);
       j0 = i64_load(j0);
-      p5 = j0;
+      p6 = j0;
       j1 = p1;
       j2 = 2080ull;
       j1 += j2;
@@ -31824,27 +31811,27 @@ static void f23(module *self, u64 p0, u64 p1, u64 p2, u64 p3, u64 p4, u64 p5, u6
       j0 -= j1;
       j1 = 4ull;
       i0 = j0 > j1;
-      if (i0) {goto B92;}
+      if (i0) {goto B91;}
       j0 = p1;
       j1 = 2072ull;
       j0 += j1;
       j1 = 5ull;
-      i0 = f10(self, j0, j1); m = self->memory; if (NEVER(self->is_broken)) return;
+      i0 = f11(self, j0, j1); m = self->memory; if (NEVER(self->is_broken)) return;
       i0 = !(i0);
-      if (i0) {goto B91;}
+      if (i0) {goto B90;}
       j0 = p1;
       j1 = 2088ull;
       j0 += j1;
       i0 = (u32)(j0);
       j0 = i64_load(j0);
-      p5 = j0;
+      p6 = j0;
       j0 = p1;
       j1 = 2080ull;
       j0 += j1;
       i0 = (u32)(j0);
       j0 = i64_load(j0);
       l8 = j0;
-      B92:;
+      B91:;
       j0 = p1;
       j1 = 2072ull;
       j0 += j1;
@@ -31862,9 +31849,9 @@ static void f23(module *self, u64 p0, u64 p1, u64 p2, u64 p3, u64 p4, u64 p5, u6
       i0 = (u32)(j0);
       i1 = 7u;
       i32_store8(j0, i1);
-      j0 = p6;
+      j0 = p5;
       i0 = (u32)(j0);
-      j1 = p5;
+      j1 = p6;
       i64_store(j0, j1);
       j0 = l9;
       i0 = (u32)(j0);
@@ -31876,7 +31863,7 @@ static void f23(module *self, u64 p0, u64 p1, u64 p2, u64 p3, u64 p4, u64 p5, u6
       i0 = (u32)(j0);
       j1 = l11;
       i64_store(j0, j1);
-      B91:;
+      B90:;
       i0 = 1u;
       l58 = i0;
       j0 = p1;
@@ -31887,7 +31874,7 @@ static void f23(module *self, u64 p0, u64 p1, u64 p2, u64 p3, u64 p4, u64 p5, u6
       i1 = 2u;
       i0 &= i1;
       i0 = !(i0);
-      if (i0) {goto B93;}
+      if (i0) {goto B92;}
       i0 = 1u;
       l58 = i0;
       i0 = l59;
@@ -31904,7 +31891,7 @@ static void f23(module *self, u64 p0, u64 p1, u64 p2, u64 p3, u64 p4, u64 p5, u6
       i1 = (u32)(j1);
       i1 = i32_load(j1);
       i0 = i0 >= i1;
-      if (i0) {goto B93;}
+      if (i0) {goto B92;}
       j0 = p1;
       i0 = (u32)(j0);
       j0 = i64_load(j0);
@@ -31950,7 +31937,7 @@ static void f23(module *self, u64 p0, u64 p1, u64 p2, u64 p3, u64 p4, u64 p5, u6
       i1 = 8u;
       i0 &= i1;
       i0 = !(i0);
-      if (i0) {goto B95;}
+      if (i0) {goto B94;}
       j0 = p1;
       j1 = 49ull;
       j0 += j1;
@@ -31995,10 +31982,10 @@ static void f23(module *self, u64 p0, u64 p1, u64 p2, u64 p3, u64 p4, u64 p5, u6
       i1 = 4294967295u;
       i0 ^= i1;
       l59 = i0;
-      goto B94;
-      B95:;
+      goto B93;
+      B94:;
       i0 = l28;
-      if (i0) {goto B97;}
+      if (i0) {goto B96;}
       j0 = p1;
       j1 = 51ull;
       j0 += j1;
@@ -32009,7 +31996,7 @@ static void f23(module *self, u64 p0, u64 p1, u64 p2, u64 p3, u64 p4, u64 p5, u6
       i1 = 16u;
       i0 &= i1;
       i0 = !(i0);
-      if (i0) {goto B98;}
+      if (i0) {goto B97;}
       i0 = l59;
       i1 = 1u;
       i0 &= i1;
@@ -32018,26 +32005,26 @@ static void f23(module *self, u64 p0, u64 p1, u64 p2, u64 p3, u64 p4, u64 p5, u6
       i1 &= i2;
       i0 |= i1;
       l59 = i0;
-      goto B96;
-      B98:;
+      goto B95;
+      B97:;
       i0 = l28;
       i1 = 3u;
       i0 &= i1;
       l59 = i0;
-      goto B96;
-      B97:;
+      goto B95;
+      B96:;
       i0 = l59;
       i1 = 3u;
       i0 &= i1;
       l59 = i0;
-      B96:;
+      B95:;
       i0 = l58;
       i1 = l59;
       i2 = 3u;
       i1 <<= (i2 & 31);
       i0 >>= (i1 & 31);
       l59 = i0;
-      B94:;
+      B93:;
       j0 = p1;
       j1 = 24ull;
       j0 += j1;
@@ -32050,7 +32037,7 @@ static void f23(module *self, u64 p0, u64 p1, u64 p2, u64 p3, u64 p4, u64 p5, u6
       i1 = 0u;
       i0 = i0 != i1;
       l58 = i0;
-      B93:;
+      B92:;
       i0 = l27;
       i1 = 1u;
       i0 += i1;
@@ -32065,7 +32052,7 @@ static void f23(module *self, u64 p0, u64 p1, u64 p2, u64 p3, u64 p4, u64 p5, u6
       i1 = 4294967295u;
       i0 += i1;
       l24 = i0;
-      if (i0) {goto L90;}
+      if (i0) {goto L89;}
     j0 = l7;
     j1 = 184ull;
     j0 += j1;
@@ -32080,16 +32067,16 @@ static void f23(module *self, u64 p0, u64 p1, u64 p2, u64 p3, u64 p4, u64 p5, u6
     l15 = j0;
     j1 = p4;
     i0 = j0 != j1;
-    if (i0) {goto L89;}
-  B82:;
+    if (i0) {goto L88;}
+  B81:;
   i0 = l26;
   i0 = !(i0);
-  if (i0) {goto B81;}
+  if (i0) {goto B80;}
   j0 = p1;
   i1 = 5u;
   i2 = 0u;
-  f33(self, j0, i1, i2); m = self->memory; if (NEVER(self->is_broken)) return;
-  B81:;
+  f34(self, j0, i1, i2); m = self->memory; if (NEVER(self->is_broken)) return;
+  B80:;
   i0 = l40;
   i1 = 4294967040u;
   i0 &= i1;
@@ -32098,15 +32085,15 @@ static void f23(module *self, u64 p0, u64 p1, u64 p2, u64 p3, u64 p4, u64 p5, u6
   j3 = l7;
   j4 = 184ull;
   j3 += j4;
-  i1 = f34(self, j1, i2, j3); if (NEVER(self->is_broken)) return;
+  i1 = f35(self, j1, i2, j3); if (NEVER(self->is_broken)) return;
   i2 = 255u;
   i1 &= i2;
   i0 |= i1;
   l59 = i0;
   j0 = l12;
   l8 = j0;
-  goto B46;
-  B63:;
+  goto B45;
+  B62:;
   j0 = l7;
   i0 = (u32)(j0);
   j1 = 0ull;
@@ -32134,7 +32121,7 @@ static void f23(module *self, u64 p0, u64 p1, u64 p2, u64 p3, u64 p4, u64 p5, u6
   i0 &= i1;
   l59 = i0;
   i0 = !(i0);
-  if (i0) {goto B48;}
+  if (i0) {goto B47;}
   j0 = p2;
   i1 = l73;
   i2 = 1u;
@@ -32169,7 +32156,7 @@ static void f23(module *self, u64 p0, u64 p1, u64 p2, u64 p3, u64 p4, u64 p5, u6
   i1 = 8u;
   i0 >>= (i1 & 31);
   l24 = i0;
-  L99: 
+  L98: 
     j0 = p1;
     j1 = l7;
     j2 = 184ull;
@@ -32178,7 +32165,7 @@ static void f23(module *self, u64 p0, u64 p1, u64 p2, u64 p3, u64 p4, u64 p5, u6
     i3 = l24;
     i4 = l58;
     i5 = l18;
-    f35(self, j0, j1, i2, i3, i4, i5); m = self->memory; if (NEVER(self->is_broken)) return;
+    f36(self, j0, j1, i2, i3, i4, i5); m = self->memory; if (NEVER(self->is_broken)) return;
     i0 = l27;
     i1 = 1u;
     i0 += i1;
@@ -32187,217 +32174,9 @@ static void f23(module *self, u64 p0, u64 p1, u64 p2, u64 p3, u64 p4, u64 p5, u6
     i1 = 4294967295u;
     i0 += i1;
     l59 = i0;
-    if (i0) {goto L99;}
-    goto B48;
+    if (i0) {goto L98;}
+    goto B47;
   { self->is_broken = true; return; }
-  B62:;
-  j0 = p2;
-  j1 = 2ull;
-  j0 += j1;
-  i0 = (u32)(j0);
-  i0 = i32_load16_u(j0);
-  l59 = i0;
-  j0 = p2;
-  j1 = 4ull;
-  j0 += j1;
-  i0 = (u32)(j0);
-  i0 = i32_load16_u(j0);
-  l24 = i0;
-  i0 = l27;
-  i1 = 19u;
-  i0 = i0 != i1;
-  if (i0) {goto B101;}
-  i0 = l58;
-  i1 = l59;
-  i0 *= i1;
-  i1 = 3u;
-  i0 <<= (i1 & 31);
-  i1 = l73;
-  i0 += i1;
-  l58 = i0;
-  goto B100;
-  B101:;
-  i0 = l59;
-  i1 = l58;
-  i0 *= i1;
-  i1 = l73;
-  i2 = 3u;
-  i1 >>= (i2 & 31);
-  i0 += i1;
-  l58 = i0;
-  B100:;
-  i0 = l24;
-  i1 = l18;
-  i0 *= i1;
-  i1 = 753664u;
-  i2 = 720896u;
-  i3 = 655360u;
-  i4 = l27;
-  i5 = 7u;
-  i4 = i4 == i5;
-  i2 = i4 ? i2 : i3;
-  i3 = l27;
-  i4 = 3u;
-  i3 = i3 == i4;
-  i1 = i3 ? i1 : i2;
-  i0 += i1;
-  i1 = l58;
-  i0 += i1;
-  l58 = i0;
-  i0 = l27;
-  i1 = 19u;
-  i0 = i0 != i1;
-  if (i0) {goto B102;}
-  j0 = p1;
-  i1 = l58;
-  i2 = l28;
-  f36(self, j0, i1, i2); m = self->memory; if (NEVER(self->is_broken)) return;
-  goto B48;
-  B102:;
-  j0 = p1;
-  i1 = 8u;
-  i2 = 128u;
-  i3 = l73;
-  i4 = 7u;
-  i3 &= i4;
-  i2 >>= (i3 & 31);
-  f33(self, j0, i1, i2); m = self->memory; if (NEVER(self->is_broken)) return;
-  i0 = l28;
-  i1 = 4294967295u;
-  i0 = (u32)((s32)i0 > (s32)i1);
-  if (i0) {goto B103;}
-  j0 = p1;
-  i1 = 3u;
-  i2 = 24u;
-  f33(self, j0, i1, i2); m = self->memory; if (NEVER(self->is_broken)) return;
-  B103:;
-  j0 = p1;
-  j1 = 2096ull;
-  j0 += j1;
-  l8 = j0;
-  i0 = (u32)(j0);
-  j0 = i64_load(j0);
-  p5 = j0;
-  j1 = 16777216ull;
-  i0 = j0 > j1;
-  if (i0) {goto B104;}
-  j0 = l8;
-  i0 = (u32)(j0);
-  j1 = p5;
-  j2 = 5ull;
-  j1 += j2;
-  p5 = j1;
-  i64_store(j0, j1);
-  j0 = p5;
-  j1 = p1;
-  j2 = 2104ull;
-  j1 += j2;
-  i1 = (u32)(j1);
-  j1 = i64_load(j1);
-  i0 = j0 > j1;
-  if (i0) {goto B104;}
-  j0 = p1;
-  j1 = 2088ull;
-  j0 += j1;
-  p6 = j0;
-  i0 = (u32)(j0);
-  j0 = i64_load(j0);
-  p5 = j0;
-  j1 = p1;
-  j2 = 2080ull;
-  j1 += j2;
-  l9 = j1;
-  i1 = (u32)(j1);
-  j1 = i64_load(j1);
-  l8 = j1;
-  j0 -= j1;
-  j1 = 4ull;
-  i0 = j0 > j1;
-  if (i0) {goto B105;}
-  j0 = p1;
-  j1 = 2072ull;
-  j0 += j1;
-  j1 = 5ull;
-  i0 = f10(self, j0, j1); m = self->memory; if (NEVER(self->is_broken)) return;
-  i0 = !(i0);
-  if (i0) {goto B104;}
-  j0 = p1;
-  j1 = 2088ull;
-  j0 += j1;
-  i0 = (u32)(j0);
-  j0 = i64_load(j0);
-  p5 = j0;
-  j0 = p1;
-  j1 = 2080ull;
-  j0 += j1;
-  i0 = (u32)(j0);
-  j0 = i64_load(j0);
-  l8 = j0;
-  B105:;
-  j0 = p1;
-  j1 = 2072ull;
-  j0 += j1;
-  l10 = j0;
-  i0 = (u32)(j0);
-  j0 = i64_load(j0);
-  l11 = j0;
-  j1 = l8;
-  j0 += j1;
-  p2 = j0;
-  i0 = (u32)(j0);
-  i1 = l58;
-  i32_store(j0 + 1, i1);
-  j0 = p2;
-  i0 = (u32)(j0);
-  i1 = 7u;
-  i32_store8(j0, i1);
-  j0 = p6;
-  i0 = (u32)(j0);
-  j1 = p5;
-  i64_store(j0, j1);
-  j0 = l9;
-  i0 = (u32)(j0);
-  j1 = l8;
-  j2 = 5ull;
-  j1 += j2;
-  i64_store(j0, j1);
-  j0 = l10;
-  i0 = (u32)(j0);
-  j1 = l11;
-  i64_store(j0, j1);
-  B104:;
-  j0 = l7;
-  j1 = 80ull;
-  j0 += j1;
-  j1 = p1;
-  i2 = l58;
-  f32(self, j0, j1, i2);
-  j0 = p1;
-  i1 = 5u;
-  i2 = 2u;
-  f33(self, j0, i1, i2); m = self->memory; if (NEVER(self->is_broken)) return;
-  j0 = p1;
-  i1 = l58;
-  i2 = l28;
-  f36(self, j0, i1, i2); m = self->memory; if (NEVER(self->is_broken)) return;
-  j0 = p1;
-  i1 = 5u;
-  i2 = 0u;
-  f33(self, j0, i1, i2); m = self->memory; if (NEVER(self->is_broken)) return;
-  i0 = l28;
-  i1 = 4294967295u;
-  i0 = (u32)((s32)i0 > (s32)i1);
-  if (i0) {goto B106;}
-  j0 = p1;
-  i1 = 3u;
-  i2 = 0u;
-  f33(self, j0, i1, i2); m = self->memory; if (NEVER(self->is_broken)) return;
-  B106:;
-  j0 = p1;
-  i1 = 8u;
-  i2 = 255u;
-  f33(self, j0, i1, i2); m = self->memory; if (NEVER(self->is_broken)) return;
-  goto B48;
   B61:;
   j0 = p2;
   j1 = 2ull;
@@ -32414,7 +32193,7 @@ static void f23(module *self, u64 p0, u64 p1, u64 p2, u64 p3, u64 p4, u64 p5, u6
   i0 = l27;
   i1 = 19u;
   i0 = i0 != i1;
-  if (i0) {goto B108;}
+  if (i0) {goto B100;}
   i0 = l58;
   i1 = l59;
   i0 *= i1;
@@ -32423,8 +32202,8 @@ static void f23(module *self, u64 p0, u64 p1, u64 p2, u64 p3, u64 p4, u64 p5, u6
   i1 = l73;
   i0 += i1;
   l58 = i0;
-  goto B107;
-  B108:;
+  goto B99;
+  B100:;
   i0 = l59;
   i1 = l58;
   i0 *= i1;
@@ -32433,7 +32212,7 @@ static void f23(module *self, u64 p0, u64 p1, u64 p2, u64 p3, u64 p4, u64 p5, u6
   i1 >>= (i2 & 31);
   i0 += i1;
   l58 = i0;
-  B107:;
+  B99:;
   i0 = l24;
   i1 = l18;
   i0 *= i1;
@@ -32455,39 +32234,62 @@ static void f23(module *self, u64 p0, u64 p1, u64 p2, u64 p3, u64 p4, u64 p5, u6
   i0 = l27;
   i1 = 19u;
   i0 = i0 != i1;
-  if (i0) {goto B110;}
+  if (i0) {goto B101;}
+  j0 = p1;
+  i1 = l58;
+  i2 = l28;
+  f37(self, j0, i1, i2); m = self->memory; if (NEVER(self->is_broken)) return;
+  goto B47;
+  B101:;
+  j0 = p1;
+  i1 = 8u;
+  i2 = 128u;
+  i3 = l73;
+  i4 = 7u;
+  i3 &= i4;
+  i2 >>= (i3 & 31);
+  f34(self, j0, i1, i2); m = self->memory; if (NEVER(self->is_broken)) return;
+  i0 = l28;
+  i1 = 4294967295u;
+  i0 = (u32)((s32)i0 > (s32)i1);
+  if (i0) {goto B102;}
+  j0 = p1;
+  i1 = 3u;
+  i2 = 24u;
+  f34(self, j0, i1, i2); m = self->memory; if (NEVER(self->is_broken)) return;
+  B102:;
   j0 = p1;
   j1 = 2096ull;
   j0 += j1;
   l8 = j0;
   i0 = (u32)(j0);
   j0 = i64_load(j0);
-  p5 = j0;
+  p6 = j0;
   j1 = 16777216ull;
   i0 = j0 > j1;
-  if (i0) {goto B111;}
+  if (i0) {goto B103;}
   j0 = l8;
   i0 = (u32)(j0);
-  j1 = p5;
+  j1 = p6;
   j2 = 5ull;
   j1 += j2;
-  p5 = j1;
+  p6 = j1;
   i64_store(j0, j1);
-  j0 = p5;
+  j0 = p6;
   j1 = p1;
   j2 = 2104ull;
   j1 += j2;
   i1 = (u32)(j1);
   j1 = i64_load(j1);
   i0 = j0 > j1;
-  if (i0) {goto B111;}
+  if (i0) {goto B103;}
   j0 = p1;
   j1 = 2088ull;
   j0 += j1;
-  p6 = j0;
+  p5 = j0;
   i0 = (u32)(j0);
   j0 = i64_load(j0);
-  p5 = j0;
+  p6 = j0;
   j1 = p1;
   j2 = 2080ull;
   j1 += j2;
@@ -32498,27 +32300,27 @@ static void f23(module *self, u64 p0, u64 p1, u64 p2, u64 p3, u64 p4, u64 p5, u6
   j0 -= j1;
   j1 = 4ull;
   i0 = j0 > j1;
-  if (i0) {goto B112;}
+  if (i0) {goto B104;}
   j0 = p1;
   j1 = 2072ull;
   j0 += j1;
   j1 = 5ull;
-  i0 = f10(self, j0, j1); m = self->memory; if (NEVER(self->is_broken)) return;
+  i0 = f11(self, j0, j1); m = self->memory; if (NEVER(self->is_broken)) return;
   i0 = !(i0);
-  if (i0) {goto B111;}
+  if (i0) {goto B103;}
   j0 = p1;
   j1 = 2088ull;
   j0 += j1;
   i0 = (u32)(j0);
   j0 = i64_load(j0);
-  p5 = j0;
+  p6 = j0;
   j0 = p1;
   j1 = 2080ull;
   j0 += j1;
   i0 = (u32)(j0);
   j0 = i64_load(j0);
   l8 = j0;
-  B112:;
+  B104:;
   j0 = p1;
   j1 = 2072ull;
   j0 += j1;
@@ -32536,9 +32338,9 @@ static void f23(module *self, u64 p0, u64 p1, u64 p2, u64 p3, u64 p4, u64 p5, u6
   i0 = (u32)(j0);
   i1 = 7u;
   i32_store8(j0, i1);
-  j0 = p6;
+  j0 = p5;
   i0 = (u32)(j0);
-  j1 = p5;
+  j1 = p6;
   i64_store(j0, j1);
   j0 = l9;
   i0 = (u32)(j0);
@@ -32550,78 +32352,147 @@ static void f23(module *self, u64 p0, u64 p1, u64 p2, u64 p3, u64 p4, u64 p5, u6
   i0 = (u32)(j0);
   j1 = l11;
   i64_store(j0, j1);
-  B111:;
+  B103:;
   j0 = l7;
-  j1 = 88ull;
+  j1 = 80ull;
   j0 += j1;
   j1 = p1;
   i2 = l58;
-  f32(self, j0, j1, i2);
-  i0 = 4294967295u;
-  j1 = l7;
-  i1 = (u32)(j1);
-  i1 = i32_load8_u(j1 + 89u);
-  j2 = l7;
-  i2 = (u32)(j2);
-  i2 = i32_load8_u(j2 + 88u);
-  i0 = i2 ? i0 : i1;
-  l58 = i0;
-  goto B109;
-  B110:;
+  f33(self, j0, j1, i2);
   j0 = p1;
-  i1 = 4u;
+  i1 = 5u;
+  i2 = 2u;
+  f34(self, j0, i1, i2); m = self->memory; if (NEVER(self->is_broken)) return;
+  j0 = p1;
+  i1 = l58;
+  i2 = l28;
+  f37(self, j0, i1, i2); m = self->memory; if (NEVER(self->is_broken)) return;
+  j0 = p1;
+  i1 = 5u;
   i2 = 0u;
-  f33(self, j0, i1, i2); m = self->memory; if (NEVER(self->is_broken)) return;
+  f34(self, j0, i1, i2); m = self->memory; if (NEVER(self->is_broken)) return;
+  i0 = l28;
+  i1 = 4294967295u;
+  i0 = (u32)((s32)i0 > (s32)i1);
+  if (i0) {goto B105;}
+  j0 = p1;
+  i1 = 3u;
+  i2 = 0u;
+  f34(self, j0, i1, i2); m = self->memory; if (NEVER(self->is_broken)) return;
+  B105:;
+  j0 = p1;
+  i1 = 8u;
+  i2 = 255u;
+  f34(self, j0, i1, i2); m = self->memory; if (NEVER(self->is_broken)) return;
+  goto B47;
+  B60:;
+  j0 = p2;
+  j1 = 2ull;
+  j0 += j1;
+  i0 = (u32)(j0);
+  i0 = i32_load16_u(j0);
+  l59 = i0;
+  j0 = p2;
+  j1 = 4ull;
+  j0 += j1;
+  i0 = (u32)(j0);
+  i0 = i32_load16_u(j0);
+  l24 = i0;
+  i0 = l27;
+  i1 = 19u;
+  i0 = i0 != i1;
+  if (i0) {goto B107;}
+  i0 = l58;
+  i1 = l59;
+  i0 *= i1;
+  i1 = 3u;
+  i0 <<= (i1 & 31);
+  i1 = l73;
+  i0 += i1;
+  l58 = i0;
+  goto B106;
+  B107:;
+  i0 = l59;
+  i1 = l58;
+  i0 *= i1;
+  i1 = l73;
+  i2 = 3u;
+  i1 >>= (i2 & 31);
+  i0 += i1;
+  l58 = i0;
+  B106:;
+  i0 = l24;
+  i1 = l18;
+  i0 *= i1;
+  i1 = 753664u;
+  i2 = 720896u;
+  i3 = 655360u;
+  i4 = l27;
+  i5 = 7u;
+  i4 = i4 == i5;
+  i2 = i4 ? i2 : i3;
+  i3 = l27;
+  i4 = 3u;
+  i3 = i3 == i4;
+  i1 = i3 ? i1 : i2;
+  i0 += i1;
+  i1 = l58;
+  i0 += i1;
+  l58 = i0;
+  i0 = l27;
+  i1 = 19u;
+  i0 = i0 != i1;
+  if (i0) {goto B109;}
   j0 = p1;
   j1 = 2096ull;
   j0 += j1;
   l8 = j0;
   i0 = (u32)(j0);
   j0 = i64_load(j0);
-  p5 = j0;
+  p6 = j0;
   j1 = 16777216ull;
   i0 = j0 > j1;
-  if (i0) {goto B113;}
+  if (i0) {goto B110;}
   j0 = l8;
   i0 = (u32)(j0);
-  j1 = p5;
+  j1 = p6;
   j2 = 5ull;
   j1 += j2;
-  p5 = j1;
+  p6 = j1;
   i64_store(j0, j1);
-  j0 = p5;
+  j0 = p6;
   j1 = p1;
   j2 = 2104ull;
   j1 += j2;
   i1 = (u32)(j1);
   j1 = i64_load(j1);
   i0 = j0 > j1;
-  if (i0) {goto B113;}
+  if (i0) {goto B110;}
   j0 = p1;
   j1 = 2088ull;
   j0 += j1;
-  l9 = j0;
+  p5 = j0;
   i0 = (u32)(j0);
   j0 = i64_load(j0);
   p6 = j0;
   j1 = p1;
   j2 = 2080ull;
   j1 += j2;
-  l10 = j1;
+  l9 = j1;
   i1 = (u32)(j1);
   j1 = i64_load(j1);
-  p5 = j1;
+  l8 = j1;
   j0 -= j1;
   j1 = 4ull;
   i0 = j0 > j1;
-  if (i0) {goto B114;}
+  if (i0) {goto B111;}
   j0 = p1;
   j1 = 2072ull;
   j0 += j1;
   j1 = 5ull;
-  i0 = f10(self, j0, j1); m = self->memory; if (NEVER(self->is_broken)) return;
+  i0 = f11(self, j0, j1); m = self->memory; if (NEVER(self->is_broken)) return;
   i0 = !(i0);
-  if (i0) {goto B113;}
+  if (i0) {goto B110;}
   j0 = p1;
   j1 = 2088ull;
   j0 += j1;
@@ -32633,8 +32504,124 @@ static void f23(module *self, u64 p0, u64 p1, u64 p2, u64 p3, u64 p4, u64 p5, u6
   j0 += j1;
   i0 = (u32)(j0);
   j0 = i64_load(j0);
+  l8 = j0;
+  B111:;
+  j0 = p1;
+  j1 = 2072ull;
+  j0 += j1;
+  l10 = j0;
+  i0 = (u32)(j0);
+  j0 = i64_load(j0);
+  l11 = j0;
+  j1 = l8;
+  j0 += j1;
+  p2 = j0;
+  i0 = (u32)(j0);
+  i1 = l58;
+  i32_store(j0 + 1, i1);
+  j0 = p2;
+  i0 = (u32)(j0);
+  i1 = 7u;
+  i32_store8(j0, i1);
+  j0 = p5;
+  i0 = (u32)(j0);
+  j1 = p6;
+  i64_store(j0, j1);
+  j0 = l9;
+  i0 = (u32)(j0);
+  j1 = l8;
+  j2 = 5ull;
+  j1 += j2;
+  i64_store(j0, j1);
+  j0 = l10;
+  i0 = (u32)(j0);
+  j1 = l11;
+  i64_store(j0, j1);
+  B110:;
+  j0 = l7;
+  j1 = 88ull;
+  j0 += j1;
+  j1 = p1;
+  i2 = l58;
+  f33(self, j0, j1, i2);
+  i0 = 4294967295u;
+  j1 = l7;
+  i1 = (u32)(j1);
+  i1 = i32_load8_u(j1 + 89u);
+  j2 = l7;
+  i2 = (u32)(j2);
+  i2 = i32_load8_u(j2 + 88u);
+  i0 = i2 ? i0 : i1;
+  l58 = i0;
+  goto B108;
+  B109:;
+  j0 = p1;
+  i1 = 4u;
+  i2 = 0u;
+  f34(self, j0, i1, i2); m = self->memory; if (NEVER(self->is_broken)) return;
+  j0 = p1;
+  j1 = 2096ull;
+  j0 += j1;
+  l8 = j0;
+  i0 = (u32)(j0);
+  j0 = i64_load(j0);
+  p6 = j0;
+  j1 = 16777216ull;
+  i0 = j0 > j1;
+  if (i0) {goto B112;}
+  j0 = l8;
+  i0 = (u32)(j0);
+  j1 = p6;
+  j2 = 5ull;
+  j1 += j2;
+  p6 = j1;
+  i64_store(j0, j1);
+  j0 = p6;
+  j1 = p1;
+  j2 = 2104ull;
+  j1 += j2;
+  i1 = (u32)(j1);
+  j1 = i64_load(j1);
+  i0 = j0 > j1;
+  if (i0) {goto B112;}
+  j0 = p1;
+  j1 = 2088ull;
+  j0 += j1;
+  l9 = j0;
+  i0 = (u32)(j0);
+  j0 = i64_load(j0);
   p5 = j0;
-  B114:;
+  j1 = p1;
+  j2 = 2080ull;
+  j1 += j2;
+  l10 = j1;
+  i1 = (u32)(j1);
+  j1 = i64_load(j1);
+  p6 = j1;
+  j0 -= j1;
+  j1 = 4ull;
+  i0 = j0 > j1;
+  if (i0) {goto B113;}
+  j0 = p1;
+  j1 = 2072ull;
+  j0 += j1;
+  j1 = 5ull;
+  i0 = f11(self, j0, j1); m = self->memory; if (NEVER(self->is_broken)) return;
+  i0 = !(i0);
+  if (i0) {goto B112;}
+  j0 = p1;
+  j1 = 2088ull;
+  j0 += j1;
+  i0 = (u32)(j0);
+  j0 = i64_load(j0);
+  p5 = j0;
+  j0 = p1;
+  j1 = 2080ull;
+  j0 += j1;
+  i0 = (u32)(j0);
+  j0 = i64_load(j0);
+  p6 = j0;
+  B113:;
   j0 = p1;
   j1 = 2072ull;
   j0 += j1;
@@ -32642,7 +32629,7 @@ static void f23(module *self, u64 p0, u64 p1, u64 p2, u64 p3, u64 p4, u64 p5, u6
   i0 = (u32)(j0);
   j0 = i64_load(j0);
   p2 = j0;
-  j1 = p5;
+  j1 = p6;
   j0 += j1;
   l15 = j0;
   i0 = (u32)(j0);
@@ -32654,11 +32641,11 @@ static void f23(module *self, u64 p0, u64 p1, u64 p2, u64 p3, u64 p4, u64 p5, u6
   i32_store8(j0, i1);
   j0 = l9;
   i0 = (u32)(j0);
-  j1 = p6;
+  j1 = p5;
   i64_store(j0, j1);
   j0 = l10;
   i0 = (u32)(j0);
-  j1 = p5;
+  j1 = p6;
   j2 = 5ull;
   j1 += j2;
   i64_store(j0, j1);
@@ -32666,13 +32653,13 @@ static void f23(module *self, u64 p0, u64 p1, u64 p2, u64 p3, u64 p4, u64 p5, u6
   i0 = (u32)(j0);
   j1 = p2;
   i64_store(j0, j1);
-  B113:;
+  B112:;
   j0 = l7;
   j1 = 120ull;
   j0 += j1;
   j1 = p1;
   i2 = l58;
-  f32(self, j0, j1, i2);
+  f33(self, j0, j1, i2);
   j0 = l7;
   i0 = (u32)(j0);
   i0 = i32_load8_u(j0 + 121u);
@@ -32684,14 +32671,14 @@ static void f23(module *self, u64 p0, u64 p1, u64 p2, u64 p3, u64 p4, u64 p5, u6
   j0 = p1;
   i1 = 4u;
   i2 = 1u;
-  f33(self, j0, i1, i2); m = self->memory; if (NEVER(self->is_broken)) return;
+  f34(self, j0, i1, i2); m = self->memory; if (NEVER(self->is_broken)) return;
   j0 = l8;
   i0 = (u32)(j0);
   j0 = i64_load(j0);
   l8 = j0;
   j1 = 16777216ull;
   i0 = j0 > j1;
-  if (i0) {goto B115;}
+  if (i0) {goto B114;}
   j0 = p1;
   j1 = 2096ull;
   j0 += j1;
@@ -32708,14 +32695,14 @@ static void f23(module *self, u64 p0, u64 p1, u64 p2, u64 p3, u64 p4, u64 p5, u6
   i1 = (u32)(j1);
   j1 = i64_load(j1);
   i0 = j0 > j1;
-  if (i0) {goto B115;}
+  if (i0) {goto B114;}
   j0 = p1;
   j1 = 2088ull;
   j0 += j1;
-  p6 = j0;
+  p5 = j0;
   i0 = (u32)(j0);
   j0 = i64_load(j0);
-  p5 = j0;
+  p6 = j0;
   j1 = p1;
   j2 = 2080ull;
   j1 += j2;
@@ -32726,27 +32713,27 @@ static void f23(module *self, u64 p0, u64 p1, u64 p2, u64 p3, u64 p4, u64 p5, u6
   j0 -= j1;
   j1 = 4ull;
   i0 = j0 > j1;
-  if (i0) {goto B116;}
+  if (i0) {goto B115;}
   j0 = p1;
   j1 = 2072ull;
   j0 += j1;
   j1 = 5ull;
-  i0 = f10(self, j0, j1); m = self->memory; if (NEVER(self->is_broken)) return;
+  i0 = f11(self, j0, j1); m = self->memory; if (NEVER(self->is_broken)) return;
   i0 = !(i0);
-  if (i0) {goto B115;}
+  if (i0) {goto B114;}
   j0 = p1;
   j1 = 2088ull;
   j0 += j1;
   i0 = (u32)(j0);
   j0 = i64_load(j0);
-  p5 = j0;
+  p6 = j0;
   j0 = p1;
   j1 = 2080ull;
   j0 += j1;
   i0 = (u32)(j0);
   j0 = i64_load(j0);
   l8 = j0;
-  B116:;
+  B115:;
   j0 = p1;
   j1 = 2072ull;
   j0 += j1;
@@ -32764,9 +32751,9 @@ static void f23(module *self, u64 p0, u64 p1, u64 p2, u64 p3, u64 p4, u64 p5, u6
   i0 = (u32)(j0);
   i1 = 7u;
   i32_store8(j0, i1);
-  j0 = p6;
+  j0 = p5;
   i0 = (u32)(j0);
-  j1 = p5;
+  j1 = p6;
   i64_store(j0, j1);
   j0 = l9;
   i0 = (u32)(j0);
@@ -32778,13 +32765,13 @@ static void f23(module *self, u64 p0, u64 p1, u64 p2, u64 p3, u64 p4, u64 p5, u6
   i0 = (u32)(j0);
   j1 = l11;
   i64_store(j0, j1);
-  B115:;
+  B114:;
   j0 = l7;
   j1 = 112ull;
   j0 += j1;
   j1 = p1;
   i2 = l58;
-  f32(self, j0, j1, i2);
+  f33(self, j0, j1, i2);
   j0 = l7;
   i0 = (u32)(j0);
   i0 = i32_load8_u(j0 + 113u);
@@ -32796,70 +32783,70 @@ static void f23(module *self, u64 p0, u64 p1, u64 p2, u64 p3, u64 p4, u64 p5, u6
   j0 = p1;
   i1 = 4u;
   i2 = 2u;
-  f33(self, j0, i1, i2); m = self->memory; if (NEVER(self->is_broken)) return;
+  f34(self, j0, i1, i2); m = self->memory; if (NEVER(self->is_broken)) return;
   j0 = p1;
   j1 = 2096ull;
   j0 += j1;
   l8 = j0;
   i0 = (u32)(j0);
   j0 = i64_load(j0);
-  p5 = j0;
+  p6 = j0;
   j1 = 16777216ull;
   i0 = j0 > j1;
-  if (i0) {goto B117;}
+  if (i0) {goto B116;}
   j0 = l8;
   i0 = (u32)(j0);
-  j1 = p5;
+  j1 = p6;
   j2 = 5ull;
   j1 += j2;
-  p5 = j1;
+  p6 = j1;
   i64_store(j0, j1);
-  j0 = p5;
+  j0 = p6;
   j1 = p1;
   j2 = 2104ull;
   j1 += j2;
   i1 = (u32)(j1);
   j1 = i64_load(j1);
   i0 = j0 > j1;
-  if (i0) {goto B117;}
+  if (i0) {goto B116;}
   j0 = p1;
   j1 = 2088ull;
   j0 += j1;
   l9 = j0;
   i0 = (u32)(j0);
   j0 = i64_load(j0);
-  p6 = j0;
+  p5 = j0;
   j1 = p1;
   j2 = 2080ull;
   j1 += j2;
   l10 = j1;
   i1 = (u32)(j1);
   j1 = i64_load(j1);
-  p5 = j1;
+  p6 = j1;
   j0 -= j1;
   j1 = 4ull;
   i0 = j0 > j1;
-  if (i0) {goto B118;}
+  if (i0) {goto B117;}
   j0 = p1;
   j1 = 2072ull;
   j0 += j1;
   j1 = 5ull;
-  i0 = f10(self, j0, j1); m = self->memory; if (NEVER(self->is_broken)) return;
+  i0 = f11(self, j0, j1); m = self->memory; if (NEVER(self->is_broken)) return;
   i0 = !(i0);
-  if (i0) {goto B117;}
+  if (i0) {goto B116;}
   j0 = p1;
   j1 = 2088ull;
   j0 += j1;
   i0 = (u32)(j0);
   j0 = i64_load(j0);
-  p6 = j0;
+  p5 = j0;
   j0 = p1;
   j1 = 2080ull;
   j0 += j1;
   i0 = (u32)(j0);
   j0 = i64_load(j0);
-  p5 = j0;
-  B118:;
+  p6 = j0;
+  B117:;
   j0 = p1;
   j1 = 2072ull;
   j0 += j1;
@@ -32867,7 +32854,7 @@ static void f23(module *self, u64 p0, u64 p1, u64 p2, u64 p3, u64 p4, u64 p5, u6
   i0 = (u32)(j0);
   j0 = i64_load(j0);
   p2 = j0;
-  j1 = p5;
+  j1 = p6;
   j0 += j1;
   l15 = j0;
   i0 = (u32)(j0);
@@ -32879,11 +32866,11 @@ static void f23(module *self, u64 p0, u64 p1, u64 p2, u64 p3, u64 p4, u64 p5, u6
   i32_store8(j0, i1);
   j0 = l9;
   i0 = (u32)(j0);
-  j1 = p6;
+  j1 = p5;
   i64_store(j0, j1);
   j0 = l10;
   i0 = (u32)(j0);
-  j1 = p5;
+  j1 = p6;
   j2 = 5ull;
   j1 += j2;
   i64_store(j0, j1);
@@ -32891,13 +32878,13 @@ static void f23(module *self, u64 p0, u64 p1, u64 p2, u64 p3, u64 p4, u64 p5, u6
   i0 = (u32)(j0);
   j1 = p2;
   i64_store(j0, j1);
-  B117:;
+  B116:;
   j0 = l7;
   j1 = 104ull;
   j0 += j1;
   j1 = p1;
   i2 = l58;
-  f32(self, j0, j1, i2);
+  f33(self, j0, j1, i2);
   j0 = l7;
   i0 = (u32)(j0);
   i0 = i32_load8_u(j0 + 105u);
@@ -32909,14 +32896,14 @@ static void f23(module *self, u64 p0, u64 p1, u64 p2, u64 p3, u64 p4, u64 p5, u6
   j0 = p1;
   i1 = 4u;
   i2 = 3u;
-  f33(self, j0, i1, i2); m = self->memory; if (NEVER(self->is_broken)) return;
+  f34(self, j0, i1, i2); m = self->memory; if (NEVER(self->is_broken)) return;
   j0 = l8;
   i0 = (u32)(j0);
   j0 = i64_load(j0);
   l8 = j0;
   j1 = 16777216ull;
   i0 = j0 > j1;
-  if (i0) {goto B119;}
+  if (i0) {goto B118;}
   j0 = p1;
   j1 = 2096ull;
   j0 += j1;
@@ -32933,14 +32920,14 @@ static void f23(module *self, u64 p0, u64 p1, u64 p2, u64 p3, u64 p4, u64 p5, u6
   i1 = (u32)(j1);
   j1 = i64_load(j1);
   i0 = j0 > j1;
-  if (i0) {goto B119;}
+  if (i0) {goto B118;}
   j0 = p1;
   j1 = 2088ull;
   j0 += j1;
-  p6 = j0;
+  p5 = j0;
   i0 = (u32)(j0);
   j0 = i64_load(j0);
-  p5 = j0;
+  p6 = j0;
   j1 = p1;
   j2 = 2080ull;
   j1 += j2;
@@ -32951,27 +32938,27 @@ static void f23(module *self, u64 p0, u64 p1, u64 p2, u64 p3, u64 p4, u64 p5, u6
   j0 -= j1;
   j1 = 4ull;
   i0 = j0 > j1;
-  if (i0) {goto B120;}
+  if (i0) {goto B119;}
   j0 = p1;
   j1 = 2072ull;
   j0 += j1;
   j1 = 5ull;
-  i0 = f10(self, j0, j1); m = self->memory; if (NEVER(self->is_broken)) return;
+  i0 = f11(self, j0, j1); m = self->memory; if (NEVER(self->is_broken)) return;
   i0 = !(i0);
-  if (i0) {goto B119;}
+  if (i0) {goto B118;}
   j0 = p1;
   j1 = 2088ull;
   j0 += j1;
   i0 = (u32)(j0);
   j0 = i64_load(j0);
-  p5 = j0;
+  p6 = j0;
   j0 = p1;
   j1 = 2080ull;
   j0 += j1;
   i0 = (u32)(j0);
   j0 = i64_load(j0);
   l8 = j0;
-  B120:;
+  B119:;
   j0 = p1;
   j1 = 2072ull;
   j0 += j1;
@@ -32989,9 +32976,9 @@ static void f23(module *self, u64 p0, u64 p1, u64 p2, u64 p3, u64 p4, u64 p5, u6
   i0 = (u32)(j0);
   i1 = 7u;
   i32_store8(j0, i1);
-  j0 = p6;
+  j0 = p5;
   i0 = (u32)(j0);
-  j1 = p5;
+  j1 = p6;
   i64_store(j0, j1);
   j0 = l9;
   i0 = (u32)(j0);
@@ -33003,13 +32990,13 @@ static void f23(module *self, u64 p0, u64 p1, u64 p2, u64 p3, u64 p4, u64 p5, u6
   i0 = (u32)(j0);
   j1 = l11;
   i64_store(j0, j1);
-  B119:;
+  B118:;
   j0 = l7;
   j1 = 96ull;
   j0 += j1;
   j1 = p1;
   i2 = l58;
-  f32(self, j0, j1, i2);
+  f33(self, j0, j1, i2);
   j0 = l7;
   i0 = (u32)(j0);
   i0 = i32_load8_u(j0 + 97u);
@@ -33021,7 +33008,7 @@ static void f23(module *self, u64 p0, u64 p1, u64 p2, u64 p3, u64 p4, u64 p5, u6
   j0 = p1;
   i1 = 4u;
   i2 = 0u;
-  f33(self, j0, i1, i2); m = self->memory; if (NEVER(self->is_broken)) return;
+  f34(self, j0, i1, i2); m = self->memory; if (NEVER(self->is_broken)) return;
   i0 = 4294967295u;
   i1 = l18;
   i2 = l24;
@@ -33083,7 +33070,7 @@ static void f23(module *self, u64 p0, u64 p1, u64 p2, u64 p3, u64 p4, u64 p5, u6
   i1 &= i2;
   i0 |= i1;
   l58 = i0;
-  B109:;
+  B108:;
   i0 = l40;
   i1 = 4294967040u;
   i0 &= i1;
@@ -33094,12 +33081,12 @@ static void f23(module *self, u64 p0, u64 p1, u64 p2, u64 p3, u64 p4, u64 p5, u6
   l59 = i0;
   j0 = l12;
   l8 = j0;
-  goto B46;
-  B60:;
+  goto B45;
+  B59:;
   i0 = l18;
   i1 = 7u;
   i0 = i0 == i1;
-  if (i0) {goto B48;}
+  if (i0) {goto B47;}
   j0 = l7;
   i0 = (u32)(j0);
   i1 = 0u;
@@ -33148,14 +33135,14 @@ static void f23(module *self, u64 p0, u64 p1, u64 p2, u64 p3, u64 p4, u64 p5, u6
   i4 = l18;
   i5 = l73;
   i6 = 0u;
-  i1 = f37(self, j1, j2, i3, i4, i5, i6); m = self->memory; if (NEVER(self->is_broken)) return;
+  i1 = f38(self, j1, j2, i3, i4, i5, i6); m = self->memory; if (NEVER(self->is_broken)) return;
   i32_store16(j0, i1);
   j0 = p1;
   j1 = p2;
   i2 = l58;
-  f30(self, j0, j1, i2); m = self->memory; if (NEVER(self->is_broken)) return;
-  goto B48;
-  B59:;
+  f31(self, j0, j1, i2); m = self->memory; if (NEVER(self->is_broken)) return;
+  goto B47;
+  B58:;
   j0 = p2;
   j1 = 26ull;
   j0 += j1;
@@ -33178,8 +33165,8 @@ static void f23(module *self, u64 p0, u64 p1, u64 p2, u64 p3, u64 p4, u64 p5, u6
   i1 = l27;
   i0 |= i1;
   l59 = i0;
-  goto B46;
-  B58:;
+  goto B45;
+  B57:;
   i0 = l73;
   i1 = 8u;
   i0 >>= (i1 & 31);
@@ -33196,34 +33183,34 @@ static void f23(module *self, u64 p0, u64 p1, u64 p2, u64 p3, u64 p4, u64 p5, u6
   j0 &= j1;
   i0 = (u32)(j0);
   switch (i0) {
-    case 0: goto B131;
-    case 1: goto B130;
-    case 2: goto B129;
-    case 3: goto B128;
-    case 4: goto B127;
-    case 5: goto B126;
-    case 6: goto B125;
-    case 7: goto B124;
-    case 8: goto B123;
-    case 9: goto B122;
-    case 10: goto B121;
-    default: goto B131;
+    case 0: goto B130;
+    case 1: goto B129;
+    case 2: goto B128;
+    case 3: goto B127;
+    case 4: goto B126;
+    case 5: goto B125;
+    case 6: goto B124;
+    case 7: goto B123;
+    case 8: goto B122;
+    case 9: goto B121;
+    case 10: goto B120;
+    default: goto B130;
   }
-  B131:;
+  B130:;
   j0 = p1;
   i1 = l27;
   i2 = l59;
   i3 = l58;
-  f38(self, j0, i1, i2, i3); m = self->memory; if (NEVER(self->is_broken)) return;
-  goto B48;
-  B130:;
+  f39(self, j0, i1, i2, i3); m = self->memory; if (NEVER(self->is_broken)) return;
+  goto B47;
+  B129:;
   j0 = p1;
   i1 = l27;
   i2 = 17u;
   i3 = l59;
-  f38(self, j0, i1, i2, i3); m = self->memory; if (NEVER(self->is_broken)) return;
-  goto B48;
-  B129:;
+  f39(self, j0, i1, i2, i3); m = self->memory; if (NEVER(self->is_broken)) return;
+  goto B47;
+  B128:;
   i0 = l27;
   i1 = 6u;
   i0 += i1;
@@ -33237,7 +33224,7 @@ static void f23(module *self, u64 p0, u64 p1, u64 p2, u64 p3, u64 p4, u64 p5, u6
   p6 = j0;
   j1 = 16777216ull;
   i0 = j0 > j1;
-  if (i0) {goto B132;}
+  if (i0) {goto B131;}
   j0 = l8;
   i0 = (u32)(j0);
   j1 = p6;
@@ -33252,7 +33239,7 @@ static void f23(module *self, u64 p0, u64 p1, u64 p2, u64 p3, u64 p4, u64 p5, u6
   i1 = (u32)(j1);
   j1 = i64_load(j1);
   i0 = j0 > j1;
-  if (i0) {goto B132;}
+  if (i0) {goto B131;}
   j0 = p1;
   j1 = 2088ull;
   j0 += j1;
@@ -33270,14 +33257,14 @@ static void f23(module *self, u64 p0, u64 p1, u64 p2, u64 p3, u64 p4, u64 p5, u6
   j0 -= j1;
   j1 = 2ull;
   i0 = j0 > j1;
-  if (i0) {goto B133;}
+  if (i0) {goto B132;}
   j0 = p1;
   j1 = 2072ull;
   j0 += j1;
   j1 = 3ull;
-  i0 = f10(self, j0, j1); m = self->memory; if (NEVER(self->is_broken)) return;
+  i0 = f11(self, j0, j1); m = self->memory; if (NEVER(self->is_broken)) return;
   i0 = !(i0);
-  if (i0) {goto B132;}
+  if (i0) {goto B131;}
   j0 = p1;
   j1 = 2088ull;
   j0 += j1;
@@ -33290,7 +33277,7 @@ static void f23(module *self, u64 p0, u64 p1, u64 p2, u64 p3, u64 p4, u64 p5, u6
   i0 = (u32)(j0);
   j0 = i64_load(j0);
   l8 = j0;
-  B133:;
+  B132:;
   j0 = p1;
   j1 = 2072ull;
   j0 += j1;
@@ -33330,120 +33317,120 @@ static void f23(module *self, u64 p0, u64 p1, u64 p2, u64 p3, u64 p4, u64 p5, u6
   i0 = (u32)(j0);
   j1 = l15;
   i64_store(j0, j1);
-  B132:;
+  B131:;
   j0 = l7;
   j1 = 128ull;
   j0 += j1;
   j1 = p1;
   i2 = l58;
-  f24(self, j0, j1, i2); if (NEVER(self->is_broken)) return;
+  f25(self, j0, j1, i2); if (NEVER(self->is_broken)) return;
   j0 = p1;
   i1 = 0u;
   j2 = p5;
   i2 = (u32)(j2);
   i2 = i32_load8_u(j2);
-  f39(self, j0, i1, i2); m = self->memory; if (NEVER(self->is_broken)) return;
+  f40(self, j0, i1, i2); m = self->memory; if (NEVER(self->is_broken)) return;
   j0 = p1;
   i1 = 1u;
   j2 = p5;
   i2 = (u32)(j2);
   i2 = i32_load8_u(j2 + 1u);
-  f39(self, j0, i1, i2); m = self->memory; if (NEVER(self->is_broken)) return;
+  f40(self, j0, i1, i2); m = self->memory; if (NEVER(self->is_broken)) return;
   j0 = p1;
   i1 = 2u;
   j2 = p5;
   i2 = (u32)(j2);
   i2 = i32_load8_u(j2 + 2u);
-  f39(self, j0, i1, i2); m = self->memory; if (NEVER(self->is_broken)) return;
+  f40(self, j0, i1, i2); m = self->memory; if (NEVER(self->is_broken)) return;
   j0 = p1;
   i1 = 3u;
   j2 = p5;
   i2 = (u32)(j2);
   i2 = i32_load8_u(j2 + 3u);
-  f39(self, j0, i1, i2); m = self->memory; if (NEVER(self->is_broken)) return;
+  f40(self, j0, i1, i2); m = self->memory; if (NEVER(self->is_broken)) return;
   j0 = p1;
   i1 = 4u;
   j2 = p5;
   i2 = (u32)(j2);
   i2 = i32_load8_u(j2 + 4u);
-  f39(self, j0, i1, i2); m = self->memory; if (NEVER(self->is_broken)) return;
+  f40(self, j0, i1, i2); m = self->memory; if (NEVER(self->is_broken)) return;
   j0 = p1;
   i1 = 5u;
   j2 = p5;
   i2 = (u32)(j2);
   i2 = i32_load8_u(j2 + 5u);
-  f39(self, j0, i1, i2); m = self->memory; if (NEVER(self->is_broken)) return;
+  f40(self, j0, i1, i2); m = self->memory; if (NEVER(self->is_broken)) return;
   j0 = p1;
   i1 = 6u;
   j2 = p5;
   i2 = (u32)(j2);
   i2 = i32_load8_u(j2 + 6u);
-  f39(self, j0, i1, i2); m = self->memory; if (NEVER(self->is_broken)) return;
+  f40(self, j0, i1, i2); m = self->memory; if (NEVER(self->is_broken)) return;
   j0 = p1;
   i1 = 7u;
   j2 = p5;
   i2 = (u32)(j2);
   i2 = i32_load8_u(j2 + 7u);
-  f39(self, j0, i1, i2); m = self->memory; if (NEVER(self->is_broken)) return;
+  f40(self, j0, i1, i2); m = self->memory; if (NEVER(self->is_broken)) return;
   j0 = p1;
   i1 = 8u;
   j2 = p5;
   i2 = (u32)(j2);
   i2 = i32_load8_u(j2 + 8u);
-  f39(self, j0, i1, i2); m = self->memory; if (NEVER(self->is_broken)) return;
+  f40(self, j0, i1, i2); m = self->memory; if (NEVER(self->is_broken)) return;
   j0 = p1;
   i1 = 9u;
   j2 = p5;
   i2 = (u32)(j2);
   i2 = i32_load8_u(j2 + 9u);
-  f39(self, j0, i1, i2); m = self->memory; if (NEVER(self->is_broken)) return;
+  f40(self, j0, i1, i2); m = self->memory; if (NEVER(self->is_broken)) return;
   j0 = p1;
   i1 = 10u;
   j2 = p5;
   i2 = (u32)(j2);
   i2 = i32_load8_u(j2 + 10u);
-  f39(self, j0, i1, i2); m = self->memory; if (NEVER(self->is_broken)) return;
+  f40(self, j0, i1, i2); m = self->memory; if (NEVER(self->is_broken)) return;
   j0 = p1;
   i1 = 11u;
   j2 = p5;
   i2 = (u32)(j2);
   i2 = i32_load8_u(j2 + 11u);
-  f39(self, j0, i1, i2); m = self->memory; if (NEVER(self->is_broken)) return;
+  f40(self, j0, i1, i2); m = self->memory; if (NEVER(self->is_broken)) return;
   j0 = p1;
   i1 = 12u;
   j2 = p5;
   i2 = (u32)(j2);
   i2 = i32_load8_u(j2 + 12u);
-  f39(self, j0, i1, i2); m = self->memory; if (NEVER(self->is_broken)) return;
+  f40(self, j0, i1, i2); m = self->memory; if (NEVER(self->is_broken)) return;
   j0 = p1;
   i1 = 13u;
   j2 = p5;
   i2 = (u32)(j2);
   i2 = i32_load8_u(j2 + 13u);
-  f39(self, j0, i1, i2); m = self->memory; if (NEVER(self->is_broken)) return;
+  f40(self, j0, i1, i2); m = self->memory; if (NEVER(self->is_broken)) return;
   j0 = p1;
   i1 = 14u;
   j2 = p5;
   i2 = (u32)(j2);
   i2 = i32_load8_u(j2 + 14u);
-  f39(self, j0, i1, i2); m = self->memory; if (NEVER(self->is_broken)) return;
+  f40(self, j0, i1, i2); m = self->memory; if (NEVER(self->is_broken)) return;
   j0 = p1;
   i1 = 15u;
   j2 = p5;
   i2 = (u32)(j2);
   i2 = i32_load8_u(j2 + 15u);
-  f39(self, j0, i1, i2); m = self->memory; if (NEVER(self->is_broken)) return;
+  f40(self, j0, i1, i2); m = self->memory; if (NEVER(self->is_broken)) return;
   j0 = p1;
   i1 = 17u;
   j2 = p5;
   i2 = (u32)(j2);
   i2 = i32_load8_u(j2 + 16u);
-  f39(self, j0, i1, i2); m = self->memory; if (NEVER(self->is_broken)) return;
+  f40(self, j0, i1, i2); m = self->memory; if (NEVER(self->is_broken)) return;
   j0 = p1;
   i1 = l27;
-  f40(self, j0, i1); m = self->memory; if (NEVER(self->is_broken)) return;
-  goto B48;
-  B128:;
+  f41(self, j0, i1); m = self->memory; if (NEVER(self->is_broken)) return;
+  goto B47;
+  B127:;
   i0 = l27;
   i1 = 6u;
   i0 += i1;
@@ -33454,25 +33441,25 @@ static void f23(module *self, u64 p0, u64 p1, u64 p2, u64 p3, u64 p4, u64 p5, u6
   l8 = j0;
   i0 = (u32)(j0);
   j0 = i64_load(j0);
-  p5 = j0;
+  p6 = j0;
   j1 = 16777216ull;
   i0 = j0 > j1;
-  if (i0) {goto B134;}
+  if (i0) {goto B133;}
   j0 = l8;
   i0 = (u32)(j0);
-  j1 = p5;
+  j1 = p6;
   j2 = 3ull;
   j1 += j2;
-  p5 = j1;
+  p6 = j1;
   i64_store(j0, j1);
-  j0 = p5;
+  j0 = p6;
   j1 = p1;
   j2 = 2104ull;
   j1 += j2;
   i1 = (u32)(j1);
   j1 = i64_load(j1);
   i0 = j0 > j1;
-  if (i0) {goto B134;}
+  if (i0) {goto B133;}
   j0 = p1;
   j1 = 2088ull;
   j0 += j1;
@@ -33486,18 +33473,18 @@ static void f23(module *self, u64 p0, u64 p1, u64 p2, u64 p3, u64 p4, u64 p5, u6
   l11 = j1;
   i1 = (u32)(j1);
   j1 = i64_load(j1);
-  p5 = j1;
+  p6 = j1;
   j0 -= j1;
   j1 = 2ull;
   i0 = j0 > j1;
-  if (i0) {goto B135;}
+  if (i0) {goto B134;}
   j0 = p1;
   j1 = 2072ull;
   j0 += j1;
   j1 = 3ull;
-  i0 = f10(self, j0, j1); m = self->memory; if (NEVER(self->is_broken)) return;
+  i0 = f11(self, j0, j1); m = self->memory; if (NEVER(self->is_broken)) return;
   i0 = !(i0);
-  if (i0) {goto B134;}
+  if (i0) {goto B133;}
   j0 = p1;
   j1 = 2088ull;
   j0 += j1;
@@ -33509,8 +33496,8 @@ static void f23(module *self, u64 p0, u64 p1, u64 p2, u64 p3, u64 p4, u64 p5, u6
   j0 += j1;
   i0 = (u32)(j0);
   j0 = i64_load(j0);
-  p5 = j0;
-  B135:;
+  p6 = j0;
+  B134:;
   j0 = p1;
   j1 = 2072ull;
   j0 += j1;
@@ -33518,9 +33505,9 @@ static void f23(module *self, u64 p0, u64 p1, u64 p2, u64 p3, u64 p4, u64 p5, u6
   i0 = (u32)(j0);
   j0 = i64_load(j0);
   l15 = j0;
-  j1 = p5;
+  j1 = p6;
   j0 += j1;
-  p6 = j0;
+  p5 = j0;
   i0 = (u32)(j0);
   i1 = l58;
   i2 = 65280u;
@@ -33528,11 +33515,11 @@ static void f23(module *self, u64 p0, u64 p1, u64 p2, u64 p3, u64 p4, u64 p5, u6
   i2 = 8u;
   i1 >>= (i2 & 31);
   i32_store8(j0 + 2, i1);
-  j0 = p6;
+  j0 = p5;
   i0 = (u32)(j0);
   i1 = l58;
   i32_store8(j0 + 1, i1);
-  j0 = p6;
+  j0 = p5;
   i0 = (u32)(j0);
   i1 = 3u;
   i32_store8(j0, i1);
@@ -33542,7 +33529,7 @@ static void f23(module *self, u64 p0, u64 p1, u64 p2, u64 p3, u64 p4, u64 p5, u6
   i64_store(j0, j1);
   j0 = l11;
   i0 = (u32)(j0);
-  j1 = p5;
+  j1 = p6;
   j2 = 3ull;
   j1 += j2;
   i64_store(j0, j1);
@@ -33550,20 +33537,20 @@ static void f23(module *self, u64 p0, u64 p1, u64 p2, u64 p3, u64 p4, u64 p5, u6
   i0 = (u32)(j0);
   j1 = l15;
   i64_store(j0, j1);
-  B134:;
+  B133:;
   j0 = l7;
   j1 = 136ull;
   j0 += j1;
   j1 = p1;
   i2 = l58;
-  f24(self, j0, j1, i2); if (NEVER(self->is_broken)) return;
+  f25(self, j0, j1, i2); if (NEVER(self->is_broken)) return;
   j0 = l8;
   i0 = (u32)(j0);
   j0 = i64_load(j0);
   l8 = j0;
   j1 = 16777216ull;
   i0 = j0 > j1;
-  if (i0) {goto B136;}
+  if (i0) {goto B135;}
   j0 = p1;
   j1 = 2096ull;
   j0 += j1;
@@ -33580,14 +33567,14 @@ static void f23(module *self, u64 p0, u64 p1, u64 p2, u64 p3, u64 p4, u64 p5, u6
   i1 = (u32)(j1);
   j1 = i64_load(j1);
   i0 = j0 > j1;
-  if (i0) {goto B136;}
+  if (i0) {goto B135;}
   j0 = p1;
   j1 = 2088ull;
   j0 += j1;
-  p6 = j0;
+  p5 = j0;
   i0 = (u32)(j0);
   j0 = i64_load(j0);
-  p5 = j0;
+  p6 = j0;
   j1 = p1;
   j2 = 2080ull;
   j1 += j2;
@@ -33598,27 +33585,27 @@ static void f23(module *self, u64 p0, u64 p1, u64 p2, u64 p3, u64 p4, u64 p5, u6
   j0 -= j1;
   j1 = 3ull;
   i0 = j0 > j1;
-  if (i0) {goto B137;}
+  if (i0) {goto B136;}
   j0 = p1;
   j1 = 2072ull;
   j0 += j1;
   j1 = 4ull;
-  i0 = f10(self, j0, j1); m = self->memory; if (NEVER(self->is_broken)) return;
+  i0 = f11(self, j0, j1); m = self->memory; if (NEVER(self->is_broken)) return;
   i0 = !(i0);
-  if (i0) {goto B136;}
+  if (i0) {goto B135;}
   j0 = p1;
   j1 = 2088ull;
   j0 += j1;
   i0 = (u32)(j0);
   j0 = i64_load(j0);
-  p5 = j0;
+  p6 = j0;
   j0 = p1;
   j1 = 2080ull;
   j0 += j1;
   i0 = (u32)(j0);
   j0 = i64_load(j0);
   l8 = j0;
-  B137:;
+  B136:;
   j0 = p1;
   j1 = 2072ull;
   j0 += j1;
@@ -33631,9 +33618,9 @@ static void f23(module *self, u64 p0, u64 p1, u64 p2, u64 p3, u64 p4, u64 p5, u6
   i0 = (u32)(j0);
   i1 = 805552129u;
   i32_store(j0, i1);
-  j0 = p6;
+  j0 = p5;
   i0 = (u32)(j0);
-  j1 = p5;
+  j1 = p6;
   i64_store(j0, j1);
   j0 = l9;
   i0 = (u32)(j0);
@@ -33645,7 +33632,7 @@ static void f23(module *self, u64 p0, u64 p1, u64 p2, u64 p3, u64 p4, u64 p5, u6
   i0 = (u32)(j0);
   j1 = l11;
   i64_store(j0, j1);
-  B136:;
+  B135:;
   j0 = p1;
   j1 = 146ull;
   j0 += j1;
@@ -33658,7 +33645,7 @@ static void f23(module *self, u64 p0, u64 p1, u64 p2, u64 p3, u64 p4, u64 p5, u6
   l58 = i0;
   i1 = 1u;
   i0 = i0 != i1;
-  if (i0) {goto B140;}
+  if (i0) {goto B139;}
   j0 = p1;
   j1 = 204ull;
   j0 += j1;
@@ -33670,26 +33657,26 @@ static void f23(module *self, u64 p0, u64 p1, u64 p2, u64 p3, u64 p4, u64 p5, u6
   l18 = i0;
   i1 = 20u;
   i0 = i0 > i1;
-  if (i0) {goto B138;}
+  if (i0) {goto B137;}
   i0 = l18;
   i1 = 15u;
   i0 = i0 > i1;
-  if (i0) {goto B141;}
+  if (i0) {goto B140;}
   i0 = l24;
   i1 = 32u;
   i0 &= i1;
-  if (i0) {goto B139;}
-  B141:;
+  if (i0) {goto B138;}
+  B140:;
   j0 = p1;
   i1 = l18;
   j1 = (u64)(i1);
-  p5 = j1;
+  p6 = j1;
   j0 += j1;
   j1 = 167ull;
   j0 += j1;
   i0 = (u32)(j0);
   j1 = l8;
-  j2 = p5;
+  j2 = p6;
   j1 += j2;
   i1 = (u32)(j1);
   i1 = i32_load8_u(j1);
@@ -33700,7 +33687,7 @@ static void f23(module *self, u64 p0, u64 p1, u64 p2, u64 p3, u64 p4, u64 p5, u6
   j1 = 184ull;
   j0 += j1;
   j1 = l8;
-  f21(self, j0, j1);
+  f22(self, j0, j1);
   j0 = p1;
   j1 = 196ull;
   j0 += j1;
@@ -33717,15 +33704,15 @@ static void f23(module *self, u64 p0, u64 p1, u64 p2, u64 p3, u64 p4, u64 p5, u6
   i1 = (u32)(j1);
   j1 = i64_load(j1 + 184u);
   i64_store(j0, j1);
-  goto B139;
-  B140:;
+  goto B138;
+  B139:;
   j0 = p1;
   j1 = 204ull;
   j0 += j1;
   i0 = (u32)(j0);
   i1 = 48u;
   i32_store8(j0, i1);
-  B139:;
+  B138:;
   j0 = p1;
   j1 = 205ull;
   j0 += j1;
@@ -33734,70 +33721,70 @@ static void f23(module *self, u64 p0, u64 p1, u64 p2, u64 p3, u64 p4, u64 p5, u6
   i2 = 1u;
   i1 ^= i2;
   i32_store8(j0, i1);
-  B138:;
+  B137:;
   j0 = p1;
   j1 = 2096ull;
   j0 += j1;
-  p5 = j0;
+  p6 = j0;
   i0 = (u32)(j0);
   j0 = i64_load(j0);
-  p6 = j0;
+  p5 = j0;
   j1 = 16777216ull;
   i0 = j0 > j1;
-  if (i0) {goto B142;}
-  j0 = p5;
+  if (i0) {goto B141;}
+  j0 = p6;
   i0 = (u32)(j0);
-  j1 = p6;
+  j1 = p5;
   j2 = 3ull;
   j1 += j2;
-  p6 = j1;
+  p5 = j1;
   i64_store(j0, j1);
-  j0 = p6;
+  j0 = p5;
   j1 = p1;
   j2 = 2104ull;
   j1 += j2;
   i1 = (u32)(j1);
   j1 = i64_load(j1);
   i0 = j0 > j1;
-  if (i0) {goto B142;}
+  if (i0) {goto B141;}
   j0 = p1;
   j1 = 2088ull;
   j0 += j1;
   l9 = j0;
   i0 = (u32)(j0);
   j0 = i64_load(j0);
-  p6 = j0;
+  p5 = j0;
   j1 = p1;
   j2 = 2080ull;
   j1 += j2;
   l10 = j1;
   i1 = (u32)(j1);
   j1 = i64_load(j1);
-  p5 = j1;
+  p6 = j1;
   j0 -= j1;
   j1 = 2ull;
   i0 = j0 > j1;
-  if (i0) {goto B143;}
+  if (i0) {goto B142;}
   j0 = p1;
   j1 = 2072ull;
   j0 += j1;
   j1 = 3ull;
-  i0 = f10(self, j0, j1); m = self->memory; if (NEVER(self->is_broken)) return;
+  i0 = f11(self, j0, j1); m = self->memory; if (NEVER(self->is_broken)) return;
   i0 = !(i0);
-  if (i0) {goto B142;}
+  if (i0) {goto B141;}
   j0 = p1;
   j1 = 2088ull;
   j0 += j1;
   i0 = (u32)(j0);
   j0 = i64_load(j0);
-  p6 = j0;
+  p5 = j0;
   j0 = p1;
   j1 = 2080ull;
   j0 += j1;
   i0 = (u32)(j0);
   j0 = i64_load(j0);
-  p5 = j0;
-  B143:;
+  p6 = j0;
+  B142:;
   j0 = p1;
   j1 = 2072ull;
   j0 += j1;
@@ -33805,7 +33792,7 @@ static void f23(module *self, u64 p0, u64 p1, u64 p2, u64 p3, u64 p4, u64 p5, u6
   i0 = (u32)(j0);
   j0 = i64_load(j0);
   p2 = j0;
-  j1 = p5;
+  j1 = p6;
   j0 += j1;
   l15 = j0;
   i0 = (u32)(j0);
@@ -33817,11 +33804,11 @@ static void f23(module *self, u64 p0, u64 p1, u64 p2, u64 p3, u64 p4, u64 p5, u6
   i32_store16(j0, i1);
   j0 = l9;
   i0 = (u32)(j0);
-  j1 = p6;
+  j1 = p5;
   i64_store(j0, j1);
   j0 = l10;
   i0 = (u32)(j0);
-  j1 = p5;
+  j1 = p6;
   j2 = 3ull;
   j1 += j2;
   i64_store(j0, j1);
@@ -33829,7 +33816,7 @@ static void f23(module *self, u64 p0, u64 p1, u64 p2, u64 p3, u64 p4, u64 p5, u6
   i0 = (u32)(j0);
   j1 = p2;
   i64_store(j0, j1);
-  B142:;
+  B141:;
   i0 = 247u;
   l58 = i0;
   j0 = p1;
@@ -33842,7 +33829,7 @@ static void f23(module *self, u64 p0, u64 p1, u64 p2, u64 p3, u64 p4, u64 p5, u6
   l18 = i0;
   i1 = 20u;
   i0 = i0 > i1;
-  if (i0) {goto B144;}
+  if (i0) {goto B143;}
   j0 = p1;
   i1 = l18;
   j1 = (u64)(i1);
@@ -33854,7 +33841,7 @@ static void f23(module *self, u64 p0, u64 p1, u64 p2, u64 p3, u64 p4, u64 p5, u6
   i1 = 4294967287u;
   i0 &= i1;
   l58 = i0;
-  B144:;
+  B143:;
   i0 = l58;
   i1 = l59;
   i2 = 3u;
@@ -33864,66 +33851,66 @@ static void f23(module *self, u64 p0, u64 p1, u64 p2, u64 p3, u64 p4, u64 p5, u6
   j0 = p1;
   j1 = 2096ull;
   j0 += j1;
-  p5 = j0;
+  p6 = j0;
   i0 = (u32)(j0);
   j0 = i64_load(j0);
-  p6 = j0;
+  p5 = j0;
   j1 = 16777216ull;
   i0 = j0 > j1;
-  if (i0) {goto B145;}
-  j0 = p5;
+  if (i0) {goto B144;}
+  j0 = p6;
   i0 = (u32)(j0);
-  j1 = p6;
+  j1 = p5;
   j2 = 4ull;
   j1 += j2;
-  p6 = j1;
+  p5 = j1;
   i64_store(j0, j1);
-  j0 = p6;
+  j0 = p5;
   j1 = p1;
   j2 = 2104ull;
   j1 += j2;
   i1 = (u32)(j1);
   j1 = i64_load(j1);
   i0 = j0 > j1;
-  if (i0) {goto B145;}
+  if (i0) {goto B144;}
   j0 = p1;
   j1 = 2088ull;
   j0 += j1;
   l9 = j0;
   i0 = (u32)(j0);
   j0 = i64_load(j0);
-  p6 = j0;
+  p5 = j0;
   j1 = p1;
   j2 = 2080ull;
   j1 += j2;
   l10 = j1;
   i1 = (u32)(j1);
   j1 = i64_load(j1);
-  p5 = j1;
+  p6 = j1;
   j0 -= j1;
   j1 = 3ull;
   i0 = j0 > j1;
-  if (i0) {goto B146;}
+  if (i0) {goto B145;}
   j0 = p1;
   j1 = 2072ull;
   j0 += j1;
   j1 = 4ull;
-  i0 = f10(self, j0, j1); m = self->memory; if (NEVER(self->is_broken)) return;
+  i0 = f11(self, j0, j1); m = self->memory; if (NEVER(self->is_broken)) return;
   i0 = !(i0);
-  if (i0) {goto B145;}
+  if (i0) {goto B144;}
   j0 = p1;
   j1 = 2088ull;
   j0 += j1;
   i0 = (u32)(j0);
   j0 = i64_load(j0);
-  p6 = j0;
+  p5 = j0;
   j0 = p1;
   j1 = 2080ull;
   j0 += j1;
   i0 = (u32)(j0);
   j0 = i64_load(j0);
-  p5 = j0;
-  B146:;
+  p6 = j0;
+  B145:;
   j0 = p1;
   j1 = 2072ull;
   j0 += j1;
@@ -33931,7 +33918,7 @@ static void f23(module *self, u64 p0, u64 p1, u64 p2, u64 p3, u64 p4, u64 p5, u6
   i0 = (u32)(j0);
   j0 = i64_load(j0);
   p2 = j0;
-  j1 = p5;
+  j1 = p6;
   j0 += j1;
   i0 = (u32)(j0);
   i1 = l58;
@@ -33942,11 +33929,11 @@ static void f23(module *self, u64 p0, u64 p1, u64 p2, u64 p3, u64 p4, u64 p5, u6
   i32_store(j0, i1);
   j0 = l9;
   i0 = (u32)(j0);
-  j1 = p6;
+  j1 = p5;
   i64_store(j0, j1);
   j0 = l10;
   i0 = (u32)(j0);
-  j1 = p5;
+  j1 = p6;
   j2 = 4ull;
   j1 += j2;
   i64_store(j0, j1);
@@ -33954,7 +33941,7 @@ static void f23(module *self, u64 p0, u64 p1, u64 p2, u64 p3, u64 p4, u64 p5, u6
   i0 = (u32)(j0);
   j1 = p2;
   i64_store(j0, j1);
-  B145:;
+  B144:;
   j0 = p1;
   j1 = 205ull;
   j0 += j1;
@@ -33963,7 +33950,7 @@ static void f23(module *self, u64 p0, u64 p1, u64 p2, u64 p3, u64 p4, u64 p5, u6
   l59 = i0;
   i1 = 1u;
   i0 = i0 != i1;
-  if (i0) {goto B149;}
+  if (i0) {goto B148;}
   j0 = p1;
   j1 = 204ull;
   j0 += j1;
@@ -33975,26 +33962,26 @@ static void f23(module *self, u64 p0, u64 p1, u64 p2, u64 p3, u64 p4, u64 p5, u6
   l18 = i0;
   i1 = 20u;
   i0 = i0 > i1;
-  if (i0) {goto B147;}
+  if (i0) {goto B146;}
   i0 = l18;
   i1 = 15u;
   i0 = i0 > i1;
-  if (i0) {goto B150;}
+  if (i0) {goto B149;}
   i0 = l24;
   i1 = 32u;
   i0 &= i1;
-  if (i0) {goto B148;}
-  B150:;
+  if (i0) {goto B147;}
+  B149:;
   j0 = p1;
   i1 = l18;
   j1 = (u64)(i1);
-  p5 = j1;
+  p6 = j1;
   j0 += j1;
   j1 = 167ull;
   j0 += j1;
   i0 = (u32)(j0);
   j1 = l8;
-  j2 = p5;
+  j2 = p6;
   j1 += j2;
   i1 = (u32)(j1);
   i1 = i32_load8_u(j1);
@@ -34005,7 +33992,7 @@ static void f23(module *self, u64 p0, u64 p1, u64 p2, u64 p3, u64 p4, u64 p5, u6
   j1 = 184ull;
   j0 += j1;
   j1 = l8;
-  f21(self, j0, j1);
+  f22(self, j0, j1);
   j0 = p1;
   j1 = 196ull;
   j0 += j1;
@@ -34022,8 +34009,8 @@ static void f23(module *self, u64 p0, u64 p1, u64 p2, u64 p3, u64 p4, u64 p5, u6
   i1 = (u32)(j1);
   j1 = i64_load(j1 + 184u);
   i64_store(j0, j1);
-  goto B148;
-  B149:;
+  goto B147;
+  B148:;
   j0 = p1;
   j1 = 204ull;
   j0 += j1;
@@ -34032,7 +34019,7 @@ static void f23(module *self, u64 p0, u64 p1, u64 p2, u64 p3, u64 p4, u64 p5, u6
   i2 = 63u;
   i1 &= i2;
   i32_store8(j0, i1);
-  B148:;
+  B147:;
   j0 = p1;
   j1 = 205ull;
   j0 += j1;
@@ -34041,139 +34028,10 @@ static void f23(module *self, u64 p0, u64 p1, u64 p2, u64 p3, u64 p4, u64 p5, u6
   i2 = 1u;
   i1 ^= i2;
   i32_store8(j0, i1);
-  B147:;
+  B146:;
   j0 = p1;
   i1 = l27;
-  f40(self, j0, i1); m = self->memory; if (NEVER(self->is_broken)) return;
-  goto B48;
-  B127:;
-  i0 = l27;
-  i1 = 6u;
-  i0 += i1;
-  l58 = i0;
-  j0 = p1;
-  j1 = 2096ull;
-  j0 += j1;
-  l8 = j0;
-  i0 = (u32)(j0);
-  j0 = i64_load(j0);
-  p5 = j0;
-  j1 = 16777216ull;
-  i0 = j0 > j1;
-  if (i0) {goto B151;}
-  j0 = l8;
-  i0 = (u32)(j0);
-  j1 = p5;
-  j2 = 3ull;
-  j1 += j2;
-  p5 = j1;
-  i64_store(j0, j1);
-  j0 = p5;
-  j1 = p1;
-  j2 = 2104ull;
-  j1 += j2;
-  i1 = (u32)(j1);
-  j1 = i64_load(j1);
-  i0 = j0 > j1;
-  if (i0) {goto B151;}
-  j0 = p1;
-  j1 = 2088ull;
-  j0 += j1;
-  l9 = j0;
-  i0 = (u32)(j0);
-  j0 = i64_load(j0);
-  p6 = j0;
-  j1 = p1;
-  j2 = 2080ull;
-  j1 += j2;
-  l10 = j1;
-  i1 = (u32)(j1);
-  j1 = i64_load(j1);
-  l8 = j1;
-  j0 -= j1;
-  j1 = 2ull;
-  i0 = j0 > j1;
-  if (i0) {goto B152;}
-  j0 = p1;
-  j1 = 2072ull;
-  j0 += j1;
-  j1 = 3ull;
-  i0 = f10(self, j0, j1); m = self->memory; if (NEVER(self->is_broken)) return;
-  i0 = !(i0);
-  if (i0) {goto B151;}
-  j0 = p1;
-  j1 = 2088ull;
-  j0 += j1;
-  i0 = (u32)(j0);
-  j0 = i64_load(j0);
-  p6 = j0;
-  j0 = p1;
-  j1 = 2080ull;
-  j0 += j1;
-  i0 = (u32)(j0);
-  j0 = i64_load(j0);
-  l8 = j0;
-  B152:;
-  j0 = p1;
-  j1 = 2072ull;
-  j0 += j1;
-  l11 = j0;
-  i0 = (u32)(j0);
-  j0 = i64_load(j0);
-  p2 = j0;
-  j1 = l8;
-  j0 += j1;
-  p5 = j0;
-  i0 = (u32)(j0);
-  i1 = l58;
-  i2 = 65280u;
-  i1 &= i2;
-  i2 = 8u;
-  i1 >>= (i2 & 31);
-  i32_store8(j0 + 2, i1);
-  j0 = p5;
-  i0 = (u32)(j0);
-  i1 = l58;
-  i32_store8(j0 + 1, i1);
-  j0 = p5;
-  i0 = (u32)(j0);
-  i1 = 3u;
-  i32_store8(j0, i1);
-  j0 = l9;
-  i0 = (u32)(j0);
-  j1 = p6;
-  i64_store(j0, j1);
-  j0 = l10;
-  i0 = (u32)(j0);
-  j1 = l8;
-  j2 = 3ull;
-  j1 += j2;
-  i64_store(j0, j1);
-  j0 = l11;
-  i0 = (u32)(j0);
-  j1 = p2;
-  i64_store(j0, j1);
-  B151:;
-  j0 = l7;
-  j1 = 144ull;
-  j0 += j1;
-  j1 = p1;
-  i2 = l58;
-  f24(self, j0, j1, i2); if (NEVER(self->is_broken)) return;
-  j0 = p1;
-  i1 = l27;
-  i2 = l59;
-  i0 = f25(self, j0, i1, i2); m = self->memory; if (NEVER(self->is_broken)) return;
-  j0 = (u64)(i0);
-  j1 = 255ull;
-  j0 &= j1;
-  j1 = 8ull;
-  j0 <<= (j1 & 63);
-  j1 = l12;
-  j2 = 255ull;
-  j1 &= j2;
-  j0 |= j1;
-  l8 = j0;
+  f41(self, j0, i1); m = self->memory; if (NEVER(self->is_broken)) return;
   goto B47;
   B126:;
   i0 = l27;
@@ -34186,32 +34044,32 @@ static void f23(module *self, u64 p0, u64 p1, u64 p2, u64 p3, u64 p4, u64 p5, u6
   l8 = j0;
   i0 = (u32)(j0);
   j0 = i64_load(j0);
-  p5 = j0;
+  p6 = j0;
   j1 = 16777216ull;
   i0 = j0 > j1;
-  if (i0) {goto B153;}
+  if (i0) {goto B150;}
   j0 = l8;
   i0 = (u32)(j0);
-  j1 = p5;
+  j1 = p6;
   j2 = 3ull;
   j1 += j2;
-  p5 = j1;
+  p6 = j1;
   i64_store(j0, j1);
-  j0 = p5;
+  j0 = p6;
   j1 = p1;
   j2 = 2104ull;
   j1 += j2;
   i1 = (u32)(j1);
   j1 = i64_load(j1);
   i0 = j0 > j1;
-  if (i0) {goto B153;}
+  if (i0) {goto B150;}
   j0 = p1;
   j1 = 2088ull;
   j0 += j1;
   l9 = j0;
   i0 = (u32)(j0);
   j0 = i64_load(j0);
-  p6 = j0;
+  p5 = j0;
   j1 = p1;
   j2 = 2080ull;
   j1 += j2;
@@ -34222,27 +34080,27 @@ static void f23(module *self, u64 p0, u64 p1, u64 p2, u64 p3, u64 p4, u64 p5, u6
   j0 -= j1;
   j1 = 2ull;
   i0 = j0 > j1;
-  if (i0) {goto B154;}
+  if (i0) {goto B151;}
   j0 = p1;
   j1 = 2072ull;
   j0 += j1;
   j1 = 3ull;
-  i0 = f10(self, j0, j1); m = self->memory; if (NEVER(self->is_broken)) return;
+  i0 = f11(self, j0, j1); m = self->memory; if (NEVER(self->is_broken)) return;
   i0 = !(i0);
-  if (i0) {goto B153;}
+  if (i0) {goto B150;}
   j0 = p1;
   j1 = 2088ull;
   j0 += j1;
   i0 = (u32)(j0);
   j0 = i64_load(j0);
-  p6 = j0;
+  p5 = j0;
   j0 = p1;
   j1 = 2080ull;
   j0 += j1;
   i0 = (u32)(j0);
   j0 = i64_load(j0);
   l8 = j0;
-  B154:;
+  B151:;
   j0 = p1;
   j1 = 2072ull;
   j0 += j1;
@@ -34252,7 +34110,7 @@ static void f23(module *self, u64 p0, u64 p1, u64 p2, u64 p3, u64 p4, u64 p5, u6
   p2 = j0;
   j1 = l8;
   j0 += j1;
-  p5 = j0;
+  p6 = j0;
   i0 = (u32)(j0);
   i1 = l58;
   i2 = 65280u;
@@ -34260,17 +34118,17 @@ static void f23(module *self, u64 p0, u64 p1, u64 p2, u64 p3, u64 p4, u64 p5, u6
   i2 = 8u;
   i1 >>= (i2 & 31);
   i32_store8(j0 + 2, i1);
-  j0 = p5;
+  j0 = p6;
   i0 = (u32)(j0);
   i1 = l58;
   i32_store8(j0 + 1, i1);
-  j0 = p5;
+  j0 = p6;
   i0 = (u32)(j0);
   i1 = 3u;
   i32_store8(j0, i1);
   j0 = l9;
   i0 = (u32)(j0);
-  j1 = p6;
+  j1 = p5;
   i64_store(j0, j1);
   j0 = l10;
   i0 = (u32)(j0);
@@ -34282,17 +34140,17 @@ static void f23(module *self, u64 p0, u64 p1, u64 p2, u64 p3, u64 p4, u64 p5, u6
   i0 = (u32)(j0);
   j1 = p2;
   i64_store(j0, j1);
-  B153:;
+  B150:;
   j0 = l7;
-  j1 = 152ull;
+  j1 = 144ull;
   j0 += j1;
   j1 = p1;
   i2 = l58;
-  f24(self, j0, j1, i2); if (NEVER(self->is_broken)) return;
+  f25(self, j0, j1, i2); if (NEVER(self->is_broken)) return;
   j0 = p1;
   i1 = l27;
-  i2 = 17u;
-  i0 = f25(self, j0, i1, i2); m = self->memory; if (NEVER(self->is_broken)) return;
+  i2 = l59;
+  i0 = f26(self, j0, i1, i2); m = self->memory; if (NEVER(self->is_broken)) return;
   j0 = (u64)(i0);
   j1 = 255ull;
   j0 &= j1;
@@ -34303,18 +34161,147 @@ static void f23(module *self, u64 p0, u64 p1, u64 p2, u64 p3, u64 p4, u64 p5, u6
   j1 &= j2;
   j0 |= j1;
   l8 = j0;
-  goto B47;
+  goto B46;
   B125:;
+  i0 = l27;
+  i1 = 6u;
+  i0 += i1;
+  l58 = i0;
   j0 = p1;
   j1 = 2096ull;
   j0 += j1;
   l8 = j0;
   i0 = (u32)(j0);
   j0 = i64_load(j0);
+  p6 = j0;
+  j1 = 16777216ull;
+  i0 = j0 > j1;
+  if (i0) {goto B152;}
+  j0 = l8;
+  i0 = (u32)(j0);
+  j1 = p6;
+  j2 = 3ull;
+  j1 += j2;
+  p6 = j1;
+  i64_store(j0, j1);
+  j0 = p6;
+  j1 = p1;
+  j2 = 2104ull;
+  j1 += j2;
+  i1 = (u32)(j1);
+  j1 = i64_load(j1);
+  i0 = j0 > j1;
+  if (i0) {goto B152;}
+  j0 = p1;
+  j1 = 2088ull;
+  j0 += j1;
+  l9 = j0;
+  i0 = (u32)(j0);
+  j0 = i64_load(j0);
   p5 = j0;
+  j1 = p1;
+  j2 = 2080ull;
+  j1 += j2;
+  l10 = j1;
+  i1 = (u32)(j1);
+  j1 = i64_load(j1);
+  l8 = j1;
+  j0 -= j1;
+  j1 = 2ull;
+  i0 = j0 > j1;
+  if (i0) {goto B153;}
+  j0 = p1;
+  j1 = 2072ull;
+  j0 += j1;
+  j1 = 3ull;
+  i0 = f11(self, j0, j1); m = self->memory; if (NEVER(self->is_broken)) return;
+  i0 = !(i0);
+  if (i0) {goto B152;}
+  j0 = p1;
+  j1 = 2088ull;
+  j0 += j1;
+  i0 = (u32)(j0);
+  j0 = i64_load(j0);
+  p5 = j0;
+  j0 = p1;
+  j1 = 2080ull;
+  j0 += j1;
+  i0 = (u32)(j0);
+  j0 = i64_load(j0);
+  l8 = j0;
+  B153:;
+  j0 = p1;
+  j1 = 2072ull;
+  j0 += j1;
+  l11 = j0;
+  i0 = (u32)(j0);
+  j0 = i64_load(j0);
+  p2 = j0;
+  j1 = l8;
+  j0 += j1;
+  p6 = j0;
+  i0 = (u32)(j0);
+  i1 = l58;
+  i2 = 65280u;
+  i1 &= i2;
+  i2 = 8u;
+  i1 >>= (i2 & 31);
+  i32_store8(j0 + 2, i1);
+  j0 = p6;
+  i0 = (u32)(j0);
+  i1 = l58;
+  i32_store8(j0 + 1, i1);
+  j0 = p6;
+  i0 = (u32)(j0);
+  i1 = 3u;
+  i32_store8(j0, i1);
+  j0 = l9;
+  i0 = (u32)(j0);
+  j1 = p5;
+  i64_store(j0, j1);
+  j0 = l10;
+  i0 = (u32)(j0);
+  j1 = l8;
+  j2 = 3ull;
+  j1 += j2;
+  i64_store(j0, j1);
+  j0 = l11;
+  i0 = (u32)(j0);
+  j1 = p2;
+  i64_store(j0, j1);
+  B152:;
+  j0 = l7;
+  j1 = 152ull;
+  j0 += j1;
+  j1 = p1;
+  i2 = l58;
+  f25(self, j0, j1, i2); if (NEVER(self->is_broken)) return;
+  j0 = p1;
+  i1 = l27;
+  i2 = 17u;
+  i0 = f26(self, j0, i1, i2); m = self->memory; if (NEVER(self->is_broken)) return;
+  j0 = (u64)(i0);
+  j1 = 255ull;
+  j0 &= j1;
+  j1 = 8ull;
+  j0 <<= (j1 & 63);
+  j1 = l12;
+  j2 = 255ull;
+  j1 &= j2;
+  j0 |= j1;
+  l8 = j0;
+  goto B46;
+  B124:;
+  j0 = p1;
+  j1 = 2096ull;
+  j0 += j1;
+  l8 = j0;
+  i0 = (u32)(j0);
+  j0 = i64_load(j0);
+  p6 = j0;
   j1 = 16777217ull;
   i0 = j0 < j1;
-  if (i0) {goto B155;}
+  if (i0) {goto B154;}
   j0 = p1;
   j1 = 1999ull;
   j0 += j1;
@@ -34328,30 +34315,30 @@ static void f23(module *self, u64 p0, u64 p1, u64 p2, u64 p3, u64 p4, u64 p5, u6
   i0 = (u32)(j0);
   i1 = l58;
   i32_store8(j0, i1);
-  goto B51;
-  B155:;
+  goto B50;
+  B154:;
   j0 = l8;
   i0 = (u32)(j0);
-  j1 = p5;
+  j1 = p6;
   j2 = 4ull;
   j1 += j2;
-  p5 = j1;
+  p6 = j1;
   i64_store(j0, j1);
-  j0 = p5;
+  j0 = p6;
   j1 = p1;
   j2 = 2104ull;
   j1 += j2;
   i1 = (u32)(j1);
   j1 = i64_load(j1);
   i0 = j0 > j1;
-  if (i0) {goto B156;}
+  if (i0) {goto B155;}
   j0 = p1;
   j1 = 2088ull;
   j0 += j1;
-  p6 = j0;
+  p5 = j0;
   i0 = (u32)(j0);
   j0 = i64_load(j0);
-  p5 = j0;
+  p6 = j0;
   j1 = p1;
   j2 = 2080ull;
   j1 += j2;
@@ -34362,27 +34349,27 @@ static void f23(module *self, u64 p0, u64 p1, u64 p2, u64 p3, u64 p4, u64 p5, u6
   j0 -= j1;
   j1 = 3ull;
   i0 = j0 > j1;
-  if (i0) {goto B158;}
+  if (i0) {goto B157;}
   j0 = p1;
   j1 = 2072ull;
   j0 += j1;
   j1 = 4ull;
-  i0 = f10(self, j0, j1); m = self->memory; if (NEVER(self->is_broken)) return;
+  i0 = f11(self, j0, j1); m = self->memory; if (NEVER(self->is_broken)) return;
   i0 = !(i0);
-  if (i0) {goto B157;}
+  if (i0) {goto B156;}
   j0 = p1;
   j1 = 2088ull;
   j0 += j1;
   i0 = (u32)(j0);
   j0 = i64_load(j0);
-  p5 = j0;
+  p6 = j0;
   j0 = p1;
   j1 = 2080ull;
   j0 += j1;
   i0 = (u32)(j0);
   j0 = i64_load(j0);
   l8 = j0;
-  B158:;
+  B157:;
   j0 = p1;
   j1 = 2072ull;
   j0 += j1;
@@ -34399,9 +34386,9 @@ static void f23(module *self, u64 p0, u64 p1, u64 p2, u64 p3, u64 p4, u64 p5, u6
   i2 = 247809u;
   i1 |= i2;
   i32_store(j0, i1);
-  j0 = p6;
+  j0 = p5;
   i0 = (u32)(j0);
-  j1 = p5;
+  j1 = p6;
   i64_store(j0, j1);
   j0 = l9;
   i0 = (u32)(j0);
@@ -34413,14 +34400,14 @@ static void f23(module *self, u64 p0, u64 p1, u64 p2, u64 p3, u64 p4, u64 p5, u6
   i0 = (u32)(j0);
   j1 = l11;
   i64_store(j0, j1);
-  B157:;
+  B156:;
   j0 = p1;
   j1 = 2096ull;
   j0 += j1;
   i0 = (u32)(j0);
   j0 = i64_load(j0);
-  p5 = j0;
-  B156:;
+  p6 = j0;
+  B155:;
   j0 = p1;
   j1 = 1999ull;
   j0 += j1;
@@ -34434,65 +34421,65 @@ static void f23(module *self, u64 p0, u64 p1, u64 p2, u64 p3, u64 p4, u64 p5, u6
   i0 = (u32)(j0);
   i1 = l58;
   i32_store8(j0, i1);
-  j0 = p5;
+  j0 = p6;
   j1 = 16777216ull;
   i0 = j0 > j1;
-  if (i0) {goto B51;}
+  if (i0) {goto B50;}
   j0 = p1;
   j1 = 2096ull;
   j0 += j1;
   i0 = (u32)(j0);
-  j1 = p5;
+  j1 = p6;
   j2 = 4ull;
   j1 += j2;
-  p5 = j1;
+  p6 = j1;
   i64_store(j0, j1);
-  j0 = p5;
+  j0 = p6;
   j1 = p1;
   j2 = 2104ull;
   j1 += j2;
   i1 = (u32)(j1);
   j1 = i64_load(j1);
   i0 = j0 > j1;
-  if (i0) {goto B159;}
+  if (i0) {goto B158;}
   j0 = p1;
   j1 = 2088ull;
   j0 += j1;
   l9 = j0;
   i0 = (u32)(j0);
   j0 = i64_load(j0);
-  p6 = j0;
+  p5 = j0;
   j1 = p1;
   j2 = 2080ull;
   j1 += j2;
   l10 = j1;
   i1 = (u32)(j1);
   j1 = i64_load(j1);
-  p5 = j1;
+  p6 = j1;
   j0 -= j1;
   j1 = 3ull;
   i0 = j0 > j1;
-  if (i0) {goto B160;}
+  if (i0) {goto B159;}
   j0 = p1;
   j1 = 2072ull;
   j0 += j1;
   j1 = 4ull;
-  i0 = f10(self, j0, j1); m = self->memory; if (NEVER(self->is_broken)) return;
+  i0 = f11(self, j0, j1); m = self->memory; if (NEVER(self->is_broken)) return;
   i0 = !(i0);
-  if (i0) {goto B159;}
+  if (i0) {goto B158;}
   j0 = p1;
   j1 = 2088ull;
   j0 += j1;
   i0 = (u32)(j0);
   j0 = i64_load(j0);
-  p6 = j0;
+  p5 = j0;
   j0 = p1;
   j1 = 2080ull;
   j0 += j1;
   i0 = (u32)(j0);
   j0 = i64_load(j0);
-  p5 = j0;
-  B160:;
+  p6 = j0;
+  B159:;
   j0 = p1;
   j1 = 2072ull;
   j0 += j1;
@@ -34500,7 +34487,7 @@ static void f23(module *self, u64 p0, u64 p1, u64 p2, u64 p3, u64 p4, u64 p5, u6
   i0 = (u32)(j0);
   j0 = i64_load(j0);
   p2 = j0;
-  j1 = p5;
+  j1 = p6;
   j0 += j1;
   i0 = (u32)(j0);
   i1 = l24;
@@ -34511,11 +34498,11 @@ static void f23(module *self, u64 p0, u64 p1, u64 p2, u64 p3, u64 p4, u64 p5, u6
   i32_store(j0, i1);
   j0 = l9;
   i0 = (u32)(j0);
-  j1 = p6;
+  j1 = p5;
   i64_store(j0, j1);
   j0 = l10;
   i0 = (u32)(j0);
-  j1 = p5;
+  j1 = p6;
   j2 = 4ull;
   j1 += j2;
   i64_store(j0, j1);
@@ -34523,7 +34510,7 @@ static void f23(module *self, u64 p0, u64 p1, u64 p2, u64 p3, u64 p4, u64 p5, u6
   i0 = (u32)(j0);
   j1 = p2;
   i64_store(j0, j1);
-  B159:;
+  B158:;
   i0 = l28;
   i1 = 63u;
   i0 &= i1;
@@ -34533,18 +34520,18 @@ static void f23(module *self, u64 p0, u64 p1, u64 p2, u64 p3, u64 p4, u64 p5, u6
   j0 = i64_load8_u(j0);
   i0 = (u32)(j0);
   switch (i0) {
-    case 0: goto B50;
-    case 1: goto B161;
-    case 2: goto B162;
-    default: goto B50;
+    case 0: goto B49;
+    case 1: goto B160;
+    case 2: goto B161;
+    default: goto B49;
   }
-  B162:;
+  B161:;
   j0 = p1;
   j1 = 1998ull;
   j0 += j1;
-  p5 = j0;
+  p6 = j0;
   i0 = (u32)(j0);
-  j1 = p5;
+  j1 = p6;
   i1 = (u32)(j1);
   i1 = i32_load8_u(j1);
   l58 = i1;
@@ -34556,9 +34543,9 @@ static void f23(module *self, u64 p0, u64 p1, u64 p2, u64 p3, u64 p4, u64 p5, u6
   j1 = (u64)(i1);
   j2 = 255ull;
   j1 &= j2;
-  p6 = j1;
+  p5 = j1;
   j0 += j1;
-  p5 = j0;
+  p6 = j0;
   j1 = 206ull;
   j0 += j1;
   i0 = (u32)(j0);
@@ -34569,7 +34556,7 @@ static void f23(module *self, u64 p0, u64 p1, u64 p2, u64 p3, u64 p4, u64 p5, u6
   i1 = i32_load8_u(j1);
   l59 = i1;
   i32_store8(j0, i1);
-  j0 = p5;
+  j0 = p6;
   j1 = 462ull;
   j0 += j1;
   i0 = (u32)(j0);
@@ -34580,7 +34567,7 @@ static void f23(module *self, u64 p0, u64 p1, u64 p2, u64 p3, u64 p4, u64 p5, u6
   i1 = i32_load8_u(j1);
   l18 = i1;
   i32_store8(j0, i1);
-  j0 = p5;
+  j0 = p6;
   j1 = 718ull;
   j0 += j1;
   i0 = (u32)(j0);
@@ -34589,36 +34576,36 @@ static void f23(module *self, u64 p0, u64 p1, u64 p2, u64 p3, u64 p4, u64 p5, u6
   i0 = 0u;
   l58 = i0;
   j0 = p1;
-  j1 = p6;
+  j1 = p5;
   j2 = 2ull;
   j1 <<= (j2 & 63);
   j0 += j1;
-  p5 = j0;
+  p6 = j0;
   j1 = 977ull;
   j0 += j1;
   i0 = (u32)(j0);
   i1 = 0u;
   i32_store8(j0, i1);
-  j0 = p5;
+  j0 = p6;
   j1 = 976ull;
   j0 += j1;
   i0 = (u32)(j0);
   i1 = l27;
   i32_store8(j0, i1);
-  j0 = p5;
+  j0 = p6;
   j1 = 975ull;
   j0 += j1;
   i0 = (u32)(j0);
   i1 = l18;
   i32_store8(j0, i1);
-  j0 = p5;
+  j0 = p6;
   j1 = 974ull;
   j0 += j1;
   i0 = (u32)(j0);
   i1 = l59;
   i32_store8(j0, i1);
-  goto B49;
-  B161:;
+  goto B48;
+  B160:;
   j0 = p1;
   j1 = 2001ull;
   j0 += j1;
@@ -34627,8 +34614,8 @@ static void f23(module *self, u64 p0, u64 p1, u64 p2, u64 p3, u64 p4, u64 p5, u6
   i32_store8(j0, i1);
   i0 = 2u;
   l58 = i0;
-  goto B49;
-  B124:;
+  goto B48;
+  B123:;
   j0 = p1;
   j1 = 2096ull;
   j0 += j1;
@@ -34638,7 +34625,7 @@ static void f23(module *self, u64 p0, u64 p1, u64 p2, u64 p3, u64 p4, u64 p5, u6
   l9 = j0;
   j1 = 16777216ull;
   i0 = j0 > j1;
-  if (i0) {goto B163;}
+  if (i0) {goto B162;}
   j0 = l8;
   i0 = (u32)(j0);
   j1 = l9;
@@ -34653,7 +34640,7 @@ static void f23(module *self, u64 p0, u64 p1, u64 p2, u64 p3, u64 p4, u64 p5, u6
   i1 = (u32)(j1);
   j1 = i64_load(j1);
   i0 = j0 > j1;
-  if (i0) {goto B163;}
+  if (i0) {goto B162;}
   j0 = p1;
   j1 = 2088ull;
   j0 += j1;
@@ -34671,14 +34658,14 @@ static void f23(module *self, u64 p0, u64 p1, u64 p2, u64 p3, u64 p4, u64 p5, u6
   j0 -= j1;
   j1 = 3ull;
   i0 = j0 > j1;
-  if (i0) {goto B164;}
+  if (i0) {goto B163;}
   j0 = p1;
   j1 = 2072ull;
   j0 += j1;
   j1 = 4ull;
-  i0 = f10(self, j0, j1); m = self->memory; if (NEVER(self->is_broken)) return;
+  i0 = f11(self, j0, j1); m = self->memory; if (NEVER(self->is_broken)) return;
   i0 = !(i0);
-  if (i0) {goto B163;}
+  if (i0) {goto B162;}
   j0 = p1;
   j1 = 2088ull;
   j0 += j1;
@@ -34691,7 +34678,7 @@ static void f23(module *self, u64 p0, u64 p1, u64 p2, u64 p3, u64 p4, u64 p5, u6
   i0 = (u32)(j0);
   j0 = i64_load(j0);
   l8 = j0;
-  B164:;
+  B163:;
   j0 = p1;
   j1 = 2072ull;
   j0 += j1;
@@ -34722,7 +34709,7 @@ static void f23(module *self, u64 p0, u64 p1, u64 p2, u64 p3, u64 p4, u64 p5, u6
   i0 = (u32)(j0);
   j1 = l15;
   i64_store(j0, j1);
-  B163:;
+  B162:;
   j0 = p1;
   j1 = 1999ull;
   j0 += j1;
@@ -34737,7 +34724,7 @@ static void f23(module *self, u64 p0, u64 p1, u64 p2, u64 p3, u64 p4, u64 p5, u6
   i32_store8(j0, i1);
   j0 = p6;
   i0 = !(j0);
-  if (i0) {goto B48;}
+  if (i0) {goto B47;}
   j0 = p1;
   j1 = 974ull;
   j0 += j1;
@@ -34762,16 +34749,16 @@ static void f23(module *self, u64 p0, u64 p1, u64 p2, u64 p3, u64 p4, u64 p5, u6
   l9 = j0;
   j1 = 16777216ull;
   i0 = j0 > j1;
-  if (i0) {goto B166;}
+  if (i0) {goto B165;}
   j0 = p6;
   j1 = 18446744073709551615ull;
   j0 += j1;
   l8 = j0;
-  goto B165;
-  B166:;
+  goto B164;
+  B165:;
   i0 = 0u;
   l27 = i0;
-  L167: 
+  L166: 
     j0 = p5;
     i0 = (u32)(j0);
     i0 = i32_load8_u(j0);
@@ -34784,12 +34771,12 @@ static void f23(module *self, u64 p0, u64 p1, u64 p2, u64 p3, u64 p4, u64 p5, u6
     j0 &= j1;
     i0 = (u32)(j0);
     switch (i0) {
-      case 0: goto B169;
-      case 1: goto B170;
-      case 2: goto B171;
-      default: goto B169;
+      case 0: goto B168;
+      case 1: goto B169;
+      case 2: goto B170;
+      default: goto B168;
     }
-    B171:;
+    B170:;
     j0 = p1;
     j1 = 1998ull;
     j0 += j1;
@@ -34856,8 +34843,8 @@ static void f23(module *self, u64 p0, u64 p1, u64 p2, u64 p3, u64 p4, u64 p5, u6
     i32_store8(j0, i1);
     i0 = l18;
     l58 = i0;
-    goto B168;
-    B170:;
+    goto B167;
+    B169:;
     j0 = p1;
     j1 = 2001ull;
     j0 += j1;
@@ -34866,8 +34853,8 @@ static void f23(module *self, u64 p0, u64 p1, u64 p2, u64 p3, u64 p4, u64 p5, u6
     i32_store8(j0, i1);
     i0 = 2u;
     l27 = i0;
-    goto B168;
-    B169:;
+    goto B167;
+    B168:;
     j0 = p1;
     j1 = 2000ull;
     j0 += j1;
@@ -34876,7 +34863,7 @@ static void f23(module *self, u64 p0, u64 p1, u64 p2, u64 p3, u64 p4, u64 p5, u6
     i32_store8(j0, i1);
     i0 = 1u;
     l27 = i0;
-    B168:;
+    B167:;
     j0 = p1;
     j1 = 1999ull;
     j0 += j1;
@@ -34893,11 +34880,11 @@ static void f23(module *self, u64 p0, u64 p1, u64 p2, u64 p3, u64 p4, u64 p5, u6
     p6 = j0;
     i0 = !(j0);
     i0 = !(i0);
-    if (i0) {goto L167;}
-    goto B48;
+    if (i0) {goto L166;}
+    goto B47;
   { self->is_broken = true; return; }
-  B165:;
-  L172: 
+  B164:;
+  L171: 
     j0 = p5;
     i0 = (u32)(j0);
     i0 = i32_load8_u(j0);
@@ -34905,7 +34892,7 @@ static void f23(module *self, u64 p0, u64 p1, u64 p2, u64 p3, u64 p4, u64 p5, u6
     j0 = l9;
     j1 = 16777216ull;
     i0 = j0 > j1;
-    if (i0) {goto B173;}
+    if (i0) {goto B172;}
     j0 = p1;
     j1 = 2096ull;
     j0 += j1;
@@ -34922,7 +34909,7 @@ static void f23(module *self, u64 p0, u64 p1, u64 p2, u64 p3, u64 p4, u64 p5, u6
     i1 = (u32)(j1);
     j1 = i64_load(j1);
     i0 = j0 > j1;
-    if (i0) {goto B173;}
+    if (i0) {goto B172;}
     j0 = p1;
     j1 = 2088ull;
     j0 += j1;
@@ -34940,14 +34927,14 @@ static void f23(module *self, u64 p0, u64 p1, u64 p2, u64 p3, u64 p4, u64 p5, u6
     j0 -= j1;
     j1 = 3ull;
     i0 = j0 > j1;
-    if (i0) {goto B174;}
+    if (i0) {goto B173;}
     j0 = p1;
     j1 = 2072ull;
     j0 += j1;
     j1 = 4ull;
-    i0 = f10(self, j0, j1); m = self->memory; if (NEVER(self->is_broken)) return;
+    i0 = f11(self, j0, j1); m = self->memory; if (NEVER(self->is_broken)) return;
     i0 = !(i0);
-    if (i0) {goto B173;}
+    if (i0) {goto B172;}
     j0 = p1;
     j1 = 2088ull;
     j0 += j1;
@@ -34960,7 +34947,7 @@ static void f23(module *self, u64 p0, u64 p1, u64 p2, u64 p3, u64 p4, u64 p5, u6
     i0 = (u32)(j0);
     j0 = i64_load(j0);
     p6 = j0;
-    B174:;
+    B173:;
     j0 = p1;
     j1 = 2072ull;
     j0 += j1;
@@ -34991,7 +34978,7 @@ static void f23(module *self, u64 p0, u64 p1, u64 p2, u64 p3, u64 p4, u64 p5, u6
     i0 = (u32)(j0);
     j1 = l13;
     i64_store(j0, j1);
-    B173:;
+    B172:;
     i0 = l58;
     i1 = 63u;
     i0 &= i1;
@@ -35003,12 +34990,12 @@ static void f23(module *self, u64 p0, u64 p1, u64 p2, u64 p3, u64 p4, u64 p5, u6
     j0 = i64_load8_u(j0);
     i0 = (u32)(j0);
     switch (i0) {
-      case 0: goto B178;
-      case 1: goto B176;
-      case 2: goto B177;
-      default: goto B178;
+      case 0: goto B177;
+      case 1: goto B175;
+      case 2: goto B176;
+      default: goto B177;
     }
-    B178:;
+    B177:;
     j0 = p1;
     j1 = 2000ull;
     j0 += j1;
@@ -35017,8 +35004,8 @@ static void f23(module *self, u64 p0, u64 p1, u64 p2, u64 p3, u64 p4, u64 p5, u6
     i32_store8(j0, i1);
     i0 = 1u;
     l27 = i0;
-    goto B175;
-    B177:;
+    goto B174;
+    B176:;
     j0 = p1;
     j1 = 1998ull;
     j0 += j1;
@@ -35086,8 +35073,8 @@ static void f23(module *self, u64 p0, u64 p1, u64 p2, u64 p3, u64 p4, u64 p5, u6
     i0 = (u32)(j0);
     i1 = l59;
     i32_store8(j0, i1);
-    goto B175;
-    B176:;
+    goto B174;
+    B175:;
     j0 = p1;
     j1 = 2001ull;
     j0 += j1;
@@ -35096,7 +35083,7 @@ static void f23(module *self, u64 p0, u64 p1, u64 p2, u64 p3, u64 p4, u64 p5, u6
     i32_store8(j0, i1);
     i0 = 2u;
     l27 = i0;
-    B175:;
+    B174:;
     j0 = p1;
     j1 = 1999ull;
     j0 += j1;
@@ -35105,7 +35092,7 @@ static void f23(module *self, u64 p0, u64 p1, u64 p2, u64 p3, u64 p4, u64 p5, u6
     i32_store8(j0, i1);
     j0 = l8;
     i0 = !(j0);
-    if (i0) {goto B48;}
+    if (i0) {goto B47;}
     j0 = p5;
     j1 = 1ull;
     j0 += j1;
@@ -35120,19 +35107,19 @@ static void f23(module *self, u64 p0, u64 p1, u64 p2, u64 p3, u64 p4, u64 p5, u6
     i0 = (u32)(j0);
     j0 = i64_load(j0);
     l9 = j0;
-    goto L172;
+    goto L171;
   { self->is_broken = true; return; }
-  B123:;
+  B122:;
   j0 = p1;
   j1 = 2096ull;
   j0 += j1;
   l8 = j0;
   i0 = (u32)(j0);
   j0 = i64_load(j0);
-  p5 = j0;
+  p6 = j0;
   j1 = 16777217ull;
   i0 = j0 < j1;
-  if (i0) {goto B179;}
+  if (i0) {goto B178;}
   j0 = p1;
   j1 = 1999ull;
   j0 += j1;
@@ -35143,34 +35130,34 @@ static void f23(module *self, u64 p0, u64 p1, u64 p2, u64 p3, u64 p4, u64 p5, u6
   j0 = p1;
   j1 = 1998ull;
   j0 += j1;
-  p5 = j0;
+  p6 = j0;
   i0 = (u32)(j0);
   i1 = l58;
   i32_store8(j0, i1);
-  goto B54;
-  B179:;
+  goto B53;
+  B178:;
   j0 = l8;
   i0 = (u32)(j0);
-  j1 = p5;
+  j1 = p6;
   j2 = 4ull;
   j1 += j2;
-  p6 = j1;
+  p5 = j1;
   i64_store(j0, j1);
-  j0 = p6;
+  j0 = p5;
   j1 = p1;
   j2 = 2104ull;
   j1 += j2;
   i1 = (u32)(j1);
   j1 = i64_load(j1);
   i0 = j0 > j1;
-  if (i0) {goto B180;}
+  if (i0) {goto B179;}
   j0 = p1;
   j1 = 2088ull;
   j0 += j1;
-  p6 = j0;
+  p5 = j0;
   i0 = (u32)(j0);
   j0 = i64_load(j0);
-  p5 = j0;
+  p6 = j0;
   j1 = p1;
   j2 = 2080ull;
   j1 += j2;
@@ -35181,27 +35168,27 @@ static void f23(module *self, u64 p0, u64 p1, u64 p2, u64 p3, u64 p4, u64 p5, u6
   j0 -= j1;
   j1 = 3ull;
   i0 = j0 > j1;
-  if (i0) {goto B182;}
+  if (i0) {goto B181;}
   j0 = p1;
   j1 = 2072ull;
   j0 += j1;
   j1 = 4ull;
-  i0 = f10(self, j0, j1); m = self->memory; if (NEVER(self->is_broken)) return;
+  i0 = f11(self, j0, j1); m = self->memory; if (NEVER(self->is_broken)) return;
   i0 = !(i0);
-  if (i0) {goto B181;}
+  if (i0) {goto B180;}
   j0 = p1;
   j1 = 2088ull;
   j0 += j1;
   i0 = (u32)(j0);
   j0 = i64_load(j0);
-  p5 = j0;
+  p6 = j0;
   j0 = p1;
   j1 = 2080ull;
   j0 += j1;
   i0 = (u32)(j0);
   j0 = i64_load(j0);
   l8 = j0;
-  B182:;
+  B181:;
   j0 = p1;
   j1 = 2072ull;
   j0 += j1;
@@ -35218,9 +35205,9 @@ static void f23(module *self, u64 p0, u64 p1, u64 p2, u64 p3, u64 p4, u64 p5, u6
   i2 = 247553u;
   i1 |= i2;
   i32_store(j0, i1);
-  j0 = p6;
+  j0 = p5;
   i0 = (u32)(j0);
-  j1 = p5;
+  j1 = p6;
   i64_store(j0, j1);
   j0 = l9;
   i0 = (u32)(j0);
@@ -35232,14 +35219,14 @@ static void f23(module *self, u64 p0, u64 p1, u64 p2, u64 p3, u64 p4, u64 p5, u6
   i0 = (u32)(j0);
   j1 = l11;
   i64_store(j0, j1);
-  B181:;
+  B180:;
   j0 = p1;
   j1 = 2096ull;
   j0 += j1;
   i0 = (u32)(j0);
   j0 = i64_load(j0);
-  p6 = j0;
-  B180:;
+  p5 = j0;
+  B179:;
   j0 = p1;
   j1 = 1999ull;
   j0 += j1;
@@ -35250,31 +35237,31 @@ static void f23(module *self, u64 p0, u64 p1, u64 p2, u64 p3, u64 p4, u64 p5, u6
   j0 = p1;
   j1 = 1998ull;
   j0 += j1;
-  p5 = j0;
+  p6 = j0;
   i0 = (u32)(j0);
   i1 = l58;
   i32_store8(j0, i1);
-  j0 = p6;
+  j0 = p5;
   j1 = 16777216ull;
   i0 = j0 > j1;
-  if (i0) {goto B54;}
+  if (i0) {goto B53;}
   j0 = p1;
   j1 = 2096ull;
   j0 += j1;
   i0 = (u32)(j0);
-  j1 = p6;
+  j1 = p5;
   j2 = 3ull;
   j1 += j2;
-  p6 = j1;
+  p5 = j1;
   i64_store(j0, j1);
-  j0 = p6;
+  j0 = p5;
   j1 = p1;
   j2 = 2104ull;
   j1 += j2;
   i1 = (u32)(j1);
   j1 = i64_load(j1);
   i0 = j0 > j1;
-  if (i0) {goto B183;}
+  if (i0) {goto B182;}
   j0 = p1;
   j1 = 2088ull;
   j0 += j1;
@@ -35288,18 +35275,18 @@ static void f23(module *self, u64 p0, u64 p1, u64 p2, u64 p3, u64 p4, u64 p5, u6
   l11 = j1;
   i1 = (u32)(j1);
   j1 = i64_load(j1);
-  p6 = j1;
+  p5 = j1;
   j0 -= j1;
   j1 = 2ull;
   i0 = j0 > j1;
-  if (i0) {goto B184;}
+  if (i0) {goto B183;}
   j0 = p1;
   j1 = 2072ull;
   j0 += j1;
   j1 = 3ull;
-  i0 = f10(self, j0, j1); m = self->memory; if (NEVER(self->is_broken)) return;
+  i0 = f11(self, j0, j1); m = self->memory; if (NEVER(self->is_broken)) return;
   i0 = !(i0);
-  if (i0) {goto B183;}
+  if (i0) {goto B182;}
   j0 = p1;
   j1 = 2088ull;
   j0 += j1;
@@ -35311,8 +35298,8 @@ static void f23(module *self, u64 p0, u64 p1, u64 p2, u64 p3, u64 p4, u64 p5, u6
   j0 += j1;
   i0 = (u32)(j0);
   j0 = i64_load(j0);
-  p6 = j0;
-  B184:;
+  p5 = j0;
+  B183:;
   j0 = p1;
   j1 = 2072ull;
   j0 += j1;
@@ -35320,7 +35307,7 @@ static void f23(module *self, u64 p0, u64 p1, u64 p2, u64 p3, u64 p4, u64 p5, u6
   i0 = (u32)(j0);
   j0 = i64_load(j0);
   l15 = j0;
-  j1 = p6;
+  j1 = p5;
   j0 += j1;
   p4 = j0;
   i0 = (u32)(j0);
@@ -35336,7 +35323,7 @@ static void f23(module *self, u64 p0, u64 p1, u64 p2, u64 p3, u64 p4, u64 p5, u6
   i64_store(j0, j1);
   j0 = l11;
   i0 = (u32)(j0);
-  j1 = p6;
+  j1 = p5;
   j2 = 3ull;
   j1 += j2;
   i64_store(j0, j1);
@@ -35344,26 +35331,26 @@ static void f23(module *self, u64 p0, u64 p1, u64 p2, u64 p3, u64 p4, u64 p5, u6
   i0 = (u32)(j0);
   j1 = l15;
   i64_store(j0, j1);
-  B183:;
-  j0 = p5;
+  B182:;
+  j0 = p6;
   i0 = (u32)(j0);
   i0 = i32_load8_u(j0);
   l58 = i0;
   j0 = (u64)(i0);
   j1 = 255ull;
   j0 &= j1;
-  p6 = j0;
+  p5 = j0;
   j0 = l8;
   i0 = (u32)(j0);
   j0 = i64_load8_u(j0);
   i0 = (u32)(j0);
   switch (i0) {
-    case 0: goto B53;
-    case 1: goto B185;
-    case 2: goto B186;
-    default: goto B53;
+    case 0: goto B52;
+    case 1: goto B184;
+    case 2: goto B185;
+    default: goto B52;
   }
-  B186:;
+  B185:;
   j0 = p1;
   j1 = 1998ull;
   j0 += j1;
@@ -35374,7 +35361,7 @@ static void f23(module *self, u64 p0, u64 p1, u64 p2, u64 p3, u64 p4, u64 p5, u6
   l58 = i1;
   i32_store8(j0, i1);
   j0 = p1;
-  j1 = p6;
+  j1 = p5;
   j0 += j1;
   j1 = 718ull;
   j0 += j1;
@@ -35383,10 +35370,10 @@ static void f23(module *self, u64 p0, u64 p1, u64 p2, u64 p3, u64 p4, u64 p5, u6
   l59 = i0;
   i0 = 0u;
   l27 = i0;
-  goto B52;
-  B185:;
+  goto B51;
+  B184:;
   j0 = p1;
-  j1 = p6;
+  j1 = p5;
   j0 += j1;
   j1 = 462ull;
   j0 += j1;
@@ -35395,40 +35382,40 @@ static void f23(module *self, u64 p0, u64 p1, u64 p2, u64 p3, u64 p4, u64 p5, u6
   l59 = i0;
   i0 = 2u;
   l27 = i0;
-  goto B52;
-  B122:;
+  goto B51;
+  B121:;
   j0 = p1;
   j1 = 2096ull;
   j0 += j1;
   l8 = j0;
   i0 = (u32)(j0);
   j0 = i64_load(j0);
-  p5 = j0;
+  p6 = j0;
   j1 = 16777216ull;
   i0 = j0 > j1;
-  if (i0) {goto B187;}
+  if (i0) {goto B186;}
   j0 = l8;
   i0 = (u32)(j0);
-  j1 = p5;
+  j1 = p6;
   j2 = 4ull;
   j1 += j2;
-  p5 = j1;
+  p6 = j1;
   i64_store(j0, j1);
-  j0 = p5;
+  j0 = p6;
   j1 = p1;
   j2 = 2104ull;
   j1 += j2;
   i1 = (u32)(j1);
   j1 = i64_load(j1);
   i0 = j0 > j1;
-  if (i0) {goto B187;}
+  if (i0) {goto B186;}
   j0 = p1;
   j1 = 2088ull;
   j0 += j1;
-  p6 = j0;
+  p5 = j0;
   i0 = (u32)(j0);
   j0 = i64_load(j0);
-  p5 = j0;
+  p6 = j0;
   j1 = p1;
   j2 = 2080ull;
   j1 += j2;
@@ -35439,27 +35426,27 @@ static void f23(module *self, u64 p0, u64 p1, u64 p2, u64 p3, u64 p4, u64 p5, u6
   j0 -= j1;
   j1 = 3ull;
   i0 = j0 > j1;
-  if (i0) {goto B188;}
+  if (i0) {goto B187;}
   j0 = p1;
   j1 = 2072ull;
   j0 += j1;
   j1 = 4ull;
-  i0 = f10(self, j0, j1); m = self->memory; if (NEVER(self->is_broken)) return;
+  i0 = f11(self, j0, j1); m = self->memory; if (NEVER(self->is_broken)) return;
   i0 = !(i0);
-  if (i0) {goto B187;}
+  if (i0) {goto B186;}
   j0 = p1;
   j1 = 2088ull;
   j0 += j1;
   i0 = (u32)(j0);
   j0 = i64_load(j0);
-  p5 = j0;
+  p6 = j0;
   j0 = p1;
   j1 = 2080ull;
   j0 += j1;
   i0 = (u32)(j0);
   j0 = i64_load(j0);
   l8 = j0;
-  B188:;
+  B187:;
   j0 = p1;
   j1 = 2072ull;
   j0 += j1;
@@ -35476,9 +35463,9 @@ static void f23(module *self, u64 p0, u64 p1, u64 p2, u64 p3, u64 p4, u64 p5, u6
   i2 = 247297u;
   i1 |= i2;
   i32_store(j0, i1);
-  j0 = p6;
+  j0 = p5;
   i0 = (u32)(j0);
-  j1 = p5;
+  j1 = p6;
   i64_store(j0, j1);
   j0 = l9;
   i0 = (u32)(j0);
@@ -35490,47 +35477,47 @@ static void f23(module *self, u64 p0, u64 p1, u64 p2, u64 p3, u64 p4, u64 p5, u6
   i0 = (u32)(j0);
   j1 = l11;
   i64_store(j0, j1);
-  B187:;
+  B186:;
   j0 = p1;
   j1 = 2002ull;
   j0 += j1;
   i0 = (u32)(j0);
   i1 = l59;
   i32_store8(j0, i1);
-  goto B48;
-  B121:;
+  goto B47;
+  B120:;
   j0 = p1;
   j1 = 2096ull;
   j0 += j1;
   l8 = j0;
   i0 = (u32)(j0);
   j0 = i64_load(j0);
-  p5 = j0;
+  p6 = j0;
   j1 = 16777216ull;
   i0 = j0 > j1;
-  if (i0) {goto B189;}
+  if (i0) {goto B188;}
   j0 = l8;
   i0 = (u32)(j0);
-  j1 = p5;
+  j1 = p6;
   j2 = 3ull;
   j1 += j2;
-  p5 = j1;
+  p6 = j1;
   i64_store(j0, j1);
-  j0 = p5;
+  j0 = p6;
   j1 = p1;
   j2 = 2104ull;
   j1 += j2;
   i1 = (u32)(j1);
   j1 = i64_load(j1);
   i0 = j0 > j1;
-  if (i0) {goto B189;}
+  if (i0) {goto B188;}
   j0 = p1;
   j1 = 2088ull;
   j0 += j1;
-  p6 = j0;
+  p5 = j0;
   i0 = (u32)(j0);
   j0 = i64_load(j0);
-  p5 = j0;
+  p6 = j0;
   j1 = p1;
   j2 = 2080ull;
   j1 += j2;
@@ -35541,27 +35528,27 @@ static void f23(module *self, u64 p0, u64 p1, u64 p2, u64 p3, u64 p4, u64 p5, u6
   j0 -= j1;
   j1 = 2ull;
   i0 = j0 > j1;
-  if (i0) {goto B190;}
+  if (i0) {goto B189;}
   j0 = p1;
   j1 = 2072ull;
   j0 += j1;
   j1 = 3ull;
-  i0 = f10(self, j0, j1); m = self->memory; if (NEVER(self->is_broken)) return;
+  i0 = f11(self, j0, j1); m = self->memory; if (NEVER(self->is_broken)) return;
   i0 = !(i0);
-  if (i0) {goto B189;}
+  if (i0) {goto B188;}
   j0 = p1;
   j1 = 2088ull;
   j0 += j1;
   i0 = (u32)(j0);
   j0 = i64_load(j0);
-  p5 = j0;
+  p6 = j0;
   j0 = p1;
   j1 = 2080ull;
   j0 += j1;
   i0 = (u32)(j0);
   j0 = i64_load(j0);
   l8 = j0;
-  B190:;
+  B189:;
   j0 = p1;
   j1 = 2072ull;
   j0 += j1;
@@ -35579,9 +35566,9 @@ static void f23(module *self, u64 p0, u64 p1, u64 p2, u64 p3, u64 p4, u64 p5, u6
   i0 = (u32)(j0);
   i1 = 50691u;
   i32_store16(j0, i1);
-  j0 = p6;
+  j0 = p5;
   i0 = (u32)(j0);
-  j1 = p5;
+  j1 = p6;
   i64_store(j0, j1);
   j0 = l9;
   i0 = (u32)(j0);
@@ -35593,7 +35580,7 @@ static void f23(module *self, u64 p0, u64 p1, u64 p2, u64 p3, u64 p4, u64 p5, u6
   i0 = (u32)(j0);
   j1 = l11;
   i64_store(j0, j1);
-  B189:;
+  B188:;
   j0 = l12;
   j1 = 65280ull;
   j0 &= j1;
@@ -35604,8 +35591,8 @@ static void f23(module *self, u64 p0, u64 p1, u64 p2, u64 p3, u64 p4, u64 p5, u6
   j1 = i64_load8_u(j1);
   j0 |= j1;
   l8 = j0;
-  goto B47;
-  B57:;
+  goto B46;
+  B56:;
   j0 = 259ull;
   j1 = 3ull;
   i2 = l27;
@@ -35615,8 +35602,8 @@ static void f23(module *self, u64 p0, u64 p1, u64 p2, u64 p3, u64 p4, u64 p5, u6
   l8 = j0;
   i0 = 9u;
   l22 = i0;
-  goto B47;
-  B56:;
+  goto B46;
+  B55:;
   j0 = l7;
   i0 = (u32)(j0);
   i1 = l69;
@@ -35647,12 +35634,12 @@ static void f23(module *self, u64 p0, u64 p1, u64 p2, u64 p3, u64 p4, u64 p5, u6
   i32_store8(j0 + 200, i1);
   j0 = l8;
   i0 = !(j0);
-  if (i0) {goto B191;}
+  if (i0) {goto B190;}
   i0 = l19;
   i1 = 1u;
   i0 &= i1;
   i0 = !(i0);
-  if (i0) {goto B192;}
+  if (i0) {goto B191;}
   i0 = l19;
   j0 = (u64)(i0);
   j1 = 1ull;
@@ -35664,7 +35651,7 @@ static void f23(module *self, u64 p0, u64 p1, u64 p2, u64 p3, u64 p4, u64 p5, u6
   p6 = j0;
   j0 = 0ull;
   l9 = j0;
-  L193: 
+  L192: 
     j0 = p1;
     j1 = l7;
     j2 = 184ull;
@@ -35681,7 +35668,7 @@ static void f23(module *self, u64 p0, u64 p1, u64 p2, u64 p3, u64 p4, u64 p5, u6
     i4 = (u32)(j4);
     i4 = i32_load8_u(j4);
     i5 = 1u;
-    i0 = f37(self, j0, j1, i2, i3, i4, i5); m = self->memory; if (NEVER(self->is_broken)) return;
+    i0 = f38(self, j0, j1, i2, i3, i4, i5); m = self->memory; if (NEVER(self->is_broken)) return;
     l58 = i0;
     j0 = p6;
     j1 = 2ull;
@@ -35695,11 +35682,11 @@ static void f23(module *self, u64 p0, u64 p1, u64 p2, u64 p3, u64 p4, u64 p5, u6
     j0 = l8;
     j1 = l10;
     i0 = j0 != j1;
-    if (i0) {goto L193;}
-    goto B191;
+    if (i0) {goto L192;}
+    goto B190;
   { self->is_broken = true; return; }
-  B192:;
-  L194: 
+  B191:;
+  L193: 
     j0 = p1;
     j1 = l7;
     j2 = 184ull;
@@ -35710,7 +35697,7 @@ static void f23(module *self, u64 p0, u64 p1, u64 p2, u64 p3, u64 p4, u64 p5, u6
     i3 = i32_load8_u(j3);
     i4 = l28;
     i5 = 1u;
-    i0 = f37(self, j0, j1, i2, i3, i4, i5); m = self->memory; if (NEVER(self->is_broken)) return;
+    i0 = f38(self, j0, j1, i2, i3, i4, i5); m = self->memory; if (NEVER(self->is_broken)) return;
     l58 = i0;
     j0 = p5;
     j1 = 1ull;
@@ -35722,13 +35709,13 @@ static void f23(module *self, u64 p0, u64 p1, u64 p2, u64 p3, u64 p4, u64 p5, u6
     l8 = j0;
     j1 = 0ull;
     i0 = j0 != j1;
-    if (i0) {goto L194;}
-  B191:;
+    if (i0) {goto L193;}
+  B190:;
   i0 = l68;
   i1 = 1u;
   i0 &= i1;
   i0 = !(i0);
-  if (i0) {goto B48;}
+  if (i0) {goto B47;}
   j0 = p2;
   i1 = l73;
   i2 = 1u;
@@ -35745,23 +35732,23 @@ static void f23(module *self, u64 p0, u64 p1, u64 p2, u64 p3, u64 p4, u64 p5, u6
   j0 = p1;
   j1 = p2;
   i2 = l73;
-  f30(self, j0, j1, i2); m = self->memory; if (NEVER(self->is_broken)) return;
-  goto B48;
-  B55:;
+  f31(self, j0, j1, i2); m = self->memory; if (NEVER(self->is_broken)) return;
+  goto B47;
+  B54:;
   j0 = l7;
   i0 = (u32)(j0);
   i0 = i32_load8_u(j0 + 161u);
   l18 = i0;
   goto B5;
-  B54:;
+  B53:;
   i0 = l58;
   j0 = (u64)(i0);
   j1 = 255ull;
   j0 &= j1;
-  p6 = j0;
-  B53:;
+  p5 = j0;
+  B52:;
   j0 = p1;
-  j1 = p6;
+  j1 = p5;
   j0 += j1;
   j1 = 206ull;
   j0 += j1;
@@ -35770,7 +35757,7 @@ static void f23(module *self, u64 p0, u64 p1, u64 p2, u64 p3, u64 p4, u64 p5, u6
   l59 = i0;
   i0 = 1u;
   l27 = i0;
-  B52:;
+  B51:;
   j0 = p1;
   j1 = 1999ull;
   j0 += j1;
@@ -35780,28 +35767,28 @@ static void f23(module *self, u64 p0, u64 p1, u64 p2, u64 p3, u64 p4, u64 p5, u6
   j0 = p1;
   j1 = 2096ull;
   j0 += j1;
-  p6 = j0;
+  p5 = j0;
   i0 = (u32)(j0);
   j0 = i64_load(j0);
   l9 = j0;
   j1 = 16777216ull;
+  i0 = j0 > j1;
+  if (i0) {goto B194;}
+  j0 = p5;
+  i0 = (u32)(j0);
+  j1 = l9;
+  j2 = 3ull;
+  j1 += j2;
+  l9 = j1;
+  i64_store(j0, j1);
+  j0 = l9;
+  j1 = p1;
+  j2 = 2104ull;
+  j1 += j2;
+  i1 = (u32)(j1);
+  j1 = i64_load(j1);
   i0 = j0 > j1;
   if (i0) {goto B195;}
-  j0 = p6;
-  i0 = (u32)(j0);
-  j1 = l9;
-  j2 = 3ull;
-  j1 += j2;
-  l9 = j1;
-  i64_store(j0, j1);
-  j0 = l9;
-  j1 = p1;
-  j2 = 2104ull;
-  j1 += j2;
-  i1 = (u32)(j1);
-  j1 = i64_load(j1);
-  i0 = j0 > j1;
-  if (i0) {goto B196;}
   j0 = p1;
   j1 = 2088ull;
   j0 += j1;
@@ -35815,18 +35802,18 @@ static void f23(module *self, u64 p0, u64 p1, u64 p2, u64 p3, u64 p4, u64 p5, u6
   l11 = j1;
   i1 = (u32)(j1);
   j1 = i64_load(j1);
-  p6 = j1;
+  p5 = j1;
   j0 -= j1;
   j1 = 2ull;
   i0 = j0 > j1;
-  if (i0) {goto B197;}
+  if (i0) {goto B196;}
   j0 = p1;
   j1 = 2072ull;
   j0 += j1;
   j1 = 3ull;
-  i0 = f10(self, j0, j1); m = self->memory; if (NEVER(self->is_broken)) return;
+  i0 = f11(self, j0, j1); m = self->memory; if (NEVER(self->is_broken)) return;
   i0 = !(i0);
-  if (i0) {goto B196;}
+  if (i0) {goto B195;}
   j0 = p1;
   j1 = 2088ull;
   j0 += j1;
@@ -35838,179 +35825,8 @@ static void f23(module *self, u64 p0, u64 p1, u64 p2, u64 p3, u64 p4, u64 p5, u6
   j0 += j1;
   i0 = (u32)(j0);
   j0 = i64_load(j0);
-  p6 = j0;
-  B197:;
-  j0 = p1;
-  j1 = 2072ull;
-  j0 += j1;
-  p2 = j0;
-  i0 = (u32)(j0);
-  j0 = i64_load(j0);
-  l15 = j0;
-  j1 = p6;
-  j0 += j1;
-  p4 = j0;
-  i0 = (u32)(j0);
-  i1 = 3u;
-  i32_store8(j0 + 2, i1);
-  j0 = p4;
-  i0 = (u32)(j0);
-  i1 = 51459u;
-  i32_store16(j0, i1);
-  j0 = l10;
-  i0 = (u32)(j0);
-  j1 = l9;
-  i64_store(j0, j1);
-  j0 = l11;
-  i0 = (u32)(j0);
-  j1 = p6;
-  j2 = 3ull;
-  j1 += j2;
-  i64_store(j0, j1);
-  j0 = p2;
-  i0 = (u32)(j0);
-  j1 = l15;
-  i64_store(j0, j1);
+  p5 = j0;
   B196:;
-  j0 = p5;
-  i0 = (u32)(j0);
-  i0 = i32_load8_u(j0);
-  l58 = i0;
-  j0 = l8;
-  i0 = (u32)(j0);
-  i0 = i32_load8_u(j0);
-  l27 = i0;
-  B195:;
-  i0 = l58;
-  j0 = (u64)(i0);
-  j1 = 255ull;
-  j0 &= j1;
-  p6 = j0;
-  i0 = l27;
-  j0 = (u64)(i0);
-  j1 = 255ull;
-  j0 &= j1;
-  i0 = (u32)(j0);
-  switch (i0) {
-    case 0: goto B201;
-    case 1: goto B199;
-    case 2: goto B200;
-    default: goto B201;
-  }
-  B201:;
-  j0 = p1;
-  j1 = p6;
-  j0 += j1;
-  j1 = 206ull;
-  j0 += j1;
-  i0 = (u32)(j0);
-  i0 = i32_load8_u(j0);
-  l18 = i0;
-  i0 = 1u;
-  l27 = i0;
-  goto B198;
-  B200:;
-  j0 = p1;
-  j1 = 1998ull;
-  j0 += j1;
-  i0 = (u32)(j0);
-  i1 = l58;
-  i2 = 1u;
-  i1 += i2;
-  l58 = i1;
-  i32_store8(j0, i1);
-  j0 = p1;
-  j1 = p6;
-  j0 += j1;
-  j1 = 718ull;
-  j0 += j1;
-  i0 = (u32)(j0);
-  i0 = i32_load8_u(j0);
-  l18 = i0;
-  i0 = 0u;
-  l27 = i0;
-  goto B198;
-  B199:;
-  j0 = p1;
-  j1 = p6;
-  j0 += j1;
-  j1 = 462ull;
-  j0 += j1;
-  i0 = (u32)(j0);
-  i0 = i32_load8_u(j0);
-  l18 = i0;
-  i0 = 2u;
-  l27 = i0;
-  B198:;
-  j0 = p1;
-  j1 = 1999ull;
-  j0 += j1;
-  i0 = (u32)(j0);
-  i1 = l27;
-  i32_store8(j0, i1);
-  j0 = p1;
-  j1 = 2096ull;
-  j0 += j1;
-  p6 = j0;
-  i0 = (u32)(j0);
-  j0 = i64_load(j0);
-  l9 = j0;
-  j1 = 16777216ull;
-  i0 = j0 > j1;
-  if (i0) {goto B202;}
-  j0 = p6;
-  i0 = (u32)(j0);
-  j1 = l9;
-  j2 = 3ull;
-  j1 += j2;
-  l9 = j1;
-  i64_store(j0, j1);
-  j0 = l9;
-  j1 = p1;
-  j2 = 2104ull;
-  j1 += j2;
-  i1 = (u32)(j1);
-  j1 = i64_load(j1);
-  i0 = j0 > j1;
-  if (i0) {goto B203;}
-  j0 = p1;
-  j1 = 2088ull;
-  j0 += j1;
-  l10 = j0;
-  i0 = (u32)(j0);
-  j0 = i64_load(j0);
-  l9 = j0;
-  j1 = p1;
-  j2 = 2080ull;
-  j1 += j2;
-  l11 = j1;
-  i1 = (u32)(j1);
-  j1 = i64_load(j1);
-  p6 = j1;
-  j0 -= j1;
-  j1 = 2ull;
-  i0 = j0 > j1;
-  if (i0) {goto B204;}
-  j0 = p1;
-  j1 = 2072ull;
-  j0 += j1;
-  j1 = 3ull;
-  i0 = f10(self, j0, j1); m = self->memory; if (NEVER(self->is_broken)) return;
-  i0 = !(i0);
-  if (i0) {goto B203;}
-  j0 = p1;
-  j1 = 2088ull;
-  j0 += j1;
-  i0 = (u32)(j0);
-  j0 = i64_load(j0);
-  l9 = j0;
-  j0 = p1;
-  j1 = 2080ull;
-  j0 += j1;
-  i0 = (u32)(j0);
-  j0 = i64_load(j0);
-  p6 = j0;
-  B204:;
   j0 = p1;
   j1 = 2072ull;
   j0 += j1;
@@ -36018,7 +35834,7 @@ static void f23(module *self, u64 p0, u64 p1, u64 p2, u64 p3, u64 p4, u64 p5, u6
   i0 = (u32)(j0);
   j0 = i64_load(j0);
   l15 = j0;
-  j1 = p6;
+  j1 = p5;
   j0 += j1;
   p4 = j0;
   i0 = (u32)(j0);
@@ -36034,7 +35850,7 @@ static void f23(module *self, u64 p0, u64 p1, u64 p2, u64 p3, u64 p4, u64 p5, u6
   i64_store(j0, j1);
   j0 = l11;
   i0 = (u32)(j0);
-  j1 = p6;
+  j1 = p5;
   j2 = 3ull;
   j1 += j2;
   i64_store(j0, j1);
@@ -36042,8 +35858,8 @@ static void f23(module *self, u64 p0, u64 p1, u64 p2, u64 p3, u64 p4, u64 p5, u6
   i0 = (u32)(j0);
   j1 = l15;
   i64_store(j0, j1);
-  B203:;
-  j0 = p5;
+  B195:;
+  j0 = p6;
   i0 = (u32)(j0);
   i0 = i32_load8_u(j0);
   l58 = i0;
@@ -36051,7 +35867,7 @@ static void f23(module *self, u64 p0, u64 p1, u64 p2, u64 p3, u64 p4, u64 p5, u6
   i0 = (u32)(j0);
   i0 = i32_load8_u(j0);
   l27 = i0;
-  B202:;
+  B194:;
   i0 = l58;
   j0 = (u64)(i0);
   j1 = 255ull;
@@ -36063,14 +35879,185 @@ static void f23(module *self, u64 p0, u64 p1, u64 p2, u64 p3, u64 p4, u64 p5, u6
   j0 &= j1;
   i0 = (u32)(j0);
   switch (i0) {
-    case 0: goto B208;
-    case 1: goto B206;
-    case 2: goto B207;
-    default: goto B208;
+    case 0: goto B200;
+    case 1: goto B198;
+    case 2: goto B199;
+    default: goto B200;
   }
-  B208:;
+  B200:;
   j0 = p1;
   j1 = p5;
+  j0 += j1;
+  j1 = 206ull;
+  j0 += j1;
+  i0 = (u32)(j0);
+  i0 = i32_load8_u(j0);
+  l18 = i0;
+  i0 = 1u;
+  l27 = i0;
+  goto B197;
+  B199:;
+  j0 = p1;
+  j1 = 1998ull;
+  j0 += j1;
+  i0 = (u32)(j0);
+  i1 = l58;
+  i2 = 1u;
+  i1 += i2;
+  l58 = i1;
+  i32_store8(j0, i1);
+  j0 = p1;
+  j1 = p5;
+  j0 += j1;
+  j1 = 718ull;
+  j0 += j1;
+  i0 = (u32)(j0);
+  i0 = i32_load8_u(j0);
+  l18 = i0;
+  i0 = 0u;
+  l27 = i0;
+  goto B197;
+  B198:;
+  j0 = p1;
+  j1 = p5;
+  j0 += j1;
+  j1 = 462ull;
+  j0 += j1;
+  i0 = (u32)(j0);
+  i0 = i32_load8_u(j0);
+  l18 = i0;
+  i0 = 2u;
+  l27 = i0;
+  B197:;
+  j0 = p1;
+  j1 = 1999ull;
+  j0 += j1;
+  i0 = (u32)(j0);
+  i1 = l27;
+  i32_store8(j0, i1);
+  j0 = p1;
+  j1 = 2096ull;
+  j0 += j1;
+  p5 = j0;
+  i0 = (u32)(j0);
+  j0 = i64_load(j0);
+  l9 = j0;
+  j1 = 16777216ull;
+  i0 = j0 > j1;
+  if (i0) {goto B201;}
+  j0 = p5;
+  i0 = (u32)(j0);
+  j1 = l9;
+  j2 = 3ull;
+  j1 += j2;
+  l9 = j1;
+  i64_store(j0, j1);
+  j0 = l9;
+  j1 = p1;
+  j2 = 2104ull;
+  j1 += j2;
+  i1 = (u32)(j1);
+  j1 = i64_load(j1);
+  i0 = j0 > j1;
+  if (i0) {goto B202;}
+  j0 = p1;
+  j1 = 2088ull;
+  j0 += j1;
+  l10 = j0;
+  i0 = (u32)(j0);
+  j0 = i64_load(j0);
+  l9 = j0;
+  j1 = p1;
+  j2 = 2080ull;
+  j1 += j2;
+  l11 = j1;
+  i1 = (u32)(j1);
+  j1 = i64_load(j1);
+  p5 = j1;
+  j0 -= j1;
+  j1 = 2ull;
+  i0 = j0 > j1;
+  if (i0) {goto B203;}
+  j0 = p1;
+  j1 = 2072ull;
+  j0 += j1;
+  j1 = 3ull;
+  i0 = f11(self, j0, j1); m = self->memory; if (NEVER(self->is_broken)) return;
+  i0 = !(i0);
+  if (i0) {goto B202;}
+  j0 = p1;
+  j1 = 2088ull;
+  j0 += j1;
+  i0 = (u32)(j0);
+  j0 = i64_load(j0);
+  l9 = j0;
+  j0 = p1;
+  j1 = 2080ull;
+  j0 += j1;
+  i0 = (u32)(j0);
+  j0 = i64_load(j0);
+  p5 = j0;
+  B203:;
+  j0 = p1;
+  j1 = 2072ull;
+  j0 += j1;
+  p2 = j0;
+  i0 = (u32)(j0);
+  j0 = i64_load(j0);
+  l15 = j0;
+  j1 = p5;
+  j0 += j1;
+  p4 = j0;
+  i0 = (u32)(j0);
+  i1 = 3u;
+  i32_store8(j0 + 2, i1);
+  j0 = p4;
+  i0 = (u32)(j0);
+  i1 = 51459u;
+  i32_store16(j0, i1);
+  j0 = l10;
+  i0 = (u32)(j0);
+  j1 = l9;
+  i64_store(j0, j1);
+  j0 = l11;
+  i0 = (u32)(j0);
+  j1 = p5;
+  j2 = 3ull;
+  j1 += j2;
+  i64_store(j0, j1);
+  j0 = p2;
+  i0 = (u32)(j0);
+  j1 = l15;
+  i64_store(j0, j1);
+  B202:;
+  j0 = p6;
+  i0 = (u32)(j0);
+  i0 = i32_load8_u(j0);
+  l58 = i0;
+  j0 = l8;
+  i0 = (u32)(j0);
+  i0 = i32_load8_u(j0);
+  l27 = i0;
+  B201:;
+  i0 = l58;
+  j0 = (u64)(i0);
+  j1 = 255ull;
+  j0 &= j1;
+  p6 = j0;
+  i0 = l27;
+  j0 = (u64)(i0);
+  j1 = 255ull;
+  j0 &= j1;
+  i0 = (u32)(j0);
+  switch (i0) {
+    case 0: goto B207;
+    case 1: goto B205;
+    case 2: goto B206;
+    default: goto B207;
+  }
+  B207:;
+  j0 = p1;
+  j1 = p6;
   j0 += j1;
   j1 = 206ull;
   j0 += j1;
@@ -36079,8 +36066,8 @@ static void f23(module *self, u64 p0, u64 p1, u64 p2, u64 p3, u64 p4, u64 p5, u6
   l58 = i0;
   i0 = 1u;
   l27 = i0;
-  goto B205;
-  B207:;
+  goto B204;
+  B206:;
   j0 = p1;
   j1 = 1998ull;
   j0 += j1;
@@ -36090,7 +36077,7 @@ static void f23(module *self, u64 p0, u64 p1, u64 p2, u64 p3, u64 p4, u64 p5, u6
   i1 += i2;
   i32_store8(j0, i1);
   j0 = p1;
-  j1 = p5;
+  j1 = p6;
   j0 += j1;
   j1 = 718ull;
   j0 += j1;
@@ -36099,10 +36086,10 @@ static void f23(module *self, u64 p0, u64 p1, u64 p2, u64 p3, u64 p4, u64 p5, u6
   l58 = i0;
   i0 = 0u;
   l27 = i0;
-  goto B205;
-  B206:;
+  goto B204;
+  B205:;
   j0 = p1;
-  j1 = p5;
+  j1 = p6;
   j0 += j1;
   j1 = 462ull;
   j0 += j1;
@@ -36111,7 +36098,7 @@ static void f23(module *self, u64 p0, u64 p1, u64 p2, u64 p3, u64 p4, u64 p5, u6
   l58 = i0;
   i0 = 2u;
   l27 = i0;
-  B205:;
+  B204:;
   j0 = l8;
   i0 = (u32)(j0);
   i1 = l27;
@@ -36132,13 +36119,13 @@ static void f23(module *self, u64 p0, u64 p1, u64 p2, u64 p3, u64 p4, u64 p5, u6
   i1 &= i2;
   i0 |= i1;
   l22 = i0;
-  goto B48;
-  B51:;
+  goto B47;
+  B50:;
   i0 = l28;
   i1 = 63u;
   i0 &= i1;
   l27 = i0;
-  B50:;
+  B49:;
   j0 = p1;
   j1 = 2000ull;
   j0 += j1;
@@ -36147,7 +36134,7 @@ static void f23(module *self, u64 p0, u64 p1, u64 p2, u64 p3, u64 p4, u64 p5, u6
   i32_store8(j0, i1);
   i0 = 1u;
   l58 = i0;
-  B49:;
+  B48:;
   j0 = p1;
   j1 = 1999ull;
   j0 += j1;
@@ -36157,66 +36144,66 @@ static void f23(module *self, u64 p0, u64 p1, u64 p2, u64 p3, u64 p4, u64 p5, u6
   j0 = p1;
   j1 = 2096ull;
   j0 += j1;
-  p5 = j0;
+  p6 = j0;
   i0 = (u32)(j0);
   j0 = i64_load(j0);
-  p6 = j0;
+  p5 = j0;
   j1 = 16777216ull;
   i0 = j0 > j1;
-  if (i0) {goto B209;}
-  j0 = p5;
+  if (i0) {goto B208;}
+  j0 = p6;
   i0 = (u32)(j0);
-  j1 = p6;
+  j1 = p5;
   j2 = 4ull;
   j1 += j2;
-  p6 = j1;
+  p5 = j1;
   i64_store(j0, j1);
-  j0 = p6;
+  j0 = p5;
   j1 = p1;
   j2 = 2104ull;
   j1 += j2;
   i1 = (u32)(j1);
   j1 = i64_load(j1);
   i0 = j0 > j1;
-  if (i0) {goto B210;}
+  if (i0) {goto B209;}
   j0 = p1;
   j1 = 2088ull;
   j0 += j1;
   l9 = j0;
   i0 = (u32)(j0);
   j0 = i64_load(j0);
-  p6 = j0;
+  p5 = j0;
   j1 = p1;
   j2 = 2080ull;
   j1 += j2;
   l10 = j1;
   i1 = (u32)(j1);
   j1 = i64_load(j1);
-  p5 = j1;
+  p6 = j1;
   j0 -= j1;
   j1 = 3ull;
   i0 = j0 > j1;
-  if (i0) {goto B211;}
+  if (i0) {goto B210;}
   j0 = p1;
   j1 = 2072ull;
   j0 += j1;
   j1 = 4ull;
-  i0 = f10(self, j0, j1); m = self->memory; if (NEVER(self->is_broken)) return;
+  i0 = f11(self, j0, j1); m = self->memory; if (NEVER(self->is_broken)) return;
   i0 = !(i0);
-  if (i0) {goto B210;}
+  if (i0) {goto B209;}
   j0 = p1;
   j1 = 2088ull;
   j0 += j1;
   i0 = (u32)(j0);
   j0 = i64_load(j0);
-  p6 = j0;
+  p5 = j0;
   j0 = p1;
   j1 = 2080ull;
   j0 += j1;
   i0 = (u32)(j0);
   j0 = i64_load(j0);
-  p5 = j0;
-  B211:;
+  p6 = j0;
+  B210:;
   j0 = p1;
   j1 = 2072ull;
   j0 += j1;
@@ -36224,7 +36211,7 @@ static void f23(module *self, u64 p0, u64 p1, u64 p2, u64 p3, u64 p4, u64 p5, u6
   i0 = (u32)(j0);
   j0 = i64_load(j0);
   p2 = j0;
-  j1 = p5;
+  j1 = p6;
   j0 += j1;
   i0 = (u32)(j0);
   i1 = l29;
@@ -36235,11 +36222,11 @@ static void f23(module *self, u64 p0, u64 p1, u64 p2, u64 p3, u64 p4, u64 p5, u6
   i32_store(j0, i1);
   j0 = l9;
   i0 = (u32)(j0);
-  j1 = p6;
+  j1 = p5;
   i64_store(j0, j1);
   j0 = l10;
   i0 = (u32)(j0);
-  j1 = p5;
+  j1 = p6;
   j2 = 4ull;
   j1 += j2;
   i64_store(j0, j1);
@@ -36247,12 +36234,12 @@ static void f23(module *self, u64 p0, u64 p1, u64 p2, u64 p3, u64 p4, u64 p5, u6
   i0 = (u32)(j0);
   j1 = p2;
   i64_store(j0, j1);
-  B210:;
+  B209:;
   j0 = l8;
   i0 = (u32)(j0);
   i0 = i32_load8_u(j0);
   l58 = i0;
-  B209:;
+  B208:;
   i0 = l29;
   i1 = 63u;
   i0 &= i1;
@@ -36263,12 +36250,12 @@ static void f23(module *self, u64 p0, u64 p1, u64 p2, u64 p3, u64 p4, u64 p5, u6
   j0 &= j1;
   i0 = (u32)(j0);
   switch (i0) {
-    case 0: goto B215;
-    case 1: goto B213;
-    case 2: goto B214;
-    default: goto B215;
+    case 0: goto B214;
+    case 1: goto B212;
+    case 2: goto B213;
+    default: goto B214;
   }
-  B215:;
+  B214:;
   j0 = p1;
   j1 = 2000ull;
   j0 += j1;
@@ -36277,14 +36264,14 @@ static void f23(module *self, u64 p0, u64 p1, u64 p2, u64 p3, u64 p4, u64 p5, u6
   i32_store8(j0, i1);
   i0 = 1u;
   l58 = i0;
-  goto B212;
-  B214:;
+  goto B211;
+  B213:;
   j0 = p1;
   j1 = 1998ull;
   j0 += j1;
-  p5 = j0;
+  p6 = j0;
   i0 = (u32)(j0);
-  j1 = p5;
+  j1 = p6;
   i1 = (u32)(j1);
   i1 = i32_load8_u(j1);
   l58 = i1;
@@ -36296,9 +36283,9 @@ static void f23(module *self, u64 p0, u64 p1, u64 p2, u64 p3, u64 p4, u64 p5, u6
   j1 = (u64)(i1);
   j2 = 255ull;
   j1 &= j2;
-  p6 = j1;
+  p5 = j1;
   j0 += j1;
-  p5 = j0;
+  p6 = j0;
   j1 = 206ull;
   j0 += j1;
   i0 = (u32)(j0);
@@ -36309,7 +36296,7 @@ static void f23(module *self, u64 p0, u64 p1, u64 p2, u64 p3, u64 p4, u64 p5, u6
   i1 = i32_load8_u(j1);
   l59 = i1;
   i32_store8(j0, i1);
-  j0 = p5;
+  j0 = p6;
   j1 = 462ull;
   j0 += j1;
   i0 = (u32)(j0);
@@ -36320,7 +36307,7 @@ static void f23(module *self, u64 p0, u64 p1, u64 p2, u64 p3, u64 p4, u64 p5, u6
   i1 = i32_load8_u(j1);
   l18 = i1;
   i32_store8(j0, i1);
-  j0 = p5;
+  j0 = p6;
   j1 = 718ull;
   j0 += j1;
   i0 = (u32)(j0);
@@ -36329,36 +36316,36 @@ static void f23(module *self, u64 p0, u64 p1, u64 p2, u64 p3, u64 p4, u64 p5, u6
   i0 = 0u;
   l58 = i0;
   j0 = p1;
-  j1 = p6;
+  j1 = p5;
   j2 = 2ull;
   j1 <<= (j2 & 63);
   j0 += j1;
-  p5 = j0;
+  p6 = j0;
   j1 = 977ull;
   j0 += j1;
   i0 = (u32)(j0);
   i1 = 0u;
   i32_store8(j0, i1);
-  j0 = p5;
+  j0 = p6;
   j1 = 976ull;
   j0 += j1;
   i0 = (u32)(j0);
   i1 = l27;
   i32_store8(j0, i1);
-  j0 = p5;
+  j0 = p6;
   j1 = 975ull;
   j0 += j1;
   i0 = (u32)(j0);
   i1 = l18;
   i32_store8(j0, i1);
-  j0 = p5;
+  j0 = p6;
   j1 = 974ull;
   j0 += j1;
   i0 = (u32)(j0);
   i1 = l59;
   i32_store8(j0, i1);
-  goto B212;
-  B213:;
+  goto B211;
+  B212:;
   j0 = p1;
   j1 = 2001ull;
   j0 += j1;
@@ -36367,7 +36354,7 @@ static void f23(module *self, u64 p0, u64 p1, u64 p2, u64 p3, u64 p4, u64 p5, u6
   i32_store8(j0, i1);
   i0 = 2u;
   l58 = i0;
-  B212:;
+  B211:;
   i0 = l29;
   i1 = 8u;
   i0 >>= (i1 & 31);
@@ -36381,66 +36368,66 @@ static void f23(module *self, u64 p0, u64 p1, u64 p2, u64 p3, u64 p4, u64 p5, u6
   j0 = p1;
   j1 = 2096ull;
   j0 += j1;
-  p5 = j0;
+  p6 = j0;
   i0 = (u32)(j0);
   j0 = i64_load(j0);
-  p6 = j0;
+  p5 = j0;
   j1 = 16777216ull;
   i0 = j0 > j1;
-  if (i0) {goto B216;}
-  j0 = p5;
+  if (i0) {goto B215;}
+  j0 = p6;
   i0 = (u32)(j0);
-  j1 = p6;
+  j1 = p5;
   j2 = 4ull;
   j1 += j2;
-  p6 = j1;
+  p5 = j1;
   i64_store(j0, j1);
-  j0 = p6;
+  j0 = p5;
   j1 = p1;
   j2 = 2104ull;
   j1 += j2;
   i1 = (u32)(j1);
   j1 = i64_load(j1);
   i0 = j0 > j1;
-  if (i0) {goto B217;}
+  if (i0) {goto B216;}
   j0 = p1;
   j1 = 2088ull;
   j0 += j1;
   l9 = j0;
   i0 = (u32)(j0);
   j0 = i64_load(j0);
-  p6 = j0;
+  p5 = j0;
   j1 = p1;
   j2 = 2080ull;
   j1 += j2;
   l10 = j1;
   i1 = (u32)(j1);
   j1 = i64_load(j1);
-  p5 = j1;
+  p6 = j1;
   j0 -= j1;
   j1 = 3ull;
   i0 = j0 > j1;
-  if (i0) {goto B218;}
+  if (i0) {goto B217;}
   j0 = p1;
   j1 = 2072ull;
   j0 += j1;
   j1 = 4ull;
-  i0 = f10(self, j0, j1); m = self->memory; if (NEVER(self->is_broken)) return;
+  i0 = f11(self, j0, j1); m = self->memory; if (NEVER(self->is_broken)) return;
   i0 = !(i0);
-  if (i0) {goto B217;}
+  if (i0) {goto B216;}
   j0 = p1;
   j1 = 2088ull;
   j0 += j1;
   i0 = (u32)(j0);
   j0 = i64_load(j0);
-  p6 = j0;
+  p5 = j0;
   j0 = p1;
   j1 = 2080ull;
   j0 += j1;
   i0 = (u32)(j0);
   j0 = i64_load(j0);
-  p5 = j0;
-  B218:;
+  p6 = j0;
+  B217:;
   j0 = p1;
   j1 = 2072ull;
   j0 += j1;
@@ -36448,7 +36435,7 @@ static void f23(module *self, u64 p0, u64 p1, u64 p2, u64 p3, u64 p4, u64 p5, u6
   i0 = (u32)(j0);
   j0 = i64_load(j0);
   p2 = j0;
-  j1 = p5;
+  j1 = p6;
   j0 += j1;
   i0 = (u32)(j0);
   i1 = l27;
@@ -36459,11 +36446,11 @@ static void f23(module *self, u64 p0, u64 p1, u64 p2, u64 p3, u64 p4, u64 p5, u6
   i32_store(j0, i1);
   j0 = l9;
   i0 = (u32)(j0);
-  j1 = p6;
+  j1 = p5;
   i64_store(j0, j1);
   j0 = l10;
   i0 = (u32)(j0);
-  j1 = p5;
+  j1 = p6;
   j2 = 4ull;
   j1 += j2;
   i64_store(j0, j1);
@@ -36471,12 +36458,12 @@ static void f23(module *self, u64 p0, u64 p1, u64 p2, u64 p3, u64 p4, u64 p5, u6
   i0 = (u32)(j0);
   j1 = p2;
   i64_store(j0, j1);
-  B217:;
+  B216:;
   j0 = l8;
   i0 = (u32)(j0);
   i0 = i32_load8_u(j0);
   l58 = i0;
-  B216:;
+  B215:;
   i0 = l27;
   i1 = 63u;
   i0 &= i1;
@@ -36487,12 +36474,12 @@ static void f23(module *self, u64 p0, u64 p1, u64 p2, u64 p3, u64 p4, u64 p5, u6
   j0 &= j1;
   i0 = (u32)(j0);
   switch (i0) {
-    case 0: goto B221;
-    case 1: goto B219;
-    case 2: goto B220;
-    default: goto B221;
+    case 0: goto B220;
+    case 1: goto B218;
+    case 2: goto B219;
+    default: goto B220;
   }
-  B221:;
+  B220:;
   j0 = p1;
   j1 = 2000ull;
   j0 += j1;
@@ -36503,14 +36490,14 @@ static void f23(module *self, u64 p0, u64 p1, u64 p2, u64 p3, u64 p4, u64 p5, u6
   i0 = (u32)(j0);
   i1 = 1u;
   i32_store8(j0, i1);
-  goto B48;
-  B220:;
+  goto B47;
+  B219:;
   j0 = p1;
   j1 = 1998ull;
   j0 += j1;
-  p5 = j0;
+  p6 = j0;
   i0 = (u32)(j0);
-  j1 = p5;
+  j1 = p6;
   i1 = (u32)(j1);
   i1 = i32_load8_u(j1);
   l58 = i1;
@@ -36522,9 +36509,9 @@ static void f23(module *self, u64 p0, u64 p1, u64 p2, u64 p3, u64 p4, u64 p5, u6
   j1 = (u64)(i1);
   j2 = 255ull;
   j1 &= j2;
-  p6 = j1;
+  p5 = j1;
   j0 += j1;
-  p5 = j0;
+  p6 = j0;
   j1 = 206ull;
   j0 += j1;
   i0 = (u32)(j0);
@@ -36535,7 +36522,7 @@ static void f23(module *self, u64 p0, u64 p1, u64 p2, u64 p3, u64 p4, u64 p5, u6
   i1 = i32_load8_u(j1);
   l58 = i1;
   i32_store8(j0, i1);
-  j0 = p5;
+  j0 = p6;
   j1 = 462ull;
   j0 += j1;
   i0 = (u32)(j0);
@@ -36546,14 +36533,14 @@ static void f23(module *self, u64 p0, u64 p1, u64 p2, u64 p3, u64 p4, u64 p5, u6
   i1 = i32_load8_u(j1);
   l59 = i1;
   i32_store8(j0, i1);
-  j0 = p5;
+  j0 = p6;
   j1 = 718ull;
   j0 += j1;
   i0 = (u32)(j0);
   i1 = l27;
   i32_store8(j0, i1);
   j0 = p1;
-  j1 = p6;
+  j1 = p5;
   j2 = 2ull;
   j1 <<= (j2 & 63);
   j0 += j1;
@@ -36585,8 +36572,8 @@ static void f23(module *self, u64 p0, u64 p1, u64 p2, u64 p3, u64 p4, u64 p5, u6
   i0 = (u32)(j0);
   i1 = 0u;
   i32_store8(j0, i1);
-  goto B48;
-  B219:;
+  goto B47;
+  B218:;
   j0 = p1;
   j1 = 2001ull;
   j0 += j1;
@@ -36597,13 +36584,13 @@ static void f23(module *self, u64 p0, u64 p1, u64 p2, u64 p3, u64 p4, u64 p5, u6
   i0 = (u32)(j0);
   i1 = 2u;
   i32_store8(j0, i1);
-  B48:;
+  B47:;
   j0 = l12;
   l8 = j0;
-  B47:;
+  B46:;
   i0 = l40;
   l59 = i0;
-  B46:;
+  B45:;
   i0 = l22;
   j0 = (u64)(i0);
   j1 = 65535ull;
@@ -36655,7 +36642,7 @@ static void f23(module *self, u64 p0, u64 p1, u64 p2, u64 p3, u64 p4, u64 p5, u6
   j0 = 0ull;
   l9 = j0;
   j0 = 0ull;
-  p5 = j0;
+  p6 = j0;
   B9:;
   j0 = p0;
   i0 = (u32)(j0);
@@ -36665,7 +36652,7 @@ static void f23(module *self, u64 p0, u64 p1, u64 p2, u64 p3, u64 p4, u64 p5, u6
   j1 = 32ull;
   j0 += j1;
   i0 = (u32)(j0);
-  j1 = p5;
+  j1 = p6;
   i64_store(j0, j1);
   j0 = p0;
   j1 = 24ull;
@@ -37020,32 +37007,32 @@ static void f23(module *self, u64 p0, u64 p1, u64 p2, u64 p3, u64 p4, u64 p5, u6
   l8 = j0;
   i0 = (u32)(j0);
   j0 = i64_load(j0);
-  p5 = j0;
+  p6 = j0;
   j1 = 16777216ull;
   i0 = j0 > j1;
-  if (i0) {goto B222;}
+  if (i0) {goto B221;}
   j0 = l8;
   i0 = (u32)(j0);
-  j1 = p5;
+  j1 = p6;
   j2 = 4ull;
   j1 += j2;
-  p5 = j1;
+  p6 = j1;
   i64_store(j0, j1);
-  j0 = p5;
+  j0 = p6;
   j1 = p1;
   j2 = 2104ull;
   j1 += j2;
   i1 = (u32)(j1);
   j1 = i64_load(j1);
   i0 = j0 > j1;
-  if (i0) {goto B222;}
+  if (i0) {goto B221;}
   j0 = p1;
   j1 = 2088ull;
   j0 += j1;
-  p6 = j0;
+  p5 = j0;
   i0 = (u32)(j0);
   j0 = i64_load(j0);
-  p5 = j0;
+  p6 = j0;
   j1 = p1;
   j2 = 2080ull;
   j1 += j2;
@@ -37056,27 +37043,27 @@ static void f23(module *self, u64 p0, u64 p1, u64 p2, u64 p3, u64 p4, u64 p5, u6
   j0 -= j1;
   j1 = 3ull;
   i0 = j0 > j1;
-  if (i0) {goto B223;}
+  if (i0) {goto B222;}
   j0 = p1;
   j1 = 2072ull;
   j0 += j1;
   j1 = 4ull;
-  i0 = f10(self, j0, j1); m = self->memory; if (NEVER(self->is_broken)) return;
+  i0 = f11(self, j0, j1); m = self->memory; if (NEVER(self->is_broken)) return;
   i0 = !(i0);
-  if (i0) {goto B222;}
+  if (i0) {goto B221;}
   j0 = p1;
   j1 = 2088ull;
   j0 += j1;
   i0 = (u32)(j0);
   j0 = i64_load(j0);
-  p5 = j0;
+  p6 = j0;
   j0 = p1;
   j1 = 2080ull;
   j0 += j1;
   i0 = (u32)(j0);
   j0 = i64_load(j0);
   l8 = j0;
-  B223:;
+  B222:;
   j0 = p1;
   j1 = 2072ull;
   j0 += j1;
@@ -37093,9 +37080,9 @@ static void f23(module *self, u64 p0, u64 p1, u64 p2, u64 p3, u64 p4, u64 p5, u6
   i2 = 246273u;
   i1 |= i2;
   i32_store(j0, i1);
-  j0 = p6;
+  j0 = p5;
   i0 = (u32)(j0);
-  j1 = p5;
+  j1 = p6;
   i64_store(j0, j1);
   j0 = l9;
   i0 = (u32)(j0);
@@ -37107,7 +37094,7 @@ static void f23(module *self, u64 p0, u64 p1, u64 p2, u64 p3, u64 p4, u64 p5, u6
   i0 = (u32)(j0);
   j1 = l11;
   i64_store(j0, j1);
-  B222:;
+  B221:;
   j0 = l7;
   j1 = 199ull;
   j0 += j1;
@@ -37140,7 +37127,7 @@ static void f23(module *self, u64 p0, u64 p1, u64 p2, u64 p3, u64 p4, u64 p5, u6
   l8 = j0;
   i0 = 246785u;
   l27 = i0;
-  L224: 
+  L223: 
     j0 = l11;
     j1 = l8;
     j0 += j1;
@@ -37153,13 +37140,13 @@ static void f23(module *self, u64 p0, u64 p1, u64 p2, u64 p3, u64 p4, u64 p5, u6
     j0 = p1;
     j1 = 2096ull;
     j0 += j1;
-    p6 = j0;
+    p5 = j0;
     i0 = (u32)(j0);
     j0 = i64_load(j0);
-    p5 = j0;
+    p6 = j0;
     j1 = 16777217ull;
     i0 = j0 < j1;
-    if (i0) {goto B226;}
+    if (i0) {goto B225;}
     j0 = p1;
     j1 = 56ull;
     j0 += j1;
@@ -37169,61 +37156,61 @@ static void f23(module *self, u64 p0, u64 p1, u64 p2, u64 p3, u64 p4, u64 p5, u6
     i1 &= i2;
     l58 = i1;
     i32_store8(j0, i1);
-    goto B225;
-    B226:;
-    j0 = p6;
+    goto B224;
+    B225:;
+    j0 = p5;
     i0 = (u32)(j0);
-    j1 = p5;
+    j1 = p6;
     j2 = 4ull;
     j1 += j2;
-    p5 = j1;
+    p6 = j1;
     i64_store(j0, j1);
-    j0 = p5;
+    j0 = p6;
     j1 = p1;
     j2 = 2104ull;
     j1 += j2;
     i1 = (u32)(j1);
     j1 = i64_load(j1);
     i0 = j0 > j1;
-    if (i0) {goto B227;}
+    if (i0) {goto B226;}
     j0 = p1;
     j1 = 2088ull;
     j0 += j1;
     l16 = j0;
     i0 = (u32)(j0);
     j0 = i64_load(j0);
-    p6 = j0;
+    p5 = j0;
     j1 = p1;
     j2 = 2080ull;
     j1 += j2;
     l17 = j1;
     i1 = (u32)(j1);
     j1 = i64_load(j1);
-    p5 = j1;
+    p6 = j1;
     j0 -= j1;
     j1 = 3ull;
     i0 = j0 > j1;
-    if (i0) {goto B229;}
+    if (i0) {goto B228;}
     j0 = p1;
     j1 = 2072ull;
     j0 += j1;
     j1 = 4ull;
-    i0 = f10(self, j0, j1); m = self->memory; if (NEVER(self->is_broken)) return;
+    i0 = f11(self, j0, j1); m = self->memory; if (NEVER(self->is_broken)) return;
     i0 = !(i0);
-    if (i0) {goto B228;}
+    if (i0) {goto B227;}
     j0 = p1;
     j1 = 2088ull;
     j0 += j1;
     i0 = (u32)(j0);
     j0 = i64_load(j0);
-    p6 = j0;
+    p5 = j0;
     j0 = p1;
     j1 = 2080ull;
     j0 += j1;
     i0 = (u32)(j0);
     j0 = i64_load(j0);
-    p5 = j0;
-    B229:;
+    p6 = j0;
+    B228:;
     j0 = p1;
     j1 = 2072ull;
     j0 += j1;
@@ -37231,18 +37218,18 @@ static void f23(module *self, u64 p0, u64 p1, u64 p2, u64 p3, u64 p4, u64 p5, u6
     i0 = (u32)(j0);
     j0 = i64_load(j0);
     l14 = j0;
-    j1 = p5;
+    j1 = p6;
     j0 += j1;
     i0 = (u32)(j0);
     i1 = l27;
     i32_store(j0, i1);
     j0 = l16;
     i0 = (u32)(j0);
-    j1 = p6;
+    j1 = p5;
     i64_store(j0, j1);
     j0 = l17;
     i0 = (u32)(j0);
-    j1 = p5;
+    j1 = p6;
     j2 = 4ull;
     j1 += j2;
     i64_store(j0, j1);
@@ -37250,14 +37237,14 @@ static void f23(module *self, u64 p0, u64 p1, u64 p2, u64 p3, u64 p4, u64 p5, u6
     i0 = (u32)(j0);
     j1 = l14;
     i64_store(j0, j1);
-    B228:;
+    B227:;
     j0 = p1;
     j1 = 2096ull;
     j0 += j1;
     i0 = (u32)(j0);
     j0 = i64_load(j0);
-    p5 = j0;
-    B227:;
+    p6 = j0;
+    B226:;
     j0 = p1;
     j1 = 56ull;
     j0 += j1;
@@ -37267,65 +37254,65 @@ static void f23(module *self, u64 p0, u64 p1, u64 p2, u64 p3, u64 p4, u64 p5, u6
     i1 &= i2;
     l58 = i1;
     i32_store8(j0, i1);
-    j0 = p5;
+    j0 = p6;
     j1 = 16777216ull;
     i0 = j0 > j1;
-    if (i0) {goto B225;}
+    if (i0) {goto B224;}
     j0 = p1;
     j1 = 2096ull;
     j0 += j1;
     i0 = (u32)(j0);
-    j1 = p5;
+    j1 = p6;
     j2 = 4ull;
     j1 += j2;
-    p5 = j1;
+    p6 = j1;
     i64_store(j0, j1);
-    j0 = p5;
+    j0 = p6;
     j1 = p1;
     j2 = 2104ull;
     j1 += j2;
     i1 = (u32)(j1);
     j1 = i64_load(j1);
     i0 = j0 > j1;
-    if (i0) {goto B230;}
+    if (i0) {goto B229;}
     j0 = p1;
     j1 = 2088ull;
     j0 += j1;
     l16 = j0;
     i0 = (u32)(j0);
     j0 = i64_load(j0);
-    p6 = j0;
+    p5 = j0;
     j1 = p1;
     j2 = 2080ull;
     j1 += j2;
     l17 = j1;
     i1 = (u32)(j1);
     j1 = i64_load(j1);
-    p5 = j1;
+    p6 = j1;
     j0 -= j1;
     j1 = 3ull;
     i0 = j0 > j1;
-    if (i0) {goto B231;}
+    if (i0) {goto B230;}
     j0 = p1;
     j1 = 2072ull;
     j0 += j1;
     j1 = 4ull;
-    i0 = f10(self, j0, j1); m = self->memory; if (NEVER(self->is_broken)) return;
+    i0 = f11(self, j0, j1); m = self->memory; if (NEVER(self->is_broken)) return;
     i0 = !(i0);
-    if (i0) {goto B230;}
+    if (i0) {goto B229;}
     j0 = p1;
     j1 = 2088ull;
     j0 += j1;
     i0 = (u32)(j0);
     j0 = i64_load(j0);
-    p6 = j0;
+    p5 = j0;
     j0 = p1;
     j1 = 2080ull;
     j0 += j1;
     i0 = (u32)(j0);
     j0 = i64_load(j0);
-    p5 = j0;
-    B231:;
+    p6 = j0;
+    B230:;
     j0 = p1;
     j1 = 2072ull;
     j0 += j1;
@@ -37333,7 +37320,7 @@ static void f23(module *self, u64 p0, u64 p1, u64 p2, u64 p3, u64 p4, u64 p5, u6
     i0 = (u32)(j0);
     j0 = i64_load(j0);
     l14 = j0;
-    j1 = p5;
+    j1 = p6;
     j0 += j1;
     i0 = (u32)(j0);
     i1 = l59;
@@ -37344,11 +37331,11 @@ static void f23(module *self, u64 p0, u64 p1, u64 p2, u64 p3, u64 p4, u64 p5, u6
     i32_store(j0, i1);
     j0 = l16;
     i0 = (u32)(j0);
-    j1 = p6;
+    j1 = p5;
     i64_store(j0, j1);
     j0 = l17;
     i0 = (u32)(j0);
-    j1 = p5;
+    j1 = p6;
     j2 = 4ull;
     j1 += j2;
     i64_store(j0, j1);
@@ -37356,30 +37343,30 @@ static void f23(module *self, u64 p0, u64 p1, u64 p2, u64 p3, u64 p4, u64 p5, u6
     i0 = (u32)(j0);
     j1 = l14;
     i64_store(j0, j1);
-    B230:;
+    B229:;
     j0 = p1;
     j1 = 56ull;
     j0 += j1;
     i0 = (u32)(j0);
     i0 = i32_load8_u(j0);
     l58 = i0;
-    B225:;
+    B224:;
     i0 = l58;
     i1 = 255u;
     i0 &= i1;
     i1 = 4u;
     i0 = i0 > i1;
-    if (i0) {goto B232;}
+    if (i0) {goto B231;}
     j0 = l12;
     i1 = l58;
     j1 = (u64)(i1);
     j2 = 255ull;
     j1 &= j2;
-    p5 = j1;
+    p6 = j1;
     j0 += j1;
     i0 = (u32)(j0);
     j1 = l15;
-    j2 = p5;
+    j2 = p6;
     j1 += j2;
     i1 = (u32)(j1);
     i1 = i32_load8_u(j1);
@@ -37405,9 +37392,9 @@ static void f23(module *self, u64 p0, u64 p1, u64 p2, u64 p3, u64 p4, u64 p5, u6
     j0 = p1;
     j1 = 73ull;
     j0 += j1;
-    p5 = j0;
+    p6 = j0;
     i0 = (u32)(j0);
-    j1 = p5;
+    j1 = p6;
     i1 = (u32)(j1);
     i1 = i32_load8_u(j1);
     i2 = 1u;
@@ -37416,9 +37403,9 @@ static void f23(module *self, u64 p0, u64 p1, u64 p2, u64 p3, u64 p4, u64 p5, u6
     j0 = p1;
     j1 = 72ull;
     j0 += j1;
-    p5 = j0;
+    p6 = j0;
     i0 = (u32)(j0);
-    j1 = p5;
+    j1 = p6;
     i1 = (u32)(j1);
     i1 = i32_load8_u(j1);
     i2 = 1u;
@@ -37427,9 +37414,9 @@ static void f23(module *self, u64 p0, u64 p1, u64 p2, u64 p3, u64 p4, u64 p5, u6
     j0 = p1;
     j1 = 69ull;
     j0 += j1;
-    p5 = j0;
+    p6 = j0;
     i0 = (u32)(j0);
-    j1 = p5;
+    j1 = p6;
     i1 = (u32)(j1);
     i1 = i32_load8_u(j1);
     i2 = 1u;
@@ -37460,7 +37447,7 @@ static void f23(module *self, u64 p0, u64 p1, u64 p2, u64 p3, u64 p4, u64 p5, u6
     i2 = 1u;
     i1 &= i2;
     i32_store8(j0, i1);
-    B232:;
+    B231:;
     i0 = l27;
     i1 = 16777216u;
     i0 += i1;
@@ -37471,11 +37458,11 @@ static void f23(module *self, u64 p0, u64 p1, u64 p2, u64 p3, u64 p4, u64 p5, u6
     l8 = j0;
     j1 = 5ull;
     i0 = j0 != j1;
-    if (i0) {goto L224;}
+    if (i0) {goto L223;}
   j0 = p1;
   i1 = l24;
   i2 = 17u;
-  f27(self, j0, i1, i2); m = self->memory; if (NEVER(self->is_broken)) return;
+  f28(self, j0, i1, i2); m = self->memory; if (NEVER(self->is_broken)) return;
   j0 = p1;
   i1 = l24;
   i2 = 1u;
@@ -37484,10 +37471,10 @@ static void f23(module *self, u64 p0, u64 p1, u64 p2, u64 p3, u64 p4, u64 p5, u6
   i2 = l46;
   i3 = 15u;
   i2 &= i3;
-  f27(self, j0, i1, i2); m = self->memory; if (NEVER(self->is_broken)) return;
+  f28(self, j0, i1, i2); m = self->memory; if (NEVER(self->is_broken)) return;
   j0 = 0ull;
   l8 = j0;
-  L233: 
+  L232: 
     j0 = l9;
     j1 = l8;
     j0 += j1;
@@ -37498,18 +37485,18 @@ static void f23(module *self, u64 p0, u64 p1, u64 p2, u64 p3, u64 p4, u64 p5, u6
     i1 = l24;
     j2 = l8;
     i2 = (u32)(j2);
-    f27(self, j0, i1, i2); m = self->memory; if (NEVER(self->is_broken)) return;
+    f28(self, j0, i1, i2); m = self->memory; if (NEVER(self->is_broken)) return;
     j0 = p1;
     i1 = l27;
     i2 = l58;
-    f27(self, j0, i1, i2); m = self->memory; if (NEVER(self->is_broken)) return;
+    f28(self, j0, i1, i2); m = self->memory; if (NEVER(self->is_broken)) return;
     j0 = l8;
     j1 = 1ull;
     j0 += j1;
     l8 = j0;
     j1 = 25ull;
     i0 = j0 != j1;
-    if (i0) {goto L233;}
+    if (i0) {goto L232;}
   j0 = p1;
   j1 = 47ull;
   j0 += j1;
@@ -37522,7 +37509,7 @@ static void f23(module *self, u64 p0, u64 p1, u64 p2, u64 p3, u64 p4, u64 p5, u6
   l8 = j0;
   i0 = 249345u;
   l27 = i0;
-  L234: 
+  L233: 
     j0 = l10;
     j1 = l8;
     j0 += j1;
@@ -37535,13 +37522,13 @@ static void f23(module *self, u64 p0, u64 p1, u64 p2, u64 p3, u64 p4, u64 p5, u6
     j0 = p1;
     j1 = 2096ull;
     j0 += j1;
-    p6 = j0;
+    p5 = j0;
     i0 = (u32)(j0);
     j0 = i64_load(j0);
-    p5 = j0;
+    p6 = j0;
     j1 = 16777217ull;
     i0 = j0 < j1;
-    if (i0) {goto B236;}
+    if (i0) {goto B235;}
     j0 = p1;
     j1 = 57ull;
     j0 += j1;
@@ -37551,61 +37538,61 @@ static void f23(module *self, u64 p0, u64 p1, u64 p2, u64 p3, u64 p4, u64 p5, u6
     i1 &= i2;
     l58 = i1;
     i32_store8(j0, i1);
-    goto B235;
-    B236:;
-    j0 = p6;
+    goto B234;
+    B235:;
+    j0 = p5;
     i0 = (u32)(j0);
-    j1 = p5;
+    j1 = p6;
     j2 = 4ull;
     j1 += j2;
-    p5 = j1;
+    p6 = j1;
     i64_store(j0, j1);
-    j0 = p5;
+    j0 = p6;
     j1 = p1;
     j2 = 2104ull;
     j1 += j2;
     i1 = (u32)(j1);
     j1 = i64_load(j1);
     i0 = j0 > j1;
-    if (i0) {goto B237;}
+    if (i0) {goto B236;}
     j0 = p1;
     j1 = 2088ull;
     j0 += j1;
     l9 = j0;
     i0 = (u32)(j0);
     j0 = i64_load(j0);
-    p6 = j0;
+    p5 = j0;
     j1 = p1;
     j2 = 2080ull;
     j1 += j2;
     l11 = j1;
     i1 = (u32)(j1);
     j1 = i64_load(j1);
-    p5 = j1;
+    p6 = j1;
     j0 -= j1;
     j1 = 3ull;
     i0 = j0 > j1;
-    if (i0) {goto B239;}
+    if (i0) {goto B238;}
     j0 = p1;
     j1 = 2072ull;
     j0 += j1;
     j1 = 4ull;
-    i0 = f10(self, j0, j1); m = self->memory; if (NEVER(self->is_broken)) return;
+    i0 = f11(self, j0, j1); m = self->memory; if (NEVER(self->is_broken)) return;
     i0 = !(i0);
-    if (i0) {goto B238;}
+    if (i0) {goto B237;}
     j0 = p1;
     j1 = 2088ull;
     j0 += j1;
     i0 = (u32)(j0);
     j0 = i64_load(j0);
-    p6 = j0;
+    p5 = j0;
     j0 = p1;
     j1 = 2080ull;
     j0 += j1;
     i0 = (u32)(j0);
     j0 = i64_load(j0);
-    p5 = j0;
-    B239:;
+    p6 = j0;
+    B238:;
     j0 = p1;
     j1 = 2072ull;
     j0 += j1;
@@ -37613,18 +37600,18 @@ static void f23(module *self, u64 p0, u64 p1, u64 p2, u64 p3, u64 p4, u64 p5, u6
     i0 = (u32)(j0);
     j0 = i64_load(j0);
     l15 = j0;
-    j1 = p5;
+    j1 = p6;
     j0 += j1;
     i0 = (u32)(j0);
     i1 = l27;
     i32_store(j0, i1);
     j0 = l9;
     i0 = (u32)(j0);
-    j1 = p6;
+    j1 = p5;
     i64_store(j0, j1);
     j0 = l11;
     i0 = (u32)(j0);
-    j1 = p5;
+    j1 = p6;
     j2 = 4ull;
     j1 += j2;
     i64_store(j0, j1);
@@ -37632,14 +37619,14 @@ static void f23(module *self, u64 p0, u64 p1, u64 p2, u64 p3, u64 p4, u64 p5, u6
     i0 = (u32)(j0);
     j1 = l15;
     i64_store(j0, j1);
-    B238:;
+    B237:;
     j0 = p1;
     j1 = 2096ull;
     j0 += j1;
     i0 = (u32)(j0);
     j0 = i64_load(j0);
-    p5 = j0;
-    B237:;
+    p6 = j0;
+    B236:;
     j0 = p1;
     j1 = 57ull;
     j0 += j1;
@@ -37649,65 +37636,65 @@ static void f23(module *self, u64 p0, u64 p1, u64 p2, u64 p3, u64 p4, u64 p5, u6
     i1 &= i2;
     l58 = i1;
     i32_store8(j0, i1);
-    j0 = p5;
+    j0 = p6;
     j1 = 16777216ull;
     i0 = j0 > j1;
-    if (i0) {goto B235;}
+    if (i0) {goto B234;}
     j0 = p1;
     j1 = 2096ull;
     j0 += j1;
     i0 = (u32)(j0);
-    j1 = p5;
+    j1 = p6;
     j2 = 4ull;
     j1 += j2;
-    p5 = j1;
+    p6 = j1;
     i64_store(j0, j1);
-    j0 = p5;
+    j0 = p6;
     j1 = p1;
     j2 = 2104ull;
     j1 += j2;
     i1 = (u32)(j1);
     j1 = i64_load(j1);
     i0 = j0 > j1;
-    if (i0) {goto B240;}
+    if (i0) {goto B239;}
     j0 = p1;
     j1 = 2088ull;
     j0 += j1;
     l9 = j0;
     i0 = (u32)(j0);
     j0 = i64_load(j0);
-    p6 = j0;
+    p5 = j0;
     j1 = p1;
     j2 = 2080ull;
     j1 += j2;
     l11 = j1;
     i1 = (u32)(j1);
     j1 = i64_load(j1);
-    p5 = j1;
+    p6 = j1;
     j0 -= j1;
     j1 = 3ull;
     i0 = j0 > j1;
-    if (i0) {goto B241;}
+    if (i0) {goto B240;}
     j0 = p1;
     j1 = 2072ull;
     j0 += j1;
     j1 = 4ull;
-    i0 = f10(self, j0, j1); m = self->memory; if (NEVER(self->is_broken)) return;
+    i0 = f11(self, j0, j1); m = self->memory; if (NEVER(self->is_broken)) return;
     i0 = !(i0);
-    if (i0) {goto B240;}
+    if (i0) {goto B239;}
     j0 = p1;
     j1 = 2088ull;
     j0 += j1;
     i0 = (u32)(j0);
     j0 = i64_load(j0);
-    p6 = j0;
+    p5 = j0;
     j0 = p1;
     j1 = 2080ull;
     j0 += j1;
     i0 = (u32)(j0);
     j0 = i64_load(j0);
-    p5 = j0;
-    B241:;
+    p6 = j0;
+    B240:;
     j0 = p1;
     j1 = 2072ull;
     j0 += j1;
@@ -37715,7 +37702,7 @@ static void f23(module *self, u64 p0, u64 p1, u64 p2, u64 p3, u64 p4, u64 p5, u6
     i0 = (u32)(j0);
     j0 = i64_load(j0);
     l15 = j0;
-    j1 = p5;
+    j1 = p6;
     j0 += j1;
     i0 = (u32)(j0);
     i1 = l59;
@@ -37726,11 +37713,11 @@ static void f23(module *self, u64 p0, u64 p1, u64 p2, u64 p3, u64 p4, u64 p5, u6
     i32_store(j0, i1);
     j0 = l9;
     i0 = (u32)(j0);
-    j1 = p6;
+    j1 = p5;
     i64_store(j0, j1);
     j0 = l11;
     i0 = (u32)(j0);
-    j1 = p5;
+    j1 = p6;
     j2 = 4ull;
     j1 += j2;
     i64_store(j0, j1);
@@ -37738,42 +37725,42 @@ static void f23(module *self, u64 p0, u64 p1, u64 p2, u64 p3, u64 p4, u64 p5, u6
     i0 = (u32)(j0);
     j1 = l15;
     i64_store(j0, j1);
-    B240:;
+    B239:;
     j0 = p1;
     j1 = 57ull;
     j0 += j1;
     i0 = (u32)(j0);
     i0 = i32_load8_u(j0);
     l58 = i0;
-    B235:;
+    B234:;
     i0 = l58;
     i1 = 255u;
     i0 &= i1;
     i1 = 8u;
     i0 = i0 > i1;
-    if (i0) {goto B242;}
+    if (i0) {goto B241;}
     i0 = l59;
     i1 = 32u;
     i0 &= i1;
     i0 = !(i0);
-    if (i0) {goto B243;}
+    if (i0) {goto B242;}
     i0 = l58;
     i1 = 255u;
     i0 &= i1;
     i1 = 5u;
     i0 = i0 == i1;
-    if (i0) {goto B242;}
-    B243:;
+    if (i0) {goto B241;}
+    B242:;
     j0 = l16;
     i1 = l58;
     j1 = (u64)(i1);
     j2 = 255ull;
     j1 &= j2;
-    p5 = j1;
+    p6 = j1;
     j0 += j1;
     i0 = (u32)(j0);
     j1 = l17;
-    j2 = p5;
+    j2 = p6;
     j1 += j2;
     i1 = (u32)(j1);
     i1 = i32_load8_u(j1);
@@ -37789,9 +37776,9 @@ static void f23(module *self, u64 p0, u64 p1, u64 p2, u64 p3, u64 p4, u64 p5, u6
     j0 = p1;
     j1 = 70ull;
     j0 += j1;
-    p5 = j0;
+    p6 = j0;
     i0 = (u32)(j0);
-    j1 = p5;
+    j1 = p6;
     i1 = (u32)(j1);
     i1 = i32_load8_u(j1);
     i2 = 1u;
@@ -37800,9 +37787,9 @@ static void f23(module *self, u64 p0, u64 p1, u64 p2, u64 p3, u64 p4, u64 p5, u6
     j0 = p1;
     j1 = 68ull;
     j0 += j1;
-    p5 = j0;
+    p6 = j0;
     i0 = (u32)(j0);
-    j1 = p5;
+    j1 = p6;
     i1 = (u32)(j1);
     i1 = i32_load8_u(j1);
     i2 = 1u;
@@ -37850,7 +37837,7 @@ static void f23(module *self, u64 p0, u64 p1, u64 p2, u64 p3, u64 p4, u64 p5, u6
     j1 = (u64)(i1);
     j2 = 2ull;
     j1 <<= (j2 & 63);
-    p5 = j1;
+    p6 = j1;
     i1 = (u32)(j1);
     i1 = i32_load(j1 + 1049548u);
     i32_store(j0, i1);
@@ -37858,7 +37845,7 @@ static void f23(module *self, u64 p0, u64 p1, u64 p2, u64 p3, u64 p4, u64 p5, u6
     j1 = 60ull;
     j0 += j1;
     i0 = (u32)(j0);
-    j1 = p5;
+    j1 = p6;
     i1 = (u32)(j1);
     i1 = i32_load(j1 + 1049532u);
     i32_store(j0, i1);
@@ -37898,7 +37885,7 @@ static void f23(module *self, u64 p0, u64 p1, u64 p2, u64 p3, u64 p4, u64 p5, u6
     i2 = !(i2);
     i1 &= i2;
     i32_store8(j0, i1);
-    B242:;
+    B241:;
     i0 = l27;
     i1 = 16777216u;
     i0 += i1;
@@ -37909,7 +37896,7 @@ static void f23(module *self, u64 p0, u64 p1, u64 p2, u64 p3, u64 p4, u64 p5, u6
     l8 = j0;
     j1 = 9ull;
     i0 = j0 != j1;
-    if (i0) {goto L234;}
+    if (i0) {goto L233;}
   i0 = l24;
   i1 = 6u;
   i0 += i1;
@@ -37920,25 +37907,25 @@ static void f23(module *self, u64 p0, u64 p1, u64 p2, u64 p3, u64 p4, u64 p5, u6
   l8 = j0;
   i0 = (u32)(j0);
   j0 = i64_load(j0);
-  p5 = j0;
+  p6 = j0;
   j1 = 16777216ull;
   i0 = j0 > j1;
-  if (i0) {goto B244;}
+  if (i0) {goto B243;}
   j0 = l8;
   i0 = (u32)(j0);
-  j1 = p5;
+  j1 = p6;
   j2 = 3ull;
   j1 += j2;
-  p5 = j1;
+  p6 = j1;
   i64_store(j0, j1);
-  j0 = p5;
+  j0 = p6;
   j1 = p1;
   j2 = 2104ull;
   j1 += j2;
   i1 = (u32)(j1);
   j1 = i64_load(j1);
   i0 = j0 > j1;
-  if (i0) {goto B244;}
+  if (i0) {goto B243;}
   j0 = p1;
   j1 = 2088ull;
   j0 += j1;
@@ -37952,18 +37939,18 @@ static void f23(module *self, u64 p0, u64 p1, u64 p2, u64 p3, u64 p4, u64 p5, u6
   l11 = j1;
   i1 = (u32)(j1);
   j1 = i64_load(j1);
-  p5 = j1;
+  p6 = j1;
   j0 -= j1;
   j1 = 2ull;
   i0 = j0 > j1;
-  if (i0) {goto B245;}
+  if (i0) {goto B244;}
   j0 = p1;
   j1 = 2072ull;
   j0 += j1;
   j1 = 3ull;
-  i0 = f10(self, j0, j1); m = self->memory; if (NEVER(self->is_broken)) return;
+  i0 = f11(self, j0, j1); m = self->memory; if (NEVER(self->is_broken)) return;
   i0 = !(i0);
-  if (i0) {goto B244;}
+  if (i0) {goto B243;}
   j0 = p1;
   j1 = 2088ull;
   j0 += j1;
@@ -37975,8 +37962,8 @@ static void f23(module *self, u64 p0, u64 p1, u64 p2, u64 p3, u64 p4, u64 p5, u6
   j0 += j1;
   i0 = (u32)(j0);
   j0 = i64_load(j0);
-  p5 = j0;
-  B245:;
+  p6 = j0;
+  B244:;
   j0 = p1;
   j1 = 2072ull;
   j0 += j1;
@@ -37984,17 +37971,17 @@ static void f23(module *self, u64 p0, u64 p1, u64 p2, u64 p3, u64 p4, u64 p5, u6
   i0 = (u32)(j0);
   j0 = i64_load(j0);
   l15 = j0;
-  j1 = p5;
+  j1 = p6;
   j0 += j1;
-  p6 = j0;
+  p5 = j0;
   i0 = (u32)(j0);
   i1 = 3u;
   i32_store8(j0 + 2, i1);
-  j0 = p6;
+  j0 = p5;
   i0 = (u32)(j0);
   i1 = l58;
   i32_store8(j0 + 1, i1);
-  j0 = p6;
+  j0 = p5;
   i0 = (u32)(j0);
   i1 = 3u;
   i32_store8(j0, i1);
@@ -38004,7 +37991,7 @@ static void f23(module *self, u64 p0, u64 p1, u64 p2, u64 p3, u64 p4, u64 p5, u6
   i64_store(j0, j1);
   j0 = l11;
   i0 = (u32)(j0);
-  j1 = p5;
+  j1 = p6;
   j2 = 3ull;
   j1 += j2;
   i64_store(j0, j1);
@@ -38012,100 +37999,100 @@ static void f23(module *self, u64 p0, u64 p1, u64 p2, u64 p3, u64 p4, u64 p5, u6
   i0 = (u32)(j0);
   j1 = l15;
   i64_store(j0, j1);
-  B244:;
+  B243:;
   j0 = l7;
   j1 = 8ull;
   j0 += j1;
   j1 = p1;
   i2 = l58;
-  f24(self, j0, j1, i2); if (NEVER(self->is_broken)) return;
+  f25(self, j0, j1, i2); if (NEVER(self->is_broken)) return;
   j0 = p1;
   i1 = 0u;
   i2 = 0u;
-  f39(self, j0, i1, i2); m = self->memory; if (NEVER(self->is_broken)) return;
+  f40(self, j0, i1, i2); m = self->memory; if (NEVER(self->is_broken)) return;
   j0 = p1;
   i1 = 1u;
   i2 = l21;
-  f39(self, j0, i1, i2); m = self->memory; if (NEVER(self->is_broken)) return;
+  f40(self, j0, i1, i2); m = self->memory; if (NEVER(self->is_broken)) return;
   j0 = p1;
   i1 = 2u;
   i2 = l57;
-  f39(self, j0, i1, i2); m = self->memory; if (NEVER(self->is_broken)) return;
+  f40(self, j0, i1, i2); m = self->memory; if (NEVER(self->is_broken)) return;
   j0 = p1;
   i1 = 3u;
   i2 = l68;
-  f39(self, j0, i1, i2); m = self->memory; if (NEVER(self->is_broken)) return;
+  f40(self, j0, i1, i2); m = self->memory; if (NEVER(self->is_broken)) return;
   j0 = p1;
   i1 = 4u;
   i2 = l18;
-  f39(self, j0, i1, i2); m = self->memory; if (NEVER(self->is_broken)) return;
+  f40(self, j0, i1, i2); m = self->memory; if (NEVER(self->is_broken)) return;
   j0 = p1;
   i1 = 5u;
   i2 = l40;
-  f39(self, j0, i1, i2); m = self->memory; if (NEVER(self->is_broken)) return;
+  f40(self, j0, i1, i2); m = self->memory; if (NEVER(self->is_broken)) return;
   j0 = p1;
   i1 = 6u;
   i2 = l39;
-  f39(self, j0, i1, i2); m = self->memory; if (NEVER(self->is_broken)) return;
+  f40(self, j0, i1, i2); m = self->memory; if (NEVER(self->is_broken)) return;
   j0 = p1;
   i1 = 7u;
   i2 = l38;
-  f39(self, j0, i1, i2); m = self->memory; if (NEVER(self->is_broken)) return;
+  f40(self, j0, i1, i2); m = self->memory; if (NEVER(self->is_broken)) return;
   j0 = p1;
   i1 = 8u;
   i2 = l37;
-  f39(self, j0, i1, i2); m = self->memory; if (NEVER(self->is_broken)) return;
+  f40(self, j0, i1, i2); m = self->memory; if (NEVER(self->is_broken)) return;
   j0 = p1;
   i1 = 9u;
   i2 = l36;
-  f39(self, j0, i1, i2); m = self->memory; if (NEVER(self->is_broken)) return;
+  f40(self, j0, i1, i2); m = self->memory; if (NEVER(self->is_broken)) return;
   j0 = p1;
   i1 = 10u;
   i2 = l35;
-  f39(self, j0, i1, i2); m = self->memory; if (NEVER(self->is_broken)) return;
+  f40(self, j0, i1, i2); m = self->memory; if (NEVER(self->is_broken)) return;
   j0 = p1;
   i1 = 11u;
   i2 = l34;
-  f39(self, j0, i1, i2); m = self->memory; if (NEVER(self->is_broken)) return;
+  f40(self, j0, i1, i2); m = self->memory; if (NEVER(self->is_broken)) return;
   j0 = p1;
   i1 = 12u;
   i2 = l33;
-  f39(self, j0, i1, i2); m = self->memory; if (NEVER(self->is_broken)) return;
+  f40(self, j0, i1, i2); m = self->memory; if (NEVER(self->is_broken)) return;
   j0 = p1;
   i1 = 13u;
   i2 = l32;
-  f39(self, j0, i1, i2); m = self->memory; if (NEVER(self->is_broken)) return;
+  f40(self, j0, i1, i2); m = self->memory; if (NEVER(self->is_broken)) return;
   j0 = p1;
   i1 = 14u;
   i2 = l31;
-  f39(self, j0, i1, i2); m = self->memory; if (NEVER(self->is_broken)) return;
+  f40(self, j0, i1, i2); m = self->memory; if (NEVER(self->is_broken)) return;
   j0 = p1;
   i1 = 15u;
   i2 = l30;
-  f39(self, j0, i1, i2); m = self->memory; if (NEVER(self->is_broken)) return;
+  f40(self, j0, i1, i2); m = self->memory; if (NEVER(self->is_broken)) return;
   j0 = p1;
   i1 = 16u;
   i2 = l29;
-  f39(self, j0, i1, i2); m = self->memory; if (NEVER(self->is_broken)) return;
+  f40(self, j0, i1, i2); m = self->memory; if (NEVER(self->is_broken)) return;
   j0 = p1;
   i1 = 17u;
   i2 = 0u;
-  f39(self, j0, i1, i2); m = self->memory; if (NEVER(self->is_broken)) return;
+  f40(self, j0, i1, i2); m = self->memory; if (NEVER(self->is_broken)) return;
   j0 = p1;
   i1 = 18u;
   i2 = 15u;
-  f39(self, j0, i1, i2); m = self->memory; if (NEVER(self->is_broken)) return;
+  f40(self, j0, i1, i2); m = self->memory; if (NEVER(self->is_broken)) return;
   j0 = p1;
   i1 = 19u;
   i2 = l28;
-  f39(self, j0, i1, i2); m = self->memory; if (NEVER(self->is_broken)) return;
+  f40(self, j0, i1, i2); m = self->memory; if (NEVER(self->is_broken)) return;
   j0 = p1;
   i1 = 20u;
   i2 = 0u;
-  f39(self, j0, i1, i2); m = self->memory; if (NEVER(self->is_broken)) return;
+  f40(self, j0, i1, i2); m = self->memory; if (NEVER(self->is_broken)) return;
   j0 = p1;
   i1 = l24;
-  f40(self, j0, i1); m = self->memory; if (NEVER(self->is_broken)) return;
+  f41(self, j0, i1); m = self->memory; if (NEVER(self->is_broken)) return;
   j0 = l7;
   i0 = (u32)(j0);
   i1 = 0u;
@@ -38120,15 +38107,15 @@ static void f23(module *self, u64 p0, u64 p1, u64 p2, u64 p3, u64 p4, u64 p5, u6
   l8 = j0;
   j1 = 16777217ull;
   i0 = j0 < j1;
-  if (i0) {goto B247;}
+  if (i0) {goto B246;}
   j0 = p1;
   j1 = 2002ull;
   j0 += j1;
   i0 = (u32)(j0);
   i1 = 255u;
   i32_store8(j0, i1);
-  goto B246;
-  B247:;
+  goto B245;
+  B246:;
   j0 = p1;
   j1 = 2096ull;
   j0 += j1;
@@ -38145,14 +38132,113 @@ static void f23(module *self, u64 p0, u64 p1, u64 p2, u64 p3, u64 p4, u64 p5, u6
   i1 = (u32)(j1);
   j1 = i64_load(j1);
   i0 = j0 > j1;
+  if (i0) {goto B247;}
+  j0 = p1;
+  j1 = 2088ull;
+  j0 += j1;
+  p5 = j0;
+  i0 = (u32)(j0);
+  j0 = i64_load(j0);
+  p6 = j0;
+  j1 = p1;
+  j2 = 2080ull;
+  j1 += j2;
+  l9 = j1;
+  i1 = (u32)(j1);
+  j1 = i64_load(j1);
+  l8 = j1;
+  j0 -= j1;
+  j1 = 3ull;
+  i0 = j0 > j1;
+  if (i0) {goto B249;}
+  j0 = p1;
+  j1 = 2072ull;
+  j0 += j1;
+  j1 = 4ull;
+  i0 = f11(self, j0, j1); m = self->memory; if (NEVER(self->is_broken)) return;
+  i0 = !(i0);
   if (i0) {goto B248;}
   j0 = p1;
   j1 = 2088ull;
   j0 += j1;
-  p6 = j0;
   i0 = (u32)(j0);
   j0 = i64_load(j0);
+  p6 = j0;
+  j0 = p1;
+  j1 = 2080ull;
+  j0 += j1;
+  i0 = (u32)(j0);
+  j0 = i64_load(j0);
+  l8 = j0;
+  B249:;
+  j0 = p1;
+  j1 = 2072ull;
+  j0 += j1;
+  l10 = j0;
+  i0 = (u32)(j0);
+  j0 = i64_load(j0);
+  l11 = j0;
+  j1 = l8;
+  j0 += j1;
+  i0 = (u32)(j0);
+  i1 = 4278437377u;
+  i32_store(j0, i1);
+  j0 = p5;
+  i0 = (u32)(j0);
+  j1 = p6;
+  i64_store(j0, j1);
+  j0 = l9;
+  i0 = (u32)(j0);
+  j1 = l8;
+  j2 = 4ull;
+  j1 += j2;
+  i64_store(j0, j1);
+  j0 = l10;
+  i0 = (u32)(j0);
+  j1 = l11;
+  i64_store(j0, j1);
+  B248:;
+  j0 = p1;
+  j1 = 2096ull;
+  j0 += j1;
+  i0 = (u32)(j0);
+  j0 = i64_load(j0);
+  l8 = j0;
+  B247:;
+  j0 = p1;
+  j1 = 2002ull;
+  j0 += j1;
+  i0 = (u32)(j0);
+  i1 = 255u;
+  i32_store8(j0, i1);
+  j0 = l8;
+  j1 = 16777216ull;
+  i0 = j0 > j1;
+  if (i0) {goto B245;}
+  j0 = p1;
+  j1 = 2096ull;
+  j0 += j1;
+  i0 = (u32)(j0);
+  j1 = l8;
+  j2 = 4ull;
+  j1 += j2;
+  l8 = j1;
+  i64_store(j0, j1);
+  j0 = l8;
+  j1 = p1;
+  j2 = 2104ull;
+  j1 += j2;
+  i1 = (u32)(j1);
+  j1 = i64_load(j1);
+  i0 = j0 > j1;
+  if (i0) {goto B245;}
+  j0 = p1;
+  j1 = 2088ull;
+  j0 += j1;
   p5 = j0;
+  i0 = (u32)(j0);
+  j0 = i64_load(j0);
+  p6 = j0;
   j1 = p1;
   j2 = 2080ull;
   j1 += j2;
@@ -38168,15 +38254,15 @@ static void f23(module *self, u64 p0, u64 p1, u64 p2, u64 p3, u64 p4, u64 p5, u6
   j1 = 2072ull;
   j0 += j1;
   j1 = 4ull;
-  i0 = f10(self, j0, j1); m = self->memory; if (NEVER(self->is_broken)) return;
+  i0 = f11(self, j0, j1); m = self->memory; if (NEVER(self->is_broken)) return;
   i0 = !(i0);
-  if (i0) {goto B249;}
+  if (i0) {goto B245;}
   j0 = p1;
   j1 = 2088ull;
   j0 += j1;
   i0 = (u32)(j0);
   j0 = i64_load(j0);
-  p5 = j0;
+  p6 = j0;
   j0 = p1;
   j1 = 2080ull;
   j0 += j1;
@@ -38194,110 +38280,11 @@ static void f23(module *self, u64 p0, u64 p1, u64 p2, u64 p3, u64 p4, u64 p5, u6
   j1 = l8;
   j0 += j1;
   i0 = (u32)(j0);
-  i1 = 4278437377u;
-  i32_store(j0, i1);
-  j0 = p6;
-  i0 = (u32)(j0);
-  j1 = p5;
-  i64_store(j0, j1);
-  j0 = l9;
-  i0 = (u32)(j0);
-  j1 = l8;
-  j2 = 4ull;
-  j1 += j2;
-  i64_store(j0, j1);
-  j0 = l10;
-  i0 = (u32)(j0);
-  j1 = l11;
-  i64_store(j0, j1);
-  B249:;
-  j0 = p1;
-  j1 = 2096ull;
-  j0 += j1;
-  i0 = (u32)(j0);
-  j0 = i64_load(j0);
-  l8 = j0;
-  B248:;
-  j0 = p1;
-  j1 = 2002ull;
-  j0 += j1;
-  i0 = (u32)(j0);
-  i1 = 255u;
-  i32_store8(j0, i1);
-  j0 = l8;
-  j1 = 16777216ull;
-  i0 = j0 > j1;
-  if (i0) {goto B246;}
-  j0 = p1;
-  j1 = 2096ull;
-  j0 += j1;
-  i0 = (u32)(j0);
-  j1 = l8;
-  j2 = 4ull;
-  j1 += j2;
-  l8 = j1;
-  i64_store(j0, j1);
-  j0 = l8;
-  j1 = p1;
-  j2 = 2104ull;
-  j1 += j2;
-  i1 = (u32)(j1);
-  j1 = i64_load(j1);
-  i0 = j0 > j1;
-  if (i0) {goto B246;}
-  j0 = p1;
-  j1 = 2088ull;
-  j0 += j1;
-  p6 = j0;
-  i0 = (u32)(j0);
-  j0 = i64_load(j0);
-  p5 = j0;
-  j1 = p1;
-  j2 = 2080ull;
-  j1 += j2;
-  l9 = j1;
-  i1 = (u32)(j1);
-  j1 = i64_load(j1);
-  l8 = j1;
-  j0 -= j1;
-  j1 = 3ull;
-  i0 = j0 > j1;
-  if (i0) {goto B251;}
-  j0 = p1;
-  j1 = 2072ull;
-  j0 += j1;
-  j1 = 4ull;
-  i0 = f10(self, j0, j1); m = self->memory; if (NEVER(self->is_broken)) return;
-  i0 = !(i0);
-  if (i0) {goto B246;}
-  j0 = p1;
-  j1 = 2088ull;
-  j0 += j1;
-  i0 = (u32)(j0);
-  j0 = i64_load(j0);
-  p5 = j0;
-  j0 = p1;
-  j1 = 2080ull;
-  j0 += j1;
-  i0 = (u32)(j0);
-  j0 = i64_load(j0);
-  l8 = j0;
-  B251:;
-  j0 = p1;
-  j1 = 2072ull;
-  j0 += j1;
-  l10 = j0;
-  i0 = (u32)(j0);
-  j0 = i64_load(j0);
-  l11 = j0;
-  j1 = l8;
-  j0 += j1;
-  i0 = (u32)(j0);
   i1 = 247809u;
   i32_store(j0, i1);
-  j0 = p6;
+  j0 = p5;
   i0 = (u32)(j0);
-  j1 = p5;
+  j1 = p6;
   i64_store(j0, j1);
   j0 = l9;
   i0 = (u32)(j0);
@@ -38309,7 +38296,7 @@ static void f23(module *self, u64 p0, u64 p1, u64 p2, u64 p3, u64 p4, u64 p5, u6
   i0 = (u32)(j0);
   j1 = l11;
   i64_store(j0, j1);
-  B246:;
+  B245:;
   i0 = 0u;
   l58 = i0;
   j0 = p1;
@@ -38321,7 +38308,7 @@ static void f23(module *self, u64 p0, u64 p1, u64 p2, u64 p3, u64 p4, u64 p5, u6
   j0 = p1;
   j1 = 974ull;
   j0 += j1;
-  p6 = j0;
+  p5 = j0;
   j0 = p1;
   j1 = 718ull;
   j0 += j1;
@@ -38334,14 +38321,14 @@ static void f23(module *self, u64 p0, u64 p1, u64 p2, u64 p3, u64 p4, u64 p5, u6
   j1 = 206ull;
   j0 += j1;
   l11 = j0;
-  L252: 
+  L251: 
     j0 = l7;
     j1 = 304ull;
     j0 += j1;
     i1 = l73;
     i2 = l58;
     l27 = i2;
-    f41(self, j0, i1, i2); if (NEVER(self->is_broken)) return;
+    f42(self, j0, i1, i2); if (NEVER(self->is_broken)) return;
     j0 = l7;
     i0 = (u32)(j0);
     i0 = i32_load8_u(j0 + 306u);
@@ -38360,32 +38347,32 @@ static void f23(module *self, u64 p0, u64 p1, u64 p2, u64 p3, u64 p4, u64 p5, u6
     l8 = j0;
     i0 = (u32)(j0);
     j0 = i64_load(j0);
-    p5 = j0;
+    p6 = j0;
     j1 = 16777216ull;
     i0 = j0 > j1;
-    if (i0) {goto B253;}
+    if (i0) {goto B252;}
     j0 = l8;
     i0 = (u32)(j0);
-    j1 = p5;
+    j1 = p6;
     j2 = 4ull;
     j1 += j2;
-    p5 = j1;
+    p6 = j1;
     i64_store(j0, j1);
-    j0 = p5;
+    j0 = p6;
     j1 = p1;
     j2 = 2104ull;
     j1 += j2;
     i1 = (u32)(j1);
     j1 = i64_load(j1);
     i0 = j0 > j1;
-    if (i0) {goto B253;}
+    if (i0) {goto B252;}
     j0 = p1;
     j1 = 2088ull;
     j0 += j1;
     l12 = j0;
     i0 = (u32)(j0);
     j0 = i64_load(j0);
-    p5 = j0;
+    p6 = j0;
     j1 = p1;
     j2 = 2080ull;
     j1 += j2;
@@ -38396,27 +38383,27 @@ static void f23(module *self, u64 p0, u64 p1, u64 p2, u64 p3, u64 p4, u64 p5, u6
     j0 -= j1;
     j1 = 3ull;
     i0 = j0 > j1;
-    if (i0) {goto B254;}
+    if (i0) {goto B253;}
     j0 = p1;
     j1 = 2072ull;
     j0 += j1;
     j1 = 4ull;
-    i0 = f10(self, j0, j1); m = self->memory; if (NEVER(self->is_broken)) return;
+    i0 = f11(self, j0, j1); m = self->memory; if (NEVER(self->is_broken)) return;
     i0 = !(i0);
-    if (i0) {goto B253;}
+    if (i0) {goto B252;}
     j0 = p1;
     j1 = 2088ull;
     j0 += j1;
     i0 = (u32)(j0);
     j0 = i64_load(j0);
-    p5 = j0;
+    p6 = j0;
     j0 = p1;
     j1 = 2080ull;
     j0 += j1;
     i0 = (u32)(j0);
     j0 = i64_load(j0);
     l8 = j0;
-    B254:;
+    B253:;
     j0 = p1;
     j1 = 2072ull;
     j0 += j1;
@@ -38435,7 +38422,7 @@ static void f23(module *self, u64 p0, u64 p1, u64 p2, u64 p3, u64 p4, u64 p5, u6
     i32_store(j0, i1);
     j0 = l12;
     i0 = (u32)(j0);
-    j1 = p5;
+    j1 = p6;
     i64_store(j0, j1);
     j0 = l15;
     i0 = (u32)(j0);
@@ -38447,7 +38434,7 @@ static void f23(module *self, u64 p0, u64 p1, u64 p2, u64 p3, u64 p4, u64 p5, u6
     i0 = (u32)(j0);
     j1 = l17;
     i64_store(j0, j1);
-    B253:;
+    B252:;
     i0 = l58;
     i1 = 63u;
     i0 &= i1;
@@ -38459,12 +38446,12 @@ static void f23(module *self, u64 p0, u64 p1, u64 p2, u64 p3, u64 p4, u64 p5, u6
     j0 = i64_load8_u(j0);
     i0 = (u32)(j0);
     switch (i0) {
-      case 0: goto B258;
-      case 1: goto B256;
-      case 2: goto B257;
-      default: goto B258;
+      case 0: goto B257;
+      case 1: goto B255;
+      case 2: goto B256;
+      default: goto B257;
     }
-    B258:;
+    B257:;
     j0 = p1;
     j1 = 2000ull;
     j0 += j1;
@@ -38473,8 +38460,8 @@ static void f23(module *self, u64 p0, u64 p1, u64 p2, u64 p3, u64 p4, u64 p5, u6
     i32_store8(j0, i1);
     i0 = 1u;
     l58 = i0;
-    goto B255;
-    B257:;
+    goto B254;
+    B256:;
     j0 = p1;
     j1 = 1998ull;
     j0 += j1;
@@ -38521,7 +38508,7 @@ static void f23(module *self, u64 p0, u64 p1, u64 p2, u64 p3, u64 p4, u64 p5, u6
     i32_store8(j0, i1);
     i0 = 0u;
     l58 = i0;
-    j0 = p6;
+    j0 = p5;
     j1 = l8;
     j2 = 2ull;
     j1 <<= (j2 & 63);
@@ -38542,8 +38529,8 @@ static void f23(module *self, u64 p0, u64 p1, u64 p2, u64 p3, u64 p4, u64 p5, u6
     i0 = (u32)(j0);
     i1 = l28;
     i32_store8(j0, i1);
-    goto B255;
-    B256:;
+    goto B254;
+    B255:;
     j0 = p1;
     j1 = 2001ull;
     j0 += j1;
@@ -38552,7 +38539,7 @@ static void f23(module *self, u64 p0, u64 p1, u64 p2, u64 p3, u64 p4, u64 p5, u6
     i32_store8(j0, i1);
     i0 = 2u;
     l58 = i0;
-    B255:;
+    B254:;
     j0 = p1;
     j1 = 1999ull;
     j0 += j1;
@@ -38565,32 +38552,32 @@ static void f23(module *self, u64 p0, u64 p1, u64 p2, u64 p3, u64 p4, u64 p5, u6
     l8 = j0;
     i0 = (u32)(j0);
     j0 = i64_load(j0);
-    p5 = j0;
+    p6 = j0;
     j1 = 16777216ull;
     i0 = j0 > j1;
-    if (i0) {goto B259;}
+    if (i0) {goto B258;}
     j0 = l8;
     i0 = (u32)(j0);
-    j1 = p5;
+    j1 = p6;
     j2 = 4ull;
     j1 += j2;
-    p5 = j1;
+    p6 = j1;
     i64_store(j0, j1);
-    j0 = p5;
+    j0 = p6;
     j1 = p1;
     j2 = 2104ull;
     j1 += j2;
     i1 = (u32)(j1);
     j1 = i64_load(j1);
     i0 = j0 > j1;
-    if (i0) {goto B260;}
+    if (i0) {goto B259;}
     j0 = p1;
     j1 = 2088ull;
     j0 += j1;
     l12 = j0;
     i0 = (u32)(j0);
     j0 = i64_load(j0);
-    p5 = j0;
+    p6 = j0;
     j1 = p1;
     j2 = 2080ull;
     j1 += j2;
@@ -38601,27 +38588,27 @@ static void f23(module *self, u64 p0, u64 p1, u64 p2, u64 p3, u64 p4, u64 p5, u6
     j0 -= j1;
     j1 = 3ull;
     i0 = j0 > j1;
-    if (i0) {goto B261;}
+    if (i0) {goto B260;}
     j0 = p1;
     j1 = 2072ull;
     j0 += j1;
     j1 = 4ull;
-    i0 = f10(self, j0, j1); m = self->memory; if (NEVER(self->is_broken)) return;
+    i0 = f11(self, j0, j1); m = self->memory; if (NEVER(self->is_broken)) return;
     i0 = !(i0);
-    if (i0) {goto B260;}
+    if (i0) {goto B259;}
     j0 = p1;
     j1 = 2088ull;
     j0 += j1;
     i0 = (u32)(j0);
     j0 = i64_load(j0);
-    p5 = j0;
+    p6 = j0;
     j0 = p1;
     j1 = 2080ull;
     j0 += j1;
     i0 = (u32)(j0);
     j0 = i64_load(j0);
     l8 = j0;
-    B261:;
+    B260:;
     j0 = p1;
     j1 = 2072ull;
     j0 += j1;
@@ -38640,7 +38627,7 @@ static void f23(module *self, u64 p0, u64 p1, u64 p2, u64 p3, u64 p4, u64 p5, u6
     i32_store(j0, i1);
     j0 = l12;
     i0 = (u32)(j0);
-    j1 = p5;
+    j1 = p6;
     i64_store(j0, j1);
     j0 = l15;
     i0 = (u32)(j0);
@@ -38652,14 +38639,14 @@ static void f23(module *self, u64 p0, u64 p1, u64 p2, u64 p3, u64 p4, u64 p5, u6
     i0 = (u32)(j0);
     j1 = l17;
     i64_store(j0, j1);
-    B260:;
+    B259:;
     j0 = p1;
     j1 = 1999ull;
     j0 += j1;
     i0 = (u32)(j0);
     i0 = i32_load8_u(j0);
     l58 = i0;
-    B259:;
+    B258:;
     i0 = l21;
     i1 = 63u;
     i0 &= i1;
@@ -38670,12 +38657,12 @@ static void f23(module *self, u64 p0, u64 p1, u64 p2, u64 p3, u64 p4, u64 p5, u6
     j0 &= j1;
     i0 = (u32)(j0);
     switch (i0) {
-      case 0: goto B265;
-      case 1: goto B263;
-      case 2: goto B264;
-      default: goto B265;
+      case 0: goto B264;
+      case 1: goto B262;
+      case 2: goto B263;
+      default: goto B264;
     }
-    B265:;
+    B264:;
     j0 = p1;
     j1 = 2000ull;
     j0 += j1;
@@ -38684,8 +38671,8 @@ static void f23(module *self, u64 p0, u64 p1, u64 p2, u64 p3, u64 p4, u64 p5, u6
     i32_store8(j0, i1);
     i0 = 1u;
     l58 = i0;
-    goto B262;
-    B264:;
+    goto B261;
+    B263:;
     j0 = p1;
     j1 = 1998ull;
     j0 += j1;
@@ -38732,7 +38719,7 @@ static void f23(module *self, u64 p0, u64 p1, u64 p2, u64 p3, u64 p4, u64 p5, u6
     i32_store8(j0, i1);
     i0 = 0u;
     l58 = i0;
-    j0 = p6;
+    j0 = p5;
     j1 = l8;
     j2 = 2ull;
     j1 <<= (j2 & 63);
@@ -38753,8 +38740,8 @@ static void f23(module *self, u64 p0, u64 p1, u64 p2, u64 p3, u64 p4, u64 p5, u6
     i0 = (u32)(j0);
     i1 = l21;
     i32_store8(j0, i1);
-    goto B262;
-    B263:;
+    goto B261;
+    B262:;
     j0 = p1;
     j1 = 2001ull;
     j0 += j1;
@@ -38763,7 +38750,7 @@ static void f23(module *self, u64 p0, u64 p1, u64 p2, u64 p3, u64 p4, u64 p5, u6
     i32_store8(j0, i1);
     i0 = 2u;
     l58 = i0;
-    B262:;
+    B261:;
     j0 = p1;
     j1 = 1999ull;
     j0 += j1;
@@ -38776,32 +38763,32 @@ static void f23(module *self, u64 p0, u64 p1, u64 p2, u64 p3, u64 p4, u64 p5, u6
     l8 = j0;
     i0 = (u32)(j0);
     j0 = i64_load(j0);
-    p5 = j0;
+    p6 = j0;
     j1 = 16777216ull;
     i0 = j0 > j1;
-    if (i0) {goto B266;}
+    if (i0) {goto B265;}
     j0 = l8;
     i0 = (u32)(j0);
-    j1 = p5;
+    j1 = p6;
     j2 = 4ull;
     j1 += j2;
-    p5 = j1;
+    p6 = j1;
     i64_store(j0, j1);
-    j0 = p5;
+    j0 = p6;
     j1 = p1;
     j2 = 2104ull;
     j1 += j2;
     i1 = (u32)(j1);
     j1 = i64_load(j1);
     i0 = j0 > j1;
-    if (i0) {goto B267;}
+    if (i0) {goto B266;}
     j0 = p1;
     j1 = 2088ull;
     j0 += j1;
     l12 = j0;
     i0 = (u32)(j0);
     j0 = i64_load(j0);
-    p5 = j0;
+    p6 = j0;
     j1 = p1;
     j2 = 2080ull;
     j1 += j2;
@@ -38812,27 +38799,27 @@ static void f23(module *self, u64 p0, u64 p1, u64 p2, u64 p3, u64 p4, u64 p5, u6
     j0 -= j1;
     j1 = 3ull;
     i0 = j0 > j1;
-    if (i0) {goto B268;}
+    if (i0) {goto B267;}
     j0 = p1;
     j1 = 2072ull;
     j0 += j1;
     j1 = 4ull;
-    i0 = f10(self, j0, j1); m = self->memory; if (NEVER(self->is_broken)) return;
+    i0 = f11(self, j0, j1); m = self->memory; if (NEVER(self->is_broken)) return;
     i0 = !(i0);
-    if (i0) {goto B267;}
+    if (i0) {goto B266;}
     j0 = p1;
     j1 = 2088ull;
     j0 += j1;
     i0 = (u32)(j0);
     j0 = i64_load(j0);
-    p5 = j0;
+    p6 = j0;
     j0 = p1;
     j1 = 2080ull;
     j0 += j1;
     i0 = (u32)(j0);
     j0 = i64_load(j0);
     l8 = j0;
-    B268:;
+    B267:;
     j0 = p1;
     j1 = 2072ull;
     j0 += j1;
@@ -38851,7 +38838,7 @@ static void f23(module *self, u64 p0, u64 p1, u64 p2, u64 p3, u64 p4, u64 p5, u6
     i32_store(j0, i1);
     j0 = l12;
     i0 = (u32)(j0);
-    j1 = p5;
+    j1 = p6;
     i64_store(j0, j1);
     j0 = l15;
     i0 = (u32)(j0);
@@ -38863,14 +38850,14 @@ static void f23(module *self, u64 p0, u64 p1, u64 p2, u64 p3, u64 p4, u64 p5, u6
     i0 = (u32)(j0);
     j1 = l17;
     i64_store(j0, j1);
-    B267:;
+    B266:;
     j0 = p1;
     j1 = 1999ull;
     j0 += j1;
     i0 = (u32)(j0);
     i0 = i32_load8_u(j0);
     l58 = i0;
-    B266:;
+    B265:;
     i0 = l18;
     i1 = 63u;
     i0 &= i1;
@@ -38881,12 +38868,12 @@ static void f23(module *self, u64 p0, u64 p1, u64 p2, u64 p3, u64 p4, u64 p5, u6
     j0 &= j1;
     i0 = (u32)(j0);
     switch (i0) {
-      case 0: goto B272;
-      case 1: goto B270;
-      case 2: goto B271;
-      default: goto B272;
+      case 0: goto B271;
+      case 1: goto B269;
+      case 2: goto B270;
+      default: goto B271;
     }
-    B272:;
+    B271:;
     j0 = p1;
     j1 = 2000ull;
     j0 += j1;
@@ -38895,8 +38882,8 @@ static void f23(module *self, u64 p0, u64 p1, u64 p2, u64 p3, u64 p4, u64 p5, u6
     i32_store8(j0, i1);
     i0 = 1u;
     l58 = i0;
-    goto B269;
-    B271:;
+    goto B268;
+    B270:;
     j0 = p1;
     j1 = 1998ull;
     j0 += j1;
@@ -38943,7 +38930,7 @@ static void f23(module *self, u64 p0, u64 p1, u64 p2, u64 p3, u64 p4, u64 p5, u6
     i32_store8(j0, i1);
     i0 = 0u;
     l58 = i0;
-    j0 = p6;
+    j0 = p5;
     j1 = l8;
     j2 = 2ull;
     j1 <<= (j2 & 63);
@@ -38964,8 +38951,8 @@ static void f23(module *self, u64 p0, u64 p1, u64 p2, u64 p3, u64 p4, u64 p5, u6
     i0 = (u32)(j0);
     i1 = l18;
     i32_store8(j0, i1);
-    goto B269;
-    B270:;
+    goto B268;
+    B269:;
     j0 = p1;
     j1 = 2001ull;
     j0 += j1;
@@ -38974,7 +38961,7 @@ static void f23(module *self, u64 p0, u64 p1, u64 p2, u64 p3, u64 p4, u64 p5, u6
     i32_store8(j0, i1);
     i0 = 2u;
     l58 = i0;
-    B269:;
+    B268:;
     j0 = p1;
     j1 = 1999ull;
     j0 += j1;
@@ -38990,23 +38977,23 @@ static void f23(module *self, u64 p0, u64 p1, u64 p2, u64 p3, u64 p4, u64 p5, u6
     i0 &= i1;
     i1 = 255u;
     i0 = i0 < i1;
-    if (i0) {goto L252;}
+    if (i0) {goto L251;}
   i0 = l71;
   i0 = !(i0);
-  if (i0) {goto B274;}
+  if (i0) {goto B273;}
   j0 = 1099511627792ull;
   j1 = p1;
   j2 = p3;
   j3 = 1048841ull;
   i4 = l56;
-  f26(self, j0, j1, j2, j3, i4); m = self->memory; if (NEVER(self->is_broken)) return;
+  f27(self, j0, j1, j2, j3, i4); m = self->memory; if (NEVER(self->is_broken)) return;
   i0 = l20;
   i1 = 1u;
   i0 &= i1;
-  if (i0) {goto B273;}
+  if (i0) {goto B272;}
   i0 = 0u;
   l58 = i0;
-  L275: 
+  L274: 
     j0 = p1;
     i1 = l22;
     i2 = l58;
@@ -39017,36 +39004,36 @@ static void f23(module *self, u64 p0, u64 p1, u64 p2, u64 p3, u64 p4, u64 p5, u6
     i5 = 1u;
     i4 &= i5;
     i2 = i4 ? i2 : i3;
-    f36(self, j0, i1, i2); m = self->memory; if (NEVER(self->is_broken)) return;
+    f37(self, j0, i1, i2); m = self->memory; if (NEVER(self->is_broken)) return;
     i0 = l58;
     i1 = 1u;
     i0 += i1;
     l58 = i0;
     i1 = 32768u;
     i0 = i0 != i1;
-    if (i0) {goto L275;}
-    goto B273;
+    if (i0) {goto L274;}
+    goto B272;
   { self->is_broken = true; return; }
-  B274:;
+  B273:;
   i0 = l20;
   i1 = 1u;
   i0 &= i1;
-  if (i0) {goto B273;}
+  if (i0) {goto B272;}
   i0 = 655360u;
   l58 = i0;
-  L276: 
+  L275: 
     j0 = p1;
     i1 = l58;
     i2 = 0u;
-    f36(self, j0, i1, i2); m = self->memory; if (NEVER(self->is_broken)) return;
+    f37(self, j0, i1, i2); m = self->memory; if (NEVER(self->is_broken)) return;
     i0 = l58;
     i1 = 1u;
     i0 += i1;
     l58 = i0;
     i1 = 720896u;
     i0 = i0 != i1;
-    if (i0) {goto L276;}
-  B273:;
+    if (i0) {goto L275;}
+  B272:;
   j0 = p2;
   i0 = (u32)(j0);
   j1 = 0ull;
@@ -39169,7 +39156,7 @@ static void f23(module *self, u64 p0, u64 p1, u64 p2, u64 p3, u64 p4, u64 p5, u6
   self->g0 = j0;
 }
 
-static void f24(module *self, u64 p0, u64 p1, u32 p2) {
+static void f25(module *self, u64 p0, u64 p1, u32 p2) {
   u32 l3 = 0, l4 = 0, l5 = 0, l6 = 0;
   u64 l7 = 0, l8 = 0;
   u8 *m = self->memory;
@@ -39498,6 +39485,14 @@ static void f24(module *self, u64 p0, u64 p1, u32 p2) {
   i0 = i32_load8_u(j0);
   l4 = i0;
   j0 = p1;
+  j1 = 134ull;
+  j0 += j1;
+  i0 = (u32)(j0);
+  i0 = i32_load16_u(j0);
+  p2 = i0;
+  i0 = 1u;
+  l5 = i0;
+  j0 = p1;
   j1 = 136ull;
   j0 += j1;
   i0 = (u32)(j0);
@@ -39507,24 +39502,11 @@ static void f24(module *self, u64 p0, u64 p1, u32 p2) {
   j1 += j2;
   i1 = (u32)(j1);
   i1 = i32_load8_u(j1);
-  i0 = i0 <= i1;
-  if (i0) {goto B24;}
-  j0 = p1;
-  j1 = 134ull;
-  j0 += j1;
-  i0 = (u32)(j0);
-  i0 = i32_load16_u(j0);
-  p2 = i0;
-  i0 = 1u;
-  l5 = i0;
-  goto B23;
-  B24:;
-  j0 = p1;
-  j1 = 134ull;
-  j0 += j1;
-  i0 = (u32)(j0);
-  i0 = i32_load16_u(j0);
-  p2 = i0;
+  i0 = i0 > i1;
+  if (i0) {goto B23;}
+  i0 = p2;
+  i1 = 65535u;
+  i0 &= i1;
   i1 = l4;
   i2 = 7u;
   i1 <<= (i2 & 31);
@@ -39623,7 +39605,7 @@ static void f24(module *self, u64 p0, u64 p1, u32 p2) {
   i32_store8(j0, i1);
 }
 
-static u32 f25(module *self, u64 p0, u32 p1, u32 p2) {
+static u32 f26(module *self, u64 p0, u32 p1, u32 p2) {
   u32 l11 = 0, l12 = 0, l13 = 0;
   u64 l3 = 0, l4 = 0, l5 = 0, l6 = 0, l7 = 0, l8 = 0, l9 = 0, l10 = 0;
   u8 *m = self->memory;
@@ -39685,7 +39667,7 @@ static u32 f25(module *self, u64 p0, u32 p1, u32 p2) {
   j1 = 2072ull;
   j0 += j1;
   j1 = 4ull;
-  i0 = f10(self, j0, j1); m = self->memory; if (NEVER(self->is_broken)) return ZAK_BROKEN;
+  i0 = f11(self, j0, j1); m = self->memory; if (NEVER(self->is_broken)) return ZAK_BROKEN;
   i0 = !(i0);
   if (i0) {goto B0;}
   j0 = p0;
@@ -39785,7 +39767,7 @@ static u32 f25(module *self, u64 p0, u32 p1, u32 p2) {
   j1 = 16ull;
   j0 += j1;
   j1 = l5;
-  f21(self, j0, j1);
+  f22(self, j0, j1);
   j0 = p0;
   j1 = 196ull;
   j0 += j1;
@@ -39869,7 +39851,7 @@ static u32 f25(module *self, u64 p0, u32 p1, u32 p2) {
   j1 = 2072ull;
   j0 += j1;
   j1 = 3ull;
-  i0 = f10(self, j0, j1); m = self->memory; if (NEVER(self->is_broken)) return ZAK_BROKEN;
+  i0 = f11(self, j0, j1); m = self->memory; if (NEVER(self->is_broken)) return ZAK_BROKEN;
   i0 = !(i0);
   if (i0) {goto B6;}
   j0 = p0;
@@ -39991,7 +39973,7 @@ static u32 f25(module *self, u64 p0, u32 p1, u32 p2) {
   j1 = 2072ull;
   j0 += j1;
   j1 = 3ull;
-  i0 = f10(self, j0, j1); m = self->memory; if (NEVER(self->is_broken)) return ZAK_BROKEN;
+  i0 = f11(self, j0, j1); m = self->memory; if (NEVER(self->is_broken)) return ZAK_BROKEN;
   i0 = !(i0);
   if (i0) {goto B9;}
   j0 = p0;
@@ -40052,7 +40034,7 @@ static u32 f25(module *self, u64 p0, u32 p1, u32 p2) {
   j0 += j1;
   j1 = p0;
   i2 = p1;
-  f24(self, j0, j1, i2); if (NEVER(self->is_broken)) return ZAK_BROKEN;
+  f25(self, j0, j1, i2); if (NEVER(self->is_broken)) return ZAK_BROKEN;
   j0 = l3;
   j1 = 32ull;
   j0 += j1;
@@ -40061,30 +40043,30 @@ static u32 f25(module *self, u64 p0, u32 p1, u32 p2) {
   return i0;
 }
 
-static void f26(module *self, u64 p0, u64 p1, u64 p2, u64 p3, u32 p4) {
+static void f27(module *self, u64 p0, u64 p1, u64 p2, u64 p3, u32 p4) {
   u32 l16 = 0, l17 = 0, l18 = 0, l19 = 0, l20 = 0, l21 = 0, l22 = 0, l23 = 0, 
-      l24 = 0, l25 = 0, l26 = 0, l27 = 0;
+      l24 = 0, l25 = 0, l26 = 0, l27 = 0, l28 = 0, l29 = 0;
   u64 l5 = 0, l6 = 0, l7 = 0, l8 = 0, l9 = 0, l10 = 0, l11 = 0, l12 = 0, 
       l13 = 0, l14 = 0, l15 = 0;
   u8 *m = self->memory;
   u32 i0, i1, i2, i3, i4, i5;
-  u64 j0, j1, j2, j3, j4, j5;
+  u64 j0, j1, j2, j3;
   j0 = p1;
   i1 = 2u;
   i2 = 4u;
-  f43(self, j0, i1, i2); m = self->memory; if (NEVER(self->is_broken)) return;
+  f44(self, j0, i1, i2); m = self->memory; if (NEVER(self->is_broken)) return;
   j0 = p1;
   i1 = 4u;
   i2 = 6u;
-  f43(self, j0, i1, i2); m = self->memory; if (NEVER(self->is_broken)) return;
+  f44(self, j0, i1, i2); m = self->memory; if (NEVER(self->is_broken)) return;
   j0 = p1;
   i1 = 5u;
   i2 = 0u;
-  f33(self, j0, i1, i2); m = self->memory; if (NEVER(self->is_broken)) return;
+  f34(self, j0, i1, i2); m = self->memory; if (NEVER(self->is_broken)) return;
   j0 = p1;
   i1 = 6u;
   i2 = 4u;
-  f33(self, j0, i1, i2); m = self->memory; if (NEVER(self->is_broken)) return;
+  f34(self, j0, i1, i2); m = self->memory; if (NEVER(self->is_broken)) return;
   j0 = p0;
   j1 = 16ull;
   j0 >>= (j1 & 63);
@@ -40205,7 +40187,7 @@ static void f26(module *self, u64 p0, u64 p1, u64 p2, u64 p3, u32 p4) {
       j1 = 2072ull;
       j0 += j1;
       j1 = 6ull;
-      i0 = f10(self, j0, j1); m = self->memory; if (NEVER(self->is_broken)) return;
+      i0 = f11(self, j0, j1); m = self->memory; if (NEVER(self->is_broken)) return;
       i0 = !(i0);
       if (i0) {goto B4;}
       j0 = p1;
@@ -40283,6 +40265,20 @@ static void f26(module *self, u64 p0, u64 p1, u64 p2, u64 p3, u32 p4) {
       i0 = i0 >= i1;
       if (i0) {goto B6;}
       j0 = p1;
+      j1 = 71ull;
+      j0 += j1;
+      l5 = j0;
+      j0 = p1;
+      j1 = 69ull;
+      j0 += j1;
+      l9 = j0;
+      j0 = p1;
+      j1 = 68ull;
+      j0 += j1;
+      i0 = (u32)(j0);
+      i0 = i32_load8_u(j0);
+      l24 = i0;
+      j0 = p1;
       j1 = 72ull;
       j0 += j1;
       i0 = (u32)(j0);
@@ -40294,7 +40290,7 @@ static void f26(module *self, u64 p0, u64 p1, u64 p2, u64 p3, u32 p4) {
       i0 = l22;
       i1 = 16843009u;
       i0 *= i1;
-      l24 = i0;
+      l25 = i0;
       goto B7;
       B8:;
       j0 = p1;
@@ -40302,7 +40298,7 @@ static void f26(module *self, u64 p0, u64 p1, u64 p2, u64 p3, u32 p4) {
       j0 += j1;
       i0 = (u32)(j0);
       i0 = i32_load(j0);
-      l24 = i0;
+      l25 = i0;
       j0 = p1;
       j1 = 52ull;
       j0 += j1;
@@ -40311,7 +40307,7 @@ static void f26(module *self, u64 p0, u64 p1, u64 p2, u64 p3, u32 p4) {
       j1 = 3ull;
       j0 &= j1;
       i0 = (u32)(j0);
-      l25 = i0;
+      l16 = i0;
       switch (i0) {
         case 0: goto B12;
         case 1: goto B7;
@@ -40426,19 +40422,19 @@ static void f26(module *self, u64 p0, u64 p1, u64 p2, u64 p3, u32 p4) {
       }
       B16:;
       i0 = l26;
-      i1 = l24;
+      i1 = l25;
       i0 &= i1;
       l26 = i0;
       goto B13;
       B15:;
       i0 = l26;
-      i1 = l24;
+      i1 = l25;
       i0 |= i1;
       l26 = i0;
       goto B13;
       B14:;
       i0 = l26;
-      i1 = l24;
+      i1 = l25;
       i0 ^= i1;
       l26 = i0;
       B13:;
@@ -40447,12 +40443,12 @@ static void f26(module *self, u64 p0, u64 p1, u64 p2, u64 p3, u32 p4) {
       j0 += j1;
       i0 = (u32)(j0);
       i0 = i32_load8_u(j0);
-      l16 = i0;
-      i0 = l25;
+      l28 = i0;
+      i0 = l16;
       i1 = 3u;
       i0 = i0 != i1;
       if (i0) {goto B17;}
-      i0 = l16;
+      i0 = l28;
       i1 = l22;
       i2 = l27;
       i3 = 7u;
@@ -40467,33 +40463,30 @@ static void f26(module *self, u64 p0, u64 p1, u64 p2, u64 p3, u32 p4) {
       i2 <<= (i3 & 31);
       i1 |= i2;
       i0 &= i1;
-      l16 = i0;
+      l28 = i0;
       B17:;
       i0 = l26;
-      i1 = l24;
+      i1 = l25;
       i0 ^= i1;
-      i1 = l16;
+      i1 = l28;
       i2 = 255u;
       i1 &= i2;
       i2 = 16843009u;
       i1 *= i2;
       i0 &= i1;
-      i1 = l24;
+      i1 = l25;
       i0 ^= i1;
-      l24 = i0;
+      l25 = i0;
       B7:;
-      j0 = p1;
-      j1 = 71ull;
-      j0 += j1;
+      j0 = l5;
       i0 = (u32)(j0);
       i0 = i32_load8_u(j0);
       l22 = i0;
-      j0 = p1;
-      j1 = 68ull;
-      j0 += j1;
+      j0 = l9;
       i0 = (u32)(j0);
       i0 = i32_load8_u(j0);
       l26 = i0;
+      i0 = l24;
       i1 = 1u;
       i0 &= i1;
       i0 = !(i0);
@@ -40537,15 +40530,11 @@ static void f26(module *self, u64 p0, u64 p1, u64 p2, u64 p3, u32 p4) {
       i3 = 65534u;
       i2 &= i3;
       i3 = l18;
-      j4 = p1;
-      j5 = 69ull;
-      j4 += j5;
-      i4 = (u32)(j4);
-      i4 = i32_load8_u(j4);
+      i4 = l26;
       i5 = 1u;
       i4 &= i5;
       i2 = i4 ? i2 : i3;
-      i3 = l26;
+      i3 = l24;
       i4 = 1u;
       i3 &= i4;
       i1 = i3 ? i1 : i2;
@@ -40557,7 +40546,7 @@ static void f26(module *self, u64 p0, u64 p1, u64 p2, u64 p3, u32 p4) {
       j0 += j1;
       l5 = j0;
       i0 = (u32)(j0);
-      i1 = l24;
+      i1 = l25;
       j2 = l5;
       i2 = (u32)(j2);
       i2 = i32_load(j2);
@@ -40663,7 +40652,7 @@ static void f26(module *self, u64 p0, u64 p1, u64 p2, u64 p3, u32 p4) {
   i0 <<= (i1 & 31);
   i1 = 5242880u;
   i0 += i1;
-  l25 = i0;
+  l27 = i0;
   L23: 
     j0 = l6;
     j1 = 2040ull;
@@ -40673,7 +40662,7 @@ static void f26(module *self, u64 p0, u64 p1, u64 p2, u64 p3, u32 p4) {
     p0 = j0;
     i0 = l16;
     l17 = i0;
-    i0 = l25;
+    i0 = l27;
     l21 = i0;
     L24: 
       j0 = 1048841ull;
@@ -40748,7 +40737,7 @@ static void f26(module *self, u64 p0, u64 p1, u64 p2, u64 p3, u32 p4) {
       j1 = 2072ull;
       j0 += j1;
       j1 = 6ull;
-      i0 = f10(self, j0, j1); m = self->memory; if (NEVER(self->is_broken)) return;
+      i0 = f11(self, j0, j1); m = self->memory; if (NEVER(self->is_broken)) return;
       i0 = !(i0);
       if (i0) {goto B26;}
       j0 = p1;
@@ -40815,7 +40804,7 @@ static void f26(module *self, u64 p0, u64 p1, u64 p2, u64 p3, u32 p4) {
       j1 += j2;
       i1 = (u32)(j1);
       i1 = i32_load(j1);
-      l24 = i1;
+      l25 = i1;
       i0 -= i1;
       l18 = i0;
       j1 = p1;
@@ -40826,20 +40815,32 @@ static void f26(module *self, u64 p0, u64 p1, u64 p2, u64 p3, u32 p4) {
       i0 = i0 >= i1;
       if (i0) {goto B28;}
       j0 = p1;
+      j1 = 71ull;
+      j0 += j1;
+      i0 = (u32)(j0);
+      i0 = i32_load8_u(j0);
+      l24 = i0;
+      j0 = p1;
+      j1 = 70ull;
+      j0 += j1;
+      i0 = (u32)(j0);
+      i0 = i32_load8_u(j0);
+      l28 = i0;
+      j0 = p1;
+      j1 = 69ull;
+      j0 += j1;
+      i0 = (u32)(j0);
+      i0 = i32_load8_u(j0);
+      l23 = i0;
+      j0 = p1;
       j1 = p1;
       j2 = 72ull;
       j1 += j2;
       i1 = (u32)(j1);
       i1 = i32_load8_u(j1);
       i2 = l22;
-      i0 = f44(self, j0, i1, i2);
+      i0 = f45(self, j0, i1, i2);
       l22 = i0;
-      j0 = p1;
-      j1 = 71ull;
-      j0 += j1;
-      i0 = (u32)(j0);
-      i0 = i32_load8_u(j0);
-      l23 = i0;
       j0 = p1;
       j1 = 68ull;
       j0 += j1;
@@ -40856,27 +40857,23 @@ static void f26(module *self, u64 p0, u64 p1, u64 p2, u64 p3, u32 p4) {
       i4 = 1u;
       i3 &= i4;
       i1 = i3 ? i1 : i2;
-      j2 = p1;
-      j3 = 70ull;
-      j2 += j3;
-      i2 = (u32)(j2);
-      i2 = i32_load8_u(j2);
+      i2 = l28;
       i3 = 1u;
       i2 &= i3;
       i0 = i2 ? i0 : i1;
-      l24 = i0;
+      l25 = i0;
       goto B29;
       B30:;
       i0 = 134480385u;
       i1 = l21;
-      i2 = l24;
+      i2 = l25;
       i3 = 3u;
       i2 <<= (i3 & 31);
       i1 -= i2;
       i2 = 24u;
       i1 &= i2;
       i0 >>= (i1 & 31);
-      l24 = i0;
+      l25 = i0;
       B29:;
       j0 = p1;
       i0 = (u32)(j0);
@@ -40888,11 +40885,7 @@ static void f26(module *self, u64 p0, u64 p1, u64 p2, u64 p3, u32 p4) {
       i3 = 65534u;
       i2 &= i3;
       i3 = l18;
-      j4 = p1;
-      j5 = 69ull;
-      j4 += j5;
-      i4 = (u32)(j4);
-      i4 = i32_load8_u(j4);
+      i4 = l23;
       i5 = 1u;
       i4 &= i5;
       i2 = i4 ? i2 : i3;
@@ -40914,8 +40907,8 @@ static void f26(module *self, u64 p0, u64 p1, u64 p2, u64 p3, u32 p4) {
       i2 = i32_load(j2);
       l18 = i2;
       i1 ^= i2;
-      i2 = l24;
-      i3 = l23;
+      i2 = l25;
+      i3 = l24;
       i2 &= i3;
       i3 = 2u;
       i2 <<= (i3 & 31);
@@ -40950,10 +40943,10 @@ static void f26(module *self, u64 p0, u64 p1, u64 p2, u64 p3, u32 p4) {
     i1 = 32u;
     i0 += i1;
     l16 = i0;
-    i0 = l25;
+    i0 = l27;
     i1 = 256u;
     i0 += i1;
-    l25 = i0;
+    l27 = i0;
     j0 = l6;
     j1 = 8ull;
     j0 += j1;
@@ -40971,22 +40964,22 @@ static void f26(module *self, u64 p0, u64 p1, u64 p2, u64 p3, u32 p4) {
   i0 = l17;
   i1 = 65535u;
   i0 &= i1;
-  l20 = i0;
+  l29 = i0;
   i0 = l16;
   i1 = 65535u;
   i0 &= i1;
-  l19 = i0;
+  l20 = i0;
   i1 = 5u;
   i0 <<= (i1 & 31);
   i1 = 655360u;
   i0 += i1;
-  l25 = i0;
-  i0 = l19;
+  l27 = i0;
+  i0 = l20;
   i1 = 8u;
   i0 <<= (i1 & 31);
   i1 = 5242880u;
   i0 += i1;
-  l27 = i0;
+  l19 = i0;
   L31: 
     i0 = l16;
     j0 = (u64)(i0);
@@ -40997,9 +40990,9 @@ static void f26(module *self, u64 p0, u64 p1, u64 p2, u64 p3, u32 p4) {
     l11 = j0;
     j0 = 0ull;
     p0 = j0;
-    i0 = l25;
-    l17 = i0;
     i0 = l27;
+    l17 = i0;
+    i0 = l19;
     l21 = i0;
     L32: 
       j0 = 1048841ull;
@@ -41076,7 +41069,7 @@ static void f26(module *self, u64 p0, u64 p1, u64 p2, u64 p3, u32 p4) {
       j1 = 2072ull;
       j0 += j1;
       j1 = 6ull;
-      i0 = f10(self, j0, j1); m = self->memory; if (NEVER(self->is_broken)) return;
+      i0 = f11(self, j0, j1); m = self->memory; if (NEVER(self->is_broken)) return;
       i0 = !(i0);
       if (i0) {goto B34;}
       j0 = p1;
@@ -41143,7 +41136,7 @@ static void f26(module *self, u64 p0, u64 p1, u64 p2, u64 p3, u32 p4) {
       j1 += j2;
       i1 = (u32)(j1);
       i1 = i32_load(j1);
-      l24 = i1;
+      l25 = i1;
       i0 -= i1;
       l18 = i0;
       j1 = p1;
@@ -41154,20 +41147,32 @@ static void f26(module *self, u64 p0, u64 p1, u64 p2, u64 p3, u32 p4) {
       i0 = i0 >= i1;
       if (i0) {goto B36;}
       j0 = p1;
+      j1 = 71ull;
+      j0 += j1;
+      i0 = (u32)(j0);
+      i0 = i32_load8_u(j0);
+      l24 = i0;
+      j0 = p1;
+      j1 = 70ull;
+      j0 += j1;
+      i0 = (u32)(j0);
+      i0 = i32_load8_u(j0);
+      l28 = i0;
+      j0 = p1;
+      j1 = 69ull;
+      j0 += j1;
+      i0 = (u32)(j0);
+      i0 = i32_load8_u(j0);
+      l23 = i0;
+      j0 = p1;
       j1 = p1;
       j2 = 72ull;
       j1 += j2;
       i1 = (u32)(j1);
       i1 = i32_load8_u(j1);
       i2 = l22;
-      i0 = f44(self, j0, i1, i2);
+      i0 = f45(self, j0, i1, i2);
       l22 = i0;
-      j0 = p1;
-      j1 = 71ull;
-      j0 += j1;
-      i0 = (u32)(j0);
-      i0 = i32_load8_u(j0);
-      l23 = i0;
       j0 = p1;
       j1 = 68ull;
       j0 += j1;
@@ -41184,27 +41189,23 @@ static void f26(module *self, u64 p0, u64 p1, u64 p2, u64 p3, u32 p4) {
       i4 = 1u;
       i3 &= i4;
       i1 = i3 ? i1 : i2;
-      j2 = p1;
-      j3 = 70ull;
-      j2 += j3;
-      i2 = (u32)(j2);
-      i2 = i32_load8_u(j2);
+      i2 = l28;
       i3 = 1u;
       i2 &= i3;
       i0 = i2 ? i0 : i1;
-      l24 = i0;
+      l25 = i0;
       goto B37;
       B38:;
       i0 = 134480385u;
       i1 = l21;
-      i2 = l24;
+      i2 = l25;
       i3 = 3u;
       i2 <<= (i3 & 31);
       i1 -= i2;
       i2 = 24u;
       i1 &= i2;
       i0 >>= (i1 & 31);
-      l24 = i0;
+      l25 = i0;
       B37:;
       j0 = p1;
       i0 = (u32)(j0);
@@ -41216,11 +41217,7 @@ static void f26(module *self, u64 p0, u64 p1, u64 p2, u64 p3, u32 p4) {
       i3 = 65534u;
       i2 &= i3;
       i3 = l18;
-      j4 = p1;
-      j5 = 69ull;
-      j4 += j5;
-      i4 = (u32)(j4);
-      i4 = i32_load8_u(j4);
+      i4 = l23;
       i5 = 1u;
       i4 &= i5;
       i2 = i4 ? i2 : i3;
@@ -41242,8 +41239,8 @@ static void f26(module *self, u64 p0, u64 p1, u64 p2, u64 p3, u32 p4) {
       i2 = i32_load(j2);
       l18 = i2;
       i1 ^= i2;
-      i2 = l24;
-      i3 = l23;
+      i2 = l25;
+      i3 = l24;
       i2 &= i3;
       i3 = 2u;
       i2 <<= (i3 & 31);
@@ -41274,23 +41271,23 @@ static void f26(module *self, u64 p0, u64 p1, u64 p2, u64 p3, u32 p4) {
       j1 = 14ull;
       i0 = j0 != j1;
       if (i0) {goto L32;}
-    i0 = l25;
+    i0 = l27;
     i1 = 32u;
     i0 += i1;
-    l25 = i0;
-    i0 = l27;
+    l27 = i0;
+    i0 = l19;
     i1 = 256u;
     i0 += i1;
-    l27 = i0;
+    l19 = i0;
     i0 = l16;
     i1 = 1u;
     i0 += i1;
     l16 = i0;
-    i0 = l19;
+    i0 = l20;
     i1 = 1u;
     i0 += i1;
-    l19 = i0;
-    i1 = l20;
+    l20 = i0;
+    i1 = l29;
     i0 = i0 != i1;
     if (i0) {goto L31;}
     goto B0;
@@ -41322,7 +41319,7 @@ static void f26(module *self, u64 p0, u64 p1, u64 p2, u64 p3, u32 p4) {
   i0 <<= (i1 & 31);
   i1 = 5242880u;
   i0 += i1;
-  l25 = i0;
+  l27 = i0;
   L39: 
     j0 = l7;
     j1 = 4080ull;
@@ -41330,7 +41327,7 @@ static void f26(module *self, u64 p0, u64 p1, u64 p2, u64 p3, u32 p4) {
     p0 = j0;
     i0 = l16;
     l17 = i0;
-    i0 = l25;
+    i0 = l27;
     l21 = i0;
     j0 = l6;
     l9 = j0;
@@ -41407,7 +41404,7 @@ static void f26(module *self, u64 p0, u64 p1, u64 p2, u64 p3, u32 p4) {
       j1 = 2072ull;
       j0 += j1;
       j1 = 6ull;
-      i0 = f10(self, j0, j1); m = self->memory; if (NEVER(self->is_broken)) return;
+      i0 = f11(self, j0, j1); m = self->memory; if (NEVER(self->is_broken)) return;
       i0 = !(i0);
       if (i0) {goto B42;}
       j0 = p1;
@@ -41474,7 +41471,7 @@ static void f26(module *self, u64 p0, u64 p1, u64 p2, u64 p3, u32 p4) {
       j1 += j2;
       i1 = (u32)(j1);
       i1 = i32_load(j1);
-      l24 = i1;
+      l25 = i1;
       i0 -= i1;
       l18 = i0;
       j1 = p1;
@@ -41485,20 +41482,32 @@ static void f26(module *self, u64 p0, u64 p1, u64 p2, u64 p3, u32 p4) {
       i0 = i0 >= i1;
       if (i0) {goto B44;}
       j0 = p1;
+      j1 = 71ull;
+      j0 += j1;
+      i0 = (u32)(j0);
+      i0 = i32_load8_u(j0);
+      l24 = i0;
+      j0 = p1;
+      j1 = 70ull;
+      j0 += j1;
+      i0 = (u32)(j0);
+      i0 = i32_load8_u(j0);
+      l28 = i0;
+      j0 = p1;
+      j1 = 69ull;
+      j0 += j1;
+      i0 = (u32)(j0);
+      i0 = i32_load8_u(j0);
+      l23 = i0;
+      j0 = p1;
       j1 = p1;
       j2 = 72ull;
       j1 += j2;
       i1 = (u32)(j1);
       i1 = i32_load8_u(j1);
       i2 = l22;
-      i0 = f44(self, j0, i1, i2);
+      i0 = f45(self, j0, i1, i2);
       l22 = i0;
-      j0 = p1;
-      j1 = 71ull;
-      j0 += j1;
-      i0 = (u32)(j0);
-      i0 = i32_load8_u(j0);
-      l23 = i0;
       j0 = p1;
       j1 = 68ull;
       j0 += j1;
@@ -41515,27 +41524,23 @@ static void f26(module *self, u64 p0, u64 p1, u64 p2, u64 p3, u32 p4) {
       i4 = 1u;
       i3 &= i4;
       i1 = i3 ? i1 : i2;
-      j2 = p1;
-      j3 = 70ull;
-      j2 += j3;
-      i2 = (u32)(j2);
-      i2 = i32_load8_u(j2);
+      i2 = l28;
       i3 = 1u;
       i2 &= i3;
       i0 = i2 ? i0 : i1;
-      l24 = i0;
+      l25 = i0;
       goto B45;
       B46:;
       i0 = 134480385u;
       i1 = l21;
-      i2 = l24;
+      i2 = l25;
       i3 = 3u;
       i2 <<= (i3 & 31);
       i1 -= i2;
       i2 = 24u;
       i1 &= i2;
       i0 >>= (i1 & 31);
-      l24 = i0;
+      l25 = i0;
       B45:;
       j0 = p1;
       i0 = (u32)(j0);
@@ -41547,11 +41552,7 @@ static void f26(module *self, u64 p0, u64 p1, u64 p2, u64 p3, u32 p4) {
       i3 = 65534u;
       i2 &= i3;
       i3 = l18;
-      j4 = p1;
-      j5 = 69ull;
-      j4 += j5;
-      i4 = (u32)(j4);
-      i4 = i32_load8_u(j4);
+      i4 = l23;
       i5 = 1u;
       i4 &= i5;
       i2 = i4 ? i2 : i3;
@@ -41573,8 +41574,8 @@ static void f26(module *self, u64 p0, u64 p1, u64 p2, u64 p3, u32 p4) {
       i2 = i32_load(j2);
       l18 = i2;
       i1 ^= i2;
-      i2 = l24;
-      i3 = l23;
+      i2 = l25;
+      i3 = l24;
       i2 &= i3;
       i3 = 2u;
       i2 <<= (i3 & 31);
@@ -41613,10 +41614,10 @@ static void f26(module *self, u64 p0, u64 p1, u64 p2, u64 p3, u32 p4) {
     i1 = 32u;
     i0 += i1;
     l16 = i0;
-    i0 = l25;
+    i0 = l27;
     i1 = 256u;
     i0 += i1;
-    l25 = i0;
+    l27 = i0;
     j0 = l7;
     j1 = 16ull;
     j0 += j1;
@@ -41632,22 +41633,22 @@ static void f26(module *self, u64 p0, u64 p1, u64 p2, u64 p3, u32 p4) {
   j0 = p1;
   i1 = 2u;
   i2 = 3u;
-  f43(self, j0, i1, i2); m = self->memory; if (NEVER(self->is_broken)) return;
+  f44(self, j0, i1, i2); m = self->memory; if (NEVER(self->is_broken)) return;
   j0 = p1;
   i1 = 4u;
   i2 = 2u;
-  f43(self, j0, i1, i2); m = self->memory; if (NEVER(self->is_broken)) return;
+  f44(self, j0, i1, i2); m = self->memory; if (NEVER(self->is_broken)) return;
   j0 = p1;
   i1 = 5u;
   i2 = 16u;
-  f33(self, j0, i1, i2); m = self->memory; if (NEVER(self->is_broken)) return;
+  f34(self, j0, i1, i2); m = self->memory; if (NEVER(self->is_broken)) return;
   j0 = p1;
   i1 = 6u;
   i2 = p4;
-  f33(self, j0, i1, i2); m = self->memory; if (NEVER(self->is_broken)) return;
+  f34(self, j0, i1, i2); m = self->memory; if (NEVER(self->is_broken)) return;
 }
 
-static void f27(module *self, u64 p0, u32 p1, u32 p2) {
+static void f28(module *self, u64 p0, u32 p1, u32 p2) {
   u32 l10 = 0, l11 = 0, l12 = 0;
   u64 l3 = 0, l4 = 0, l5 = 0, l6 = 0, l7 = 0, l8 = 0, l9 = 0;
   u8 *m = self->memory;
@@ -41705,7 +41706,7 @@ static void f27(module *self, u64 p0, u32 p1, u32 p2) {
   j1 = 2072ull;
   j0 += j1;
   j1 = 4ull;
-  i0 = f10(self, j0, j1); m = self->memory; if (NEVER(self->is_broken)) return;
+  i0 = f11(self, j0, j1); m = self->memory; if (NEVER(self->is_broken)) return;
   i0 = !(i0);
   if (i0) {goto B0;}
   j0 = p0;
@@ -41842,7 +41843,7 @@ static void f27(module *self, u64 p0, u32 p1, u32 p2) {
   j1 = p0;
   i2 = l11;
   i3 = p2;
-  f42(self, j0, j1, i2, i3);
+  f43(self, j0, j1, i2, i3);
   B2:;
   j0 = l3;
   j1 = 16ull;
@@ -41850,7 +41851,7 @@ static void f27(module *self, u64 p0, u32 p1, u32 p2) {
   self->g0 = j0;
 }
 
-static void f28(module *self, u64 p0, u64 p1, u64 p2) {
+static void f29(module *self, u64 p0, u64 p1, u64 p2) {
   u32 l4 = 0, l5 = 0, l6 = 0, l7 = 0, l8 = 0, l9 = 0, l10 = 0, l11 = 0, 
       l12 = 0, l13 = 0;
   u64 l3 = 0;
@@ -41943,7 +41944,7 @@ static void f28(module *self, u64 p0, u64 p1, u64 p2) {
   j2 += j3;
   i2 = (u32)(j2);
   i2 = i32_load16_u(j2);
-  f18(self, j0, i1, i2);
+  f19(self, j0, i1, i2);
   i0 = 0u;
   l8 = i0;
   i0 = 0u;
@@ -41983,7 +41984,7 @@ static void f28(module *self, u64 p0, u64 p1, u64 p2) {
   j2 += j3;
   i2 = (u32)(j2);
   i2 = i32_load16_u(j2);
-  f18(self, j0, i1, i2);
+  f19(self, j0, i1, i2);
   i0 = 0u;
   l9 = i0;
   i0 = 0u;
@@ -42017,7 +42018,7 @@ static void f28(module *self, u64 p0, u64 p1, u64 p2) {
   j2 += j3;
   i2 = (u32)(j2);
   i2 = i32_load16_u(j2);
-  f18(self, j0, i1, i2);
+  f19(self, j0, i1, i2);
   i0 = 0u;
   l9 = i0;
   i0 = 0u;
@@ -42051,7 +42052,7 @@ static void f28(module *self, u64 p0, u64 p1, u64 p2) {
   j2 += j3;
   i2 = (u32)(j2);
   i2 = i32_load16_u(j2);
-  f18(self, j0, i1, i2);
+  f19(self, j0, i1, i2);
   i0 = 0u;
   l10 = i0;
   i0 = l7;
@@ -42097,7 +42098,7 @@ static void f28(module *self, u64 p0, u64 p1, u64 p2) {
   j2 += j3;
   i2 = (u32)(j2);
   i2 = i32_load16_u(j2);
-  f18(self, j0, i1, i2);
+  f19(self, j0, i1, i2);
   i0 = 0u;
   l13 = i0;
   i0 = 0u;
@@ -42137,7 +42138,7 @@ static void f28(module *self, u64 p0, u64 p1, u64 p2) {
   j2 += j3;
   i2 = (u32)(j2);
   i2 = i32_load16_u(j2);
-  f18(self, j0, i1, i2);
+  f19(self, j0, i1, i2);
   i0 = 0u;
   l7 = i0;
   i0 = 0u;
@@ -42177,7 +42178,7 @@ static void f28(module *self, u64 p0, u64 p1, u64 p2) {
   j2 += j3;
   i2 = (u32)(j2);
   i2 = i32_load16_u(j2);
-  f18(self, j0, i1, i2);
+  f19(self, j0, i1, i2);
   i0 = 0u;
   l10 = i0;
   i0 = 0u;
@@ -42308,9 +42309,10 @@ static void f28(module *self, u64 p0, u64 p1, u64 p2) {
   self->g0 = j0;
 }
 
-static void f29(module *self, u64 p0, u64 p1, u64 p2, u64 p3) {
-  u32 l6 = 0, l7 = 0, l8 = 0, l9 = 0, l10 = 0, l11 = 0, l12 = 0;
-  u64 l4 = 0, l5 = 0;
+static void f30(module *self, u64 p0, u64 p1, u64 p2, u64 p3) {
+  u32 l7 = 0, l8 = 0, l9 = 0, l10 = 0, l11 = 0, l12 = 0, l13 = 0, l14 = 0, 
+      l15 = 0;
+  u64 l4 = 0, l5 = 0, l6 = 0;
   u8 *m = self->memory;
   u32 i0, i1, i2, i3, i4, i5;
   u64 j0, j1, j2, j3, j4, j5;
@@ -42324,61 +42326,73 @@ static void f29(module *self, u64 p0, u64 p1, u64 p2, u64 p3) {
   j0 += j1;
   i0 = (u32)(j0);
   i0 = i32_load8_u(j0);
-  l6 = i0;
+  l7 = i0;
   j0 = p2;
   j1 = 30ull;
   j0 += j1;
   i0 = (u32)(j0);
   i0 = i32_load8_u(j0);
-  l7 = i0;
+  l8 = i0;
+  j0 = p1;
+  j1 = 10ull;
+  j0 += j1;
+  i0 = (u32)(j0);
+  i0 = i32_load8_u(j0);
+  l9 = i0;
+  j0 = p1;
+  j1 = 8ull;
+  j0 += j1;
+  i0 = (u32)(j0);
+  j0 = i64_load16_u(j0);
+  l5 = j0;
   j0 = p1;
   j1 = 4ull;
   j0 += j1;
   i0 = (u32)(j0);
   i0 = i32_load16_u(j0);
-  l8 = i0;
+  l10 = i0;
   j0 = p1;
   j1 = 2ull;
   j0 += j1;
   i0 = (u32)(j0);
   i0 = i32_load16_u(j0);
-  l9 = i0;
+  l11 = i0;
   j0 = p1;
   j1 = 6ull;
   j0 += j1;
   i0 = (u32)(j0);
   i0 = i32_load16_u(j0);
-  l10 = i0;
-  j0 = (u64)(i0);
-  l5 = j0;
-  i0 = 0u;
-  l11 = i0;
-  i0 = 0u;
   l12 = i0;
+  j0 = (u64)(i0);
+  l6 = j0;
+  i0 = 0u;
+  l13 = i0;
+  i0 = 0u;
+  l14 = i0;
   j0 = p1;
   i0 = (u32)(j0);
-  j0 = i64_load8_u(j0);
-  i0 = (u32)(j0);
+  i0 = i32_load8_u(j0);
+  l15 = i0;
   switch (i0) {
-    case 0: goto B0;
-    case 1: goto B1;
-    case 2: goto B1;
-    case 3: goto B1;
-    case 4: goto B0;
-    case 5: goto B0;
-    case 6: goto B7;
-    case 7: goto B6;
-    case 8: goto B2;
-    case 9: goto B2;
-    case 10: goto B5;
-    case 11: goto B0;
-    case 12: goto B3;
-    case 13: goto B0;
-    case 14: goto B4;
-    case 15: goto B0;
-    default: goto B0;
+    case 0: goto B5;
+    case 1: goto B6;
+    case 2: goto B6;
+    case 3: goto B6;
+    case 4: goto B5;
+    case 5: goto B5;
+    case 6: goto B13;
+    case 7: goto B12;
+    case 8: goto B9;
+    case 9: goto B9;
+    case 10: goto B8;
+    case 11: goto B5;
+    case 12: goto B10;
+    case 13: goto B5;
+    case 14: goto B11;
+    case 15: goto B5;
+    default: goto B5;
   }
-  B7:;
+  B13:;
   j0 = l4;
   j1 = 8ull;
   j0 += j1;
@@ -42390,31 +42404,31 @@ static void f29(module *self, u64 p0, u64 p1, u64 p2, u64 p3) {
   j2 += j3;
   i2 = (u32)(j2);
   i2 = i32_load16_u(j2);
-  f18(self, j0, i1, i2);
+  f19(self, j0, i1, i2);
   i0 = 1u;
-  l12 = i0;
+  l14 = i0;
   i0 = 6u;
-  l11 = i0;
+  l13 = i0;
   j0 = l4;
   i0 = (u32)(j0);
   i0 = i32_load8_u(j0 + 8u);
   i1 = 1u;
   i0 = i0 != i1;
-  if (i0) {goto B0;}
+  if (i0) {goto B3;}
   j0 = l4;
   i0 = (u32)(j0);
   i0 = i32_load8_u(j0 + 78u);
   i1 = 255u;
   i0 &= i1;
-  i1 = l6;
+  i1 = l7;
   i2 = 255u;
   i1 &= i2;
   i0 = i0 <= i1;
-  if (i0) {goto B0;}
+  if (i0) {goto B3;}
   i0 = 7u;
   i1 = 0u;
   j2 = p2;
-  i3 = l6;
+  i3 = l7;
   j3 = (u64)(i3);
   j4 = 255ull;
   j3 &= j4;
@@ -42425,7 +42439,7 @@ static void f29(module *self, u64 p0, u64 p1, u64 p2, u64 p3) {
   j2 += j3;
   i2 = (u32)(j2);
   i2 = i32_load16_u(j2);
-  l11 = i2;
+  l14 = i2;
   i3 = 8u;
   i2 >>= (i3 & 31);
   j3 = p2;
@@ -42433,23 +42447,23 @@ static void f29(module *self, u64 p0, u64 p1, u64 p2, u64 p3) {
   j3 += j4;
   i3 = (u32)(j3);
   i3 = i32_load16_u(j3);
-  l12 = i3;
+  l13 = i3;
   i2 *= i3;
-  i3 = l11;
+  i3 = l14;
   i4 = 255u;
   i3 &= i4;
   i2 += i3;
-  i3 = l7;
+  i3 = l8;
   i4 = 1u;
   i3 += i4;
-  i4 = l12;
+  i4 = l13;
   i3 *= i4;
   i2 = i2 >= i3;
-  l12 = i2;
+  l14 = i2;
   i0 = i2 ? i0 : i1;
-  l11 = i0;
-  goto B0;
-  B6:;
+  l13 = i0;
+  goto B3;
+  B12:;
   j0 = l4;
   j1 = 8ull;
   j0 += j1;
@@ -42461,31 +42475,33 @@ static void f29(module *self, u64 p0, u64 p1, u64 p2, u64 p3) {
   j2 += j3;
   i2 = (u32)(j2);
   i2 = i32_load16_u(j2);
-  f18(self, j0, i1, i2);
+  f19(self, j0, i1, i2);
   i0 = 1u;
-  l12 = i0;
+  l14 = i0;
   i0 = 6u;
-  l11 = i0;
+  l13 = i0;
   j0 = l4;
   i0 = (u32)(j0);
   i0 = i32_load8_u(j0 + 8u);
   i1 = 1u;
   i0 = i0 != i1;
-  if (i0) {goto B0;}
+  if (i0) {goto B3;}
   j0 = l4;
   i0 = (u32)(j0);
   i0 = i32_load8_u(j0 + 78u);
   i1 = 255u;
   i0 &= i1;
-  i1 = l9;
+  i1 = l11;
   i2 = 255u;
   i1 &= i2;
   i0 = i0 <= i1;
-  if (i0) {goto B0;}
+  if (i0) {goto B3;}
   i0 = 1u;
-  l12 = i0;
+  l14 = i0;
+  i0 = 7u;
+  l13 = i0;
   j0 = p2;
-  i1 = l9;
+  i1 = l11;
   i2 = 1u;
   i1 <<= (i2 & 31);
   i2 = 510u;
@@ -42496,7 +42512,7 @@ static void f29(module *self, u64 p0, u64 p1, u64 p2, u64 p3) {
   j0 += j1;
   i0 = (u32)(j0);
   i0 = i32_load16_u(j0);
-  l11 = i0;
+  l15 = i0;
   i1 = 8u;
   i0 >>= (i1 & 31);
   j1 = p2;
@@ -42504,39 +42520,223 @@ static void f29(module *self, u64 p0, u64 p1, u64 p2, u64 p3) {
   j1 += j2;
   i1 = (u32)(j1);
   i1 = i32_load16_u(j1);
-  l6 = i1;
+  l11 = i1;
   i0 *= i1;
-  i1 = l11;
+  i1 = l15;
   i2 = 255u;
   i1 &= i2;
   i0 += i1;
-  l11 = i0;
-  i1 = l7;
+  l15 = i0;
+  i1 = l8;
   i2 = 1u;
   i1 += i2;
-  i2 = l6;
+  i2 = l11;
   i1 *= i2;
-  l6 = i1;
-  i0 = i0 < i1;
-  if (i0) {goto B8;}
-  i0 = 7u;
-  l11 = i0;
-  goto B0;
-  B8:;
+  l11 = i1;
+  i0 = i0 >= i1;
+  if (i0) {goto B3;}
   i0 = 8u;
   i1 = 0u;
-  i2 = l11;
+  i2 = l15;
   j2 = (u64)(i2);
-  j3 = l5;
+  j3 = l6;
   j2 += j3;
-  i3 = l6;
+  i3 = l11;
   j3 = (u64)(i3);
   i2 = j2 > j3;
-  l12 = i2;
+  l14 = i2;
   i0 = i2 ? i0 : i1;
-  l11 = i0;
-  goto B0;
-  B5:;
+  l13 = i0;
+  goto B3;
+  B11:;
+  j0 = l4;
+  j1 = 8ull;
+  j0 += j1;
+  j1 = p2;
+  i1 = (u32)(j1);
+  i1 = i32_load8_u(j1);
+  j2 = p2;
+  j3 = 32ull;
+  j2 += j3;
+  i2 = (u32)(j2);
+  i2 = i32_load16_u(j2);
+  f19(self, j0, i1, i2);
+  i0 = 1u;
+  l14 = i0;
+  i0 = 6u;
+  l13 = i0;
+  j0 = l4;
+  i0 = (u32)(j0);
+  i0 = i32_load8_u(j0 + 8u);
+  i1 = 1u;
+  i0 = i0 != i1;
+  if (i0) {goto B2;}
+  j0 = l4;
+  i0 = (u32)(j0);
+  i0 = i32_load8_u(j0 + 78u);
+  i1 = 255u;
+  i0 &= i1;
+  i1 = l11;
+  i2 = 255u;
+  i1 &= i2;
+  i0 = i0 <= i1;
+  if (i0) {goto B2;}
+  i0 = 7u;
+  i1 = 0u;
+  i2 = l10;
+  i3 = 8u;
+  i2 >>= (i3 & 31);
+  i3 = l8;
+  i2 = i2 > i3;
+  i3 = l10;
+  i4 = 255u;
+  i3 &= i4;
+  j4 = p2;
+  j5 = 2ull;
+  j4 += j5;
+  i4 = (u32)(j4);
+  i4 = i32_load16_u(j4);
+  i3 = i3 >= i4;
+  i2 |= i3;
+  l14 = i2;
+  i0 = i2 ? i0 : i1;
+  l13 = i0;
+  goto B2;
+  B10:;
+  i0 = l11;
+  i1 = 8u;
+  i0 >>= (i1 & 31);
+  l15 = i0;
+  i0 = 0u;
+  l13 = i0;
+  i0 = 0u;
+  l14 = i0;
+  i0 = l11;
+  j0 = (u64)(i0);
+  j1 = 255ull;
+  j0 &= j1;
+  i0 = (u32)(j0);
+  switch (i0) {
+    case 0: goto B14;
+    case 1: goto B4;
+    case 2: goto B4;
+    case 3: goto B7;
+    case 4: goto B14;
+    case 5: goto B4;
+    case 6: goto B15;
+    case 7: goto B16;
+    case 8: goto B15;
+    case 9: goto B4;
+    case 10: goto B4;
+    default: goto B14;
+  }
+  B16:;
+  i0 = 9u;
+  i1 = 0u;
+  i2 = l10;
+  i3 = 255u;
+  i2 = i2 > i3;
+  i3 = l12;
+  i4 = l10;
+  i3 += i4;
+  i4 = 256u;
+  i3 = i3 > i4;
+  i2 |= i3;
+  l14 = i2;
+  i0 = i2 ? i0 : i1;
+  l13 = i0;
+  goto B4;
+  B15:;
+  i0 = 9u;
+  i1 = 0u;
+  i2 = l10;
+  i3 = 255u;
+  i2 = i2 > i3;
+  l14 = i2;
+  i0 = i2 ? i0 : i1;
+  l13 = i0;
+  goto B4;
+  B14:;
+  i0 = 9u;
+  i1 = 0u;
+  i2 = l15;
+  i3 = 15u;
+  i2 = i2 > i3;
+  l14 = i2;
+  i0 = i2 ? i0 : i1;
+  l13 = i0;
+  goto B4;
+  B9:;
+  j0 = p2;
+  i0 = (u32)(j0);
+  i0 = i32_load8_u(j0);
+  l14 = i0;
+  i1 = 4294967293u;
+  i0 += i1;
+  i1 = 251u;
+  i0 &= i1;
+  if (i0) {goto B17;}
+  i0 = 1u;
+  l14 = i0;
+  i0 = 5u;
+  l13 = i0;
+  goto B5;
+  B17:;
+  j0 = l4;
+  j1 = 8ull;
+  j0 += j1;
+  i1 = l14;
+  j2 = p2;
+  j3 = 32ull;
+  j2 += j3;
+  i2 = (u32)(j2);
+  i2 = i32_load16_u(j2);
+  l12 = i2;
+  f19(self, j0, i1, i2);
+  i0 = 1u;
+  l14 = i0;
+  i0 = 6u;
+  l13 = i0;
+  j0 = l4;
+  i0 = (u32)(j0);
+  i0 = i32_load8_u(j0 + 8u);
+  i1 = 1u;
+  i0 = i0 != i1;
+  if (i0) {goto B5;}
+  j0 = l4;
+  i0 = (u32)(j0);
+  i0 = i32_load8_u(j0 + 78u);
+  i1 = 255u;
+  i0 &= i1;
+  i1 = l7;
+  i2 = 255u;
+  i1 &= i2;
+  i0 = i0 <= i1;
+  if (i0) {goto B5;}
+  i0 = 7u;
+  i1 = 0u;
+  j2 = p2;
+  j3 = 2ull;
+  j2 += j3;
+  i2 = (u32)(j2);
+  i2 = i32_load16_u(j2);
+  i3 = 3u;
+  i2 <<= (i3 & 31);
+  i3 = l11;
+  i2 = i2 <= i3;
+  i3 = l8;
+  i4 = 1u;
+  i3 += i4;
+  i4 = l12;
+  i3 *= i4;
+  i4 = l10;
+  i3 = i3 <= i4;
+  i2 |= i3;
+  l14 = i2;
+  i0 = i2 ? i0 : i1;
+  l13 = i0;
+  goto B5;
+  B8:;
   i0 = 7u;
   i1 = 0u;
   j2 = p2;
@@ -42552,12 +42752,12 @@ static void f29(module *self, u64 p0, u64 p1, u64 p2, u64 p3) {
   j2 += j3;
   i2 = (u32)(j2);
   i2 = i32_load16_u(j2);
-  l11 = i2;
+  l14 = i2;
   i3 = 8u;
   i2 >>= (i3 & 31);
-  i3 = l7;
+  i3 = l8;
   i2 = i2 > i3;
-  i3 = l11;
+  i3 = l14;
   i4 = 255u;
   i3 &= i4;
   j4 = p2;
@@ -42567,264 +42767,21 @@ static void f29(module *self, u64 p0, u64 p1, u64 p2, u64 p3) {
   i4 = i32_load16_u(j4);
   i3 = i3 >= i4;
   i2 |= i3;
-  l12 = i2;
+  l14 = i2;
   i0 = i2 ? i0 : i1;
-  l11 = i0;
-  goto B0;
-  B4:;
-  j0 = p1;
-  j1 = 10ull;
-  j0 += j1;
-  i0 = (u32)(j0);
-  i0 = i32_load8_u(j0);
-  l6 = i0;
-  j0 = p1;
-  j1 = 9ull;
-  j0 += j1;
-  i0 = (u32)(j0);
-  j0 = i64_load8_u(j0);
-  l5 = j0;
-  j0 = p1;
-  j1 = 8ull;
-  j0 += j1;
-  i0 = (u32)(j0);
-  j0 = i64_load8_u(j0);
-  p1 = j0;
-  j0 = l4;
-  j1 = 8ull;
-  j0 += j1;
-  j1 = p2;
-  i1 = (u32)(j1);
-  i1 = i32_load8_u(j1);
-  j2 = p2;
-  j3 = 32ull;
-  j2 += j3;
-  i2 = (u32)(j2);
-  i2 = i32_load16_u(j2);
-  f18(self, j0, i1, i2);
-  i0 = 1u;
-  l12 = i0;
-  i0 = 6u;
-  l11 = i0;
-  j0 = l4;
-  i0 = (u32)(j0);
-  i0 = i32_load8_u(j0 + 8u);
-  i1 = 1u;
-  i0 = i0 != i1;
-  if (i0) {goto B0;}
-  j0 = l4;
-  i0 = (u32)(j0);
-  i0 = i32_load8_u(j0 + 78u);
-  i1 = 255u;
-  i0 &= i1;
-  i1 = l9;
-  i2 = 255u;
-  i1 &= i2;
-  i0 = i0 <= i1;
-  if (i0) {goto B0;}
-  i0 = 7u;
-  l11 = i0;
-  i0 = l8;
-  i1 = 8u;
-  i0 >>= (i1 & 31);
-  i1 = l7;
-  i0 = i0 > i1;
-  if (i0) {goto B0;}
-  i0 = l8;
-  i1 = 255u;
-  i0 &= i1;
-  j1 = p2;
-  j2 = 2ull;
-  j1 += j2;
-  i1 = (u32)(j1);
-  i1 = i32_load16_u(j1);
-  i2 = 65535u;
-  i1 &= i2;
-  i0 = i0 >= i1;
-  if (i0) {goto B0;}
-  i0 = 10u;
-  i1 = 0u;
-  j2 = p3;
-  j3 = l5;
-  j4 = 8ull;
-  j3 <<= (j4 & 63);
-  j4 = p1;
-  j3 |= j4;
-  i4 = l6;
-  j4 = (u64)(i4);
-  j5 = 1ull;
-  j4 &= j5;
-  j3 <<= (j4 & 63);
-  i2 = j2 != j3;
-  l12 = i2;
-  i0 = i2 ? i0 : i1;
-  l11 = i0;
-  goto B0;
-  B3:;
-  i0 = l9;
-  i1 = 8u;
-  i0 >>= (i1 & 31);
-  l6 = i0;
-  i0 = 0u;
-  l11 = i0;
-  i0 = 0u;
-  l12 = i0;
-  i0 = l9;
-  j0 = (u64)(i0);
-  j1 = 255ull;
-  j0 &= j1;
-  i0 = (u32)(j0);
-  switch (i0) {
-    case 0: goto B9;
-    case 1: goto B0;
-    case 2: goto B13;
-    case 3: goto B12;
-    case 4: goto B9;
-    case 5: goto B0;
-    case 6: goto B10;
-    case 7: goto B11;
-    case 8: goto B10;
-    case 9: goto B0;
-    case 10: goto B0;
-    default: goto B9;
-  }
-  B13:;
-  i0 = 10u;
-  i1 = 0u;
-  j2 = p3;
-  j3 = 17ull;
-  i2 = j2 != j3;
-  l12 = i2;
-  i0 = i2 ? i0 : i1;
-  l11 = i0;
-  goto B0;
-  B12:;
+  l13 = i0;
+  goto B3;
+  B7:;
   i0 = 9u;
   i1 = 0u;
-  i2 = l6;
+  i2 = l15;
   i3 = 1u;
   i2 = i2 > i3;
-  l12 = i2;
+  l14 = i2;
   i0 = i2 ? i0 : i1;
-  l11 = i0;
-  goto B0;
-  B11:;
-  i0 = 1u;
-  l12 = i0;
-  i0 = 9u;
-  l11 = i0;
-  i0 = l8;
-  i1 = 255u;
-  i0 = i0 > i1;
-  if (i0) {goto B0;}
-  i0 = l10;
-  i1 = l8;
-  i0 += i1;
-  i1 = 256u;
-  i0 = i0 > i1;
-  if (i0) {goto B0;}
-  i0 = 10u;
-  i1 = 0u;
-  j2 = p3;
-  j3 = l5;
-  j4 = 3ull;
-  j3 *= j4;
-  i2 = j2 != j3;
-  l12 = i2;
-  i0 = i2 ? i0 : i1;
-  l11 = i0;
-  goto B0;
-  B10:;
-  i0 = 9u;
-  i1 = 0u;
-  i2 = l8;
-  i3 = 255u;
-  i2 = i2 > i3;
-  l12 = i2;
-  i0 = i2 ? i0 : i1;
-  l11 = i0;
-  goto B0;
-  B9:;
-  i0 = 9u;
-  i1 = 0u;
-  i2 = l6;
-  i3 = 15u;
-  i2 = i2 > i3;
-  l12 = i2;
-  i0 = i2 ? i0 : i1;
-  l11 = i0;
-  goto B0;
-  B2:;
-  j0 = p2;
-  i0 = (u32)(j0);
-  i0 = i32_load8_u(j0);
-  l11 = i0;
-  i1 = 4294967293u;
-  i0 += i1;
-  i1 = 251u;
-  i0 &= i1;
-  if (i0) {goto B14;}
-  i0 = 1u;
-  l12 = i0;
-  i0 = 5u;
-  l11 = i0;
-  goto B0;
-  B14:;
-  j0 = l4;
-  j1 = 8ull;
-  j0 += j1;
-  i1 = l11;
-  j2 = p2;
-  j3 = 32ull;
-  j2 += j3;
-  i2 = (u32)(j2);
-  i2 = i32_load16_u(j2);
-  l10 = i2;
-  f18(self, j0, i1, i2);
-  i0 = 1u;
-  l12 = i0;
-  i0 = 6u;
-  l11 = i0;
-  j0 = l4;
-  i0 = (u32)(j0);
-  i0 = i32_load8_u(j0 + 8u);
-  i1 = 1u;
-  i0 = i0 != i1;
-  if (i0) {goto B0;}
-  j0 = l4;
-  i0 = (u32)(j0);
-  i0 = i32_load8_u(j0 + 78u);
-  i1 = 255u;
-  i0 &= i1;
-  i1 = l6;
-  i2 = 255u;
-  i1 &= i2;
-  i0 = i0 <= i1;
-  if (i0) {goto B0;}
-  i0 = 7u;
-  i1 = 0u;
-  j2 = p2;
-  j3 = 2ull;
-  j2 += j3;
-  i2 = (u32)(j2);
-  i2 = i32_load16_u(j2);
-  i3 = 3u;
-  i2 <<= (i3 & 31);
-  i3 = l9;
-  i2 = i2 <= i3;
-  i3 = l7;
-  i4 = 1u;
-  i3 += i4;
-  i4 = l10;
-  i3 *= i4;
-  i4 = l8;
-  i3 = i3 <= i4;
-  i2 |= i3;
-  l12 = i2;
-  i0 = i2 ? i0 : i1;
-  l11 = i0;
-  goto B0;
-  B1:;
+  l13 = i0;
+  goto B4;
+  B6:;
   j0 = l4;
   j1 = 8ull;
   j0 += j1;
@@ -42836,7 +42793,7 @@ static void f29(module *self, u64 p0, u64 p1, u64 p2, u64 p3) {
   j2 += j3;
   i2 = (u32)(j2);
   i2 = i32_load16_u(j2);
-  f18(self, j0, i1, i2);
+  f19(self, j0, i1, i2);
   i0 = 6u;
   i1 = 0u;
   j2 = l4;
@@ -42849,22 +42806,94 @@ static void f29(module *self, u64 p0, u64 p1, u64 p2, u64 p3) {
   i3 = i32_load8_u(j3 + 78u);
   i4 = 255u;
   i3 &= i4;
-  i4 = l6;
+  i4 = l7;
   i5 = 255u;
   i4 &= i5;
   i3 = i3 <= i4;
   i2 |= i3;
-  l12 = i2;
+  l14 = i2;
   i0 = i2 ? i0 : i1;
-  l11 = i0;
+  l13 = i0;
+  B5:;
+  i0 = l15;
+  i1 = 12u;
+  i0 = i0 < i1;
+  if (i0) {goto B3;}
+  i0 = l15;
+  i1 = 4294967284u;
+  i0 += i1;
+  switch (i0) {
+    case 0: goto B4;
+    case 1: goto B3;
+    case 2: goto B2;
+    case 3: goto B3;
+    default: goto B4;
+  }
+  B4:;
+  j0 = 17ull;
+  p1 = j0;
+  i0 = 1u;
+  i1 = l11;
+  i2 = 255u;
+  i1 &= i2;
+  l15 = i1;
+  i0 <<= (i1 & 31);
+  i1 = 1915u;
+  i0 &= i1;
+  if (i0) {goto B3;}
+  i0 = l15;
+  i1 = 2u;
+  i0 = i0 == i1;
+  if (i0) {goto B1;}
+  j0 = l6;
+  j1 = 3ull;
+  j0 *= j1;
+  p1 = j0;
+  goto B1;
+  B3:;
+  i0 = l13;
+  i1 = 0u;
+  i2 = l14;
+  i0 = i2 ? i0 : i1;
+  l13 = i0;
+  goto B0;
+  B2:;
+  j0 = l5;
+  i1 = l9;
+  j1 = (u64)(i1);
+  j2 = 1ull;
+  j1 &= j2;
+  j0 <<= (j1 & 63);
+  p1 = j0;
+  B1:;
+  i0 = l13;
+  i1 = 10u;
+  i2 = 0u;
+  j3 = p3;
+  j4 = p1;
+  i3 = j3 != j4;
+  l15 = i3;
+  i1 = i3 ? i1 : i2;
+  i2 = l14;
+  i3 = 255u;
+  i2 &= i3;
+  l14 = i2;
+  i0 = i2 ? i0 : i1;
+  l13 = i0;
+  i0 = l14;
+  i1 = 0u;
+  i0 = i0 != i1;
+  i1 = l15;
+  i0 |= i1;
+  l14 = i0;
   B0:;
   j0 = p0;
   i0 = (u32)(j0);
-  i1 = l11;
+  i1 = l13;
   i32_store8(j0 + 1, i1);
   j0 = p0;
   i0 = (u32)(j0);
-  i1 = l12;
+  i1 = l14;
   i32_store8(j0, i1);
   j0 = l4;
   j1 = 96ull;
@@ -42872,7 +42901,7 @@ static void f29(module *self, u64 p0, u64 p1, u64 p2, u64 p3) {
   self->g0 = j0;
 }
 
-static void f30(module *self, u64 p0, u64 p1, u32 p2) {
+static void f31(module *self, u64 p0, u64 p1, u32 p2) {
   u32 l3 = 0, l4 = 0, l5 = 0, l6 = 0, l7 = 0;
   u8 *m = self->memory;
   u32 i0, i1, i2, i3, i4, i5;
@@ -42929,7 +42958,7 @@ static void f30(module *self, u64 p0, u64 p1, u32 p2) {
   i1 = i32_load16_u(j1);
   l6 = i1;
   i2 = 14u;
-  f27(self, j0, i1, i2); m = self->memory; if (NEVER(self->is_broken)) return;
+  f28(self, j0, i1, i2); m = self->memory; if (NEVER(self->is_broken)) return;
   j0 = p0;
   i1 = l6;
   i2 = 1u;
@@ -42953,19 +42982,19 @@ static void f30(module *self, u64 p0, u64 p1, u32 p2) {
   p2 = i2;
   i3 = 8u;
   i2 >>= (i3 & 31);
-  f27(self, j0, i1, i2); m = self->memory; if (NEVER(self->is_broken)) return;
+  f28(self, j0, i1, i2); m = self->memory; if (NEVER(self->is_broken)) return;
   j0 = p0;
   i1 = l6;
   i2 = 15u;
-  f27(self, j0, i1, i2); m = self->memory; if (NEVER(self->is_broken)) return;
+  f28(self, j0, i1, i2); m = self->memory; if (NEVER(self->is_broken)) return;
   j0 = p0;
   i1 = l7;
   i2 = p2;
-  f27(self, j0, i1, i2); m = self->memory; if (NEVER(self->is_broken)) return;
+  f28(self, j0, i1, i2); m = self->memory; if (NEVER(self->is_broken)) return;
   B0:;
 }
 
-static void f31(module *self, u64 p0, u64 p1, u64 p2, u32 p3, u64 p4) {
+static void f32(module *self, u64 p0, u64 p1, u64 p2, u32 p3, u64 p4) {
   u32 l6 = 0, l7 = 0, l8 = 0, l9 = 0, l10 = 0, l11 = 0, l12 = 0, l13 = 0, 
       l14 = 0, l15 = 0, l16 = 0, l17 = 0, l18 = 0, l19 = 0, l20 = 0;
   u64 l5 = 0;
@@ -43116,7 +43145,7 @@ static void f31(module *self, u64 p0, u64 p1, u64 p2, u32 p3, u64 p4) {
   j0 = p1;
   i1 = 5u;
   i2 = 1u;
-  f33(self, j0, i1, i2); m = self->memory; if (NEVER(self->is_broken)) return;
+  f34(self, j0, i1, i2); m = self->memory; if (NEVER(self->is_broken)) return;
   B3:;
   j0 = l5;
   i0 = (u32)(j0);
@@ -43173,7 +43202,7 @@ static void f31(module *self, u64 p0, u64 p1, u64 p2, u32 p3, u64 p4) {
     i3 = l13;
     i2 += i3;
     i3 = l13;
-    f45(self, j0, j1, i2, i3); m = self->memory; if (NEVER(self->is_broken)) return;
+    f46(self, j0, j1, i2, i3); m = self->memory; if (NEVER(self->is_broken)) return;
     i0 = l13;
     i1 = 1u;
     i0 += i1;
@@ -43213,7 +43242,7 @@ static void f31(module *self, u64 p0, u64 p1, u64 p2, u32 p3, u64 p4) {
     i2 += i3;
     l9 = i2;
     i3 = l13;
-    f45(self, j0, j1, i2, i3); m = self->memory; if (NEVER(self->is_broken)) return;
+    f46(self, j0, j1, i2, i3); m = self->memory; if (NEVER(self->is_broken)) return;
     i0 = l17;
     i1 = l9;
     i0 = i0 < i1;
@@ -43225,7 +43254,7 @@ static void f31(module *self, u64 p0, u64 p1, u64 p2, u32 p3, u64 p4) {
   j0 = p1;
   i1 = 5u;
   i2 = 0u;
-  f33(self, j0, i1, i2); m = self->memory; if (NEVER(self->is_broken)) return;
+  f34(self, j0, i1, i2); m = self->memory; if (NEVER(self->is_broken)) return;
   j0 = l5;
   i0 = (u32)(j0);
   i1 = 0u;
@@ -43281,7 +43310,7 @@ static void f31(module *self, u64 p0, u64 p1, u64 p2, u32 p3, u64 p4) {
   i2 = l15;
   i3 = 15u;
   i2 &= i3;
-  f43(self, j0, i1, i2); m = self->memory; if (NEVER(self->is_broken)) return;
+  f44(self, j0, i1, i2); m = self->memory; if (NEVER(self->is_broken)) return;
   goto B10;
   B12:;
   i0 = 0u;
@@ -43335,7 +43364,7 @@ static void f31(module *self, u64 p0, u64 p1, u64 p2, u32 p3, u64 p4) {
     i2 = 32u;
     i3 = l15;
     i4 = l13;
-    f46(self, j0, j1, i2, i3, i4); m = self->memory; if (NEVER(self->is_broken)) return;
+    f47(self, j0, j1, i2, i3, i4); m = self->memory; if (NEVER(self->is_broken)) return;
     i0 = l13;
     i1 = 1u;
     i0 += i1;
@@ -43356,7 +43385,7 @@ static void f31(module *self, u64 p0, u64 p1, u64 p2, u32 p3, u64 p4) {
     i2 = 0u;
     i3 = 0u;
     i4 = l9;
-    f46(self, j0, j1, i2, i3, i4); m = self->memory; if (NEVER(self->is_broken)) return;
+    f47(self, j0, j1, i2, i3, i4); m = self->memory; if (NEVER(self->is_broken)) return;
     i0 = l9;
     i1 = 1u;
     i0 += i1;
@@ -43371,7 +43400,7 @@ static void f31(module *self, u64 p0, u64 p1, u64 p2, u32 p3, u64 p4) {
   i2 = l15;
   i3 = 15u;
   i2 &= i3;
-  f43(self, j0, i1, i2); m = self->memory; if (NEVER(self->is_broken)) return;
+  f44(self, j0, i1, i2); m = self->memory; if (NEVER(self->is_broken)) return;
   j0 = l5;
   i0 = (u32)(j0);
   i1 = 0u;
@@ -43412,7 +43441,7 @@ static void f31(module *self, u64 p0, u64 p1, u64 p2, u32 p3, u64 p4) {
     i2 = 255u;
     i3 = 255u;
     i4 = l13;
-    f46(self, j0, j1, i2, i3, i4); m = self->memory; if (NEVER(self->is_broken)) return;
+    f47(self, j0, j1, i2, i3, i4); m = self->memory; if (NEVER(self->is_broken)) return;
     i0 = l13;
     i1 = 1u;
     i0 += i1;
@@ -43426,7 +43455,7 @@ static void f31(module *self, u64 p0, u64 p1, u64 p2, u32 p3, u64 p4) {
   j0 = p1;
   i1 = 2u;
   i2 = 15u;
-  f43(self, j0, i1, i2); m = self->memory; if (NEVER(self->is_broken)) return;
+  f44(self, j0, i1, i2); m = self->memory; if (NEVER(self->is_broken)) return;
   goto B8;
   B9:;
   j0 = l5;
@@ -43473,7 +43502,7 @@ static void f31(module *self, u64 p0, u64 p1, u64 p2, u32 p3, u64 p4) {
     i2 = l15;
     i3 = l15;
     i4 = l13;
-    f46(self, j0, j1, i2, i3, i4); m = self->memory; if (NEVER(self->is_broken)) return;
+    f47(self, j0, j1, i2, i3, i4); m = self->memory; if (NEVER(self->is_broken)) return;
     i0 = l13;
     i1 = 1u;
     i0 += i1;
@@ -43490,7 +43519,7 @@ static void f31(module *self, u64 p0, u64 p1, u64 p2, u32 p3, u64 p4) {
   self->g0 = j0;
 }
 
-static void f32(module *self, u64 p0, u64 p1, u32 p2) {
+static void f33(module *self, u64 p0, u64 p1, u32 p2) {
   u32 l3 = 0, l4 = 0, l5 = 0;
   u8 *m = self->memory;
   u32 i0, i1, i2, i3, i4, i5;
@@ -43676,7 +43705,7 @@ static void f32(module *self, u64 p0, u64 p1, u32 p2) {
   i32_store8(j0, i1);
 }
 
-static void f33(module *self, u64 p0, u32 p1, u32 p2) {
+static void f34(module *self, u64 p0, u32 p1, u32 p2) {
   u64 l3 = 0, l4 = 0, l5 = 0, l6 = 0, l7 = 0, l8 = 0;
   u8 *m = self->memory;
   u32 i0, i1, i2, i3, i4;
@@ -43736,7 +43765,7 @@ static void f33(module *self, u64 p0, u32 p1, u32 p2) {
   j1 = 2072ull;
   j0 += j1;
   j1 = 4ull;
-  i0 = f10(self, j0, j1); m = self->memory; if (NEVER(self->is_broken)) return;
+  i0 = f11(self, j0, j1); m = self->memory; if (NEVER(self->is_broken)) return;
   i0 = !(i0);
   if (i0) {goto B4;}
   j0 = p0;
@@ -43839,7 +43868,7 @@ static void f33(module *self, u64 p0, u32 p1, u32 p2) {
   j1 = 2072ull;
   j0 += j1;
   j1 = 4ull;
-  i0 = f10(self, j0, j1); m = self->memory; if (NEVER(self->is_broken)) return;
+  i0 = f11(self, j0, j1); m = self->memory; if (NEVER(self->is_broken)) return;
   i0 = !(i0);
   if (i0) {goto B6;}
   j0 = p0;
@@ -44047,7 +44076,7 @@ static void f33(module *self, u64 p0, u32 p1, u32 p2) {
   B0:;
 }
 
-static u32 f34(module *self, u64 p0, u32 p1, u64 p2) {
+static u32 f35(module *self, u64 p0, u32 p1, u64 p2) {
   u32 l3 = 0, l4 = 0, l5 = 0;
   u64 l6 = 0, l7 = 0, l8 = 0, l9 = 0, l10 = 0, l11 = 0;
   u8 *m = self->memory;
@@ -44715,7 +44744,7 @@ static u32 f34(module *self, u64 p0, u32 p1, u64 p2) {
   return i0;
 }
 
-static void f35(module *self, u64 p0, u64 p1, u32 p2, u32 p3, u32 p4, u32 p5) {
+static void f36(module *self, u64 p0, u64 p1, u32 p2, u32 p3, u32 p4, u32 p5) {
   u32 l19 = 0, l20 = 0, l21 = 0, l22 = 0, l23 = 0, l24 = 0;
   u64 l6 = 0, l7 = 0, l8 = 0, l9 = 0, l10 = 0, l11 = 0, l12 = 0, l13 = 0, 
       l14 = 0, l15 = 0, l16 = 0, l17 = 0, l18 = 0;
@@ -44795,7 +44824,7 @@ static void f35(module *self, u64 p0, u64 p1, u32 p2, u32 p3, u32 p4, u32 p5) {
   i1 += i2;
   l20 = i1;
   i2 = p3;
-  f36(self, j0, i1, i2); m = self->memory; if (NEVER(self->is_broken)) return;
+  f37(self, j0, i1, i2); m = self->memory; if (NEVER(self->is_broken)) return;
   i0 = p5;
   i1 = 1u;
   i0 &= i1;
@@ -44806,7 +44835,7 @@ static void f35(module *self, u64 p0, u64 p1, u32 p2, u32 p3, u32 p4, u32 p5) {
   i2 = 1u;
   i1 += i2;
   i2 = p4;
-  f36(self, j0, i1, i2); m = self->memory; if (NEVER(self->is_broken)) return;
+  f37(self, j0, i1, i2); m = self->memory; if (NEVER(self->is_broken)) return;
   goto B1;
   B3:;
   j0 = p1;
@@ -44894,13 +44923,13 @@ static void f35(module *self, u64 p0, u64 p1, u32 p2, u32 p3, u32 p4, u32 p5) {
   j0 = p0;
   i1 = 3u;
   i2 = 24u;
-  f33(self, j0, i1, i2); m = self->memory; if (NEVER(self->is_broken)) return;
+  f34(self, j0, i1, i2); m = self->memory; if (NEVER(self->is_broken)) return;
   j0 = p0;
   i1 = 2u;
   i2 = p4;
   i3 = 15u;
   i2 &= i3;
-  f43(self, j0, i1, i2); m = self->memory; if (NEVER(self->is_broken)) return;
+  f44(self, j0, i1, i2); m = self->memory; if (NEVER(self->is_broken)) return;
   i0 = p5;
   i0 = !(i0);
   if (i0) {goto B8;}
@@ -45084,7 +45113,7 @@ static void f35(module *self, u64 p0, u64 p1, u32 p2, u32 p3, u32 p4, u32 p5) {
     j1 = 2072ull;
     j0 += j1;
     j1 = 5ull;
-    i0 = f10(self, j0, j1); m = self->memory; if (NEVER(self->is_broken)) return;
+    i0 = f11(self, j0, j1); m = self->memory; if (NEVER(self->is_broken)) return;
     i0 = !(i0);
     if (i0) {goto B17;}
     j0 = p0;
@@ -45135,11 +45164,11 @@ static void f35(module *self, u64 p0, u64 p1, u32 p2, u32 p3, u32 p4, u32 p5) {
     j0 = l6;
     j1 = p0;
     i2 = p4;
-    f32(self, j0, j1, i2);
+    f33(self, j0, j1, i2);
     j0 = p0;
     i1 = p4;
     i2 = p2;
-    f36(self, j0, i1, i2); m = self->memory; if (NEVER(self->is_broken)) return;
+    f37(self, j0, i1, i2); m = self->memory; if (NEVER(self->is_broken)) return;
     j0 = l8;
     j1 = 1ull;
     j0 += j1;
@@ -45159,11 +45188,11 @@ static void f35(module *self, u64 p0, u64 p1, u32 p2, u32 p3, u32 p4, u32 p5) {
   j0 = p0;
   i1 = 2u;
   i2 = 15u;
-  f43(self, j0, i1, i2); m = self->memory; if (NEVER(self->is_broken)) return;
+  f44(self, j0, i1, i2); m = self->memory; if (NEVER(self->is_broken)) return;
   j0 = p0;
   i1 = 3u;
   i2 = 0u;
-  f33(self, j0, i1, i2); m = self->memory; if (NEVER(self->is_broken)) return;
+  f34(self, j0, i1, i2); m = self->memory; if (NEVER(self->is_broken)) return;
   goto B1;
   B7:;
   j0 = l6;
@@ -45197,13 +45226,13 @@ static void f35(module *self, u64 p0, u64 p1, u32 p2, u32 p3, u32 p4, u32 p5) {
   i2 = 0u;
   i3 = 0u;
   i4 = l24;
-  f46(self, j0, j1, i2, i3, i4); m = self->memory; if (NEVER(self->is_broken)) return;
+  f47(self, j0, j1, i2, i3, i4); m = self->memory; if (NEVER(self->is_broken)) return;
   j0 = p0;
   i1 = 2u;
   i2 = p4;
   i3 = 15u;
   i2 &= i3;
-  f43(self, j0, i1, i2); m = self->memory; if (NEVER(self->is_broken)) return;
+  f44(self, j0, i1, i2); m = self->memory; if (NEVER(self->is_broken)) return;
   i0 = p5;
   i0 = !(i0);
   if (i0) {goto B19;}
@@ -45268,7 +45297,7 @@ static void f35(module *self, u64 p0, u64 p1, u32 p2, u32 p3, u32 p4, u32 p5) {
   j2 += j3;
   i2 = (u32)(j2);
   i2 = i32_load8_u(j2);
-  f36(self, j0, i1, i2); m = self->memory; if (NEVER(self->is_broken)) return;
+  f37(self, j0, i1, i2); m = self->memory; if (NEVER(self->is_broken)) return;
   j0 = l7;
   i0 = (u32)(j0);
   i0 = i32_load8_u(j0);
@@ -45297,7 +45326,7 @@ static void f35(module *self, u64 p0, u64 p1, u32 p2, u32 p3, u32 p4, u32 p5) {
   j2 += j3;
   i2 = (u32)(j2);
   i2 = i32_load8_u(j2 + 1u);
-  f36(self, j0, i1, i2); m = self->memory; if (NEVER(self->is_broken)) return;
+  f37(self, j0, i1, i2); m = self->memory; if (NEVER(self->is_broken)) return;
   j0 = 1048841ull;
   l8 = j0;
   j0 = 1048841ull;
@@ -45330,7 +45359,7 @@ static void f35(module *self, u64 p0, u64 p1, u32 p2, u32 p3, u32 p4, u32 p5) {
   j2 += j3;
   i2 = (u32)(j2);
   i2 = i32_load8_u(j2 + 2u);
-  f36(self, j0, i1, i2); m = self->memory; if (NEVER(self->is_broken)) return;
+  f37(self, j0, i1, i2); m = self->memory; if (NEVER(self->is_broken)) return;
   j0 = l7;
   i0 = (u32)(j0);
   i0 = i32_load8_u(j0);
@@ -45359,7 +45388,7 @@ static void f35(module *self, u64 p0, u64 p1, u32 p2, u32 p3, u32 p4, u32 p5) {
   j2 += j3;
   i2 = (u32)(j2);
   i2 = i32_load8_u(j2 + 3u);
-  f36(self, j0, i1, i2); m = self->memory; if (NEVER(self->is_broken)) return;
+  f37(self, j0, i1, i2); m = self->memory; if (NEVER(self->is_broken)) return;
   j0 = 1048841ull;
   l8 = j0;
   j0 = 1048841ull;
@@ -45392,7 +45421,7 @@ static void f35(module *self, u64 p0, u64 p1, u32 p2, u32 p3, u32 p4, u32 p5) {
   j2 += j3;
   i2 = (u32)(j2);
   i2 = i32_load8_u(j2 + 4u);
-  f36(self, j0, i1, i2); m = self->memory; if (NEVER(self->is_broken)) return;
+  f37(self, j0, i1, i2); m = self->memory; if (NEVER(self->is_broken)) return;
   j0 = l7;
   i0 = (u32)(j0);
   i0 = i32_load8_u(j0);
@@ -45421,7 +45450,7 @@ static void f35(module *self, u64 p0, u64 p1, u32 p2, u32 p3, u32 p4, u32 p5) {
   j2 += j3;
   i2 = (u32)(j2);
   i2 = i32_load8_u(j2 + 5u);
-  f36(self, j0, i1, i2); m = self->memory; if (NEVER(self->is_broken)) return;
+  f37(self, j0, i1, i2); m = self->memory; if (NEVER(self->is_broken)) return;
   j0 = 1048841ull;
   l8 = j0;
   j0 = 1048841ull;
@@ -45454,7 +45483,7 @@ static void f35(module *self, u64 p0, u64 p1, u32 p2, u32 p3, u32 p4, u32 p5) {
   j2 += j3;
   i2 = (u32)(j2);
   i2 = i32_load8_u(j2 + 6u);
-  f36(self, j0, i1, i2); m = self->memory; if (NEVER(self->is_broken)) return;
+  f37(self, j0, i1, i2); m = self->memory; if (NEVER(self->is_broken)) return;
   j0 = l7;
   i0 = (u32)(j0);
   i0 = i32_load8_u(j0);
@@ -45483,11 +45512,11 @@ static void f35(module *self, u64 p0, u64 p1, u32 p2, u32 p3, u32 p4, u32 p5) {
   j2 += j3;
   i2 = (u32)(j2);
   i2 = i32_load8_u(j2 + 7u);
-  f36(self, j0, i1, i2); m = self->memory; if (NEVER(self->is_broken)) return;
+  f37(self, j0, i1, i2); m = self->memory; if (NEVER(self->is_broken)) return;
   j0 = p0;
   i1 = 2u;
   i2 = 15u;
-  f43(self, j0, i1, i2); m = self->memory; if (NEVER(self->is_broken)) return;
+  f44(self, j0, i1, i2); m = self->memory; if (NEVER(self->is_broken)) return;
   goto B1;
   B21:;
   j0 = p1;
@@ -45527,7 +45556,7 @@ static void f35(module *self, u64 p0, u64 p1, u32 p2, u32 p3, u32 p4, u32 p5) {
   j2 += j3;
   i2 = (u32)(j2);
   i2 = i32_load8_u(j2);
-  f36(self, j0, i1, i2); m = self->memory; if (NEVER(self->is_broken)) return;
+  f37(self, j0, i1, i2); m = self->memory; if (NEVER(self->is_broken)) return;
   j0 = l12;
   i0 = (u32)(j0);
   i0 = i32_load8_u(j0);
@@ -45556,7 +45585,7 @@ static void f35(module *self, u64 p0, u64 p1, u32 p2, u32 p3, u32 p4, u32 p5) {
   j2 += j3;
   i2 = (u32)(j2);
   i2 = i32_load8_u(j2 + 1u);
-  f36(self, j0, i1, i2); m = self->memory; if (NEVER(self->is_broken)) return;
+  f37(self, j0, i1, i2); m = self->memory; if (NEVER(self->is_broken)) return;
   j0 = 1048841ull;
   l8 = j0;
   j0 = 1048841ull;
@@ -45592,7 +45621,7 @@ static void f35(module *self, u64 p0, u64 p1, u32 p2, u32 p3, u32 p4, u32 p5) {
   j2 += j3;
   i2 = (u32)(j2);
   i2 = i32_load8_u(j2 + 2u);
-  f36(self, j0, i1, i2); m = self->memory; if (NEVER(self->is_broken)) return;
+  f37(self, j0, i1, i2); m = self->memory; if (NEVER(self->is_broken)) return;
   j0 = l12;
   i0 = (u32)(j0);
   i0 = i32_load8_u(j0);
@@ -45621,7 +45650,7 @@ static void f35(module *self, u64 p0, u64 p1, u32 p2, u32 p3, u32 p4, u32 p5) {
   j2 += j3;
   i2 = (u32)(j2);
   i2 = i32_load8_u(j2 + 3u);
-  f36(self, j0, i1, i2); m = self->memory; if (NEVER(self->is_broken)) return;
+  f37(self, j0, i1, i2); m = self->memory; if (NEVER(self->is_broken)) return;
   j0 = 1048841ull;
   l8 = j0;
   j0 = 1048841ull;
@@ -45657,7 +45686,7 @@ static void f35(module *self, u64 p0, u64 p1, u32 p2, u32 p3, u32 p4, u32 p5) {
   j2 += j3;
   i2 = (u32)(j2);
   i2 = i32_load8_u(j2 + 4u);
-  f36(self, j0, i1, i2); m = self->memory; if (NEVER(self->is_broken)) return;
+  f37(self, j0, i1, i2); m = self->memory; if (NEVER(self->is_broken)) return;
   j0 = l12;
   i0 = (u32)(j0);
   i0 = i32_load8_u(j0);
@@ -45686,7 +45715,7 @@ static void f35(module *self, u64 p0, u64 p1, u32 p2, u32 p3, u32 p4, u32 p5) {
   j2 += j3;
   i2 = (u32)(j2);
   i2 = i32_load8_u(j2 + 5u);
-  f36(self, j0, i1, i2); m = self->memory; if (NEVER(self->is_broken)) return;
+  f37(self, j0, i1, i2); m = self->memory; if (NEVER(self->is_broken)) return;
   j0 = 1048841ull;
   l8 = j0;
   j0 = 1048841ull;
@@ -45722,7 +45751,7 @@ static void f35(module *self, u64 p0, u64 p1, u32 p2, u32 p3, u32 p4, u32 p5) {
   j2 += j3;
   i2 = (u32)(j2);
   i2 = i32_load8_u(j2 + 6u);
-  f36(self, j0, i1, i2); m = self->memory; if (NEVER(self->is_broken)) return;
+  f37(self, j0, i1, i2); m = self->memory; if (NEVER(self->is_broken)) return;
   j0 = l12;
   i0 = (u32)(j0);
   i0 = i32_load8_u(j0);
@@ -45751,7 +45780,7 @@ static void f35(module *self, u64 p0, u64 p1, u32 p2, u32 p3, u32 p4, u32 p5) {
   j2 += j3;
   i2 = (u32)(j2);
   i2 = i32_load8_u(j2 + 7u);
-  f36(self, j0, i1, i2); m = self->memory; if (NEVER(self->is_broken)) return;
+  f37(self, j0, i1, i2); m = self->memory; if (NEVER(self->is_broken)) return;
   j0 = 1048841ull;
   l8 = j0;
   j0 = 1048841ull;
@@ -45787,7 +45816,7 @@ static void f35(module *self, u64 p0, u64 p1, u32 p2, u32 p3, u32 p4, u32 p5) {
   j2 += j3;
   i2 = (u32)(j2);
   i2 = i32_load8_u(j2 + 8u);
-  f36(self, j0, i1, i2); m = self->memory; if (NEVER(self->is_broken)) return;
+  f37(self, j0, i1, i2); m = self->memory; if (NEVER(self->is_broken)) return;
   j0 = l12;
   i0 = (u32)(j0);
   i0 = i32_load8_u(j0);
@@ -45816,7 +45845,7 @@ static void f35(module *self, u64 p0, u64 p1, u32 p2, u32 p3, u32 p4, u32 p5) {
   j2 += j3;
   i2 = (u32)(j2);
   i2 = i32_load8_u(j2 + 9u);
-  f36(self, j0, i1, i2); m = self->memory; if (NEVER(self->is_broken)) return;
+  f37(self, j0, i1, i2); m = self->memory; if (NEVER(self->is_broken)) return;
   j0 = 1048841ull;
   l8 = j0;
   j0 = 1048841ull;
@@ -45852,7 +45881,7 @@ static void f35(module *self, u64 p0, u64 p1, u32 p2, u32 p3, u32 p4, u32 p5) {
   j2 += j3;
   i2 = (u32)(j2);
   i2 = i32_load8_u(j2 + 10u);
-  f36(self, j0, i1, i2); m = self->memory; if (NEVER(self->is_broken)) return;
+  f37(self, j0, i1, i2); m = self->memory; if (NEVER(self->is_broken)) return;
   j0 = l12;
   i0 = (u32)(j0);
   i0 = i32_load8_u(j0);
@@ -45881,7 +45910,7 @@ static void f35(module *self, u64 p0, u64 p1, u32 p2, u32 p3, u32 p4, u32 p5) {
   j2 += j3;
   i2 = (u32)(j2);
   i2 = i32_load8_u(j2 + 11u);
-  f36(self, j0, i1, i2); m = self->memory; if (NEVER(self->is_broken)) return;
+  f37(self, j0, i1, i2); m = self->memory; if (NEVER(self->is_broken)) return;
   j0 = 1048841ull;
   l8 = j0;
   j0 = 1048841ull;
@@ -45917,7 +45946,7 @@ static void f35(module *self, u64 p0, u64 p1, u32 p2, u32 p3, u32 p4, u32 p5) {
   j2 += j3;
   i2 = (u32)(j2);
   i2 = i32_load8_u(j2 + 12u);
-  f36(self, j0, i1, i2); m = self->memory; if (NEVER(self->is_broken)) return;
+  f37(self, j0, i1, i2); m = self->memory; if (NEVER(self->is_broken)) return;
   j0 = l12;
   i0 = (u32)(j0);
   i0 = i32_load8_u(j0);
@@ -45946,11 +45975,11 @@ static void f35(module *self, u64 p0, u64 p1, u32 p2, u32 p3, u32 p4, u32 p5) {
   j2 += j3;
   i2 = (u32)(j2);
   i2 = i32_load8_u(j2 + 13u);
-  f36(self, j0, i1, i2); m = self->memory; if (NEVER(self->is_broken)) return;
+  f37(self, j0, i1, i2); m = self->memory; if (NEVER(self->is_broken)) return;
   j0 = p0;
   i1 = 2u;
   i2 = 15u;
-  f43(self, j0, i1, i2); m = self->memory; if (NEVER(self->is_broken)) return;
+  f44(self, j0, i1, i2); m = self->memory; if (NEVER(self->is_broken)) return;
   goto B1;
   B20:;
   j0 = p1;
@@ -45996,7 +46025,7 @@ static void f35(module *self, u64 p0, u64 p1, u32 p2, u32 p3, u32 p4, u32 p5) {
     j2 += j3;
     i2 = (u32)(j2);
     i2 = i32_load8_u(j2);
-    f36(self, j0, i1, i2); m = self->memory; if (NEVER(self->is_broken)) return;
+    f37(self, j0, i1, i2); m = self->memory; if (NEVER(self->is_broken)) return;
     j0 = p1;
     j1 = 1ull;
     j0 += j1;
@@ -46016,7 +46045,7 @@ static void f35(module *self, u64 p0, u64 p1, u32 p2, u32 p3, u32 p4, u32 p5) {
   j0 = p0;
   i1 = 2u;
   i2 = 15u;
-  f43(self, j0, i1, i2); m = self->memory; if (NEVER(self->is_broken)) return;
+  f44(self, j0, i1, i2); m = self->memory; if (NEVER(self->is_broken)) return;
   goto B1;
   B2:;
   j0 = p1;
@@ -46192,7 +46221,7 @@ static void f35(module *self, u64 p0, u64 p1, u32 p2, u32 p3, u32 p4, u32 p5) {
     i2 = (u32)((s32)i2 >> (i3 & 31));
     i3 = p4;
     i2 &= i3;
-    f36(self, j0, i1, i2); m = self->memory; if (NEVER(self->is_broken)) return;
+    f37(self, j0, i1, i2); m = self->memory; if (NEVER(self->is_broken)) return;
     j0 = p0;
     i1 = l20;
     i2 = 1u;
@@ -46205,7 +46234,7 @@ static void f35(module *self, u64 p0, u64 p1, u32 p2, u32 p3, u32 p4, u32 p5) {
     i2 = (u32)((s32)i2 >> (i3 & 31));
     i3 = p4;
     i2 &= i3;
-    f36(self, j0, i1, i2); m = self->memory; if (NEVER(self->is_broken)) return;
+    f37(self, j0, i1, i2); m = self->memory; if (NEVER(self->is_broken)) return;
     j0 = p0;
     i1 = l20;
     i2 = 2u;
@@ -46218,7 +46247,7 @@ static void f35(module *self, u64 p0, u64 p1, u32 p2, u32 p3, u32 p4, u32 p5) {
     i2 = (u32)((s32)i2 >> (i3 & 31));
     i3 = p4;
     i2 &= i3;
-    f36(self, j0, i1, i2); m = self->memory; if (NEVER(self->is_broken)) return;
+    f37(self, j0, i1, i2); m = self->memory; if (NEVER(self->is_broken)) return;
     j0 = p0;
     i1 = l20;
     i2 = 3u;
@@ -46231,7 +46260,7 @@ static void f35(module *self, u64 p0, u64 p1, u32 p2, u32 p3, u32 p4, u32 p5) {
     i2 = (u32)((s32)i2 >> (i3 & 31));
     i3 = p4;
     i2 &= i3;
-    f36(self, j0, i1, i2); m = self->memory; if (NEVER(self->is_broken)) return;
+    f37(self, j0, i1, i2); m = self->memory; if (NEVER(self->is_broken)) return;
     j0 = p0;
     i1 = l20;
     i2 = 4u;
@@ -46244,7 +46273,7 @@ static void f35(module *self, u64 p0, u64 p1, u32 p2, u32 p3, u32 p4, u32 p5) {
     i2 = (u32)((s32)i2 >> (i3 & 31));
     i3 = p4;
     i2 &= i3;
-    f36(self, j0, i1, i2); m = self->memory; if (NEVER(self->is_broken)) return;
+    f37(self, j0, i1, i2); m = self->memory; if (NEVER(self->is_broken)) return;
     j0 = p0;
     i1 = l20;
     i2 = 5u;
@@ -46257,7 +46286,7 @@ static void f35(module *self, u64 p0, u64 p1, u32 p2, u32 p3, u32 p4, u32 p5) {
     i2 = (u32)((s32)i2 >> (i3 & 31));
     i3 = p4;
     i2 &= i3;
-    f36(self, j0, i1, i2); m = self->memory; if (NEVER(self->is_broken)) return;
+    f37(self, j0, i1, i2); m = self->memory; if (NEVER(self->is_broken)) return;
     j0 = p0;
     i1 = l20;
     i2 = 6u;
@@ -46270,7 +46299,7 @@ static void f35(module *self, u64 p0, u64 p1, u32 p2, u32 p3, u32 p4, u32 p5) {
     i2 = (u32)((s32)i2 >> (i3 & 31));
     i3 = p4;
     i2 &= i3;
-    f36(self, j0, i1, i2); m = self->memory; if (NEVER(self->is_broken)) return;
+    f37(self, j0, i1, i2); m = self->memory; if (NEVER(self->is_broken)) return;
     j0 = p0;
     i1 = l20;
     i2 = 7u;
@@ -46282,7 +46311,7 @@ static void f35(module *self, u64 p0, u64 p1, u32 p2, u32 p3, u32 p4, u32 p5) {
     i2 -= i3;
     i3 = p4;
     i2 &= i3;
-    f36(self, j0, i1, i2); m = self->memory; if (NEVER(self->is_broken)) return;
+    f37(self, j0, i1, i2); m = self->memory; if (NEVER(self->is_broken)) return;
     j0 = l8;
     j1 = 1ull;
     j0 += j1;
@@ -46309,12 +46338,12 @@ static void f35(module *self, u64 p0, u64 p1, u32 p2, u32 p3, u32 p4, u32 p5) {
   Bfunc:;
 }
 
-static void f36(module *self, u64 p0, u32 p1, u32 p2) {
-  u32 l10 = 0, l11 = 0, l12 = 0;
+static void f37(module *self, u64 p0, u32 p1, u32 p2) {
+  u32 l10 = 0, l11 = 0, l12 = 0, l13 = 0;
   u64 l3 = 0, l4 = 0, l5 = 0, l6 = 0, l7 = 0, l8 = 0, l9 = 0;
   u8 *m = self->memory;
   u32 i0, i1, i2, i3, i4, i5;
-  u64 j0, j1, j2, j3, j4, j5;
+  u64 j0, j1, j2, j3;
   j0 = p0;
   j1 = 2096ull;
   j0 += j1;
@@ -46362,7 +46391,7 @@ static void f36(module *self, u64 p0, u32 p1, u32 p2) {
   j1 = 2072ull;
   j0 += j1;
   j1 = 6ull;
-  i0 = f10(self, j0, j1); m = self->memory; if (NEVER(self->is_broken)) return;
+  i0 = f11(self, j0, j1); m = self->memory; if (NEVER(self->is_broken)) return;
   i0 = !(i0);
   if (i0) {goto B0;}
   j0 = p0;
@@ -46439,26 +46468,38 @@ static void f36(module *self, u64 p0, u32 p1, u32 p2) {
   i0 = i0 >= i1;
   if (i0) {goto B2;}
   j0 = p0;
-  j1 = p0;
-  j2 = 72ull;
-  j1 += j2;
-  i1 = (u32)(j1);
-  i1 = i32_load8_u(j1);
-  i2 = p2;
-  i0 = f44(self, j0, i1, i2);
-  p2 = i0;
-  j0 = p0;
   j1 = 71ull;
   j0 += j1;
   i0 = (u32)(j0);
   i0 = i32_load8_u(j0);
   l10 = i0;
   j0 = p0;
-  j1 = 68ull;
+  j1 = 70ull;
   j0 += j1;
   i0 = (u32)(j0);
   i0 = i32_load8_u(j0);
   l11 = i0;
+  j0 = p0;
+  j1 = 69ull;
+  j0 += j1;
+  i0 = (u32)(j0);
+  i0 = i32_load8_u(j0);
+  l12 = i0;
+  j0 = p0;
+  j1 = p0;
+  j2 = 72ull;
+  j1 += j2;
+  i1 = (u32)(j1);
+  i1 = i32_load8_u(j1);
+  i2 = p2;
+  i0 = f45(self, j0, i1, i2);
+  p2 = i0;
+  j0 = p0;
+  j1 = 68ull;
+  j0 += j1;
+  i0 = (u32)(j0);
+  i0 = i32_load8_u(j0);
+  l13 = i0;
   i1 = 1u;
   i0 &= i1;
   i0 = !(i0);
@@ -46468,7 +46509,7 @@ static void f36(module *self, u64 p0, u32 p1, u32 p2) {
   i2 = 3u;
   i1 <<= (i2 & 31);
   i0 >>= (i1 & 31);
-  l12 = i0;
+  l11 = i0;
   goto B3;
   B4:;
   i0 = 15u;
@@ -46478,15 +46519,11 @@ static void f36(module *self, u64 p0, u32 p1, u32 p2) {
   i4 = 1u;
   i3 &= i4;
   i1 = i3 ? i1 : i2;
-  j2 = p0;
-  j3 = 70ull;
-  j2 += j3;
-  i2 = (u32)(j2);
-  i2 = i32_load8_u(j2);
+  i2 = l11;
   i3 = 1u;
   i2 &= i3;
   i0 = i2 ? i0 : i1;
-  l12 = i0;
+  l11 = i0;
   B3:;
   j0 = p0;
   i0 = (u32)(j0);
@@ -46498,15 +46535,11 @@ static void f36(module *self, u64 p0, u32 p1, u32 p2) {
   i3 = 65534u;
   i2 &= i3;
   i3 = p1;
-  j4 = p0;
-  j5 = 69ull;
-  j4 += j5;
-  i4 = (u32)(j4);
-  i4 = i32_load8_u(j4);
+  i4 = l12;
   i5 = 1u;
   i4 &= i5;
   i2 = i4 ? i2 : i3;
-  i3 = l11;
+  i3 = l13;
   i4 = 1u;
   i3 &= i4;
   i1 = i3 ? i1 : i2;
@@ -46524,7 +46557,7 @@ static void f36(module *self, u64 p0, u32 p1, u32 p2) {
   i2 = i32_load(j2);
   p1 = i2;
   i1 ^= i2;
-  i2 = l12;
+  i2 = l11;
   i3 = l10;
   i2 &= i3;
   i3 = 2u;
@@ -46543,7 +46576,7 @@ static void f36(module *self, u64 p0, u32 p1, u32 p2) {
   B2:;
 }
 
-static u32 f37(module *self, u64 p0, u64 p1, u32 p2, u32 p3, u32 p4, u32 p5) {
+static u32 f38(module *self, u64 p0, u64 p1, u32 p2, u32 p3, u32 p4, u32 p5) {
   u32 l7 = 0;
   u64 l6 = 0;
   u8 *m = self->memory;
@@ -46586,7 +46619,7 @@ static u32 f37(module *self, u64 p0, u64 p1, u32 p2, u32 p3, u32 p4, u32 p5) {
   i2 = (u32)(j2);
   i2 = i32_load8_u(j2);
   i3 = p2;
-  i0 = f47(self, j0, j1, i2, i3); m = self->memory; if (NEVER(self->is_broken)) return ZAK_BROKEN;
+  i0 = f48(self, j0, j1, i2, i3); m = self->memory; if (NEVER(self->is_broken)) return ZAK_BROKEN;
   goto Bfunc;
   B2:;
   i0 = p2;
@@ -46620,7 +46653,7 @@ static u32 f37(module *self, u64 p0, u64 p1, u32 p2, u32 p3, u32 p4, u32 p5) {
   i3 = p3;
   i4 = p4;
   i5 = p5;
-  f35(self, j0, j1, i2, i3, i4, i5); m = self->memory; if (NEVER(self->is_broken)) return ZAK_BROKEN;
+  f36(self, j0, j1, i2, i3, i4, i5); m = self->memory; if (NEVER(self->is_broken)) return ZAK_BROKEN;
   i0 = l7;
   i1 = 1u;
   i0 += i1;
@@ -46647,7 +46680,7 @@ static u32 f37(module *self, u64 p0, u64 p1, u32 p2, u32 p3, u32 p4, u32 p5) {
   i2 = (u32)(j2);
   i2 = i32_load8_u(j2);
   i3 = p2;
-  i0 = f47(self, j0, j1, i2, i3); m = self->memory; if (NEVER(self->is_broken)) return ZAK_BROKEN;
+  i0 = f48(self, j0, j1, i2, i3); m = self->memory; if (NEVER(self->is_broken)) return ZAK_BROKEN;
   i1 = 65280u;
   i0 &= i1;
   p2 = i0;
@@ -46657,7 +46690,7 @@ static u32 f37(module *self, u64 p0, u64 p1, u32 p2, u32 p3, u32 p4, u32 p5) {
   return i0;
 }
 
-static void f38(module *self, u64 p0, u32 p1, u32 p2, u32 p3) {
+static void f39(module *self, u64 p0, u32 p1, u32 p2, u32 p3) {
   u32 l12 = 0;
   u64 l4 = 0, l5 = 0, l6 = 0, l7 = 0, l8 = 0, l9 = 0, l10 = 0, l11 = 0;
   u8 *m = self->memory;
@@ -46719,7 +46752,7 @@ static void f38(module *self, u64 p0, u32 p1, u32 p2, u32 p3) {
   j1 = 2072ull;
   j0 += j1;
   j1 = 3ull;
-  i0 = f10(self, j0, j1); m = self->memory; if (NEVER(self->is_broken)) return;
+  i0 = f11(self, j0, j1); m = self->memory; if (NEVER(self->is_broken)) return;
   i0 = !(i0);
   if (i0) {goto B0;}
   j0 = p0;
@@ -46780,21 +46813,21 @@ static void f38(module *self, u64 p0, u32 p1, u32 p2, u32 p3) {
   j0 += j1;
   j1 = p0;
   i2 = l12;
-  f24(self, j0, j1, i2); if (NEVER(self->is_broken)) return;
+  f25(self, j0, j1, i2); if (NEVER(self->is_broken)) return;
   j0 = p0;
   i1 = p2;
   i2 = p3;
-  f39(self, j0, i1, i2); m = self->memory; if (NEVER(self->is_broken)) return;
+  f40(self, j0, i1, i2); m = self->memory; if (NEVER(self->is_broken)) return;
   j0 = p0;
   i1 = p1;
-  f40(self, j0, i1); m = self->memory; if (NEVER(self->is_broken)) return;
+  f41(self, j0, i1); m = self->memory; if (NEVER(self->is_broken)) return;
   j0 = l4;
   j1 = 16ull;
   j0 += j1;
   self->g0 = j0;
 }
 
-static void f39(module *self, u64 p0, u32 p1, u32 p2) {
+static void f40(module *self, u64 p0, u32 p1, u32 p2) {
   u32 l11 = 0, l12 = 0, l13 = 0;
   u64 l3 = 0, l4 = 0, l5 = 0, l6 = 0, l7 = 0, l8 = 0, l9 = 0, l10 = 0;
   u8 *m = self->memory;
@@ -46852,7 +46885,7 @@ static void f39(module *self, u64 p0, u32 p1, u32 p2) {
   j1 = 2072ull;
   j0 += j1;
   j1 = 4ull;
-  i0 = f10(self, j0, j1); m = self->memory; if (NEVER(self->is_broken)) return;
+  i0 = f11(self, j0, j1); m = self->memory; if (NEVER(self->is_broken)) return;
   i0 = !(i0);
   if (i0) {goto B0;}
   j0 = p0;
@@ -46951,7 +46984,7 @@ static void f39(module *self, u64 p0, u32 p1, u32 p2) {
   i32_store8(j0, i1);
   j0 = l3;
   j1 = l4;
-  f21(self, j0, j1);
+  f22(self, j0, j1);
   j0 = p0;
   j1 = 196ull;
   j0 += j1;
@@ -47035,7 +47068,7 @@ static void f39(module *self, u64 p0, u32 p1, u32 p2) {
   j1 = 2072ull;
   j0 += j1;
   j1 = 4ull;
-  i0 = f10(self, j0, j1); m = self->memory; if (NEVER(self->is_broken)) return;
+  i0 = f11(self, j0, j1); m = self->memory; if (NEVER(self->is_broken)) return;
   i0 = !(i0);
   if (i0) {goto B6;}
   j0 = p0;
@@ -47130,7 +47163,7 @@ static void f39(module *self, u64 p0, u32 p1, u32 p2) {
   i32_store8(j0, i1);
   j0 = l3;
   j1 = l4;
-  f21(self, j0, j1);
+  f22(self, j0, j1);
   j0 = p0;
   j1 = 196ull;
   j0 += j1;
@@ -47173,7 +47206,7 @@ static void f39(module *self, u64 p0, u32 p1, u32 p2) {
   self->g0 = j0;
 }
 
-static void f40(module *self, u64 p0, u32 p1) {
+static void f41(module *self, u64 p0, u32 p1) {
   u32 l10 = 0, l11 = 0, l12 = 0;
   u64 l2 = 0, l3 = 0, l4 = 0, l5 = 0, l6 = 0, l7 = 0, l8 = 0, l9 = 0;
   u8 *m = self->memory;
@@ -47231,7 +47264,7 @@ static void f40(module *self, u64 p0, u32 p1) {
   j1 = 2072ull;
   j0 += j1;
   j1 = 4ull;
-  i0 = f10(self, j0, j1); m = self->memory; if (NEVER(self->is_broken)) return;
+  i0 = f11(self, j0, j1); m = self->memory; if (NEVER(self->is_broken)) return;
   i0 = !(i0);
   if (i0) {goto B0;}
   j0 = p0;
@@ -47327,7 +47360,7 @@ static void f40(module *self, u64 p0, u32 p1) {
   j1 = 16ull;
   j0 += j1;
   j1 = l4;
-  f21(self, j0, j1);
+  f22(self, j0, j1);
   j0 = p0;
   j1 = 196ull;
   j0 += j1;
@@ -47413,7 +47446,7 @@ static void f40(module *self, u64 p0, u32 p1) {
   j1 = 2072ull;
   j0 += j1;
   j1 = 3ull;
-  i0 = f10(self, j0, j1); m = self->memory; if (NEVER(self->is_broken)) return;
+  i0 = f11(self, j0, j1); m = self->memory; if (NEVER(self->is_broken)) return;
   i0 = !(i0);
   if (i0) {goto B6;}
   j0 = p0;
@@ -47474,14 +47507,14 @@ static void f40(module *self, u64 p0, u32 p1) {
   j0 += j1;
   j1 = p0;
   i2 = p1;
-  f24(self, j0, j1, i2); if (NEVER(self->is_broken)) return;
+  f25(self, j0, j1, i2); if (NEVER(self->is_broken)) return;
   j0 = l2;
   j1 = 32ull;
   j0 += j1;
   self->g0 = j0;
 }
 
-static void f41(module *self, u64 p0, u32 p1, u32 p2) {
+static void f42(module *self, u64 p0, u32 p1, u32 p2) {
   u32 l3 = 0, l4 = 0;
   u8 *m = self->memory;
   u32 i0, i1, i2, i3, i4;
@@ -47745,7 +47778,7 @@ static void f41(module *self, u64 p0, u32 p1, u32 p2) {
   i32_store8(j0, i1);
 }
 
-static void f42(module *self, u64 p0, u64 p1, u32 p2, u32 p3) {
+static void f43(module *self, u64 p0, u64 p1, u32 p2, u32 p3) {
   u32 l7 = 0, l8 = 0;
   u64 l4 = 0, l5 = 0, l6 = 0;
   u8 *m = self->memory;
@@ -47837,7 +47870,7 @@ static void f42(module *self, u64 p0, u64 p1, u32 p2, u32 p3) {
   i32_store8(j0, i1);
   j0 = l4;
   j1 = l6;
-  f21(self, j0, j1);
+  f22(self, j0, j1);
   j0 = p1;
   j1 = 196ull;
   j0 += j1;
@@ -48494,7 +48527,7 @@ static void f42(module *self, u64 p0, u64 p1, u32 p2, u32 p3) {
   self->g0 = j0;
 }
 
-static void f43(module *self, u64 p0, u32 p1, u32 p2) {
+static void f44(module *self, u64 p0, u32 p1, u32 p2) {
   u64 l3 = 0, l4 = 0, l5 = 0, l6 = 0, l7 = 0, l8 = 0;
   u8 *m = self->memory;
   u32 i0, i1, i2;
@@ -48554,7 +48587,7 @@ static void f43(module *self, u64 p0, u32 p1, u32 p2) {
   j1 = 2072ull;
   j0 += j1;
   j1 = 4ull;
-  i0 = f10(self, j0, j1); m = self->memory; if (NEVER(self->is_broken)) return;
+  i0 = f11(self, j0, j1); m = self->memory; if (NEVER(self->is_broken)) return;
   i0 = !(i0);
   if (i0) {goto B4;}
   j0 = p0;
@@ -48657,7 +48690,7 @@ static void f43(module *self, u64 p0, u32 p1, u32 p2) {
   j1 = 2072ull;
   j0 += j1;
   j1 = 4ull;
-  i0 = f10(self, j0, j1); m = self->memory; if (NEVER(self->is_broken)) return;
+  i0 = f11(self, j0, j1); m = self->memory; if (NEVER(self->is_broken)) return;
   i0 = !(i0);
   if (i0) {goto B6;}
   j0 = p0;
@@ -48809,7 +48842,7 @@ static void f43(module *self, u64 p0, u32 p1, u32 p2) {
   B0:;
 }
 
-static u32 f44(module *self, u64 p0, u32 p1, u32 p2) {
+static u32 f45(module *self, u64 p0, u32 p1, u32 p2) {
   u32 l3 = 0, l4 = 0, l5 = 0, l6 = 0;
   u8 *m = self->memory;
   u32 i0, i1, i2, i3, i4;
@@ -49018,10 +49051,11 @@ static u32 f44(module *self, u64 p0, u32 p1, u32 p2) {
   return i0;
 }
 
-static void f45(module *self, u64 p0, u64 p1, u32 p2, u32 p3) {
+static void f46(module *self, u64 p0, u64 p1, u32 p2, u32 p3) {
   u32 l4 = 0, l5 = 0, l6 = 0, l7 = 0, l8 = 0, l9 = 0, l10 = 0, l11 = 0, 
-      l12 = 0, l13 = 0, l14 = 0, l15 = 0, l16 = 0, l17 = 0, l18 = 0, l19 = 0;
-  u64 l20 = 0, l21 = 0, l22 = 0, l23 = 0, l24 = 0, l25 = 0;
+      l12 = 0, l13 = 0, l14 = 0, l15 = 0, l16 = 0, l17 = 0, l18 = 0, l19 = 0, 
+      l20 = 0;
+  u64 l21 = 0, l22 = 0, l23 = 0, l24 = 0, l25 = 0, l26 = 0;
   u8 *m = self->memory;
   u32 i0, i1, i2, i3, i4, i5;
   u64 j0, j1, j2, j3, j4, j5;
@@ -49087,18 +49121,18 @@ static void f45(module *self, u64 p0, u64 p1, u32 p2, u32 p3) {
       p0 = j0;
       i0 = (u32)(j0);
       j0 = i64_load(j0);
-      l20 = j0;
+      l21 = j0;
       j1 = 16777216ull;
       i0 = j0 > j1;
       if (i0) {goto B3;}
       j0 = p0;
       i0 = (u32)(j0);
-      j1 = l20;
+      j1 = l21;
       j2 = 5ull;
       j1 += j2;
-      l20 = j1;
+      l21 = j1;
       i64_store(j0, j1);
-      j0 = l20;
+      j0 = l21;
       j1 = p1;
       j2 = 2104ull;
       j1 += j2;
@@ -49109,14 +49143,14 @@ static void f45(module *self, u64 p0, u64 p1, u32 p2, u32 p3) {
       j0 = p1;
       j1 = 2088ull;
       j0 += j1;
-      l21 = j0;
+      l22 = j0;
       i0 = (u32)(j0);
       j0 = i64_load(j0);
-      l20 = j0;
+      l21 = j0;
       j1 = p1;
       j2 = 2080ull;
       j1 += j2;
-      l22 = j1;
+      l23 = j1;
       i1 = (u32)(j1);
       j1 = i64_load(j1);
       p0 = j1;
@@ -49128,7 +49162,7 @@ static void f45(module *self, u64 p0, u64 p1, u32 p2, u32 p3) {
       j1 = 2072ull;
       j0 += j1;
       j1 = 5ull;
-      i0 = f10(self, j0, j1); m = self->memory; if (NEVER(self->is_broken)) return;
+      i0 = f11(self, j0, j1); m = self->memory; if (NEVER(self->is_broken)) return;
       i0 = !(i0);
       if (i0) {goto B3;}
       j0 = p1;
@@ -49136,7 +49170,7 @@ static void f45(module *self, u64 p0, u64 p1, u32 p2, u32 p3) {
       j0 += j1;
       i0 = (u32)(j0);
       j0 = i64_load(j0);
-      l20 = j0;
+      l21 = j0;
       j0 = p1;
       j1 = 2080ull;
       j0 += j1;
@@ -49147,33 +49181,33 @@ static void f45(module *self, u64 p0, u64 p1, u32 p2, u32 p3) {
       j0 = p1;
       j1 = 2072ull;
       j0 += j1;
-      l23 = j0;
+      l24 = j0;
       i0 = (u32)(j0);
       j0 = i64_load(j0);
-      l24 = j0;
+      l25 = j0;
       j1 = p0;
       j0 += j1;
-      l25 = j0;
+      l26 = j0;
       i0 = (u32)(j0);
       i1 = p2;
       i32_store(j0 + 1, i1);
-      j0 = l25;
+      j0 = l26;
       i0 = (u32)(j0);
       i1 = 7u;
       i32_store8(j0, i1);
-      j0 = l21;
-      i0 = (u32)(j0);
-      j1 = l20;
-      i64_store(j0, j1);
       j0 = l22;
+      i0 = (u32)(j0);
+      j1 = l21;
+      i64_store(j0, j1);
+      j0 = l23;
       i0 = (u32)(j0);
       j1 = p0;
       j2 = 5ull;
       j1 += j2;
       i64_store(j0, j1);
-      j0 = l23;
+      j0 = l24;
       i0 = (u32)(j0);
-      j1 = l24;
+      j1 = l25;
       i64_store(j0, j1);
       B3:;
       i0 = 255u;
@@ -49353,18 +49387,18 @@ static void f45(module *self, u64 p0, u64 p1, u32 p2, u32 p3) {
       p0 = j0;
       i0 = (u32)(j0);
       j0 = i64_load(j0);
-      l20 = j0;
+      l21 = j0;
       j1 = 16777216ull;
       i0 = j0 > j1;
       if (i0) {goto B11;}
       j0 = p0;
       i0 = (u32)(j0);
-      j1 = l20;
+      j1 = l21;
       j2 = 6ull;
       j1 += j2;
-      l20 = j1;
+      l21 = j1;
       i64_store(j0, j1);
-      j0 = l20;
+      j0 = l21;
       j1 = p1;
       j2 = 2104ull;
       j1 += j2;
@@ -49375,14 +49409,14 @@ static void f45(module *self, u64 p0, u64 p1, u32 p2, u32 p3) {
       j0 = p1;
       j1 = 2088ull;
       j0 += j1;
-      l22 = j0;
+      l23 = j0;
       i0 = (u32)(j0);
       j0 = i64_load(j0);
-      l21 = j0;
+      l22 = j0;
       j1 = p1;
       j2 = 2080ull;
       j1 += j2;
-      l23 = j1;
+      l24 = j1;
       i1 = (u32)(j1);
       j1 = i64_load(j1);
       p0 = j1;
@@ -49394,7 +49428,7 @@ static void f45(module *self, u64 p0, u64 p1, u32 p2, u32 p3) {
       j1 = 2072ull;
       j0 += j1;
       j1 = 6ull;
-      i0 = f10(self, j0, j1); m = self->memory; if (NEVER(self->is_broken)) return;
+      i0 = f11(self, j0, j1); m = self->memory; if (NEVER(self->is_broken)) return;
       i0 = !(i0);
       if (i0) {goto B11;}
       j0 = p1;
@@ -49402,7 +49436,7 @@ static void f45(module *self, u64 p0, u64 p1, u32 p2, u32 p3) {
       j0 += j1;
       i0 = (u32)(j0);
       j0 = i64_load(j0);
-      l21 = j0;
+      l22 = j0;
       j0 = p1;
       j1 = 2080ull;
       j0 += j1;
@@ -49413,37 +49447,37 @@ static void f45(module *self, u64 p0, u64 p1, u32 p2, u32 p3) {
       j0 = p1;
       j1 = 2072ull;
       j0 += j1;
-      l24 = j0;
+      l25 = j0;
       i0 = (u32)(j0);
       j0 = i64_load(j0);
-      l25 = j0;
+      l26 = j0;
       j1 = p0;
       j0 += j1;
-      l20 = j0;
+      l21 = j0;
       i0 = (u32)(j0);
       i1 = l6;
       i32_store8(j0 + 5, i1);
-      j0 = l20;
+      j0 = l21;
       i0 = (u32)(j0);
       i1 = p2;
       i32_store(j0 + 1, i1);
-      j0 = l20;
+      j0 = l21;
       i0 = (u32)(j0);
       i1 = 5u;
       i32_store8(j0, i1);
-      j0 = l22;
-      i0 = (u32)(j0);
-      j1 = l21;
-      i64_store(j0, j1);
       j0 = l23;
+      i0 = (u32)(j0);
+      j1 = l22;
+      i64_store(j0, j1);
+      j0 = l24;
       i0 = (u32)(j0);
       j1 = p0;
       j2 = 6ull;
       j1 += j2;
       i64_store(j0, j1);
-      j0 = l24;
+      j0 = l25;
       i0 = (u32)(j0);
-      j1 = l25;
+      j1 = l26;
       i64_store(j0, j1);
       B11:;
       j0 = p1;
@@ -49461,7 +49495,7 @@ static void f45(module *self, u64 p0, u64 p1, u32 p2, u32 p3) {
       j1 += j2;
       i1 = (u32)(j1);
       i1 = i32_load(j1);
-      l15 = i1;
+      l16 = i1;
       i0 -= i1;
       p2 = i0;
       j1 = p1;
@@ -49471,6 +49505,20 @@ static void f45(module *self, u64 p0, u64 p1, u32 p2, u32 p3) {
       i1 = i32_load(j1);
       i0 = i0 >= i1;
       if (i0) {goto B13;}
+      j0 = p1;
+      j1 = 71ull;
+      j0 += j1;
+      p0 = j0;
+      j0 = p1;
+      j1 = 69ull;
+      j0 += j1;
+      l21 = j0;
+      j0 = p1;
+      j1 = 68ull;
+      j0 += j1;
+      i0 = (u32)(j0);
+      i0 = i32_load8_u(j0);
+      l15 = i0;
       j0 = p1;
       j1 = 72ull;
       j0 += j1;
@@ -49502,7 +49550,7 @@ static void f45(module *self, u64 p0, u64 p1, u32 p2, u32 p3) {
       j1 = 3ull;
       j0 &= j1;
       i0 = (u32)(j0);
-      l16 = i0;
+      l17 = i0;
       switch (i0) {
         case 0: goto B19;
         case 1: goto B14;
@@ -49533,13 +49581,13 @@ static void f45(module *self, u64 p0, u64 p1, u32 p2, u32 p3) {
       j2 += j3;
       i2 = (u32)(j2);
       i2 = i32_load8_u(j2);
-      l17 = i2;
+      l18 = i2;
       i3 = 7u;
       i2 &= i3;
       i1 >>= (i2 & 31);
       i2 = l6;
       i3 = 0u;
-      i4 = l17;
+      i4 = l18;
       i3 -= i4;
       i4 = 7u;
       i3 &= i4;
@@ -49549,7 +49597,7 @@ static void f45(module *self, u64 p0, u64 p1, u32 p2, u32 p3) {
       i1 &= i2;
       i2 = 16843009u;
       i1 *= i2;
-      l17 = i1;
+      l18 = i1;
       i0 ^= i1;
       j1 = p1;
       j2 = 48ull;
@@ -49566,9 +49614,9 @@ static void f45(module *self, u64 p0, u64 p1, u32 p2, u32 p3) {
       i1 = (u32)(j1);
       i1 = i32_load(j1);
       i0 &= i1;
-      i1 = l17;
+      i1 = l18;
       i0 ^= i1;
-      l17 = i0;
+      l18 = i0;
       goto B16;
       B18:;
       i0 = l6;
@@ -49581,7 +49629,7 @@ static void f45(module *self, u64 p0, u64 p1, u32 p2, u32 p3) {
       j0 += j1;
       i0 = (u32)(j0);
       i0 = i32_load(j0);
-      l17 = i0;
+      l18 = i0;
       goto B16;
       B17:;
       j0 = p1;
@@ -49598,14 +49646,14 @@ static void f45(module *self, u64 p0, u64 p1, u32 p2, u32 p3) {
       j0 += j1;
       i0 = (u32)(j0);
       i0 = i32_load(j0);
-      l17 = i0;
+      l18 = i0;
       B16:;
       j0 = p1;
       j1 = 50ull;
       j0 += j1;
       i0 = (u32)(j0);
       i0 = i32_load8_u(j0);
-      l18 = i0;
+      l19 = i0;
       i1 = 3u;
       i0 >>= (i1 & 31);
       i1 = 3u;
@@ -49618,56 +49666,56 @@ static void f45(module *self, u64 p0, u64 p1, u32 p2, u32 p3) {
         default: goto B20;
       }
       B23:;
-      i0 = l17;
+      i0 = l18;
       i1 = l14;
       i0 &= i1;
-      l17 = i0;
+      l18 = i0;
       goto B20;
       B22:;
-      i0 = l17;
+      i0 = l18;
       i1 = l14;
       i0 |= i1;
-      l17 = i0;
+      l18 = i0;
       goto B20;
       B21:;
-      i0 = l17;
+      i0 = l18;
       i1 = l14;
       i0 ^= i1;
-      l17 = i0;
+      l18 = i0;
       B20:;
       j0 = p1;
       j1 = 55ull;
       j0 += j1;
       i0 = (u32)(j0);
       i0 = i32_load8_u(j0);
-      l19 = i0;
-      i0 = l16;
+      l20 = i0;
+      i0 = l17;
       i1 = 3u;
       i0 = i0 != i1;
       if (i0) {goto B24;}
-      i0 = l19;
+      i0 = l20;
       i1 = l6;
       i2 = 255u;
       i1 &= i2;
-      i2 = l18;
+      i2 = l19;
       i3 = 7u;
       i2 &= i3;
       i1 >>= (i2 & 31);
       i2 = l6;
       i3 = 0u;
-      i4 = l18;
+      i4 = l19;
       i3 -= i4;
       i4 = 7u;
       i3 &= i4;
       i2 <<= (i3 & 31);
       i1 |= i2;
       i0 &= i1;
-      l19 = i0;
+      l20 = i0;
       B24:;
-      i0 = l17;
+      i0 = l18;
       i1 = l14;
       i0 ^= i1;
-      i1 = l19;
+      i1 = l20;
       i2 = 255u;
       i1 &= i2;
       i2 = 16843009u;
@@ -49677,32 +49725,29 @@ static void f45(module *self, u64 p0, u64 p1, u32 p2, u32 p3) {
       i0 ^= i1;
       l14 = i0;
       B14:;
-      j0 = p1;
-      j1 = 71ull;
-      j0 += j1;
+      j0 = p0;
       i0 = (u32)(j0);
       i0 = i32_load8_u(j0);
       l6 = i0;
-      j0 = p1;
-      j1 = 68ull;
-      j0 += j1;
+      j0 = l21;
       i0 = (u32)(j0);
       i0 = i32_load8_u(j0);
-      l17 = i0;
+      l18 = i0;
+      i0 = l15;
       i1 = 1u;
       i0 &= i1;
       i0 = !(i0);
       if (i0) {goto B26;}
       i0 = 134480385u;
       i1 = l8;
-      i2 = l15;
+      i2 = l16;
       i3 = 3u;
       i2 <<= (i3 & 31);
       i1 -= i2;
       i2 = 24u;
       i1 &= i2;
       i0 >>= (i1 & 31);
-      l15 = i0;
+      l16 = i0;
       goto B25;
       B26:;
       i0 = 15u;
@@ -49720,7 +49765,7 @@ static void f45(module *self, u64 p0, u64 p1, u32 p2, u32 p3) {
       i3 = 1u;
       i2 &= i3;
       i0 = i2 ? i0 : i1;
-      l15 = i0;
+      l16 = i0;
       B25:;
       j0 = p1;
       i0 = (u32)(j0);
@@ -49732,15 +49777,11 @@ static void f45(module *self, u64 p0, u64 p1, u32 p2, u32 p3) {
       i3 = 65534u;
       i2 &= i3;
       i3 = p2;
-      j4 = p1;
-      j5 = 69ull;
-      j4 += j5;
-      i4 = (u32)(j4);
-      i4 = i32_load8_u(j4);
+      i4 = l18;
       i5 = 1u;
       i4 &= i5;
       i2 = i4 ? i2 : i3;
-      i3 = l17;
+      i3 = l15;
       i4 = 1u;
       i3 &= i4;
       i1 = i3 ? i1 : i2;
@@ -49758,7 +49799,7 @@ static void f45(module *self, u64 p0, u64 p1, u32 p2, u32 p3) {
       i2 = i32_load(j2);
       p2 = i2;
       i1 ^= i2;
-      i2 = l15;
+      i2 = l16;
       i3 = l6;
       i2 &= i3;
       i3 = 2u;
@@ -49808,13 +49849,14 @@ static void f45(module *self, u64 p0, u64 p1, u32 p2, u32 p3) {
   B0:;
 }
 
-static void f46(module *self, u64 p0, u64 p1, u32 p2, u32 p3, u32 p4) {
+static void f47(module *self, u64 p0, u64 p1, u32 p2, u32 p3, u32 p4) {
   u32 l5 = 0, l6 = 0, l7 = 0, l8 = 0, l9 = 0, l10 = 0, l11 = 0, l12 = 0, 
-      l13 = 0, l14 = 0, l15 = 0, l16 = 0, l17 = 0, l18 = 0, l19 = 0, l20 = 0;
-  u64 l21 = 0, l22 = 0, l23 = 0, l24 = 0, l25 = 0, l26 = 0;
+      l13 = 0, l14 = 0, l15 = 0, l16 = 0, l17 = 0, l18 = 0, l19 = 0, l20 = 0, 
+      l21 = 0;
+  u64 l22 = 0, l23 = 0, l24 = 0, l25 = 0, l26 = 0, l27 = 0;
   u8 *m = self->memory;
   u32 i0, i1, i2, i3, i4, i5;
-  u64 j0, j1, j2, j3, j4, j5;
+  u64 j0, j1, j2, j3;
   j0 = p0;
   i0 = (u32)(j0);
   i0 = i32_load(j0 + 12u);
@@ -49876,18 +49918,18 @@ static void f46(module *self, u64 p0, u64 p1, u32 p2, u32 p3, u32 p4) {
       p0 = j0;
       i0 = (u32)(j0);
       j0 = i64_load(j0);
-      l21 = j0;
+      l22 = j0;
       j1 = 16777216ull;
       i0 = j0 > j1;
       if (i0) {goto B3;}
       j0 = p0;
       i0 = (u32)(j0);
-      j1 = l21;
+      j1 = l22;
       j2 = 6ull;
       j1 += j2;
-      l21 = j1;
+      l22 = j1;
       i64_store(j0, j1);
-      j0 = l21;
+      j0 = l22;
       j1 = p1;
       j2 = 2104ull;
       j1 += j2;
@@ -49898,14 +49940,14 @@ static void f46(module *self, u64 p0, u64 p1, u32 p2, u32 p3, u32 p4) {
       j0 = p1;
       j1 = 2088ull;
       j0 += j1;
-      l22 = j0;
+      l23 = j0;
       i0 = (u32)(j0);
       j0 = i64_load(j0);
-      l23 = j0;
+      l24 = j0;
       j1 = p1;
       j2 = 2080ull;
       j1 += j2;
-      l24 = j1;
+      l25 = j1;
       i1 = (u32)(j1);
       j1 = i64_load(j1);
       p0 = j1;
@@ -49917,7 +49959,7 @@ static void f46(module *self, u64 p0, u64 p1, u32 p2, u32 p3, u32 p4) {
       j1 = 2072ull;
       j0 += j1;
       j1 = 6ull;
-      i0 = f10(self, j0, j1); m = self->memory; if (NEVER(self->is_broken)) return;
+      i0 = f11(self, j0, j1); m = self->memory; if (NEVER(self->is_broken)) return;
       i0 = !(i0);
       if (i0) {goto B3;}
       j0 = p1;
@@ -49925,7 +49967,7 @@ static void f46(module *self, u64 p0, u64 p1, u32 p2, u32 p3, u32 p4) {
       j0 += j1;
       i0 = (u32)(j0);
       j0 = i64_load(j0);
-      l23 = j0;
+      l24 = j0;
       j0 = p1;
       j1 = 2080ull;
       j0 += j1;
@@ -49936,37 +49978,37 @@ static void f46(module *self, u64 p0, u64 p1, u32 p2, u32 p3, u32 p4) {
       j0 = p1;
       j1 = 2072ull;
       j0 += j1;
-      l25 = j0;
+      l26 = j0;
       i0 = (u32)(j0);
       j0 = i64_load(j0);
-      l26 = j0;
+      l27 = j0;
       j1 = p0;
       j0 += j1;
-      l21 = j0;
+      l22 = j0;
       i0 = (u32)(j0);
       i1 = l13;
       i32_store8(j0 + 5, i1);
-      j0 = l21;
+      j0 = l22;
       i0 = (u32)(j0);
       i1 = l14;
       i32_store(j0 + 1, i1);
-      j0 = l21;
+      j0 = l22;
       i0 = (u32)(j0);
       i1 = 5u;
       i32_store8(j0, i1);
-      j0 = l22;
+      j0 = l23;
       i0 = (u32)(j0);
-      j1 = l23;
+      j1 = l24;
       i64_store(j0, j1);
-      j0 = l24;
+      j0 = l25;
       i0 = (u32)(j0);
       j1 = p0;
       j2 = 6ull;
       j1 += j2;
       i64_store(j0, j1);
-      j0 = l25;
+      j0 = l26;
       i0 = (u32)(j0);
-      j1 = l26;
+      j1 = l27;
       i64_store(j0, j1);
       B3:;
       j0 = p1;
@@ -49995,6 +50037,20 @@ static void f46(module *self, u64 p0, u64 p1, u32 p2, u32 p3, u32 p4) {
       i0 = i0 >= i1;
       if (i0) {goto B5;}
       j0 = p1;
+      j1 = 71ull;
+      j0 += j1;
+      p0 = j0;
+      j0 = p1;
+      j1 = 69ull;
+      j0 += j1;
+      l22 = j0;
+      j0 = p1;
+      j1 = 68ull;
+      j0 += j1;
+      i0 = (u32)(j0);
+      i0 = i32_load8_u(j0);
+      l16 = i0;
+      j0 = p1;
       j1 = 72ull;
       j0 += j1;
       i0 = (u32)(j0);
@@ -50008,7 +50064,7 @@ static void f46(module *self, u64 p0, u64 p1, u32 p2, u32 p3, u32 p4) {
       i0 &= i1;
       i1 = 16843009u;
       i0 *= i1;
-      l16 = i0;
+      l17 = i0;
       goto B6;
       B7:;
       j0 = p1;
@@ -50016,7 +50072,7 @@ static void f46(module *self, u64 p0, u64 p1, u32 p2, u32 p3, u32 p4) {
       j0 += j1;
       i0 = (u32)(j0);
       i0 = i32_load(j0);
-      l16 = i0;
+      l17 = i0;
       j0 = p1;
       j1 = 52ull;
       j0 += j1;
@@ -50025,7 +50081,7 @@ static void f46(module *self, u64 p0, u64 p1, u32 p2, u32 p3, u32 p4) {
       j1 = 3ull;
       j0 &= j1;
       i0 = (u32)(j0);
-      l17 = i0;
+      l18 = i0;
       switch (i0) {
         case 0: goto B11;
         case 1: goto B6;
@@ -50056,13 +50112,13 @@ static void f46(module *self, u64 p0, u64 p1, u32 p2, u32 p3, u32 p4) {
       j2 += j3;
       i2 = (u32)(j2);
       i2 = i32_load8_u(j2);
-      l18 = i2;
+      l19 = i2;
       i3 = 7u;
       i2 &= i3;
       i1 >>= (i2 & 31);
       i2 = l13;
       i3 = 0u;
-      i4 = l18;
+      i4 = l19;
       i3 -= i4;
       i4 = 7u;
       i3 &= i4;
@@ -50072,7 +50128,7 @@ static void f46(module *self, u64 p0, u64 p1, u32 p2, u32 p3, u32 p4) {
       i1 &= i2;
       i2 = 16843009u;
       i1 *= i2;
-      l18 = i1;
+      l19 = i1;
       i0 ^= i1;
       j1 = p1;
       j2 = 48ull;
@@ -50089,9 +50145,9 @@ static void f46(module *self, u64 p0, u64 p1, u32 p2, u32 p3, u32 p4) {
       i1 = (u32)(j1);
       i1 = i32_load(j1);
       i0 &= i1;
-      i1 = l18;
+      i1 = l19;
       i0 ^= i1;
-      l18 = i0;
+      l19 = i0;
       goto B8;
       B10:;
       i0 = l13;
@@ -50104,7 +50160,7 @@ static void f46(module *self, u64 p0, u64 p1, u32 p2, u32 p3, u32 p4) {
       j0 += j1;
       i0 = (u32)(j0);
       i0 = i32_load(j0);
-      l18 = i0;
+      l19 = i0;
       goto B8;
       B9:;
       j0 = p1;
@@ -50121,14 +50177,14 @@ static void f46(module *self, u64 p0, u64 p1, u32 p2, u32 p3, u32 p4) {
       j0 += j1;
       i0 = (u32)(j0);
       i0 = i32_load(j0);
-      l18 = i0;
+      l19 = i0;
       B8:;
       j0 = p1;
       j1 = 50ull;
       j0 += j1;
       i0 = (u32)(j0);
       i0 = i32_load8_u(j0);
-      l19 = i0;
+      l20 = i0;
       i1 = 3u;
       i0 >>= (i1 & 31);
       i1 = 3u;
@@ -50141,77 +50197,74 @@ static void f46(module *self, u64 p0, u64 p1, u32 p2, u32 p3, u32 p4) {
         default: goto B12;
       }
       B15:;
-      i0 = l18;
-      i1 = l16;
+      i0 = l19;
+      i1 = l17;
       i0 &= i1;
-      l18 = i0;
+      l19 = i0;
       goto B12;
       B14:;
-      i0 = l18;
-      i1 = l16;
+      i0 = l19;
+      i1 = l17;
       i0 |= i1;
-      l18 = i0;
+      l19 = i0;
       goto B12;
       B13:;
-      i0 = l18;
-      i1 = l16;
+      i0 = l19;
+      i1 = l17;
       i0 ^= i1;
-      l18 = i0;
+      l19 = i0;
       B12:;
       j0 = p1;
       j1 = 55ull;
       j0 += j1;
       i0 = (u32)(j0);
       i0 = i32_load8_u(j0);
-      l20 = i0;
-      i0 = l17;
+      l21 = i0;
+      i0 = l18;
       i1 = 3u;
       i0 = i0 != i1;
       if (i0) {goto B16;}
-      i0 = l20;
+      i0 = l21;
       i1 = l13;
       i2 = 255u;
       i1 &= i2;
-      i2 = l19;
+      i2 = l20;
       i3 = 7u;
       i2 &= i3;
       i1 >>= (i2 & 31);
       i2 = l13;
       i3 = 0u;
-      i4 = l19;
+      i4 = l20;
       i3 -= i4;
       i4 = 7u;
       i3 &= i4;
       i2 <<= (i3 & 31);
       i1 |= i2;
       i0 &= i1;
-      l20 = i0;
+      l21 = i0;
       B16:;
-      i0 = l18;
-      i1 = l16;
+      i0 = l19;
+      i1 = l17;
       i0 ^= i1;
-      i1 = l20;
+      i1 = l21;
       i2 = 255u;
       i1 &= i2;
       i2 = 16843009u;
       i1 *= i2;
       i0 &= i1;
-      i1 = l16;
+      i1 = l17;
       i0 ^= i1;
-      l16 = i0;
+      l17 = i0;
       B6:;
-      j0 = p1;
-      j1 = 71ull;
-      j0 += j1;
+      j0 = p0;
       i0 = (u32)(j0);
       i0 = i32_load8_u(j0);
       l13 = i0;
-      j0 = p1;
-      j1 = 68ull;
-      j0 += j1;
+      j0 = l22;
       i0 = (u32)(j0);
       i0 = i32_load8_u(j0);
-      l18 = i0;
+      l19 = i0;
+      i0 = l16;
       i1 = 1u;
       i0 &= i1;
       i0 = !(i0);
@@ -50255,15 +50308,11 @@ static void f46(module *self, u64 p0, u64 p1, u32 p2, u32 p3, u32 p4) {
       i3 = 65534u;
       i2 &= i3;
       i3 = l14;
-      j4 = p1;
-      j5 = 69ull;
-      j4 += j5;
-      i4 = (u32)(j4);
-      i4 = i32_load8_u(j4);
+      i4 = l19;
       i5 = 1u;
       i4 &= i5;
       i2 = i4 ? i2 : i3;
-      i3 = l18;
+      i3 = l16;
       i4 = 1u;
       i3 &= i4;
       i1 = i3 ? i1 : i2;
@@ -50275,7 +50324,7 @@ static void f46(module *self, u64 p0, u64 p1, u32 p2, u32 p3, u32 p4) {
       j0 += j1;
       p0 = j0;
       i0 = (u32)(j0);
-      i1 = l16;
+      i1 = l17;
       j2 = p0;
       i2 = (u32)(j2);
       i2 = i32_load(j2);
@@ -50327,7 +50376,7 @@ static void f46(module *self, u64 p0, u64 p1, u32 p2, u32 p3, u32 p4) {
   B0:;
 }
 
-static u32 f47(module *self, u64 p0, u64 p1, u32 p2, u32 p3) {
+static u32 f48(module *self, u64 p0, u64 p1, u32 p2, u32 p3) {
   u32 l12 = 0, l13 = 0, l14 = 0;
   u64 l4 = 0, l5 = 0, l6 = 0, l7 = 0, l8 = 0, l9 = 0, l10 = 0, l11 = 0;
   u8 *m = self->memory;
@@ -50462,7 +50511,7 @@ static u32 f47(module *self, u64 p0, u64 p1, u32 p2, u32 p3) {
   j1 = 2072ull;
   j0 += j1;
   j1 = 5ull;
-  i0 = f10(self, j0, j1); m = self->memory; if (NEVER(self->is_broken)) return ZAK_BROKEN;
+  i0 = f11(self, j0, j1); m = self->memory; if (NEVER(self->is_broken)) return ZAK_BROKEN;
   i0 = !(i0);
   if (i0) {goto B3;}
   j0 = p0;
@@ -50515,7 +50564,7 @@ static u32 f47(module *self, u64 p0, u64 p1, u32 p2, u32 p3) {
   j0 += j1;
   j1 = p0;
   i2 = l13;
-  f32(self, j0, j1, i2);
+  f33(self, j0, j1, i2);
   i0 = 4294967295u;
   j1 = l4;
   i1 = (u32)(j1);
@@ -50577,7 +50626,7 @@ static u32 f47(module *self, u64 p0, u64 p1, u32 p2, u32 p3) {
   j4 = l4;
   j5 = 32ull;
   j4 += j5;
-  f31(self, j0, j1, j2, i3, j4); m = self->memory; if (NEVER(self->is_broken)) return ZAK_BROKEN;
+  f32(self, j0, j1, j2, i3, j4); m = self->memory; if (NEVER(self->is_broken)) return ZAK_BROKEN;
   B0:;
   j0 = l4;
   j1 = 48ull;
@@ -50587,7 +50636,7 @@ static u32 f47(module *self, u64 p0, u64 p1, u32 p2, u32 p3) {
   return i0;
 }
 
-static void f48(module *self, u64 p0, u32 p1, u32 p2, u32 p3, u32 p4) {
+static void f49(module *self, u64 p0, u32 p1, u32 p2, u32 p3, u32 p4) {
   u32 l5 = 0, l6 = 0, l7 = 0, l8 = 0, l9 = 0, l10 = 0, l11 = 0, l12 = 0, 
       l13 = 0, l14 = 0, l15 = 0, l16 = 0, l17 = 0;
   u64 l18 = 0;
@@ -50640,12 +50689,12 @@ static void f48(module *self, u64 p0, u32 p1, u32 p2, u32 p3, u32 p4) {
   i1 = i32_load8_u(j1);
   l12 = i1;
   i2 = p3;
-  i0 = f44(self, j0, i1, i2);
+  i0 = f45(self, j0, i1, i2);
   l13 = i0;
   j0 = p0;
   i1 = l12;
   i2 = p4;
-  i0 = f44(self, j0, i1, i2);
+  i0 = f45(self, j0, i1, i2);
   l14 = i0;
   j0 = p0;
   j1 = 2003ull;
@@ -51012,7 +51061,7 @@ static void f48(module *self, u64 p0, u32 p1, u32 p2, u32 p3, u32 p4) {
   B5:;
 }
 
-static void f49(module *self, u64 p0, u64 p1) {
+static void f50(module *self, u64 p0, u64 p1) {
   u32 l2 = 0, l3 = 0, l4 = 0, l5 = 0;
   u64 l6 = 0, l7 = 0, l8 = 0;
   u8 *m = self->memory;
@@ -51248,7 +51297,7 @@ static void f49(module *self, u64 p0, u64 p1) {
   i32_store(j0, i1);
 }
 
-static void f50(module *self, u64 p0, u64 p1, u32 p2, u64 p3, u64 p4) {
+static void f51(module *self, u64 p0, u64 p1, u32 p2, u64 p3, u64 p4) {
   u32 l5 = 0, l6 = 0, l7 = 0, l8 = 0;
   u64 l9 = 0, l10 = 0;
   u8 *m = self->memory;
@@ -51897,7 +51946,7 @@ static void f50(module *self, u64 p0, u64 p1, u32 p2, u64 p3, u64 p4) {
   Bfunc:;
 }
 
-static void f51(module *self, u64 p0, u64 p1, u32 p2) {
+static void f52(module *self, u64 p0, u64 p1, u32 p2) {
   u32 l4 = 0, l5 = 0, l6 = 0, l7 = 0;
   u64 l3 = 0;
   u8 *m = self->memory;
@@ -52006,7 +52055,7 @@ static void f51(module *self, u64 p0, u64 p1, u32 p2) {
   j0 += j1;
   j1 = p1;
   i2 = p2;
-  f24(self, j0, j1, i2); if (NEVER(self->is_broken)) return;
+  f25(self, j0, j1, i2); if (NEVER(self->is_broken)) return;
   j0 = l3;
   i0 = (u32)(j0);
   i0 = i32_load8_u(j0 + 25u);
@@ -52022,7 +52071,7 @@ static void f51(module *self, u64 p0, u64 p1, u32 p2) {
   i2 = p2;
   i3 = 1u;
   i2 += i3;
-  f24(self, j0, j1, i2); if (NEVER(self->is_broken)) return;
+  f25(self, j0, j1, i2); if (NEVER(self->is_broken)) return;
   j0 = l3;
   i0 = (u32)(j0);
   i0 = i32_load8_u(j0 + 17u);
@@ -52054,7 +52103,7 @@ static void f51(module *self, u64 p0, u64 p1, u32 p2) {
   j0 += j1;
   j1 = p1;
   i2 = 964u;
-  f24(self, j0, j1, i2); if (NEVER(self->is_broken)) return;
+  f25(self, j0, j1, i2); if (NEVER(self->is_broken)) return;
   j0 = l3;
   i0 = (u32)(j0);
   i0 = i32_load8_u(j0 + 41u);
@@ -52068,7 +52117,7 @@ static void f51(module *self, u64 p0, u64 p1, u32 p2) {
   j0 += j1;
   j1 = p1;
   i2 = 965u;
-  f24(self, j0, j1, i2); if (NEVER(self->is_broken)) return;
+  f25(self, j0, j1, i2); if (NEVER(self->is_broken)) return;
   j0 = l3;
   i0 = (u32)(j0);
   i0 = i32_load8_u(j0 + 33u);
@@ -52100,7 +52149,7 @@ static void f51(module *self, u64 p0, u64 p1, u32 p2) {
   j0 += j1;
   j1 = p1;
   i2 = 968u;
-  f24(self, j0, j1, i2); if (NEVER(self->is_broken)) return;
+  f25(self, j0, j1, i2); if (NEVER(self->is_broken)) return;
   j0 = l3;
   i0 = (u32)(j0);
   i0 = i32_load8_u(j0 + 57u);
@@ -52114,7 +52163,7 @@ static void f51(module *self, u64 p0, u64 p1, u32 p2) {
   j0 += j1;
   j1 = p1;
   i2 = 969u;
-  f24(self, j0, j1, i2); if (NEVER(self->is_broken)) return;
+  f25(self, j0, j1, i2); if (NEVER(self->is_broken)) return;
   j0 = l3;
   i0 = (u32)(j0);
   i0 = i32_load8_u(j0 + 49u);
@@ -52146,7 +52195,7 @@ static void f51(module *self, u64 p0, u64 p1, u32 p2) {
   j0 += j1;
   j1 = p1;
   i2 = 974u;
-  f24(self, j0, j1, i2); if (NEVER(self->is_broken)) return;
+  f25(self, j0, j1, i2); if (NEVER(self->is_broken)) return;
   j0 = l3;
   i0 = (u32)(j0);
   i0 = i32_load8_u(j0 + 73u);
@@ -52166,7 +52215,7 @@ static void f51(module *self, u64 p0, u64 p1, u32 p2) {
   j0 += j1;
   j1 = p1;
   i2 = 975u;
-  f24(self, j0, j1, i2); if (NEVER(self->is_broken)) return;
+  f25(self, j0, j1, i2); if (NEVER(self->is_broken)) return;
   j0 = l3;
   i0 = (u32)(j0);
   i0 = i32_load8_u(j0 + 65u);
@@ -52198,7 +52247,7 @@ static void f51(module *self, u64 p0, u64 p1, u32 p2) {
   j0 += j1;
   j1 = p1;
   i2 = p2;
-  f24(self, j0, j1, i2); if (NEVER(self->is_broken)) return;
+  f25(self, j0, j1, i2); if (NEVER(self->is_broken)) return;
   j0 = l3;
   i0 = (u32)(j0);
   i0 = i32_load8_u(j0 + 9u);
@@ -52217,7 +52266,7 @@ static void f51(module *self, u64 p0, u64 p1, u32 p2) {
   i2 = p2;
   i3 = 1u;
   i2 += i3;
-  f24(self, j0, j1, i2); if (NEVER(self->is_broken)) return;
+  f25(self, j0, j1, i2); if (NEVER(self->is_broken)) return;
   j0 = l3;
   i0 = (u32)(j0);
   i0 = i32_load8_u(j0 + 1u);
@@ -52263,7 +52312,7 @@ static void f51(module *self, u64 p0, u64 p1, u32 p2) {
   j0 += j1;
   j1 = p1;
   i2 = 965u;
-  f52(self, j0, j1, i2); if (NEVER(self->is_broken)) return;
+  f53(self, j0, j1, i2); if (NEVER(self->is_broken)) return;
   j0 = l3;
   i0 = (u32)(j0);
   i0 = i32_load16_u(j0 + 78u);
@@ -52315,7 +52364,7 @@ static void f51(module *self, u64 p0, u64 p1, u32 p2) {
   self->g0 = j0;
 }
 
-static void f52(module *self, u64 p0, u64 p1, u32 p2) {
+static void f53(module *self, u64 p0, u64 p1, u32 p2) {
   u32 l4 = 0, l5 = 0, l6 = 0;
   u64 l3 = 0;
   u8 *m = self->memory;
@@ -52331,7 +52380,7 @@ static void f52(module *self, u64 p0, u64 p1, u32 p2) {
   j0 += j1;
   j1 = p1;
   i2 = p2;
-  f24(self, j0, j1, i2); if (NEVER(self->is_broken)) return;
+  f25(self, j0, j1, i2); if (NEVER(self->is_broken)) return;
   i0 = 0u;
   l4 = i0;
   i0 = 1u;
@@ -52349,7 +52398,7 @@ static void f52(module *self, u64 p0, u64 p1, u32 p2) {
   i2 = p2;
   i3 = 1u;
   i2 += i3;
-  f24(self, j0, j1, i2); if (NEVER(self->is_broken)) return;
+  f25(self, j0, j1, i2); if (NEVER(self->is_broken)) return;
   j0 = l3;
   i0 = (u32)(j0);
   i0 = i32_load8_u(j0 + 1u);
@@ -52399,7 +52448,7 @@ static void f52(module *self, u64 p0, u64 p1, u32 p2) {
   self->g0 = j0;
 }
 
-static void f53(module *self, u64 p0, u64 p1, u64 p2, u64 p3, u64 p4, u64 p5, u64 p6) {
+static void f54(module *self, u64 p0, u64 p1, u64 p2, u64 p3, u64 p4, u64 p5, u64 p6) {
   u32 l20 = 0, l21 = 0, l22 = 0, l23 = 0, l24 = 0, l25 = 0, l26 = 0, l27 = 0, 
       l28 = 0, l29 = 0, l30 = 0, l31 = 0, l32 = 0, l33 = 0, l34 = 0, l35 = 0, 
       l36 = 0, l37 = 0, l38 = 0, l39 = 0, l40 = 0, l41 = 0, l42 = 0, l43 = 0, 
@@ -52437,7 +52486,7 @@ static void f53(module *self, u64 p0, u64 p1, u64 p2, u64 p3, u64 p4, u64 p5, u6
   j1 = 272ull;
   j0 += j1;
   j1 = p4;
-  f16(self, j0, j1);
+  f17(self, j0, j1);
   j0 = l7;
   i0 = (u32)(j0);
   i0 = i32_load8_u(j0 + 272u);
@@ -52456,13 +52505,13 @@ static void f53(module *self, u64 p0, u64 p1, u64 p2, u64 p3, u64 p4, u64 p5, u6
   j0 = i64_load8_u(j0 + 274u);
   i0 = (u32)(j0);
   switch (i0) {
-    case 0: goto B15;
-    case 1: goto B14;
-    case 2: goto B13;
-    case 3: goto B12;
-    default: goto B15;
+    case 0: goto B14;
+    case 1: goto B13;
+    case 2: goto B12;
+    case 3: goto B11;
+    default: goto B14;
   }
-  B15:;
+  B14:;
   j0 = l7;
   i0 = (u32)(j0);
   i0 = i32_load8_u(j0 + 276u);
@@ -52583,25 +52632,25 @@ static void f53(module *self, u64 p0, u64 p1, u64 p2, u64 p3, u64 p4, u64 p5, u6
   i0 += i1;
   switch (i0) {
     case 0: goto B2;
-    case 1: goto B16;
-    case 2: goto B16;
-    case 3: goto B16;
-    case 4: goto B21;
-    case 5: goto B16;
-    case 6: goto B16;
-    case 7: goto B16;
-    case 8: goto B16;
-    case 9: goto B16;
-    case 10: goto B20;
-    case 11: goto B16;
-    case 12: goto B16;
-    case 13: goto B19;
-    case 14: goto B16;
-    case 15: goto B18;
-    case 16: goto B17;
-    default: goto B16;
+    case 1: goto B15;
+    case 2: goto B15;
+    case 3: goto B15;
+    case 4: goto B20;
+    case 5: goto B15;
+    case 6: goto B15;
+    case 7: goto B15;
+    case 8: goto B15;
+    case 9: goto B15;
+    case 10: goto B19;
+    case 11: goto B15;
+    case 12: goto B15;
+    case 13: goto B18;
+    case 14: goto B15;
+    case 15: goto B17;
+    case 16: goto B16;
+    default: goto B15;
   }
-  B21:;
+  B20:;
   i0 = 1u;
   l73 = i0;
   i0 = 720896u;
@@ -52679,7 +52728,7 @@ static void f53(module *self, u64 p0, u64 p1, u64 p2, u64 p3, u64 p4, u64 p5, u6
   i0 = 1u;
   l75 = i0;
   goto B2;
-  B20:;
+  B19:;
   i0 = 0u;
   l53 = i0;
   i0 = 655360u;
@@ -52773,7 +52822,7 @@ static void f53(module *self, u64 p0, u64 p1, u64 p2, u64 p3, u64 p4, u64 p5, u6
   i0 = 2u;
   l75 = i0;
   goto B2;
-  B19:;
+  B18:;
   i0 = 0u;
   l53 = i0;
   i0 = 655360u;
@@ -52845,7 +52894,7 @@ static void f53(module *self, u64 p0, u64 p1, u64 p2, u64 p3, u64 p4, u64 p5, u6
   i0 = 24u;
   l71 = i0;
   goto B3;
-  B18:;
+  B17:;
   i0 = 0u;
   l53 = i0;
   i0 = 655360u;
@@ -52923,7 +52972,7 @@ static void f53(module *self, u64 p0, u64 p1, u64 p2, u64 p3, u64 p4, u64 p5, u6
   i0 = 16u;
   l72 = i0;
   goto B3;
-  B17:;
+  B16:;
   i0 = 0u;
   l73 = i0;
   i0 = 655360u;
@@ -53009,7 +53058,7 @@ static void f53(module *self, u64 p0, u64 p1, u64 p2, u64 p3, u64 p4, u64 p5, u6
   i0 = 3u;
   l75 = i0;
   goto B2;
-  B16:;
+  B15:;
   j0 = l7;
   i0 = (u32)(j0);
   i1 = 0u;
@@ -53023,7 +53072,7 @@ static void f53(module *self, u64 p0, u64 p1, u64 p2, u64 p3, u64 p4, u64 p5, u6
   i0 = 4u;
   l20 = i0;
   goto B8;
-  B14:;
+  B13:;
   j0 = l7;
   i0 = (u32)(j0);
   i0 = i32_load16_u(j0 + 278u);
@@ -53049,7 +53098,7 @@ static void f53(module *self, u64 p0, u64 p1, u64 p2, u64 p3, u64 p4, u64 p5, u6
   j0 = p2;
   i0 = (u32)(j0);
   i0 = i32_load8_u(j0);
-  if (i0) {goto B22;}
+  if (i0) {goto B21;}
   j0 = l7;
   i0 = (u32)(j0);
   i1 = 0u;
@@ -53063,23 +53112,23 @@ static void f53(module *self, u64 p0, u64 p1, u64 p2, u64 p3, u64 p4, u64 p5, u6
   i0 = 2u;
   l49 = i0;
   goto B5;
-  B22:;
+  B21:;
   i0 = l20;
   i1 = 255u;
   i0 &= i1;
   i0 = !(i0);
-  if (i0) {goto B25;}
+  if (i0) {goto B24;}
   i0 = l49;
   i1 = 255u;
   i0 = i0 > i1;
-  if (i0) {goto B26;}
+  if (i0) {goto B25;}
   i0 = l48;
   i1 = l49;
   i0 += i1;
   i1 = 257u;
   i0 = i0 < i1;
-  if (i0) {goto B24;}
-  B26:;
+  if (i0) {goto B23;}
+  B25:;
   i0 = 0u;
   l39 = i0;
   j0 = l7;
@@ -53095,7 +53144,7 @@ static void f53(module *self, u64 p0, u64 p1, u64 p2, u64 p3, u64 p4, u64 p5, u6
   i0 = 9u;
   l49 = i0;
   goto B5;
-  B25:;
+  B24:;
   j0 = l7;
   i0 = (u32)(j0);
   i1 = 0u;
@@ -53132,7 +53181,7 @@ static void f53(module *self, u64 p0, u64 p1, u64 p2, u64 p3, u64 p4, u64 p5, u6
   i3 = 6u;
   i2 += i3;
   l49 = i2;
-  f24(self, j0, j1, i2); if (NEVER(self->is_broken)) return;
+  f25(self, j0, j1, i2); if (NEVER(self->is_broken)) return;
   j0 = p1;
   j1 = 188ull;
   j0 += j1;
@@ -53145,7 +53194,7 @@ static void f53(module *self, u64 p0, u64 p1, u64 p2, u64 p3, u64 p4, u64 p5, u6
   j1 = 146ull;
   j0 += j1;
   p2 = j0;
-  L27: 
+  L26: 
     j0 = p6;
     i0 = (u32)(j0);
     l39 = i0;
@@ -53161,7 +53210,7 @@ static void f53(module *self, u64 p0, u64 p1, u64 p2, u64 p3, u64 p4, u64 p5, u6
     i0 = i32_load8_u(j0);
     i1 = 1u;
     i0 = i0 != i1;
-    if (i0) {goto B30;}
+    if (i0) {goto B29;}
     j0 = p1;
     j1 = 204ull;
     j0 += j1;
@@ -53173,16 +53222,16 @@ static void f53(module *self, u64 p0, u64 p1, u64 p2, u64 p3, u64 p4, u64 p5, u6
     l39 = i0;
     i1 = 20u;
     i0 = i0 > i1;
-    if (i0) {goto B31;}
+    if (i0) {goto B30;}
     i0 = l39;
     i1 = 15u;
     i0 = i0 > i1;
-    if (i0) {goto B33;}
+    if (i0) {goto B32;}
     i0 = l20;
     i1 = 32u;
     i0 &= i1;
-    if (i0) {goto B32;}
-    B33:;
+    if (i0) {goto B31;}
+    B32:;
     j0 = p5;
     i1 = l39;
     j1 = (u64)(i1);
@@ -53201,7 +53250,7 @@ static void f53(module *self, u64 p0, u64 p1, u64 p2, u64 p3, u64 p4, u64 p5, u6
     j1 = 304ull;
     j0 += j1;
     j1 = p2;
-    f21(self, j0, j1);
+    f22(self, j0, j1);
     j0 = l8;
     i0 = (u32)(j0);
     j1 = l7;
@@ -53214,22 +53263,22 @@ static void f53(module *self, u64 p0, u64 p1, u64 p2, u64 p3, u64 p4, u64 p5, u6
     i1 = (u32)(j1);
     j1 = i64_load(j1 + 304u);
     i64_store(j0, j1);
-    B32:;
+    B31:;
     i0 = 0u;
     l20 = i0;
-    goto B29;
-    B31:;
-    i0 = 255u;
-    l39 = i0;
     goto B28;
     B30:;
+    i0 = 255u;
+    l39 = i0;
+    goto B27;
+    B29:;
     j0 = p1;
     j1 = 204ull;
     j0 += j1;
     i0 = (u32)(j0);
     i1 = l48;
     i32_store8(j0, i1);
-    B29:;
+    B28:;
     j0 = p1;
     j1 = 205ull;
     j0 += j1;
@@ -53245,13 +53294,13 @@ static void f53(module *self, u64 p0, u64 p1, u64 p2, u64 p3, u64 p4, u64 p5, u6
     i0 = (u32)(j0);
     i0 = i32_load8_u(j0);
     l39 = i0;
-    B28:;
+    B27:;
     j0 = l7;
     j1 = 24ull;
     j0 += j1;
     j1 = p1;
     i2 = l49;
-    f24(self, j0, j1, i2); if (NEVER(self->is_broken)) return;
+    f25(self, j0, j1, i2); if (NEVER(self->is_broken)) return;
     j0 = l7;
     j1 = 320ull;
     j0 += j1;
@@ -53266,13 +53315,13 @@ static void f53(module *self, u64 p0, u64 p1, u64 p2, u64 p3, u64 p4, u64 p5, u6
     p6 = j0;
     j1 = 16ull;
     i0 = j0 != j1;
-    if (i0) {goto L27;}
+    if (i0) {goto L26;}
   j0 = p1;
   j1 = 205ull;
   j0 += j1;
   i0 = (u32)(j0);
   i0 = i32_load8_u(j0);
-  if (i0) {goto B37;}
+  if (i0) {goto B36;}
   j0 = p1;
   j1 = 204ull;
   j0 += j1;
@@ -53283,8 +53332,8 @@ static void f53(module *self, u64 p0, u64 p1, u64 p2, u64 p3, u64 p4, u64 p5, u6
   p6 = j0;
   i0 = 1u;
   l39 = i0;
-  goto B36;
-  B37:;
+  goto B35;
+  B36:;
   j0 = p1;
   j1 = 204ull;
   j0 += j1;
@@ -53296,19 +53345,19 @@ static void f53(module *self, u64 p0, u64 p1, u64 p2, u64 p3, u64 p4, u64 p5, u6
   l39 = i0;
   i1 = 20u;
   i0 = i0 > i1;
-  if (i0) {goto B35;}
+  if (i0) {goto B34;}
   i0 = l39;
   j0 = (u64)(i0);
   p6 = j0;
   i0 = l39;
   i1 = 15u;
   i0 = i0 > i1;
-  if (i0) {goto B39;}
+  if (i0) {goto B38;}
   i0 = l20;
   i1 = 32u;
   i0 &= i1;
-  if (i0) {goto B38;}
-  B39:;
+  if (i0) {goto B37;}
+  B38:;
   j0 = p5;
   j1 = p6;
   j0 += j1;
@@ -53325,7 +53374,7 @@ static void f53(module *self, u64 p0, u64 p1, u64 p2, u64 p3, u64 p4, u64 p5, u6
   j1 = 304ull;
   j0 += j1;
   j1 = p2;
-  f21(self, j0, j1);
+  f22(self, j0, j1);
   j0 = l8;
   i0 = (u32)(j0);
   j1 = l7;
@@ -53338,10 +53387,10 @@ static void f53(module *self, u64 p0, u64 p1, u64 p2, u64 p3, u64 p4, u64 p5, u6
   i1 = (u32)(j1);
   j1 = i64_load(j1 + 304u);
   i64_store(j0, j1);
-  B38:;
+  B37:;
   i0 = 0u;
   l39 = i0;
-  B36:;
+  B35:;
   j0 = p1;
   j1 = 205ull;
   j0 += j1;
@@ -53354,17 +53403,17 @@ static void f53(module *self, u64 p0, u64 p1, u64 p2, u64 p3, u64 p4, u64 p5, u6
   i0 = (u32)(j0);
   i0 = i32_load8_u(j0);
   l39 = i0;
-  goto B34;
-  B35:;
+  goto B33;
+  B34:;
   i0 = 255u;
   l39 = i0;
-  B34:;
+  B33:;
   j0 = l7;
   j1 = 16ull;
   j0 += j1;
   j1 = p1;
   i2 = l49;
-  f24(self, j0, j1, i2); if (NEVER(self->is_broken)) return;
+  f25(self, j0, j1, i2); if (NEVER(self->is_broken)) return;
   j0 = l7;
   i0 = (u32)(j0);
   i1 = l39;
@@ -53391,11 +53440,11 @@ static void f53(module *self, u64 p0, u64 p1, u64 p2, u64 p3, u64 p4, u64 p5, u6
   p6 = j0;
   i0 = 1u;
   l48 = i0;
-  goto B23;
-  B24:;
+  goto B22;
+  B23:;
   i0 = l48;
   i0 = !(i0);
-  if (i0) {goto B42;}
+  if (i0) {goto B41;}
   j0 = l7;
   j1 = 56ull;
   j0 += j1;
@@ -53405,7 +53454,7 @@ static void f53(module *self, u64 p0, u64 p1, u64 p2, u64 p3, u64 p4, u64 p5, u6
   j1 *= j2;
   l8 = j1;
   j2 = 1ull;
-  f148(self, j0, j1, j2); m = self->memory; if (NEVER(self->is_broken)) return;
+  f151(self, j0, j1, j2); m = self->memory; if (NEVER(self->is_broken)) return;
   i0 = 1u;
   l20 = i0;
   i0 = 0u;
@@ -53429,14 +53478,14 @@ static void f53(module *self, u64 p0, u64 p1, u64 p2, u64 p3, u64 p4, u64 p5, u6
   j0 += j1;
   p6 = j0;
   i0 = !(j0);
-  if (i0) {goto B43;}
+  if (i0) {goto B42;}
   j0 = p2;
   i0 = (u32)(j0);
   i1 = 0u;
   j2 = p6;
   i2 = (u32)(j2);
   memory_fill(j0, i1, j2);
-  B43:;
+  B42:;
   j0 = p2;
   j1 = p6;
   j0 += j1;
@@ -53448,7 +53497,7 @@ static void f53(module *self, u64 p0, u64 p1, u64 p2, u64 p3, u64 p4, u64 p5, u6
   j0 += j1;
   j1 = 24ull;
   j2 = 8ull;
-  f148(self, j0, j1, j2); m = self->memory; if (NEVER(self->is_broken)) return;
+  f151(self, j0, j1, j2); m = self->memory; if (NEVER(self->is_broken)) return;
   i0 = 1u;
   l20 = i0;
   j0 = l7;
@@ -53457,13 +53506,13 @@ static void f53(module *self, u64 p0, u64 p1, u64 p2, u64 p3, u64 p4, u64 p5, u6
   i0 = (u32)(j0);
   i1 = 1u;
   i0 &= i1;
-  if (i0) {goto B41;}
+  if (i0) {goto B40;}
   j0 = p2;
-  f151(self, j0);
+  f154(self, j0);
   i0 = 0u;
   l48 = i0;
   goto B7;
-  B42:;
+  B41:;
   j0 = p1;
   j1 = 1999ull;
   j0 += j1;
@@ -53480,8 +53529,8 @@ static void f53(module *self, u64 p0, u64 p1, u64 p2, u64 p3, u64 p4, u64 p5, u6
   p5 = j0;
   j0 = 0ull;
   p6 = j0;
-  goto B40;
-  B41:;
+  goto B39;
+  B40:;
   j0 = l7;
   i0 = (u32)(j0);
   j0 = i64_load(j0 + 48u);
@@ -53518,11 +53567,11 @@ static void f53(module *self, u64 p0, u64 p1, u64 p2, u64 p3, u64 p4, u64 p5, u6
   p3 = j0;
   i0 = !(j0);
   i0 = !(i0);
-  if (i0) {goto B44;}
+  if (i0) {goto B43;}
   j0 = 1ull;
   p5 = j0;
-  goto B40;
-  B44:;
+  goto B39;
+  B43:;
   j0 = p1;
   j1 = 206ull;
   j0 += j1;
@@ -53537,7 +53586,7 @@ static void f53(module *self, u64 p0, u64 p1, u64 p2, u64 p3, u64 p4, u64 p5, u6
   l11 = j0;
   j0 = 0ull;
   l8 = j0;
-  L45: 
+  L44: 
     j0 = p1;
     j1 = 1998ull;
     j0 += j1;
@@ -53556,12 +53605,12 @@ static void f53(module *self, u64 p0, u64 p1, u64 p2, u64 p3, u64 p4, u64 p5, u6
     j0 = i64_load8_u(j0);
     i0 = (u32)(j0);
     switch (i0) {
-      case 0: goto B47;
-      case 1: goto B48;
-      case 2: goto B49;
-      default: goto B47;
+      case 0: goto B46;
+      case 1: goto B47;
+      case 2: goto B48;
+      default: goto B46;
     }
-    B49:;
+    B48:;
     j0 = p2;
     i0 = (u32)(j0);
     i1 = l39;
@@ -53576,8 +53625,8 @@ static void f53(module *self, u64 p0, u64 p1, u64 p2, u64 p3, u64 p4, u64 p5, u6
     l39 = i0;
     i0 = 0u;
     l20 = i0;
-    goto B46;
-    B48:;
+    goto B45;
+    B47:;
     j0 = l10;
     j1 = p5;
     j0 += j1;
@@ -53586,8 +53635,8 @@ static void f53(module *self, u64 p0, u64 p1, u64 p2, u64 p3, u64 p4, u64 p5, u6
     l39 = i0;
     i0 = 2u;
     l20 = i0;
-    goto B46;
-    B47:;
+    goto B45;
+    B46:;
     j0 = l9;
     j1 = p5;
     j0 += j1;
@@ -53596,7 +53645,7 @@ static void f53(module *self, u64 p0, u64 p1, u64 p2, u64 p3, u64 p4, u64 p5, u6
     l39 = i0;
     i0 = 1u;
     l20 = i0;
-    B46:;
+    B45:;
     j0 = p1;
     j1 = 1999ull;
     j0 += j1;
@@ -53619,8 +53668,8 @@ static void f53(module *self, u64 p0, u64 p1, u64 p2, u64 p3, u64 p4, u64 p5, u6
     j1 += j2;
     l8 = j1;
     i0 = j0 != j1;
-    if (i0) {goto L45;}
-  B40:;
+    if (i0) {goto L44;}
+  B39:;
   j0 = l7;
   i0 = (u32)(j0);
   i1 = 0u;
@@ -53631,7 +53680,7 @@ static void f53(module *self, u64 p0, u64 p1, u64 p2, u64 p3, u64 p4, u64 p5, u6
   i32_store(j0 + 296, i1);
   i0 = 2u;
   l48 = i0;
-  B23:;
+  B22:;
   j0 = l7;
   i0 = (u32)(j0);
   j1 = l7;
@@ -53647,12 +53696,12 @@ static void f53(module *self, u64 p0, u64 p1, u64 p2, u64 p3, u64 p4, u64 p5, u6
   i0 = 0u;
   l20 = i0;
   goto B6;
-  B13:;
+  B12:;
   j0 = p2;
   i0 = (u32)(j0);
   i0 = i32_load8_u(j0);
   l20 = i0;
-  if (i0) {goto B50;}
+  if (i0) {goto B49;}
   j0 = l7;
   i0 = (u32)(j0);
   i1 = 0u;
@@ -53666,18 +53715,7 @@ static void f53(module *self, u64 p0, u64 p1, u64 p2, u64 p3, u64 p4, u64 p5, u6
   i0 = 2u;
   l20 = i0;
   goto B8;
-  B50:;
-  i0 = l20;
-  i1 = 4294967293u;
-  i0 += i1;
-  i1 = 251u;
-  i0 &= i1;
-  i0 = !(i0);
-  if (i0) {goto B51;}
-  i0 = 5u;
-  l20 = i0;
-  goto B11;
-  B51:;
+  B49:;
   j0 = l7;
   i0 = (u32)(j0);
   j0 = i64_load(j0 + 276u);
@@ -53685,49 +53723,70 @@ static void f53(module *self, u64 p0, u64 p1, u64 p2, u64 p3, u64 p4, u64 p5, u6
   j1 = 32ull;
   j0 >>= (j1 & 63);
   l9 = j0;
-  i0 = (u32)(j0);
-  i1 = 65535u;
-  i0 &= i1;
-  j1 = l8;
-  i1 = (u32)(j1);
-  l39 = i1;
-  i2 = 16u;
-  i1 >>= (i2 & 31);
+  i0 = 5u;
+  l48 = i0;
+  i0 = 1u;
+  l39 = i0;
+  i0 = l20;
+  i1 = 4294967293u;
   i0 += i1;
-  i1 = 256u;
-  i0 = i0 <= i1;
-  if (i0) {goto B52;}
+  i1 = 251u;
+  i0 &= i1;
+  if (i0) {goto B50;}
   i0 = 8u;
-  l20 = i0;
-  goto B11;
-  B52:;
-  j0 = l8;
-  j1 = 281474976710656ull;
-  j0 &= j1;
-  i0 = !(j0);
-  if (i0) {goto B53;}
-  j0 = p6;
-  j1 = l9;
-  j2 = 65535ull;
-  j1 &= j2;
-  j2 = l8;
-  j3 = 255ull;
-  j2 &= j3;
-  j1 *= j2;
-  i0 = j0 == j1;
-  if (i0) {goto B53;}
-  i0 = 10u;
-  l20 = i0;
-  goto B11;
-  B53:;
+  i1 = 0u;
+  j2 = l9;
+  i2 = (u32)(j2);
+  i3 = 65535u;
+  i2 &= i3;
+  j3 = l8;
+  i3 = (u32)(j3);
+  i4 = 16u;
+  i3 >>= (i4 & 31);
+  i2 += i3;
+  i3 = 256u;
+  i2 = i2 > i3;
+  l39 = i2;
+  i0 = i2 ? i0 : i1;
+  l48 = i0;
+  B50:;
+  i0 = l39;
+  i1 = l39;
+  j2 = p6;
+  j3 = l8;
+  j4 = 15ull;
+  j3 <<= (j4 & 63);
+  j4 = 63ull;
+  j3 = (u64)((s64)j3 >> (j4 & 63));
+  j4 = l9;
+  j5 = 65535ull;
+  j4 &= j5;
+  j5 = l8;
+  j6 = 255ull;
+  j5 &= j6;
+  j4 *= j5;
+  j3 &= j4;
+  i2 = j2 != j3;
+  l49 = i2;
+  j3 = l8;
+  j4 = 281474976710656ull;
+  j3 &= j4;
+  i3 = !(j3);
+  l75 = i3;
+  i1 = i3 ? i1 : i2;
+  i0 |= i1;
+  i1 = 1u;
+  i0 &= i1;
+  if (i0) {goto B51;}
   j0 = l7;
   j1 = 320ull;
   j0 += j1;
   i1 = l20;
-  i2 = l39;
+  j2 = l8;
+  i2 = (u32)(j2);
   i3 = 255u;
   i2 &= i3;
-  f18(self, j0, i1, i2);
+  f19(self, j0, i1, i2);
   i0 = 1u;
   l39 = i0;
   j0 = l7;
@@ -53735,7 +53794,7 @@ static void f53(module *self, u64 p0, u64 p1, u64 p2, u64 p3, u64 p4, u64 p5, u6
   i0 = i32_load8_u(j0 + 320u);
   i1 = 1u;
   i0 = i0 != i1;
-  if (i0) {goto B55;}
+  if (i0) {goto B53;}
   j0 = l7;
   i0 = (u32)(j0);
   i0 = i32_load8_u(j0 + 391u);
@@ -53775,56 +53834,56 @@ static void f53(module *self, u64 p0, u64 p1, u64 p2, u64 p3, u64 p4, u64 p5, u6
   j4 = l7;
   i4 = (u32)(j4);
   i4 = i32_load8_u(j4 + 336u);
-  f54(self, j0, j1, j2, j3, i4);
+  f55(self, j0, j1, j2, j3, i4);
   j0 = p1;
   i1 = l48;
   i2 = 9u;
   i3 = l52;
-  f55(self, j0, i1, i2, i3);
+  f56(self, j0, i1, i2, i3);
   j0 = p1;
   i1 = l48;
   i2 = 10u;
   i3 = l49;
   i4 = 8u;
   i3 >>= (i4 & 31);
-  f55(self, j0, i1, i2, i3);
+  f56(self, j0, i1, i2, i3);
   j0 = p1;
   i1 = l48;
   i2 = 11u;
   i3 = l49;
-  f55(self, j0, i1, i2, i3);
+  f56(self, j0, i1, i2, i3);
   j0 = p1;
   i1 = l48;
   i2 = 18u;
   i3 = l51;
-  f55(self, j0, i1, i2, i3);
+  f56(self, j0, i1, i2, i3);
   j0 = p1;
   i1 = l48;
   i2 = 20u;
   i3 = l39;
-  f55(self, j0, i1, i2, i3);
+  f56(self, j0, i1, i2, i3);
   i0 = 0u;
   l39 = i0;
   j0 = p1;
   i1 = l48;
   i2 = 12u;
   i3 = 0u;
-  f55(self, j0, i1, i2, i3);
+  f56(self, j0, i1, i2, i3);
   j0 = p1;
   i1 = l48;
   i2 = 13u;
   i3 = 0u;
-  f55(self, j0, i1, i2, i3);
+  f56(self, j0, i1, i2, i3);
   j0 = p1;
   i1 = l48;
   i2 = 14u;
   i3 = 0u;
-  f55(self, j0, i1, i2, i3);
+  f56(self, j0, i1, i2, i3);
   j0 = p1;
   i1 = l48;
   i2 = 15u;
   i3 = 0u;
-  f55(self, j0, i1, i2, i3);
+  f56(self, j0, i1, i2, i3);
   j0 = p2;
   i0 = (u32)(j0);
   j1 = 0ull;
@@ -53883,8 +53942,8 @@ static void f53(module *self, u64 p0, u64 p1, u64 p2, u64 p3, u64 p4, u64 p5, u6
   i32_store(j0 + 307, i1);
   i0 = 0u;
   l20 = i0;
-  goto B54;
-  B55:;
+  goto B52;
+  B53:;
   j0 = l7;
   i0 = (u32)(j0);
   i1 = 0u;
@@ -53897,7 +53956,7 @@ static void f53(module *self, u64 p0, u64 p1, u64 p2, u64 p3, u64 p4, u64 p5, u6
   p4 = j0;
   i0 = 12u;
   l20 = i0;
-  B54:;
+  B52:;
   j0 = l7;
   i0 = (u32)(j0);
   j1 = l7;
@@ -53911,7 +53970,28 @@ static void f53(module *self, u64 p0, u64 p1, u64 p2, u64 p3, u64 p4, u64 p5, u6
   i1 = i32_load(j1 + 307u);
   i32_store(j0 + 267, i1);
   goto B1;
-  B12:;
+  B51:;
+  j0 = l7;
+  i0 = (u32)(j0);
+  i1 = 0u;
+  i32_store(j0 + 267, i1);
+  j0 = l7;
+  i0 = (u32)(j0);
+  i1 = 0u;
+  i32_store(j0 + 264, i1);
+  i0 = l48;
+  i1 = 0u;
+  i2 = 10u;
+  i3 = 0u;
+  i4 = l49;
+  i2 = i4 ? i2 : i3;
+  i3 = l75;
+  i1 = i3 ? i1 : i2;
+  i2 = l39;
+  i0 = i2 ? i0 : i1;
+  l20 = i0;
+  goto B9;
+  B11:;
   j0 = l7;
   i0 = (u32)(j0);
   j1 = l7;
@@ -53942,7 +54022,7 @@ static void f53(module *self, u64 p0, u64 p1, u64 p2, u64 p3, u64 p4, u64 p5, u6
   i0 = (u32)(j0);
   i0 = i32_load8_u(j0);
   l20 = i0;
-  if (i0) {goto B56;}
+  if (i0) {goto B54;}
   j0 = l7;
   i0 = (u32)(j0);
   i1 = 0u;
@@ -53958,7 +54038,7 @@ static void f53(module *self, u64 p0, u64 p1, u64 p2, u64 p3, u64 p4, u64 p5, u6
   j0 = 0ull;
   p4 = j0;
   goto B1;
-  B56:;
+  B54:;
   j0 = l7;
   j1 = 408ull;
   j0 += j1;
@@ -53966,7 +54046,7 @@ static void f53(module *self, u64 p0, u64 p1, u64 p2, u64 p3, u64 p4, u64 p5, u6
   j2 = 420ull;
   j1 += j2;
   j2 = p2;
-  f28(self, j0, j1, j2);
+  f29(self, j0, j1, j2);
   j0 = l7;
   j1 = 256ull;
   j0 += j1;
@@ -53975,11 +54055,11 @@ static void f53(module *self, u64 p0, u64 p1, u64 p2, u64 p3, u64 p4, u64 p5, u6
   j1 += j2;
   j2 = p2;
   j3 = p6;
-  f29(self, j0, j1, j2, j3);
+  f30(self, j0, j1, j2, j3);
   j0 = l7;
   i0 = (u32)(j0);
   i0 = i32_load8_u(j0 + 256u);
-  if (i0) {goto B57;}
+  if (i0) {goto B55;}
   j0 = l7;
   i0 = (u32)(j0);
   j1 = p4;
@@ -54046,25 +54126,25 @@ static void f53(module *self, u64 p0, u64 p1, u64 p2, u64 p3, u64 p4, u64 p5, u6
   j0 = l8;
   i0 = (u32)(j0);
   switch (i0) {
-    case 0: goto B74;
-    case 1: goto B73;
-    case 2: goto B72;
-    case 3: goto B71;
-    case 4: goto B70;
-    case 5: goto B69;
-    case 6: goto B68;
-    case 7: goto B67;
-    case 8: goto B66;
-    case 9: goto B65;
-    case 10: goto B64;
-    case 11: goto B63;
-    case 12: goto B62;
-    case 13: goto B61;
-    case 14: goto B60;
-    case 15: goto B59;
-    default: goto B74;
+    case 0: goto B72;
+    case 1: goto B71;
+    case 2: goto B70;
+    case 3: goto B69;
+    case 4: goto B68;
+    case 5: goto B67;
+    case 6: goto B66;
+    case 7: goto B65;
+    case 8: goto B64;
+    case 9: goto B63;
+    case 10: goto B62;
+    case 11: goto B61;
+    case 12: goto B60;
+    case 13: goto B59;
+    case 14: goto B58;
+    case 15: goto B57;
+    default: goto B72;
   }
-  B74:;
+  B72:;
   j0 = p1;
   j1 = p2;
   j2 = 28ull;
@@ -54076,20 +54156,20 @@ static void f53(module *self, u64 p0, u64 p1, u64 p2, u64 p3, u64 p4, u64 p5, u6
   i3 = l75;
   i4 = 8u;
   i3 >>= (i4 & 31);
-  f55(self, j0, i1, i2, i3);
+  f56(self, j0, i1, i2, i3);
   j0 = p1;
   i1 = l39;
   i2 = 11u;
   i3 = l75;
-  f55(self, j0, i1, i2, i3);
+  f56(self, j0, i1, i2, i3);
   j0 = p2;
   j1 = 24ull;
   j0 += j1;
   i0 = (u32)(j0);
   i1 = l75;
   i32_store16(j0, i1);
-  goto B58;
-  B73:;
+  goto B56;
+  B71:;
   j0 = p2;
   j1 = l9;
   j2 = 1ull;
@@ -54105,7 +54185,7 @@ static void f53(module *self, u64 p0, u64 p1, u64 p2, u64 p3, u64 p4, u64 p5, u6
   i0 += i1;
   i1 = 251u;
   i0 &= i1;
-  if (i0) {goto B58;}
+  if (i0) {goto B56;}
   i0 = l49;
   j1 = p2;
   j2 = 26ull;
@@ -54113,7 +54193,7 @@ static void f53(module *self, u64 p0, u64 p1, u64 p2, u64 p3, u64 p4, u64 p5, u6
   i1 = (u32)(j1);
   i1 = i32_load8_u(j1);
   i0 = i0 != i1;
-  if (i0) {goto B58;}
+  if (i0) {goto B56;}
   j0 = p1;
   j1 = p2;
   j2 = 28ull;
@@ -54148,14 +54228,14 @@ static void f53(module *self, u64 p0, u64 p1, u64 p2, u64 p3, u64 p4, u64 p5, u6
   l20 = i3;
   i4 = 8u;
   i3 >>= (i4 & 31);
-  f55(self, j0, i1, i2, i3);
+  f56(self, j0, i1, i2, i3);
   j0 = p1;
   i1 = l39;
   i2 = 15u;
   i3 = l20;
-  f55(self, j0, i1, i2, i3);
-  goto B58;
-  B72:;
+  f56(self, j0, i1, i2, i3);
+  goto B56;
+  B70:;
   j0 = l7;
   i0 = (u32)(j0);
   j1 = p2;
@@ -54176,8 +54256,8 @@ static void f53(module *self, u64 p0, u64 p1, u64 p2, u64 p3, u64 p4, u64 p5, u6
   i1 = (u32)(j1);
   i1 = i32_load16_u(j1);
   i32_store16(j0 + 438, i1);
-  goto B58;
-  B71:;
+  goto B56;
+  B69:;
   j0 = p1;
   j1 = p2;
   j2 = 28ull;
@@ -54206,12 +54286,12 @@ static void f53(module *self, u64 p0, u64 p1, u64 p2, u64 p3, u64 p4, u64 p5, u6
   l20 = i3;
   i4 = 8u;
   i3 >>= (i4 & 31);
-  f55(self, j0, i1, i2, i3);
+  f56(self, j0, i1, i2, i3);
   j0 = p1;
   i1 = l39;
   i2 = 13u;
   i3 = l20;
-  f55(self, j0, i1, i2, i3);
+  f56(self, j0, i1, i2, i3);
   j0 = p2;
   j1 = 6ull;
   j0 += j1;
@@ -54231,7 +54311,7 @@ static void f53(module *self, u64 p0, u64 p1, u64 p2, u64 p3, u64 p4, u64 p5, u6
   i0 += i1;
   i1 = 251u;
   i0 &= i1;
-  if (i0) {goto B58;}
+  if (i0) {goto B56;}
   j0 = p1;
   j1 = p6;
   i1 = (u32)(j1);
@@ -54271,14 +54351,14 @@ static void f53(module *self, u64 p0, u64 p1, u64 p2, u64 p3, u64 p4, u64 p5, u6
   l20 = i3;
   i4 = 8u;
   i3 >>= (i4 & 31);
-  f55(self, j0, i1, i2, i3);
+  f56(self, j0, i1, i2, i3);
   j0 = p1;
   i1 = l39;
   i2 = 15u;
   i3 = l20;
-  f55(self, j0, i1, i2, i3);
-  goto B58;
-  B70:;
+  f56(self, j0, i1, i2, i3);
+  goto B56;
+  B68:;
   j0 = l7;
   i0 = (u32)(j0);
   i1 = 0u;
@@ -54307,7 +54387,7 @@ static void f53(module *self, u64 p0, u64 p1, u64 p2, u64 p3, u64 p4, u64 p5, u6
   i1 >>= (i2 & 31);
   l20 = i1;
   i0 = i0 < i1;
-  if (i0) {goto B58;}
+  if (i0) {goto B56;}
   j0 = p2;
   j1 = 2ull;
   j0 += j1;
@@ -54328,7 +54408,7 @@ static void f53(module *self, u64 p0, u64 p1, u64 p2, u64 p3, u64 p4, u64 p5, u6
   i1 &= i2;
   l39 = i1;
   i0 = i0 <= i1;
-  if (i0) {goto B58;}
+  if (i0) {goto B56;}
   j0 = l7;
   i0 = (u32)(j0);
   i1 = l75;
@@ -54383,9 +54463,9 @@ static void f53(module *self, u64 p0, u64 p1, u64 p2, u64 p3, u64 p4, u64 p5, u6
   j4 = l7;
   j5 = 304ull;
   j4 += j5;
-  f56(self, j0, j1, j2, i3, j4); if (NEVER(self->is_broken)) return;
-  goto B58;
-  B69:;
+  f57(self, j0, j1, j2, i3, j4); if (NEVER(self->is_broken)) return;
+  goto B56;
+  B67:;
   j0 = l7;
   i0 = (u32)(j0);
   i1 = 0u;
@@ -54414,7 +54494,7 @@ static void f53(module *self, u64 p0, u64 p1, u64 p2, u64 p3, u64 p4, u64 p5, u6
   i1 >>= (i2 & 31);
   l20 = i1;
   i0 = i0 < i1;
-  if (i0) {goto B58;}
+  if (i0) {goto B56;}
   j0 = p2;
   j1 = 2ull;
   j0 += j1;
@@ -54435,7 +54515,7 @@ static void f53(module *self, u64 p0, u64 p1, u64 p2, u64 p3, u64 p4, u64 p5, u6
   i1 &= i2;
   l39 = i1;
   i0 = i0 <= i1;
-  if (i0) {goto B58;}
+  if (i0) {goto B56;}
   j0 = l7;
   i0 = (u32)(j0);
   i1 = l75;
@@ -54494,9 +54574,9 @@ static void f53(module *self, u64 p0, u64 p1, u64 p2, u64 p3, u64 p4, u64 p5, u6
   j4 = l7;
   j5 = 304ull;
   j4 += j5;
-  f56(self, j0, j1, j2, i3, j4); if (NEVER(self->is_broken)) return;
-  goto B58;
-  B68:;
+  f57(self, j0, j1, j2, i3, j4); if (NEVER(self->is_broken)) return;
+  goto B56;
+  B66:;
   j0 = p2;
   j1 = l9;
   j2 = 1ull;
@@ -54526,7 +54606,7 @@ static void f53(module *self, u64 p0, u64 p1, u64 p2, u64 p3, u64 p4, u64 p5, u6
   i0 += i1;
   i1 = 251u;
   i0 &= i1;
-  if (i0) {goto B75;}
+  if (i0) {goto B73;}
   j0 = l7;
   j1 = 80ull;
   j0 += j1;
@@ -54555,7 +54635,7 @@ static void f53(module *self, u64 p0, u64 p1, u64 p2, u64 p3, u64 p4, u64 p5, u6
   i3 *= i4;
   i2 += i3;
   l39 = i2;
-  f32(self, j0, j1, i2);
+  f33(self, j0, j1, i2);
   j0 = l7;
   i0 = (u32)(j0);
   i0 = i32_load8_u(j0 + 81u);
@@ -54571,7 +54651,7 @@ static void f53(module *self, u64 p0, u64 p1, u64 p2, u64 p3, u64 p4, u64 p5, u6
   i2 = l39;
   i3 = 1u;
   i2 += i3;
-  f32(self, j0, j1, i2);
+  f33(self, j0, j1, i2);
   j0 = l7;
   i0 = (u32)(j0);
   i1 = 4294967295u;
@@ -54592,11 +54672,11 @@ static void f53(module *self, u64 p0, u64 p1, u64 p2, u64 p3, u64 p4, u64 p5, u6
   i2 &= i3;
   i1 |= i2;
   i32_store16(j0 + 432, i1);
-  goto B58;
-  B75:;
+  goto B56;
+  B73:;
   i0 = l39;
   i0 = !(i0);
-  if (i0) {goto B78;}
+  if (i0) {goto B76;}
   i0 = 1u;
   l24 = i0;
   i0 = 0u;
@@ -54607,43 +54687,43 @@ static void f53(module *self, u64 p0, u64 p1, u64 p2, u64 p3, u64 p4, u64 p5, u6
   i1 = 4294967293u;
   i0 += i1;
   switch (i0) {
-    case 0: goto B77;
-    case 1: goto B76;
-    case 2: goto B76;
-    case 3: goto B76;
-    case 4: goto B77;
-    case 5: goto B76;
-    case 6: goto B76;
-    case 7: goto B76;
-    case 8: goto B76;
-    case 9: goto B76;
-    case 10: goto B76;
-    case 11: goto B76;
-    case 12: goto B76;
-    case 13: goto B76;
-    case 14: goto B76;
-    case 15: goto B76;
-    case 16: goto B79;
-    default: goto B76;
+    case 0: goto B75;
+    case 1: goto B74;
+    case 2: goto B74;
+    case 3: goto B74;
+    case 4: goto B75;
+    case 5: goto B74;
+    case 6: goto B74;
+    case 7: goto B74;
+    case 8: goto B74;
+    case 9: goto B74;
+    case 10: goto B74;
+    case 11: goto B74;
+    case 12: goto B74;
+    case 13: goto B74;
+    case 14: goto B74;
+    case 15: goto B74;
+    case 16: goto B77;
+    default: goto B74;
   }
-  B79:;
+  B77:;
   i0 = 8u;
   l75 = i0;
   i0 = 0u;
   l50 = i0;
   i0 = 0u;
   l24 = i0;
-  goto B76;
-  B78:;
+  goto B74;
+  B76:;
   { self->is_broken = true; return; }
-  B77:;
+  B75:;
   i0 = 2u;
   l75 = i0;
   i0 = 0u;
   l24 = i0;
   i0 = 1u;
   l50 = i0;
-  B76:;
+  B74:;
   j0 = p2;
   j1 = 4ull;
   j0 += j1;
@@ -54680,7 +54760,7 @@ static void f53(module *self, u64 p0, u64 p1, u64 p2, u64 p3, u64 p4, u64 p5, u6
   i0 *= i1;
   l48 = i0;
   i0 = l50;
-  if (i0) {goto B83;}
+  if (i0) {goto B81;}
   j0 = p2;
   j1 = 32ull;
   j0 += j1;
@@ -54698,13 +54778,13 @@ static void f53(module *self, u64 p0, u64 p1, u64 p2, u64 p3, u64 p4, u64 p5, u6
   j1 = 0ull;
   i64_store(j0 + 320, j1);
   i0 = l24;
-  if (i0) {goto B82;}
+  if (i0) {goto B80;}
   i0 = l44;
-  if (i0) {goto B81;}
+  if (i0) {goto B79;}
   i0 = 0u;
   l44 = i0;
-  goto B80;
-  B83:;
+  goto B78;
+  B81:;
   j0 = l7;
   i0 = (u32)(j0);
   j1 = 0ull;
@@ -54719,8 +54799,8 @@ static void f53(module *self, u64 p0, u64 p1, u64 p2, u64 p3, u64 p4, u64 p5, u6
   p6 = j0;
   i0 = l24;
   i0 = !(i0);
-  if (i0) {goto B80;}
-  B82:;
+  if (i0) {goto B78;}
+  B80:;
   j0 = p1;
   j1 = 57ull;
   j0 += j1;
@@ -54862,7 +54942,7 @@ static void f53(module *self, u64 p0, u64 p1, u64 p2, u64 p3, u64 p4, u64 p5, u6
   i32_store8(j0, i1);
   i0 = l44;
   i0 = !(i0);
-  if (i0) {goto B84;}
+  if (i0) {goto B82;}
   i0 = l49;
   i1 = l48;
   i0 += i1;
@@ -54877,7 +54957,7 @@ static void f53(module *self, u64 p0, u64 p1, u64 p2, u64 p3, u64 p4, u64 p5, u6
   j1 = 320ull;
   j0 += j1;
   l8 = j0;
-  L85: 
+  L83: 
     j0 = l7;
     j1 = 88ull;
     j0 += j1;
@@ -54890,7 +54970,7 @@ static void f53(module *self, u64 p0, u64 p1, u64 p2, u64 p3, u64 p4, u64 p5, u6
     i4 = l20;
     i3 *= i4;
     i2 += i3;
-    f32(self, j0, j1, i2);
+    f33(self, j0, j1, i2);
     j0 = l8;
     i0 = (u32)(j0);
     i1 = 0u;
@@ -54918,7 +54998,7 @@ static void f53(module *self, u64 p0, u64 p1, u64 p2, u64 p3, u64 p4, u64 p5, u6
     p6 = j0;
     i0 = !(j0);
     i0 = !(i0);
-    if (i0) {goto L85;}
+    if (i0) {goto L83;}
   j0 = p1;
   j1 = 70ull;
   j0 += j1;
@@ -54944,7 +55024,7 @@ static void f53(module *self, u64 p0, u64 p1, u64 p2, u64 p3, u64 p4, u64 p5, u6
   i1 = 2u;
   i0 >>= (i1 & 31);
   l50 = i0;
-  B84:;
+  B82:;
   j0 = l12;
   i0 = (u32)(j0);
   i1 = 0u;
@@ -55021,8 +55101,8 @@ static void f53(module *self, u64 p0, u64 p1, u64 p2, u64 p3, u64 p4, u64 p5, u6
   i2 = !(i2);
   i1 &= i2;
   i32_store8(j0, i1);
-  goto B80;
-  B81:;
+  goto B78;
+  B79:;
   i0 = l49;
   i1 = l48;
   i0 += i1;
@@ -55037,7 +55117,7 @@ static void f53(module *self, u64 p0, u64 p1, u64 p2, u64 p3, u64 p4, u64 p5, u6
   j1 = 320ull;
   j0 += j1;
   l8 = j0;
-  L86: 
+  L84: 
     j0 = l7;
     j1 = 152ull;
     j0 += j1;
@@ -55051,7 +55131,7 @@ static void f53(module *self, u64 p0, u64 p1, u64 p2, u64 p3, u64 p4, u64 p5, u6
     i3 *= i4;
     i2 += i3;
     l39 = i2;
-    f32(self, j0, j1, i2);
+    f33(self, j0, j1, i2);
     j0 = l7;
     i0 = (u32)(j0);
     i0 = i32_load8_u(j0 + 152u);
@@ -55067,7 +55147,7 @@ static void f53(module *self, u64 p0, u64 p1, u64 p2, u64 p3, u64 p4, u64 p5, u6
     i2 = l39;
     i3 = 1u;
     i2 += i3;
-    f32(self, j0, j1, i2);
+    f33(self, j0, j1, i2);
     j0 = l7;
     i0 = (u32)(j0);
     i0 = i32_load8_u(j0 + 144u);
@@ -55083,7 +55163,7 @@ static void f53(module *self, u64 p0, u64 p1, u64 p2, u64 p3, u64 p4, u64 p5, u6
     i2 = l39;
     i3 = 2u;
     i2 += i3;
-    f32(self, j0, j1, i2);
+    f33(self, j0, j1, i2);
     j0 = l7;
     i0 = (u32)(j0);
     i0 = i32_load8_u(j0 + 136u);
@@ -55099,7 +55179,7 @@ static void f53(module *self, u64 p0, u64 p1, u64 p2, u64 p3, u64 p4, u64 p5, u6
     i2 = l39;
     i3 = 3u;
     i2 += i3;
-    f32(self, j0, j1, i2);
+    f33(self, j0, j1, i2);
     j0 = l7;
     i0 = (u32)(j0);
     i0 = i32_load8_u(j0 + 128u);
@@ -55115,7 +55195,7 @@ static void f53(module *self, u64 p0, u64 p1, u64 p2, u64 p3, u64 p4, u64 p5, u6
     i2 = l39;
     i3 = 4u;
     i2 += i3;
-    f32(self, j0, j1, i2);
+    f33(self, j0, j1, i2);
     j0 = l7;
     i0 = (u32)(j0);
     i0 = i32_load8_u(j0 + 120u);
@@ -55131,7 +55211,7 @@ static void f53(module *self, u64 p0, u64 p1, u64 p2, u64 p3, u64 p4, u64 p5, u6
     i2 = l39;
     i3 = 5u;
     i2 += i3;
-    f32(self, j0, j1, i2);
+    f33(self, j0, j1, i2);
     j0 = l7;
     i0 = (u32)(j0);
     i0 = i32_load8_u(j0 + 112u);
@@ -55147,7 +55227,7 @@ static void f53(module *self, u64 p0, u64 p1, u64 p2, u64 p3, u64 p4, u64 p5, u6
     i2 = l39;
     i3 = 6u;
     i2 += i3;
-    f32(self, j0, j1, i2);
+    f33(self, j0, j1, i2);
     j0 = l7;
     i0 = (u32)(j0);
     i0 = i32_load8_u(j0 + 104u);
@@ -55163,7 +55243,7 @@ static void f53(module *self, u64 p0, u64 p1, u64 p2, u64 p3, u64 p4, u64 p5, u6
     i2 = l39;
     i3 = 7u;
     i2 += i3;
-    f32(self, j0, j1, i2);
+    f33(self, j0, j1, i2);
     j0 = l8;
     i0 = (u32)(j0);
     i1 = 2u;
@@ -55258,8 +55338,8 @@ static void f53(module *self, u64 p0, u64 p1, u64 p2, u64 p3, u64 p4, u64 p5, u6
     p6 = j0;
     i0 = !(j0);
     i0 = !(i0);
-    if (i0) {goto L86;}
-  B80:;
+    if (i0) {goto L84;}
+  B78:;
   j0 = l7;
   i0 = (u32)(j0);
   i1 = l51;
@@ -55270,13 +55350,13 @@ static void f53(module *self, u64 p0, u64 p1, u64 p2, u64 p3, u64 p4, u64 p5, u6
   j4 = l7;
   j5 = 320ull;
   j4 += j5;
-  i2 = f34(self, j2, i3, j4); if (NEVER(self->is_broken)) return;
+  i2 = f35(self, j2, i3, j4); if (NEVER(self->is_broken)) return;
   i3 = 255u;
   i2 &= i3;
   i1 |= i2;
   i32_store16(j0 + 432, i1);
-  goto B58;
-  B67:;
+  goto B56;
+  B65:;
   j0 = l7;
   i0 = (u32)(j0);
   j1 = 0ull;
@@ -55302,7 +55382,7 @@ static void f53(module *self, u64 p0, u64 p1, u64 p2, u64 p3, u64 p4, u64 p5, u6
   i0 &= i1;
   l48 = i0;
   i0 = !(i0);
-  if (i0) {goto B58;}
+  if (i0) {goto B56;}
   j0 = p2;
   i1 = l75;
   i2 = 1u;
@@ -55337,7 +55417,7 @@ static void f53(module *self, u64 p0, u64 p1, u64 p2, u64 p3, u64 p4, u64 p5, u6
   i1 = 8u;
   i0 >>= (i1 & 31);
   l75 = i0;
-  L87: 
+  L85: 
     j0 = p1;
     j1 = l7;
     j2 = 320ull;
@@ -55346,7 +55426,7 @@ static void f53(module *self, u64 p0, u64 p1, u64 p2, u64 p3, u64 p4, u64 p5, u6
     i3 = l75;
     i4 = l39;
     i5 = l49;
-    f57(self, j0, j1, i2, i3, i4, i5); if (NEVER(self->is_broken)) return;
+    f58(self, j0, j1, i2, i3, i4, i5); if (NEVER(self->is_broken)) return;
     i0 = l20;
     i1 = 1u;
     i0 += i1;
@@ -55355,10 +55435,10 @@ static void f53(module *self, u64 p0, u64 p1, u64 p2, u64 p3, u64 p4, u64 p5, u6
     i1 = 4294967295u;
     i0 += i1;
     l48 = i0;
-    if (i0) {goto L87;}
-    goto B58;
+    if (i0) {goto L85;}
+    goto B56;
   { self->is_broken = true; return; }
-  B66:;
+  B64:;
   j0 = p2;
   j1 = 2ull;
   j0 += j1;
@@ -55374,7 +55454,7 @@ static void f53(module *self, u64 p0, u64 p1, u64 p2, u64 p3, u64 p4, u64 p5, u6
   i0 = l20;
   i1 = 19u;
   i0 = i0 != i1;
-  if (i0) {goto B89;}
+  if (i0) {goto B87;}
   i0 = l39;
   i1 = l24;
   i0 *= i1;
@@ -55383,8 +55463,8 @@ static void f53(module *self, u64 p0, u64 p1, u64 p2, u64 p3, u64 p4, u64 p5, u6
   i1 = l75;
   i0 += i1;
   l39 = i0;
-  goto B88;
-  B89:;
+  goto B86;
+  B87:;
   i0 = l24;
   i1 = l39;
   i0 *= i1;
@@ -55393,7 +55473,7 @@ static void f53(module *self, u64 p0, u64 p1, u64 p2, u64 p3, u64 p4, u64 p5, u6
   i1 >>= (i2 & 31);
   i0 += i1;
   l39 = i0;
-  B88:;
+  B86:;
   i0 = l50;
   i1 = l49;
   i0 *= i1;
@@ -55415,7 +55495,7 @@ static void f53(module *self, u64 p0, u64 p1, u64 p2, u64 p3, u64 p4, u64 p5, u6
   i0 = l20;
   i1 = 19u;
   i0 = i0 != i1;
-  if (i0) {goto B90;}
+  if (i0) {goto B88;}
   j0 = p1;
   j1 = 2003ull;
   j0 += j1;
@@ -55424,7 +55504,7 @@ static void f53(module *self, u64 p0, u64 p1, u64 p2, u64 p3, u64 p4, u64 p5, u6
   i1 = 2u;
   i0 &= i1;
   i0 = !(i0);
-  if (i0) {goto B58;}
+  if (i0) {goto B56;}
   i0 = l49;
   j1 = p1;
   j2 = 60ull;
@@ -55439,7 +55519,25 @@ static void f53(module *self, u64 p0, u64 p1, u64 p2, u64 p3, u64 p4, u64 p5, u6
   i1 = (u32)(j1);
   i1 = i32_load(j1);
   i0 = i0 >= i1;
-  if (i0) {goto B58;}
+  if (i0) {goto B56;}
+  j0 = p1;
+  j1 = 71ull;
+  j0 += j1;
+  i0 = (u32)(j0);
+  i0 = i32_load8_u(j0);
+  l20 = i0;
+  j0 = p1;
+  j1 = 70ull;
+  j0 += j1;
+  i0 = (u32)(j0);
+  i0 = i32_load8_u(j0);
+  l24 = i0;
+  j0 = p1;
+  j1 = 69ull;
+  j0 += j1;
+  i0 = (u32)(j0);
+  i0 = i32_load8_u(j0);
+  l49 = i0;
   j0 = p1;
   j1 = p1;
   j2 = 72ull;
@@ -55447,32 +55545,26 @@ static void f53(module *self, u64 p0, u64 p1, u64 p2, u64 p3, u64 p4, u64 p5, u6
   i1 = (u32)(j1);
   i1 = i32_load8_u(j1);
   i2 = l48;
-  i0 = f44(self, j0, i1, i2);
-  l20 = i0;
-  j0 = p1;
-  j1 = 71ull;
-  j0 += j1;
-  i0 = (u32)(j0);
-  i0 = i32_load8_u(j0);
+  i0 = f45(self, j0, i1, i2);
   l48 = i0;
   j0 = p1;
   j1 = 68ull;
   j0 += j1;
   i0 = (u32)(j0);
   i0 = i32_load8_u(j0);
-  l49 = i0;
+  l75 = i0;
   i1 = 1u;
   i0 &= i1;
   i0 = !(i0);
-  if (i0) {goto B92;}
+  if (i0) {goto B90;}
   i0 = 134480385u;
   i1 = l39;
   i2 = 3u;
   i1 <<= (i2 & 31);
   i0 >>= (i1 & 31);
-  l75 = i0;
-  goto B91;
-  B92:;
+  l24 = i0;
+  goto B89;
+  B90:;
   i0 = 15u;
   i1 = 10u;
   i2 = 5u;
@@ -55480,16 +55572,12 @@ static void f53(module *self, u64 p0, u64 p1, u64 p2, u64 p3, u64 p4, u64 p5, u6
   i4 = 1u;
   i3 &= i4;
   i1 = i3 ? i1 : i2;
-  j2 = p1;
-  j3 = 70ull;
-  j2 += j3;
-  i2 = (u32)(j2);
-  i2 = i32_load8_u(j2);
+  i2 = l24;
   i3 = 1u;
   i2 &= i3;
   i0 = i2 ? i0 : i1;
-  l75 = i0;
-  B91:;
+  l24 = i0;
+  B89:;
   j0 = p1;
   i0 = (u32)(j0);
   j0 = i64_load(j0);
@@ -55500,15 +55588,11 @@ static void f53(module *self, u64 p0, u64 p1, u64 p2, u64 p3, u64 p4, u64 p5, u6
   i3 = 65534u;
   i2 &= i3;
   i3 = l39;
-  j4 = p1;
-  j5 = 69ull;
-  j4 += j5;
-  i4 = (u32)(j4);
-  i4 = i32_load8_u(j4);
+  i4 = l49;
   i5 = 1u;
   i4 &= i5;
   i2 = i4 ? i2 : i3;
-  i3 = l49;
+  i3 = l75;
   i4 = 1u;
   i3 &= i4;
   i1 = i3 ? i1 : i2;
@@ -55520,14 +55604,14 @@ static void f53(module *self, u64 p0, u64 p1, u64 p2, u64 p3, u64 p4, u64 p5, u6
   j0 += j1;
   p1 = j0;
   i0 = (u32)(j0);
-  i1 = l20;
+  i1 = l48;
   j2 = p1;
   i2 = (u32)(j2);
   i2 = i32_load(j2);
   l39 = i2;
   i1 ^= i2;
-  i2 = l75;
-  i3 = l48;
+  i2 = l24;
+  i3 = l20;
   i2 &= i3;
   i3 = 2u;
   i2 <<= (i3 & 31);
@@ -55542,8 +55626,8 @@ static void f53(module *self, u64 p0, u64 p1, u64 p2, u64 p3, u64 p4, u64 p5, u6
   i2 = l39;
   i1 ^= i2;
   i32_store(j0, i1);
-  goto B58;
-  B90:;
+  goto B56;
+  B88:;
   j0 = p1;
   j1 = 57ull;
   j0 += j1;
@@ -55666,7 +55750,7 @@ static void f53(module *self, u64 p0, u64 p1, u64 p2, u64 p3, u64 p4, u64 p5, u6
   i0 = l48;
   i1 = 4294967295u;
   i0 = (u32)((s32)i0 > (s32)i1);
-  if (i0) {goto B93;}
+  if (i0) {goto B91;}
   j0 = p2;
   i0 = (u32)(j0);
   i1 = 3u;
@@ -55695,13 +55779,13 @@ static void f53(module *self, u64 p0, u64 p1, u64 p2, u64 p3, u64 p4, u64 p5, u6
   i2 = 24u;
   i1 &= i2;
   i32_store8(j0, i1);
-  B93:;
+  B91:;
   j0 = l7;
   j1 = 160ull;
   j0 += j1;
   j1 = p1;
   i2 = l49;
-  f32(self, j0, j1, i2);
+  f33(self, j0, j1, i2);
   j0 = p2;
   i0 = (u32)(j0);
   i1 = 5u;
@@ -55822,7 +55906,7 @@ static void f53(module *self, u64 p0, u64 p1, u64 p2, u64 p3, u64 p4, u64 p5, u6
   l49 = i0;
   i1 = l56;
   i0 = i0 >= i1;
-  if (i0) {goto B94;}
+  if (i0) {goto B92;}
   j0 = p1;
   j1 = 2003ull;
   j0 += j1;
@@ -55831,31 +55915,31 @@ static void f53(module *self, u64 p0, u64 p1, u64 p2, u64 p3, u64 p4, u64 p5, u6
   i1 = 2u;
   i0 &= i1;
   i0 = !(i0);
-  if (i0) {goto B94;}
-  j0 = p1;
-  i1 = l59;
-  i2 = l48;
-  i0 = f44(self, j0, i1, i2);
-  l39 = i0;
+  if (i0) {goto B92;}
   j0 = p1;
   j1 = 71ull;
   j0 += j1;
   i0 = (u32)(j0);
   i0 = i32_load8_u(j0);
+  l39 = i0;
+  j0 = p1;
+  i1 = l59;
+  i2 = l48;
+  i0 = f45(self, j0, i1, i2);
   l20 = i0;
   i0 = l52;
   i1 = 1u;
   i0 &= i1;
   i0 = !(i0);
-  if (i0) {goto B96;}
+  if (i0) {goto B94;}
   i0 = 134480385u;
   i1 = l49;
   i2 = 3u;
   i1 <<= (i2 & 31);
   i0 >>= (i1 & 31);
   l75 = i0;
-  goto B95;
-  B96:;
+  goto B93;
+  B94:;
   i0 = 15u;
   i1 = 10u;
   i2 = 5u;
@@ -55868,7 +55952,7 @@ static void f53(module *self, u64 p0, u64 p1, u64 p2, u64 p3, u64 p4, u64 p5, u6
   i2 &= i3;
   i0 = i2 ? i0 : i1;
   l75 = i0;
-  B95:;
+  B93:;
   j0 = p1;
   i0 = (u32)(j0);
   j0 = i64_load(j0);
@@ -55895,14 +55979,14 @@ static void f53(module *self, u64 p0, u64 p1, u64 p2, u64 p3, u64 p4, u64 p5, u6
   j0 += j1;
   p6 = j0;
   i0 = (u32)(j0);
-  i1 = l39;
+  i1 = l20;
   j2 = p6;
   i2 = (u32)(j2);
   i2 = i32_load(j2);
   l49 = i2;
   i1 ^= i2;
   i2 = l75;
-  i3 = l20;
+  i3 = l39;
   i2 &= i3;
   i3 = 2u;
   i2 <<= (i3 & 31);
@@ -55954,7 +56038,7 @@ static void f53(module *self, u64 p0, u64 p1, u64 p2, u64 p3, u64 p4, u64 p5, u6
   i0 = (u32)(j0);
   i0 = i32_load8_u(j0);
   l39 = i0;
-  B94:;
+  B92:;
   j0 = p1;
   j1 = 52ull;
   j0 += j1;
@@ -55968,7 +56052,7 @@ static void f53(module *self, u64 p0, u64 p1, u64 p2, u64 p3, u64 p4, u64 p5, u6
   i0 = l48;
   i1 = 4294967295u;
   i0 = (u32)((s32)i0 > (s32)i1);
-  if (i0) {goto B97;}
+  if (i0) {goto B95;}
   j0 = p1;
   j1 = 50ull;
   j0 += j1;
@@ -55977,7 +56061,7 @@ static void f53(module *self, u64 p0, u64 p1, u64 p2, u64 p3, u64 p4, u64 p5, u6
   i32_store8(j0, i1);
   i0 = 0u;
   l39 = i0;
-  B97:;
+  B95:;
   j0 = p1;
   j1 = 57ull;
   j0 += j1;
@@ -56072,8 +56156,8 @@ static void f53(module *self, u64 p0, u64 p1, u64 p2, u64 p3, u64 p4, u64 p5, u6
   i2 = !(i2);
   i1 &= i2;
   i32_store8(j0, i1);
-  goto B58;
-  B65:;
+  goto B56;
+  B63:;
   j0 = p2;
   j1 = 2ull;
   j0 += j1;
@@ -56089,7 +56173,7 @@ static void f53(module *self, u64 p0, u64 p1, u64 p2, u64 p3, u64 p4, u64 p5, u6
   i0 = l20;
   i1 = 19u;
   i0 = i0 != i1;
-  if (i0) {goto B99;}
+  if (i0) {goto B97;}
   i0 = l39;
   i1 = l48;
   i0 *= i1;
@@ -56098,8 +56182,8 @@ static void f53(module *self, u64 p0, u64 p1, u64 p2, u64 p3, u64 p4, u64 p5, u6
   i1 = l75;
   i0 += i1;
   l39 = i0;
-  goto B98;
-  B99:;
+  goto B96;
+  B97:;
   i0 = l48;
   i1 = l39;
   i0 *= i1;
@@ -56108,7 +56192,7 @@ static void f53(module *self, u64 p0, u64 p1, u64 p2, u64 p3, u64 p4, u64 p5, u6
   i1 >>= (i2 & 31);
   i0 += i1;
   l39 = i0;
-  B98:;
+  B96:;
   i0 = l24;
   i1 = l49;
   i0 *= i1;
@@ -56130,13 +56214,13 @@ static void f53(module *self, u64 p0, u64 p1, u64 p2, u64 p3, u64 p4, u64 p5, u6
   i0 = l20;
   i1 = 19u;
   i0 = i0 != i1;
-  if (i0) {goto B101;}
+  if (i0) {goto B99;}
   j0 = l7;
   j1 = 168ull;
   j0 += j1;
   j1 = p1;
   i2 = l39;
-  f32(self, j0, j1, i2);
+  f33(self, j0, j1, i2);
   i0 = 4294967295u;
   j1 = l7;
   i1 = (u32)(j1);
@@ -56146,8 +56230,8 @@ static void f53(module *self, u64 p0, u64 p1, u64 p2, u64 p3, u64 p4, u64 p5, u6
   i2 = i32_load8_u(j2 + 168u);
   i0 = i2 ? i0 : i1;
   l39 = i0;
-  goto B100;
-  B101:;
+  goto B98;
+  B99:;
   j0 = p1;
   j1 = 51ull;
   j0 += j1;
@@ -56296,7 +56380,7 @@ static void f53(module *self, u64 p0, u64 p1, u64 p2, u64 p3, u64 p4, u64 p5, u6
   j0 += j1;
   j1 = p1;
   i2 = l39;
-  f32(self, j0, j1, i2);
+  f33(self, j0, j1, i2);
   j0 = l7;
   i0 = (u32)(j0);
   i0 = i32_load8_u(j0 + 201u);
@@ -56415,7 +56499,7 @@ static void f53(module *self, u64 p0, u64 p1, u64 p2, u64 p3, u64 p4, u64 p5, u6
   j0 += j1;
   j1 = p1;
   i2 = l39;
-  f32(self, j0, j1, i2);
+  f33(self, j0, j1, i2);
   j0 = l7;
   i0 = (u32)(j0);
   i0 = i32_load8_u(j0 + 193u);
@@ -56531,7 +56615,7 @@ static void f53(module *self, u64 p0, u64 p1, u64 p2, u64 p3, u64 p4, u64 p5, u6
   j0 += j1;
   j1 = p1;
   i2 = l39;
-  f32(self, j0, j1, i2);
+  f33(self, j0, j1, i2);
   j0 = l7;
   i0 = (u32)(j0);
   i0 = i32_load8_u(j0 + 185u);
@@ -56647,7 +56731,7 @@ static void f53(module *self, u64 p0, u64 p1, u64 p2, u64 p3, u64 p4, u64 p5, u6
   j0 += j1;
   j1 = p1;
   i2 = l39;
-  f32(self, j0, j1, i2);
+  f33(self, j0, j1, i2);
   j0 = l7;
   i0 = (u32)(j0);
   i0 = i32_load8_u(j0 + 177u);
@@ -56809,7 +56893,7 @@ static void f53(module *self, u64 p0, u64 p1, u64 p2, u64 p3, u64 p4, u64 p5, u6
   i1 &= i2;
   i0 |= i1;
   l39 = i0;
-  B100:;
+  B98:;
   j0 = l7;
   i0 = (u32)(j0);
   i1 = l51;
@@ -56820,12 +56904,12 @@ static void f53(module *self, u64 p0, u64 p1, u64 p2, u64 p3, u64 p4, u64 p5, u6
   i2 &= i3;
   i1 |= i2;
   i32_store16(j0 + 432, i1);
-  goto B58;
-  B64:;
+  goto B56;
+  B62:;
   i0 = l49;
   i1 = 7u;
   i0 = i0 == i1;
-  if (i0) {goto B58;}
+  if (i0) {goto B56;}
   j0 = l7;
   i0 = (u32)(j0);
   i1 = 0u;
@@ -56873,7 +56957,7 @@ static void f53(module *self, u64 p0, u64 p1, u64 p2, u64 p3, u64 p4, u64 p5, u6
   i4 = l49;
   i5 = l75;
   i6 = 0u;
-  i1 = f58(self, j1, j2, i3, i4, i5, i6); if (NEVER(self->is_broken)) return;
+  i1 = f59(self, j1, j2, i3, i4, i5, i6); if (NEVER(self->is_broken)) return;
   l20 = i1;
   i32_store16(j0, i1);
   j0 = p2;
@@ -56883,13 +56967,13 @@ static void f53(module *self, u64 p0, u64 p1, u64 p2, u64 p3, u64 p4, u64 p5, u6
   i0 += i1;
   i1 = 251u;
   i0 &= i1;
-  if (i0) {goto B58;}
+  if (i0) {goto B56;}
   i0 = l39;
   j1 = p5;
   i1 = (u32)(j1);
   i1 = i32_load8_u(j1);
   i0 = i0 != i1;
-  if (i0) {goto B58;}
+  if (i0) {goto B56;}
   j0 = p1;
   j1 = p2;
   j2 = 28ull;
@@ -56926,14 +57010,14 @@ static void f53(module *self, u64 p0, u64 p1, u64 p2, u64 p3, u64 p4, u64 p5, u6
   l39 = i3;
   i4 = 8u;
   i3 >>= (i4 & 31);
-  f55(self, j0, i1, i2, i3);
+  f56(self, j0, i1, i2, i3);
   j0 = p1;
   i1 = l48;
   i2 = 15u;
   i3 = l39;
-  f55(self, j0, i1, i2, i3);
-  goto B58;
-  B63:;
+  f56(self, j0, i1, i2, i3);
+  goto B56;
+  B61:;
   j0 = l7;
   i0 = (u32)(j0);
   j1 = p2;
@@ -56960,8 +57044,8 @@ static void f53(module *self, u64 p0, u64 p1, u64 p2, u64 p3, u64 p4, u64 p5, u6
   i2 &= i3;
   i1 |= i2;
   i32_store16(j0 + 434, i1);
-  goto B58;
-  B62:;
+  goto B56;
+  B60:;
   i0 = l75;
   i1 = 8u;
   i0 >>= (i1 & 31);
@@ -56978,34 +57062,34 @@ static void f53(module *self, u64 p0, u64 p1, u64 p2, u64 p3, u64 p4, u64 p5, u6
   j0 &= j1;
   i0 = (u32)(j0);
   switch (i0) {
-    case 0: goto B112;
-    case 1: goto B111;
-    case 2: goto B110;
-    case 3: goto B109;
-    case 4: goto B108;
-    case 5: goto B107;
-    case 6: goto B106;
-    case 7: goto B105;
-    case 8: goto B104;
-    case 9: goto B103;
-    case 10: goto B102;
-    default: goto B112;
+    case 0: goto B110;
+    case 1: goto B109;
+    case 2: goto B108;
+    case 3: goto B107;
+    case 4: goto B106;
+    case 5: goto B105;
+    case 6: goto B104;
+    case 7: goto B103;
+    case 8: goto B102;
+    case 9: goto B101;
+    case 10: goto B100;
+    default: goto B110;
   }
-  B112:;
+  B110:;
   j0 = p1;
   i1 = l20;
   i2 = l49;
   i3 = l39;
-  f59(self, j0, i1, i2, i3); if (NEVER(self->is_broken)) return;
-  goto B58;
-  B111:;
+  f60(self, j0, i1, i2, i3); if (NEVER(self->is_broken)) return;
+  goto B56;
+  B109:;
   j0 = p1;
   i1 = l20;
   i2 = 17u;
   i3 = l49;
-  f59(self, j0, i1, i2, i3); if (NEVER(self->is_broken)) return;
-  goto B58;
-  B110:;
+  f60(self, j0, i1, i2, i3); if (NEVER(self->is_broken)) return;
+  goto B56;
+  B108:;
   j0 = l7;
   j1 = 216ull;
   j0 += j1;
@@ -57014,11 +57098,11 @@ static void f53(module *self, u64 p0, u64 p1, u64 p2, u64 p3, u64 p4, u64 p5, u6
   i3 = 6u;
   i2 += i3;
   l20 = i2;
-  f24(self, j0, j1, i2); if (NEVER(self->is_broken)) return;
+  f25(self, j0, j1, i2); if (NEVER(self->is_broken)) return;
   j0 = p1;
   j1 = p5;
   j2 = 16ull;
-  f60(self, j0, j1, j2);
+  f61(self, j0, j1, j2);
   j0 = p1;
   j1 = 146ull;
   j0 += j1;
@@ -57035,7 +57119,7 @@ static void f53(module *self, u64 p0, u64 p1, u64 p2, u64 p3, u64 p4, u64 p5, u6
   l48 = i0;
   i1 = 1u;
   i0 = i0 != i1;
-  if (i0) {goto B115;}
+  if (i0) {goto B113;}
   j0 = p1;
   j1 = 204ull;
   j0 += j1;
@@ -57047,16 +57131,16 @@ static void f53(module *self, u64 p0, u64 p1, u64 p2, u64 p3, u64 p4, u64 p5, u6
   l49 = i0;
   i1 = 20u;
   i0 = i0 > i1;
-  if (i0) {goto B113;}
+  if (i0) {goto B111;}
   i0 = l49;
   i1 = 15u;
   i0 = i0 > i1;
-  if (i0) {goto B117;}
+  if (i0) {goto B115;}
   i0 = l75;
   i1 = 32u;
   i0 &= i1;
-  if (i0) {goto B116;}
-  B117:;
+  if (i0) {goto B114;}
+  B115:;
   j0 = p1;
   i1 = l49;
   j1 = (u64)(i1);
@@ -57077,7 +57161,7 @@ static void f53(module *self, u64 p0, u64 p1, u64 p2, u64 p3, u64 p4, u64 p5, u6
   j1 = 320ull;
   j0 += j1;
   j1 = p6;
-  f21(self, j0, j1);
+  f22(self, j0, j1);
   j0 = p1;
   j1 = 196ull;
   j0 += j1;
@@ -57094,7 +57178,7 @@ static void f53(module *self, u64 p0, u64 p1, u64 p2, u64 p3, u64 p4, u64 p5, u6
   i1 = (u32)(j1);
   j1 = i64_load(j1 + 320u);
   i64_store(j0, j1);
-  B116:;
+  B114:;
   j0 = p1;
   j1 = 204ull;
   j0 += j1;
@@ -57109,16 +57193,16 @@ static void f53(module *self, u64 p0, u64 p1, u64 p2, u64 p3, u64 p4, u64 p5, u6
   l49 = i0;
   i1 = 20u;
   i0 = i0 > i1;
-  if (i0) {goto B113;}
+  if (i0) {goto B111;}
   i0 = l49;
   i1 = 15u;
   i0 = i0 > i1;
-  if (i0) {goto B118;}
+  if (i0) {goto B116;}
   i0 = l39;
   i1 = 32u;
   i0 &= i1;
-  if (i0) {goto B114;}
-  B118:;
+  if (i0) {goto B112;}
+  B116:;
   j0 = p1;
   i1 = l49;
   j1 = (u64)(i1);
@@ -57139,7 +57223,7 @@ static void f53(module *self, u64 p0, u64 p1, u64 p2, u64 p3, u64 p4, u64 p5, u6
   j1 = 320ull;
   j0 += j1;
   j1 = p6;
-  f21(self, j0, j1);
+  f22(self, j0, j1);
   j0 = p1;
   j1 = 196ull;
   j0 += j1;
@@ -57156,8 +57240,8 @@ static void f53(module *self, u64 p0, u64 p1, u64 p2, u64 p3, u64 p4, u64 p5, u6
   i1 = (u32)(j1);
   j1 = i64_load(j1 + 320u);
   i64_store(j0, j1);
-  goto B114;
-  B115:;
+  goto B112;
+  B113:;
   j0 = p1;
   j1 = 204ull;
   j0 += j1;
@@ -57181,7 +57265,7 @@ static void f53(module *self, u64 p0, u64 p1, u64 p2, u64 p3, u64 p4, u64 p5, u6
   j1 = 320ull;
   j0 += j1;
   j1 = p6;
-  f21(self, j0, j1);
+  f22(self, j0, j1);
   j0 = p1;
   j1 = 196ull;
   j0 += j1;
@@ -57202,7 +57286,7 @@ static void f53(module *self, u64 p0, u64 p1, u64 p2, u64 p3, u64 p4, u64 p5, u6
   i0 = (u32)(j0);
   i1 = 32u;
   i32_store8(j0, i1);
-  B114:;
+  B112:;
   j0 = p1;
   j1 = 205ull;
   j0 += j1;
@@ -57211,15 +57295,15 @@ static void f53(module *self, u64 p0, u64 p1, u64 p2, u64 p3, u64 p4, u64 p5, u6
   i2 = 1u;
   i1 ^= i2;
   i32_store8(j0, i1);
-  B113:;
+  B111:;
   j0 = l7;
   j1 = 208ull;
   j0 += j1;
   j1 = p1;
   i2 = l20;
-  f24(self, j0, j1, i2); if (NEVER(self->is_broken)) return;
-  goto B58;
-  B109:;
+  f25(self, j0, j1, i2); if (NEVER(self->is_broken)) return;
+  goto B56;
+  B107:;
   j0 = l7;
   j1 = 232ull;
   j0 += j1;
@@ -57228,7 +57312,7 @@ static void f53(module *self, u64 p0, u64 p1, u64 p2, u64 p3, u64 p4, u64 p5, u6
   i3 = 6u;
   i2 += i3;
   l39 = i2;
-  f24(self, j0, j1, i2); if (NEVER(self->is_broken)) return;
+  f25(self, j0, j1, i2); if (NEVER(self->is_broken)) return;
   j0 = p1;
   j1 = 146ull;
   j0 += j1;
@@ -57241,7 +57325,7 @@ static void f53(module *self, u64 p0, u64 p1, u64 p2, u64 p3, u64 p4, u64 p5, u6
   l20 = i0;
   i1 = 1u;
   i0 = i0 != i1;
-  if (i0) {goto B121;}
+  if (i0) {goto B119;}
   j0 = p1;
   j1 = 204ull;
   j0 += j1;
@@ -57253,19 +57337,19 @@ static void f53(module *self, u64 p0, u64 p1, u64 p2, u64 p3, u64 p4, u64 p5, u6
   l48 = i0;
   i1 = 20u;
   i0 = i0 > i1;
-  if (i0) {goto B119;}
+  if (i0) {goto B117;}
   i0 = l48;
   j0 = (u64)(i0);
   p5 = j0;
   i0 = l48;
   i1 = 15u;
   i0 = i0 > i1;
-  if (i0) {goto B123;}
+  if (i0) {goto B121;}
   i0 = l75;
   i1 = 32u;
   i0 &= i1;
-  if (i0) {goto B122;}
-  B123:;
+  if (i0) {goto B120;}
+  B121:;
   j0 = p1;
   j1 = p5;
   j0 += j1;
@@ -57284,7 +57368,7 @@ static void f53(module *self, u64 p0, u64 p1, u64 p2, u64 p3, u64 p4, u64 p5, u6
   j1 = 320ull;
   j0 += j1;
   j1 = p6;
-  f21(self, j0, j1);
+  f22(self, j0, j1);
   j0 = p1;
   j1 = 196ull;
   j0 += j1;
@@ -57301,7 +57385,7 @@ static void f53(module *self, u64 p0, u64 p1, u64 p2, u64 p3, u64 p4, u64 p5, u6
   i1 = (u32)(j1);
   j1 = i64_load(j1 + 320u);
   i64_store(j0, j1);
-  B122:;
+  B120:;
   j0 = p1;
   j1 = 205ull;
   j0 += j1;
@@ -57336,16 +57420,16 @@ static void f53(module *self, u64 p0, u64 p1, u64 p2, u64 p3, u64 p4, u64 p5, u6
   l49 = i0;
   i1 = 20u;
   i0 = i0 > i1;
-  if (i0) {goto B119;}
+  if (i0) {goto B117;}
   i0 = l48;
   i1 = 32u;
   i0 = i0 < i1;
-  if (i0) {goto B124;}
+  if (i0) {goto B122;}
   i0 = l49;
   i1 = 16u;
   i0 = i0 < i1;
-  if (i0) {goto B120;}
-  B124:;
+  if (i0) {goto B118;}
+  B122:;
   j0 = l8;
   i1 = l49;
   j1 = (u64)(i1);
@@ -57364,7 +57448,7 @@ static void f53(module *self, u64 p0, u64 p1, u64 p2, u64 p3, u64 p4, u64 p5, u6
   j1 = 320ull;
   j0 += j1;
   j1 = p6;
-  f21(self, j0, j1);
+  f22(self, j0, j1);
   j0 = p1;
   j1 = 196ull;
   j0 += j1;
@@ -57381,8 +57465,8 @@ static void f53(module *self, u64 p0, u64 p1, u64 p2, u64 p3, u64 p4, u64 p5, u6
   i1 = (u32)(j1);
   j1 = i64_load(j1 + 320u);
   i64_store(j0, j1);
-  goto B120;
-  B121:;
+  goto B118;
+  B119:;
   j0 = p1;
   j1 = 204ull;
   j0 += j1;
@@ -57415,7 +57499,7 @@ static void f53(module *self, u64 p0, u64 p1, u64 p2, u64 p3, u64 p4, u64 p5, u6
   j1 = 320ull;
   j0 += j1;
   j1 = p6;
-  f21(self, j0, j1);
+  f22(self, j0, j1);
   j0 = p1;
   j1 = 196ull;
   j0 += j1;
@@ -57436,7 +57520,7 @@ static void f53(module *self, u64 p0, u64 p1, u64 p2, u64 p3, u64 p4, u64 p5, u6
   i0 = (u32)(j0);
   i1 = 32u;
   i32_store8(j0, i1);
-  B120:;
+  B118:;
   j0 = p1;
   j1 = 205ull;
   j0 += j1;
@@ -57445,24 +57529,24 @@ static void f53(module *self, u64 p0, u64 p1, u64 p2, u64 p3, u64 p4, u64 p5, u6
   i2 = 1u;
   i1 ^= i2;
   i32_store8(j0, i1);
-  B119:;
+  B117:;
   j0 = l7;
   j1 = 224ull;
   j0 += j1;
   j1 = p1;
   i2 = l39;
-  f24(self, j0, j1, i2); if (NEVER(self->is_broken)) return;
-  goto B58;
-  B108:;
+  f25(self, j0, j1, i2); if (NEVER(self->is_broken)) return;
+  goto B56;
+  B106:;
   j0 = p1;
   i1 = l20;
   i2 = l49;
   j3 = l7;
   j4 = 432ull;
   j3 += j4;
-  f61(self, j0, i1, i2, j3); if (NEVER(self->is_broken)) return;
-  goto B58;
-  B107:;
+  f62(self, j0, i1, i2, j3); if (NEVER(self->is_broken)) return;
+  goto B56;
+  B105:;
   j0 = l7;
   j1 = 248ull;
   j0 += j1;
@@ -57471,7 +57555,7 @@ static void f53(module *self, u64 p0, u64 p1, u64 p2, u64 p3, u64 p4, u64 p5, u6
   i3 = 6u;
   i2 += i3;
   l39 = i2;
-  f24(self, j0, j1, i2); if (NEVER(self->is_broken)) return;
+  f25(self, j0, j1, i2); if (NEVER(self->is_broken)) return;
   i0 = 1u;
   l20 = i0;
   j0 = p1;
@@ -57481,7 +57565,7 @@ static void f53(module *self, u64 p0, u64 p1, u64 p2, u64 p3, u64 p4, u64 p5, u6
   i0 = i32_load8_u(j0);
   i1 = 1u;
   i0 = i0 != i1;
-  if (i0) {goto B127;}
+  if (i0) {goto B125;}
   j0 = p1;
   j1 = 204ull;
   j0 += j1;
@@ -57493,19 +57577,19 @@ static void f53(module *self, u64 p0, u64 p1, u64 p2, u64 p3, u64 p4, u64 p5, u6
   l20 = i0;
   i1 = 20u;
   i0 = i0 > i1;
-  if (i0) {goto B128;}
+  if (i0) {goto B126;}
   i0 = l20;
   j0 = (u64)(i0);
   p6 = j0;
   i0 = l20;
   i1 = 15u;
   i0 = i0 > i1;
-  if (i0) {goto B130;}
+  if (i0) {goto B128;}
   i0 = l48;
   i1 = 32u;
   i0 &= i1;
-  if (i0) {goto B129;}
-  B130:;
+  if (i0) {goto B127;}
+  B128:;
   j0 = p1;
   j1 = p6;
   j0 += j1;
@@ -57527,7 +57611,7 @@ static void f53(module *self, u64 p0, u64 p1, u64 p2, u64 p3, u64 p4, u64 p5, u6
   j1 = 320ull;
   j0 += j1;
   j1 = p5;
-  f21(self, j0, j1);
+  f22(self, j0, j1);
   j0 = p1;
   j1 = 196ull;
   j0 += j1;
@@ -57544,15 +57628,15 @@ static void f53(module *self, u64 p0, u64 p1, u64 p2, u64 p3, u64 p4, u64 p5, u6
   i1 = (u32)(j1);
   j1 = i64_load(j1 + 320u);
   i64_store(j0, j1);
-  B129:;
+  B127:;
   i0 = 0u;
   l20 = i0;
-  goto B126;
-  B128:;
+  goto B124;
+  B126:;
   i0 = 255u;
   l20 = i0;
-  goto B125;
-  B127:;
+  goto B123;
+  B125:;
   j0 = p1;
   j1 = 204ull;
   j0 += j1;
@@ -57561,7 +57645,7 @@ static void f53(module *self, u64 p0, u64 p1, u64 p2, u64 p3, u64 p4, u64 p5, u6
   i32_store8(j0, i1);
   j0 = 17ull;
   p6 = j0;
-  B126:;
+  B124:;
   j0 = p1;
   j1 = 205ull;
   j0 += j1;
@@ -57576,13 +57660,13 @@ static void f53(module *self, u64 p0, u64 p1, u64 p2, u64 p3, u64 p4, u64 p5, u6
   i0 = (u32)(j0);
   i0 = i32_load8_u(j0);
   l20 = i0;
-  B125:;
+  B123:;
   j0 = l7;
   j1 = 240ull;
   j0 += j1;
   j1 = p1;
   i2 = l39;
-  f24(self, j0, j1, i2); if (NEVER(self->is_broken)) return;
+  f25(self, j0, j1, i2); if (NEVER(self->is_broken)) return;
   j0 = l7;
   i0 = (u32)(j0);
   i1 = l20;
@@ -57593,8 +57677,8 @@ static void f53(module *self, u64 p0, u64 p1, u64 p2, u64 p3, u64 p4, u64 p5, u6
   i2 &= i3;
   i1 |= i2;
   i32_store16(j0 + 434, i1);
-  goto B58;
-  B106:;
+  goto B56;
+  B104:;
   j0 = p1;
   j1 = 2001ull;
   j0 += j1;
@@ -57686,8 +57770,8 @@ static void f53(module *self, u64 p0, u64 p1, u64 p2, u64 p3, u64 p4, u64 p5, u6
   i0 = (u32)(j0);
   i1 = l48;
   i32_store8(j0, i1);
-  goto B58;
-  B105:;
+  goto B56;
+  B103:;
   i0 = 0u;
   l20 = i0;
   j0 = p1;
@@ -57704,7 +57788,7 @@ static void f53(module *self, u64 p0, u64 p1, u64 p2, u64 p3, u64 p4, u64 p5, u6
   i32_store8(j0, i1);
   j0 = p6;
   i0 = !(j0);
-  if (i0) {goto B58;}
+  if (i0) {goto B56;}
   j0 = p1;
   j1 = 974ull;
   j0 += j1;
@@ -57721,7 +57805,7 @@ static void f53(module *self, u64 p0, u64 p1, u64 p2, u64 p3, u64 p4, u64 p5, u6
   j1 = 206ull;
   j0 += j1;
   l9 = j0;
-  L131: 
+  L129: 
     j0 = p5;
     i0 = (u32)(j0);
     i0 = i32_load8_u(j0);
@@ -57734,12 +57818,12 @@ static void f53(module *self, u64 p0, u64 p1, u64 p2, u64 p3, u64 p4, u64 p5, u6
     j0 &= j1;
     i0 = (u32)(j0);
     switch (i0) {
-      case 0: goto B135;
-      case 1: goto B133;
-      case 2: goto B134;
-      default: goto B135;
+      case 0: goto B133;
+      case 1: goto B131;
+      case 2: goto B132;
+      default: goto B133;
     }
-    B135:;
+    B133:;
     j0 = p1;
     j1 = 2000ull;
     j0 += j1;
@@ -57748,8 +57832,8 @@ static void f53(module *self, u64 p0, u64 p1, u64 p2, u64 p3, u64 p4, u64 p5, u6
     i32_store8(j0, i1);
     i0 = 1u;
     l20 = i0;
-    goto B132;
-    B134:;
+    goto B130;
+    B132:;
     j0 = p1;
     j1 = 1998ull;
     j0 += j1;
@@ -57816,8 +57900,8 @@ static void f53(module *self, u64 p0, u64 p1, u64 p2, u64 p3, u64 p4, u64 p5, u6
     i32_store8(j0, i1);
     i0 = l49;
     l39 = i0;
-    goto B132;
-    B133:;
+    goto B130;
+    B131:;
     j0 = p1;
     j1 = 2001ull;
     j0 += j1;
@@ -57826,7 +57910,7 @@ static void f53(module *self, u64 p0, u64 p1, u64 p2, u64 p3, u64 p4, u64 p5, u6
     i32_store8(j0, i1);
     i0 = 2u;
     l20 = i0;
-    B132:;
+    B130:;
     j0 = p1;
     j1 = 1999ull;
     j0 += j1;
@@ -57843,10 +57927,10 @@ static void f53(module *self, u64 p0, u64 p1, u64 p2, u64 p3, u64 p4, u64 p5, u6
     p6 = j0;
     i0 = !(j0);
     i0 = !(i0);
-    if (i0) {goto L131;}
-    goto B58;
+    if (i0) {goto L129;}
+    goto B56;
   { self->is_broken = true; return; }
-  B104:;
+  B102:;
   j0 = p1;
   j1 = 1999ull;
   j0 += j1;
@@ -57900,16 +57984,16 @@ static void f53(module *self, u64 p0, u64 p1, u64 p2, u64 p3, u64 p4, u64 p5, u6
   i2 = i32_load8_u(j2);
   i1 |= i2;
   i32_store16(j0 + 436, i1);
-  goto B58;
-  B103:;
+  goto B56;
+  B101:;
   j0 = p1;
   j1 = 2002ull;
   j0 += j1;
   i0 = (u32)(j0);
   i1 = l49;
   i32_store8(j0, i1);
-  goto B58;
-  B102:;
+  goto B56;
+  B100:;
   j0 = l7;
   i0 = (u32)(j0);
   i1 = l52;
@@ -57922,8 +58006,8 @@ static void f53(module *self, u64 p0, u64 p1, u64 p2, u64 p3, u64 p4, u64 p5, u6
   i2 = i32_load8_u(j2);
   i1 |= i2;
   i32_store16(j0 + 434, i1);
-  goto B58;
-  B61:;
+  goto B56;
+  B59:;
   j0 = l7;
   i0 = (u32)(j0);
   i1 = 9u;
@@ -57937,8 +58021,8 @@ static void f53(module *self, u64 p0, u64 p1, u64 p2, u64 p3, u64 p4, u64 p5, u6
   i3 = i3 == i4;
   i1 = i3 ? i1 : i2;
   i32_store16(j0 + 434, i1);
-  goto B58;
-  B60:;
+  goto B56;
+  B58:;
   j0 = l7;
   i0 = (u32)(j0);
   i1 = l56;
@@ -57969,12 +58053,12 @@ static void f53(module *self, u64 p0, u64 p1, u64 p2, u64 p3, u64 p4, u64 p5, u6
   i32_store8(j0 + 336, i1);
   j0 = p6;
   i0 = !(j0);
-  if (i0) {goto B136;}
+  if (i0) {goto B134;}
   i0 = l58;
   i1 = 1u;
   i0 &= i1;
   i0 = !(i0);
-  if (i0) {goto B137;}
+  if (i0) {goto B135;}
   i0 = l58;
   j0 = (u64)(i0);
   j1 = 1ull;
@@ -57986,7 +58070,7 @@ static void f53(module *self, u64 p0, u64 p1, u64 p2, u64 p3, u64 p4, u64 p5, u6
   l8 = j0;
   j0 = 0ull;
   p4 = j0;
-  L138: 
+  L136: 
     j0 = p1;
     j1 = l7;
     j2 = 320ull;
@@ -58003,7 +58087,7 @@ static void f53(module *self, u64 p0, u64 p1, u64 p2, u64 p3, u64 p4, u64 p5, u6
     i4 = (u32)(j4);
     i4 = i32_load8_u(j4);
     i5 = 1u;
-    i0 = f58(self, j0, j1, i2, i3, i4, i5); if (NEVER(self->is_broken)) return;
+    i0 = f59(self, j0, j1, i2, i3, i4, i5); if (NEVER(self->is_broken)) return;
     l39 = i0;
     j0 = l8;
     j1 = 2ull;
@@ -58017,11 +58101,11 @@ static void f53(module *self, u64 p0, u64 p1, u64 p2, u64 p3, u64 p4, u64 p5, u6
     j0 = p6;
     j1 = p3;
     i0 = j0 != j1;
-    if (i0) {goto L138;}
-    goto B136;
+    if (i0) {goto L136;}
+    goto B134;
   { self->is_broken = true; return; }
-  B137:;
-  L139: 
+  B135:;
+  L137: 
     j0 = p1;
     j1 = l7;
     j2 = 320ull;
@@ -58032,7 +58116,7 @@ static void f53(module *self, u64 p0, u64 p1, u64 p2, u64 p3, u64 p4, u64 p5, u6
     i3 = i32_load8_u(j3);
     i4 = l48;
     i5 = 1u;
-    i0 = f58(self, j0, j1, i2, i3, i4, i5); if (NEVER(self->is_broken)) return;
+    i0 = f59(self, j0, j1, i2, i3, i4, i5); if (NEVER(self->is_broken)) return;
     l39 = i0;
     j0 = p5;
     j1 = 1ull;
@@ -58044,13 +58128,13 @@ static void f53(module *self, u64 p0, u64 p1, u64 p2, u64 p3, u64 p4, u64 p5, u6
     p6 = j0;
     j1 = 0ull;
     i0 = j0 != j1;
-    if (i0) {goto L139;}
-  B136:;
+    if (i0) {goto L137;}
+  B134:;
   i0 = l57;
   i1 = 1u;
   i0 &= i1;
   i0 = !(i0);
-  if (i0) {goto B58;}
+  if (i0) {goto B56;}
   j0 = p2;
   i1 = l75;
   i2 = 1u;
@@ -58071,7 +58155,7 @@ static void f53(module *self, u64 p0, u64 p1, u64 p2, u64 p3, u64 p4, u64 p5, u6
   i0 += i1;
   i1 = 251u;
   i0 &= i1;
-  if (i0) {goto B58;}
+  if (i0) {goto B56;}
   j0 = p2;
   j1 = 26ull;
   j0 += j1;
@@ -58082,7 +58166,7 @@ static void f53(module *self, u64 p0, u64 p1, u64 p2, u64 p3, u64 p4, u64 p5, u6
   i1 &= i2;
   l20 = i1;
   i0 = i0 != i1;
-  if (i0) {goto B58;}
+  if (i0) {goto B56;}
   j0 = p1;
   j1 = p2;
   j2 = 28ull;
@@ -58119,19 +58203,19 @@ static void f53(module *self, u64 p0, u64 p1, u64 p2, u64 p3, u64 p4, u64 p5, u6
   l39 = i3;
   i4 = 8u;
   i3 >>= (i4 & 31);
-  f55(self, j0, i1, i2, i3);
+  f56(self, j0, i1, i2, i3);
   j0 = p1;
   i1 = l48;
   i2 = 15u;
   i3 = l39;
-  f55(self, j0, i1, i2, i3);
-  goto B58;
-  B59:;
+  f56(self, j0, i1, i2, i3);
+  goto B56;
+  B57:;
   j0 = l7;
   i0 = (u32)(j0);
   i1 = 530970u;
   i32_store(j0 + 432, i1);
-  B58:;
+  B56:;
   i0 = 0u;
   l39 = i0;
   j0 = l7;
@@ -58149,21 +58233,11 @@ static void f53(module *self, u64 p0, u64 p1, u64 p2, u64 p3, u64 p4, u64 p5, u6
   i0 = 0u;
   l20 = i0;
   goto B1;
-  B57:;
+  B55:;
   j0 = l7;
   i0 = (u32)(j0);
   i0 = i32_load8_u(j0 + 257u);
   l20 = i0;
-  j0 = l7;
-  i0 = (u32)(j0);
-  i1 = 0u;
-  i32_store(j0 + 267, i1);
-  j0 = l7;
-  i0 = (u32)(j0);
-  i1 = 0u;
-  i32_store(j0 + 264, i1);
-  goto B9;
-  B11:;
   j0 = l7;
   i0 = (u32)(j0);
   i1 = 0u;
@@ -58680,140 +58754,140 @@ static void f53(module *self, u64 p0, u64 p1, u64 p2, u64 p3, u64 p4, u64 p5, u6
   i3 = l39;
   i4 = 15u;
   i3 &= i4;
-  f55(self, j0, i1, i2, i3);
+  f56(self, j0, i1, i2, i3);
   j0 = p1;
   i1 = l24;
   i2 = 0u;
   i3 = l47;
-  f55(self, j0, i1, i2, i3);
+  f56(self, j0, i1, i2, i3);
   j0 = p1;
   i1 = l24;
   i2 = 1u;
   i3 = l46;
-  f55(self, j0, i1, i2, i3);
+  f56(self, j0, i1, i2, i3);
   j0 = p1;
   i1 = l24;
   i2 = 2u;
   i3 = l20;
-  f55(self, j0, i1, i2, i3);
+  f56(self, j0, i1, i2, i3);
   j0 = p1;
   i1 = l24;
   i2 = 3u;
   i3 = l45;
-  f55(self, j0, i1, i2, i3);
+  f56(self, j0, i1, i2, i3);
   j0 = p1;
   i1 = l24;
   i2 = 4u;
   i3 = l44;
-  f55(self, j0, i1, i2, i3);
+  f56(self, j0, i1, i2, i3);
   j0 = p1;
   i1 = l24;
   i2 = 5u;
   i3 = l43;
-  f55(self, j0, i1, i2, i3);
+  f56(self, j0, i1, i2, i3);
   j0 = p1;
   i1 = l24;
   i2 = 6u;
   i3 = l42;
-  f55(self, j0, i1, i2, i3);
+  f56(self, j0, i1, i2, i3);
   j0 = p1;
   i1 = l24;
   i2 = 7u;
   i3 = l41;
-  f55(self, j0, i1, i2, i3);
+  f56(self, j0, i1, i2, i3);
   j0 = p1;
   i1 = l24;
   i2 = 8u;
   i3 = 0u;
-  f55(self, j0, i1, i2, i3);
+  f56(self, j0, i1, i2, i3);
   j0 = p1;
   i1 = l24;
   i2 = 9u;
   i3 = l56;
-  f55(self, j0, i1, i2, i3);
+  f56(self, j0, i1, i2, i3);
   j0 = p1;
   i1 = l24;
   i2 = 10u;
   i3 = l57;
-  f55(self, j0, i1, i2, i3);
+  f56(self, j0, i1, i2, i3);
   j0 = p1;
   i1 = l24;
   i2 = 11u;
   i3 = l58;
-  f55(self, j0, i1, i2, i3);
+  f56(self, j0, i1, i2, i3);
   j0 = p1;
   i1 = l24;
   i2 = 12u;
   j3 = l7;
   i3 = (u32)(j3);
   i3 = i32_load8_u(j3 + 347u);
-  f55(self, j0, i1, i2, i3);
+  f56(self, j0, i1, i2, i3);
   j0 = p1;
   i1 = l24;
   i2 = 13u;
   j3 = l7;
   i3 = (u32)(j3);
   i3 = i32_load8_u(j3 + 348u);
-  f55(self, j0, i1, i2, i3);
+  f56(self, j0, i1, i2, i3);
   j0 = p1;
   i1 = l24;
   i2 = 14u;
   j3 = l7;
   i3 = (u32)(j3);
   i3 = i32_load8_u(j3 + 349u);
-  f55(self, j0, i1, i2, i3);
+  f56(self, j0, i1, i2, i3);
   j0 = p1;
   i1 = l24;
   i2 = 15u;
   j3 = l7;
   i3 = (u32)(j3);
   i3 = i32_load8_u(j3 + 350u);
-  f55(self, j0, i1, i2, i3);
+  f56(self, j0, i1, i2, i3);
   j0 = p1;
   i1 = l24;
   i2 = 16u;
   i3 = l40;
-  f55(self, j0, i1, i2, i3);
+  f56(self, j0, i1, i2, i3);
   j0 = p1;
   i1 = l24;
   i2 = 17u;
   i3 = l39;
-  f55(self, j0, i1, i2, i3);
+  f56(self, j0, i1, i2, i3);
   j0 = p1;
   i1 = l24;
   i2 = 18u;
   i3 = l38;
-  f55(self, j0, i1, i2, i3);
+  f56(self, j0, i1, i2, i3);
   j0 = p1;
   i1 = l24;
   i2 = 19u;
   i3 = l37;
-  f55(self, j0, i1, i2, i3);
+  f56(self, j0, i1, i2, i3);
   j0 = p1;
   i1 = l24;
   i2 = 20u;
   i3 = l59;
-  f55(self, j0, i1, i2, i3);
+  f56(self, j0, i1, i2, i3);
   j0 = p1;
   i1 = l24;
   i2 = 21u;
   i3 = l36;
-  f55(self, j0, i1, i2, i3);
+  f56(self, j0, i1, i2, i3);
   j0 = p1;
   i1 = l24;
   i2 = 22u;
   i3 = l35;
-  f55(self, j0, i1, i2, i3);
+  f56(self, j0, i1, i2, i3);
   j0 = p1;
   i1 = l24;
   i2 = 23u;
   i3 = l34;
-  f55(self, j0, i1, i2, i3);
+  f56(self, j0, i1, i2, i3);
   j0 = p1;
   i1 = l24;
   i2 = 24u;
   i3 = 255u;
-  f55(self, j0, i1, i2, i3);
+  f56(self, j0, i1, i2, i3);
   j0 = l7;
   j1 = 360ull;
   j0 += j1;
@@ -58824,7 +58898,7 @@ static void f53(module *self, u64 p0, u64 p1, u64 p2, u64 p3, u64 p4, u64 p5, u6
   p5 = j0;
   j0 = 0ull;
   p6 = j0;
-  L140: 
+  L138: 
     j0 = p1;
     j1 = 57ull;
     j0 += j1;
@@ -58838,7 +58912,7 @@ static void f53(module *self, u64 p0, u64 p1, u64 p2, u64 p3, u64 p4, u64 p5, u6
     i0 = l39;
     i1 = 8u;
     i0 = i0 > i1;
-    if (i0) {goto B141;}
+    if (i0) {goto B139;}
     j0 = p5;
     j1 = p6;
     j0 += j1;
@@ -58848,12 +58922,12 @@ static void f53(module *self, u64 p0, u64 p1, u64 p2, u64 p3, u64 p4, u64 p5, u6
     i1 = 32u;
     i0 &= i1;
     i0 = !(i0);
-    if (i0) {goto B142;}
+    if (i0) {goto B140;}
     i0 = l39;
     i1 = 5u;
     i0 = i0 == i1;
-    if (i0) {goto B141;}
-    B142:;
+    if (i0) {goto B139;}
+    B140:;
     j0 = p1;
     j1 = p6;
     j0 += j1;
@@ -58987,14 +59061,14 @@ static void f53(module *self, u64 p0, u64 p1, u64 p2, u64 p3, u64 p4, u64 p5, u6
     i2 = !(i2);
     i1 &= i2;
     i32_store8(j0, i1);
-    B141:;
+    B139:;
     j0 = p6;
     j1 = 1ull;
     j0 += j1;
     p6 = j0;
     j1 = 9ull;
     i0 = j0 != j1;
-    if (i0) {goto L140;}
+    if (i0) {goto L138;}
   j0 = l7;
   j1 = 8ull;
   j0 += j1;
@@ -59003,11 +59077,11 @@ static void f53(module *self, u64 p0, u64 p1, u64 p2, u64 p3, u64 p4, u64 p5, u6
   i3 = 6u;
   i2 += i3;
   l39 = i2;
-  f24(self, j0, j1, i2); if (NEVER(self->is_broken)) return;
+  f25(self, j0, j1, i2); if (NEVER(self->is_broken)) return;
   j0 = p1;
   j1 = l9;
   j2 = 21ull;
-  f60(self, j0, j1, j2);
+  f61(self, j0, j1, j2);
   j0 = p1;
   j1 = 205ull;
   j0 += j1;
@@ -59016,7 +59090,7 @@ static void f53(module *self, u64 p0, u64 p1, u64 p2, u64 p3, u64 p4, u64 p5, u6
   l20 = i0;
   i1 = 1u;
   i0 = i0 != i1;
-  if (i0) {goto B145;}
+  if (i0) {goto B143;}
   j0 = p1;
   j1 = 204ull;
   j0 += j1;
@@ -59028,16 +59102,16 @@ static void f53(module *self, u64 p0, u64 p1, u64 p2, u64 p3, u64 p4, u64 p5, u6
   l48 = i0;
   i1 = 20u;
   i0 = i0 > i1;
-  if (i0) {goto B143;}
+  if (i0) {goto B141;}
   i0 = l48;
   i1 = 15u;
   i0 = i0 > i1;
-  if (i0) {goto B146;}
+  if (i0) {goto B144;}
   i0 = l49;
   i1 = 32u;
   i0 &= i1;
-  if (i0) {goto B144;}
-  B146:;
+  if (i0) {goto B142;}
+  B144:;
   j0 = p1;
   i1 = l48;
   j1 = (u64)(i1);
@@ -59061,7 +59135,7 @@ static void f53(module *self, u64 p0, u64 p1, u64 p2, u64 p3, u64 p4, u64 p5, u6
   j1 = 304ull;
   j0 += j1;
   j1 = p5;
-  f21(self, j0, j1);
+  f22(self, j0, j1);
   j0 = p1;
   j1 = 196ull;
   j0 += j1;
@@ -59078,15 +59152,15 @@ static void f53(module *self, u64 p0, u64 p1, u64 p2, u64 p3, u64 p4, u64 p5, u6
   i1 = (u32)(j1);
   j1 = i64_load(j1 + 304u);
   i64_store(j0, j1);
-  goto B144;
-  B145:;
+  goto B142;
+  B143:;
   j0 = p1;
   j1 = 204ull;
   j0 += j1;
   i0 = (u32)(j0);
   i1 = 32u;
   i32_store8(j0, i1);
-  B144:;
+  B142:;
   j0 = p1;
   j1 = 205ull;
   j0 += j1;
@@ -59095,11 +59169,11 @@ static void f53(module *self, u64 p0, u64 p1, u64 p2, u64 p3, u64 p4, u64 p5, u6
   i2 = 1u;
   i1 ^= i2;
   i32_store8(j0, i1);
-  B143:;
+  B141:;
   j0 = l7;
   j1 = p1;
   i2 = l39;
-  f24(self, j0, j1, i2); if (NEVER(self->is_broken)) return;
+  f25(self, j0, j1, i2); if (NEVER(self->is_broken)) return;
   j0 = p1;
   j1 = 2002ull;
   j0 += j1;
@@ -59120,13 +59194,13 @@ static void f53(module *self, u64 p0, u64 p1, u64 p2, u64 p3, u64 p4, u64 p5, u6
   l8 = j0;
   i0 = 0u;
   l39 = i0;
-  L147: 
+  L145: 
     j0 = l7;
     j1 = 304ull;
     j0 += j1;
     i1 = l75;
     i2 = l39;
-    f41(self, j0, i1, i2); if (NEVER(self->is_broken)) return;
+    f42(self, j0, i1, i2); if (NEVER(self->is_broken)) return;
     j0 = p1;
     j1 = l8;
     j0 += j1;
@@ -59204,7 +59278,7 @@ static void f53(module *self, u64 p0, u64 p1, u64 p2, u64 p3, u64 p4, u64 p5, u6
     p5 = j0;
     j1 = 1024ull;
     i0 = j0 != j1;
-    if (i0) {goto L147;}
+    if (i0) {goto L145;}
   j0 = p1;
   j1 = 2001ull;
   j0 += j1;
@@ -59225,36 +59299,36 @@ static void f53(module *self, u64 p0, u64 p1, u64 p2, u64 p3, u64 p4, u64 p5, u6
   i32_store16(j0, i1);
   i0 = l73;
   i0 = !(i0);
-  if (i0) {goto B149;}
+  if (i0) {goto B147;}
   j0 = 1099511627792ull;
   j1 = p1;
   j2 = p3;
   j3 = 1048841ull;
   i4 = l54;
-  f54(self, j0, j1, j2, j3, i4);
+  f55(self, j0, j1, j2, j3, i4);
   i0 = l21;
   i1 = 1u;
   i0 &= i1;
-  if (i0) {goto B148;}
+  if (i0) {goto B146;}
   j0 = p1;
   i1 = l22;
   i2 = 32768u;
   i3 = 32u;
   i4 = 7u;
-  f48(self, j0, i1, i2, i3, i4);
-  goto B148;
-  B149:;
+  f49(self, j0, i1, i2, i3, i4);
+  goto B146;
+  B147:;
   i0 = l21;
   i1 = 1u;
   i0 &= i1;
-  if (i0) {goto B148;}
+  if (i0) {goto B146;}
   j0 = p1;
   i1 = 655360u;
   i2 = 65536u;
   i3 = 0u;
   i4 = 0u;
-  f48(self, j0, i1, i2, i3, i4);
-  B148:;
+  f49(self, j0, i1, i2, i3, i4);
+  B146:;
   j0 = p2;
   i0 = (u32)(j0);
   j1 = 0ull;
@@ -59331,7 +59405,7 @@ static void f53(module *self, u64 p0, u64 p1, u64 p2, u64 p3, u64 p4, u64 p5, u6
   j0 = 0ull;
   p1 = j0;
   i0 = l39;
-  if (i0) {goto B150;}
+  if (i0) {goto B148;}
   j0 = l7;
   i0 = (u32)(j0);
   j1 = l7;
@@ -59348,7 +59422,7 @@ static void f53(module *self, u64 p0, u64 p1, u64 p2, u64 p3, u64 p4, u64 p5, u6
   l20 = i0;
   j0 = p4;
   p1 = j0;
-  B150:;
+  B148:;
   j0 = l7;
   i0 = (u32)(j0);
   j1 = l7;
@@ -59424,16 +59498,16 @@ static void f53(module *self, u64 p0, u64 p1, u64 p2, u64 p3, u64 p4, u64 p5, u6
   self->g0 = j0;
 }
 
-static void f54(module *self, u64 p0, u64 p1, u64 p2, u64 p3, u32 p4) {
-  u32 l34 = 0, l35 = 0, l36 = 0, l37 = 0, l38 = 0, l39 = 0, l40 = 0, l41 = 0, 
-      l42 = 0, l43 = 0, l44 = 0, l45 = 0, l46 = 0;
+static void f55(module *self, u64 p0, u64 p1, u64 p2, u64 p3, u32 p4) {
+  u32 l36 = 0, l37 = 0, l38 = 0, l39 = 0, l40 = 0, l41 = 0, l42 = 0, l43 = 0, 
+      l44 = 0, l45 = 0, l46 = 0, l47 = 0, l48 = 0, l49 = 0;
   u64 l5 = 0, l6 = 0, l7 = 0, l8 = 0, l9 = 0, l10 = 0, l11 = 0, l12 = 0, 
       l13 = 0, l14 = 0, l15 = 0, l16 = 0, l17 = 0, l18 = 0, l19 = 0, l20 = 0, 
       l21 = 0, l22 = 0, l23 = 0, l24 = 0, l25 = 0, l26 = 0, l27 = 0, l28 = 0, 
-      l29 = 0, l30 = 0, l31 = 0, l32 = 0, l33 = 0;
+      l29 = 0, l30 = 0, l31 = 0, l32 = 0, l33 = 0, l34 = 0, l35 = 0;
   u8 *m = self->memory;
   u32 i0, i1, i2, i3, i4, i5;
-  u64 j0, j1, j2, j3, j4, j5;
+  u64 j0, j1, j2, j3, j4;
   j0 = p1;
   j1 = 52ull;
   j0 += j1;
@@ -59486,17 +59560,17 @@ static void f54(module *self, u64 p0, u64 p1, u64 p2, u64 p3, u32 p4) {
   j1 += j2;
   i1 = (u32)(j1);
   i1 = i32_load8_u(j1);
-  l34 = i1;
+  l36 = i1;
   i2 = 4u;
   i1 &= i2;
-  l35 = i1;
+  l37 = i1;
   i32_store8(j0, i1);
   j0 = p1;
   j1 = 71ull;
   j0 += j1;
   l12 = j0;
   i0 = (u32)(j0);
-  i1 = l35;
+  i1 = l37;
   i32_store8(j0, i1);
   j0 = p1;
   j1 = 37ull;
@@ -59508,7 +59582,7 @@ static void f54(module *self, u64 p0, u64 p1, u64 p2, u64 p3, u32 p4) {
   j1 += j2;
   i1 = (u32)(j1);
   i1 = i32_load8_u(j1);
-  l35 = i1;
+  l37 = i1;
   i2 = 6u;
   i1 &= i2;
   i32_store8(j0, i1);
@@ -59525,14 +59599,14 @@ static void f54(module *self, u64 p0, u64 p1, u64 p2, u64 p3, u32 p4) {
   i1 = i32_load8_u(j1);
   i2 = 4u;
   i1 &= i2;
-  l36 = i1;
+  l38 = i1;
   i32_store8(j0, i1);
   j0 = p1;
   j1 = 70ull;
   j0 += j1;
   l16 = j0;
   i0 = (u32)(j0);
-  i1 = l35;
+  i1 = l37;
   i2 = 2u;
   i1 >>= (i2 & 31);
   i2 = 1u;
@@ -59545,7 +59619,7 @@ static void f54(module *self, u64 p0, u64 p1, u64 p2, u64 p3, u32 p4) {
   i0 = (u32)(j0);
   i1 = 65536u;
   i2 = 131072u;
-  i3 = l36;
+  i3 = l38;
   i1 = i3 ? i1 : i2;
   i32_store(j0, i1);
   j0 = p1;
@@ -59567,10 +59641,10 @@ static void f54(module *self, u64 p0, u64 p1, u64 p2, u64 p3, u32 p4) {
   l20 = j2;
   i2 = (u32)(j2);
   i2 = i32_load8_u(j2);
-  l36 = i2;
+  l38 = i2;
   i3 = 7u;
   i2 &= i3;
-  i3 = l36;
+  i3 = l38;
   i4 = 3u;
   i3 >>= (i4 & 31);
   i4 = 3u;
@@ -59591,23 +59665,23 @@ static void f54(module *self, u64 p0, u64 p1, u64 p2, u64 p3, u32 p4) {
   j0 >>= (j1 & 63);
   l22 = j0;
   i0 = (u32)(j0);
-  l36 = i0;
+  l38 = i0;
   j1 = p0;
   j2 = 32ull;
   j1 >>= (j2 & 63);
   i1 = (u32)(j1);
   i0 += i1;
-  l37 = i0;
+  l39 = i0;
   i1 = 65535u;
   i0 &= i1;
-  i1 = l36;
+  i1 = l38;
   i2 = 65535u;
   i1 &= i2;
   i0 = i0 <= i1;
   if (i0) {goto B0;}
   j0 = p0;
   i0 = (u32)(j0);
-  l38 = i0;
+  l40 = i0;
   i1 = 255u;
   i0 &= i1;
   i0 = !(i0);
@@ -59627,26 +59701,26 @@ static void f54(module *self, u64 p0, u64 p1, u64 p2, u64 p3, u32 p4) {
   j1 = 4ull;
   j0 <<= (j1 & 63);
   l26 = j0;
-  i0 = l37;
+  i0 = l39;
   j0 = (u64)(i0);
   j1 = 65535ull;
   j0 &= j1;
   l27 = j0;
-  i0 = l36;
+  i0 = l38;
   i1 = 65535u;
   i0 &= i1;
-  l35 = i0;
+  l37 = i0;
   i1 = 5u;
   i0 <<= (i1 & 31);
   i1 = 655360u;
   i0 += i1;
-  l39 = i0;
-  i0 = l35;
+  l41 = i0;
+  i0 = l37;
   i1 = 8u;
   i0 <<= (i1 & 31);
   i1 = 5242880u;
   i0 += i1;
-  l40 = i0;
+  l42 = i0;
   j0 = l25;
   l28 = j0;
   L1: 
@@ -59676,10 +59750,10 @@ static void f54(module *self, u64 p0, u64 p1, u64 p2, u64 p3, u32 p4) {
     l31 = j0;
     j0 = 0ull;
     p0 = j0;
-    i0 = l39;
-    l35 = i0;
-    i0 = l40;
-    l36 = i0;
+    i0 = l41;
+    l37 = i0;
+    i0 = l42;
+    l38 = i0;
     j0 = l23;
     l32 = j0;
     L2: 
@@ -59692,7 +59766,7 @@ static void f54(module *self, u64 p0, u64 p1, u64 p2, u64 p3, u32 p4) {
       l33 = j0;
       goto B3;
       B4:;
-      i0 = l38;
+      i0 = l40;
       i1 = 255u;
       i0 &= i1;
       i1 = 4294967288u;
@@ -59793,15 +59867,15 @@ static void f54(module *self, u64 p0, u64 p1, u64 p2, u64 p3, u32 p4) {
       i0 &= i1;
       i0 = !(i0);
       if (i0) {goto B11;}
-      i0 = l35;
+      i0 = l37;
       j1 = p1;
       j2 = 60ull;
       j1 += j2;
       i1 = (u32)(j1);
       i1 = i32_load(j1);
-      l41 = i1;
+      l43 = i1;
       i0 -= i1;
-      l34 = i0;
+      l36 = i0;
       j1 = p1;
       j2 = 64ull;
       j1 += j2;
@@ -59809,10 +59883,24 @@ static void f54(module *self, u64 p0, u64 p1, u64 p2, u64 p3, u32 p4) {
       i1 = i32_load(j1);
       i0 = i0 >= i1;
       if (i0) {goto B11;}
+      j0 = p1;
+      j1 = 71ull;
+      j0 += j1;
+      l34 = j0;
+      j0 = p1;
+      j1 = 69ull;
+      j0 += j1;
+      l35 = j0;
+      j0 = p1;
+      j1 = 68ull;
+      j0 += j1;
+      i0 = (u32)(j0);
+      i0 = i32_load8_u(j0);
+      l44 = i0;
       j0 = l33;
       i0 = (u32)(j0);
       i0 = i32_load8_u(j0);
-      l42 = i0;
+      l45 = i0;
       j0 = p1;
       j1 = 72ull;
       j0 += j1;
@@ -59822,10 +59910,10 @@ static void f54(module *self, u64 p0, u64 p1, u64 p2, u64 p3, u32 p4) {
       i0 &= i1;
       i0 = !(i0);
       if (i0) {goto B13;}
-      i0 = l42;
+      i0 = l45;
       i1 = 16843009u;
       i0 *= i1;
-      l37 = i0;
+      l39 = i0;
       goto B12;
       B13:;
       j0 = p1;
@@ -59833,7 +59921,7 @@ static void f54(module *self, u64 p0, u64 p1, u64 p2, u64 p3, u32 p4) {
       j0 += j1;
       i0 = (u32)(j0);
       i0 = i32_load(j0);
-      l37 = i0;
+      l39 = i0;
       j0 = p1;
       j1 = 52ull;
       j0 += j1;
@@ -59842,7 +59930,7 @@ static void f54(module *self, u64 p0, u64 p1, u64 p2, u64 p3, u32 p4) {
       j1 = 3ull;
       j0 &= j1;
       i0 = (u32)(j0);
-      l43 = i0;
+      l46 = i0;
       switch (i0) {
         case 0: goto B17;
         case 1: goto B12;
@@ -59865,19 +59953,19 @@ static void f54(module *self, u64 p0, u64 p1, u64 p2, u64 p3, u32 p4) {
       j0 += j1;
       i0 = (u32)(j0);
       i0 = i32_load(j0);
-      i1 = l42;
+      i1 = l45;
       j2 = p1;
       j3 = 50ull;
       j2 += j3;
       i2 = (u32)(j2);
       i2 = i32_load8_u(j2);
-      l44 = i2;
+      l47 = i2;
       i3 = 7u;
       i2 &= i3;
       i1 >>= (i2 & 31);
-      i2 = l42;
+      i2 = l45;
       i3 = 0u;
-      i4 = l44;
+      i4 = l47;
       i3 -= i4;
       i4 = 7u;
       i3 &= i4;
@@ -59887,7 +59975,7 @@ static void f54(module *self, u64 p0, u64 p1, u64 p2, u64 p3, u32 p4) {
       i1 &= i2;
       i2 = 16843009u;
       i1 *= i2;
-      l44 = i1;
+      l47 = i1;
       i0 ^= i1;
       j1 = p1;
       j2 = 48ull;
@@ -59904,12 +59992,12 @@ static void f54(module *self, u64 p0, u64 p1, u64 p2, u64 p3, u32 p4) {
       i1 = (u32)(j1);
       i1 = i32_load(j1);
       i0 &= i1;
-      i1 = l44;
+      i1 = l47;
       i0 ^= i1;
-      l44 = i0;
+      l47 = i0;
       goto B14;
       B16:;
-      i0 = l42;
+      i0 = l45;
       i1 = 2u;
       i0 <<= (i1 & 31);
       j0 = (u64)(i0);
@@ -59919,7 +60007,7 @@ static void f54(module *self, u64 p0, u64 p1, u64 p2, u64 p3, u32 p4) {
       j0 += j1;
       i0 = (u32)(j0);
       i0 = i32_load(j0);
-      l44 = i0;
+      l47 = i0;
       goto B14;
       B15:;
       j0 = p1;
@@ -59936,14 +60024,14 @@ static void f54(module *self, u64 p0, u64 p1, u64 p2, u64 p3, u32 p4) {
       j0 += j1;
       i0 = (u32)(j0);
       i0 = i32_load(j0);
-      l44 = i0;
+      l47 = i0;
       B14:;
       j0 = p1;
       j1 = 50ull;
       j0 += j1;
       i0 = (u32)(j0);
       i0 = i32_load8_u(j0);
-      l45 = i0;
+      l48 = i0;
       i1 = 3u;
       i0 >>= (i1 & 31);
       i1 = 3u;
@@ -59956,95 +60044,92 @@ static void f54(module *self, u64 p0, u64 p1, u64 p2, u64 p3, u32 p4) {
         default: goto B18;
       }
       B21:;
-      i0 = l44;
-      i1 = l37;
+      i0 = l47;
+      i1 = l39;
       i0 &= i1;
-      l44 = i0;
+      l47 = i0;
       goto B18;
       B20:;
-      i0 = l44;
-      i1 = l37;
+      i0 = l47;
+      i1 = l39;
       i0 |= i1;
-      l44 = i0;
+      l47 = i0;
       goto B18;
       B19:;
-      i0 = l44;
-      i1 = l37;
+      i0 = l47;
+      i1 = l39;
       i0 ^= i1;
-      l44 = i0;
+      l47 = i0;
       B18:;
       j0 = p1;
       j1 = 55ull;
       j0 += j1;
       i0 = (u32)(j0);
       i0 = i32_load8_u(j0);
-      l46 = i0;
-      i0 = l43;
+      l49 = i0;
+      i0 = l46;
       i1 = 3u;
       i0 = i0 != i1;
       if (i0) {goto B22;}
-      i0 = l46;
-      i1 = l42;
-      i2 = l45;
+      i0 = l49;
+      i1 = l45;
+      i2 = l48;
       i3 = 7u;
       i2 &= i3;
       i1 >>= (i2 & 31);
-      i2 = l42;
+      i2 = l45;
       i3 = 0u;
-      i4 = l45;
+      i4 = l48;
       i3 -= i4;
       i4 = 7u;
       i3 &= i4;
       i2 <<= (i3 & 31);
       i1 |= i2;
       i0 &= i1;
-      l46 = i0;
+      l49 = i0;
       B22:;
-      i0 = l44;
-      i1 = l37;
+      i0 = l47;
+      i1 = l39;
       i0 ^= i1;
-      i1 = l46;
+      i1 = l49;
       i2 = 255u;
       i1 &= i2;
       i2 = 16843009u;
       i1 *= i2;
       i0 &= i1;
-      i1 = l37;
+      i1 = l39;
       i0 ^= i1;
-      l37 = i0;
+      l39 = i0;
       B12:;
-      j0 = p1;
-      j1 = 71ull;
-      j0 += j1;
+      j0 = l34;
       i0 = (u32)(j0);
       i0 = i32_load8_u(j0);
-      l42 = i0;
-      j0 = p1;
-      j1 = 68ull;
-      j0 += j1;
+      l45 = i0;
+      j0 = l35;
       i0 = (u32)(j0);
       i0 = i32_load8_u(j0);
-      l44 = i0;
+      l47 = i0;
+      i0 = l44;
       i1 = 1u;
       i0 &= i1;
       i0 = !(i0);
       if (i0) {goto B24;}
       i0 = 134480385u;
-      i1 = l36;
-      i2 = l41;
+      i1 = l38;
+      i2 = l43;
       i3 = 3u;
       i2 <<= (i3 & 31);
       i1 -= i2;
       i2 = 24u;
       i1 &= i2;
       i0 >>= (i1 & 31);
-      l41 = i0;
+      l43 = i0;
       goto B23;
       B24:;
       i0 = 15u;
       i1 = 10u;
       i2 = 5u;
-      i3 = l34;
+      i3 = l36;
       i4 = 1u;
       i3 &= i4;
       i1 = i3 ? i1 : i2;
@@ -60056,23 +60141,19 @@ static void f54(module *self, u64 p0, u64 p1, u64 p2, u64 p3, u32 p4) {
       i3 = 1u;
       i2 &= i3;
       i0 = i2 ? i0 : i1;
-      l41 = i0;
+      l43 = i0;
       B23:;
       j0 = p1;
       i0 = (u32)(j0);
       j0 = i64_load(j0);
-      i1 = l34;
+      i1 = l36;
       i2 = 65532u;
       i1 &= i2;
-      i2 = l34;
+      i2 = l36;
       i3 = 65534u;
       i2 &= i3;
-      i3 = l34;
-      j4 = p1;
-      j5 = 69ull;
-      j4 += j5;
-      i4 = (u32)(j4);
-      i4 = i32_load8_u(j4);
+      i3 = l36;
+      i4 = l47;
       i5 = 1u;
       i4 &= i5;
       i2 = i4 ? i2 : i3;
@@ -60088,14 +60169,14 @@ static void f54(module *self, u64 p0, u64 p1, u64 p2, u64 p3, u32 p4) {
       j0 += j1;
       l33 = j0;
       i0 = (u32)(j0);
-      i1 = l37;
+      i1 = l39;
       j2 = l33;
       i2 = (u32)(j2);
       i2 = i32_load(j2);
-      l34 = i2;
+      l36 = i2;
       i1 ^= i2;
-      i2 = l41;
-      i3 = l42;
+      i2 = l43;
+      i3 = l45;
       i2 &= i3;
       i3 = 2u;
       i2 <<= (i3 & 31);
@@ -60107,18 +60188,18 @@ static void f54(module *self, u64 p0, u64 p1, u64 p2, u64 p3, u32 p4) {
       i2 = (u32)(j2);
       i2 = i32_load(j2);
       i1 &= i2;
-      i2 = l34;
+      i2 = l36;
       i1 ^= i2;
       i32_store(j0, i1);
       B11:;
-      i0 = l35;
+      i0 = l37;
       i1 = 1u;
       i0 += i1;
-      l35 = i0;
-      i0 = l36;
+      l37 = i0;
+      i0 = l38;
       i1 = 8u;
       i0 += i1;
-      l36 = i0;
+      l38 = i0;
       j0 = l22;
       j1 = 1ull;
       j0 += j1;
@@ -60134,14 +60215,14 @@ static void f54(module *self, u64 p0, u64 p1, u64 p2, u64 p3, u32 p4) {
       j1 = 0ull;
       i0 = j0 != j1;
       if (i0) {goto L2;}
-    i0 = l39;
+    i0 = l41;
     i1 = 32u;
     i0 += i1;
-    l39 = i0;
-    i0 = l40;
+    l41 = i0;
+    i0 = l42;
     i1 = 256u;
     i0 += i1;
-    l40 = i0;
+    l42 = i0;
     j0 = l26;
     j1 = 16ull;
     j0 += j1;
@@ -60158,13 +60239,13 @@ static void f54(module *self, u64 p0, u64 p1, u64 p2, u64 p3, u32 p4) {
   j0 += j1;
   i0 = (u32)(j0);
   i0 = i32_load8_u(j0);
-  l35 = i0;
+  l37 = i0;
   j0 = p1;
   j1 = 30ull;
   j0 += j1;
   i0 = (u32)(j0);
   i0 = i32_load8_u(j0);
-  l34 = i0;
+  l36 = i0;
   B0:;
   j0 = l9;
   i0 = (u32)(j0);
@@ -60172,10 +60253,10 @@ static void f54(module *self, u64 p0, u64 p1, u64 p2, u64 p3, u32 p4) {
   i32_store8(j0, i1);
   j0 = l11;
   i0 = (u32)(j0);
-  i1 = l34;
+  i1 = l36;
   i2 = 3u;
   i1 &= i2;
-  l34 = i1;
+  l36 = i1;
   i32_store8(j0, i1);
   j0 = l16;
   i0 = (u32)(j0);
@@ -60183,11 +60264,11 @@ static void f54(module *self, u64 p0, u64 p1, u64 p2, u64 p3, u32 p4) {
   i32_store8(j0, i1);
   j0 = l12;
   i0 = (u32)(j0);
-  i1 = l34;
+  i1 = l36;
   i32_store8(j0, i1);
   j0 = l13;
   i0 = (u32)(j0);
-  i1 = l35;
+  i1 = l37;
   i2 = 2u;
   i1 &= i2;
   i32_store8(j0, i1);
@@ -60220,13 +60301,13 @@ static void f54(module *self, u64 p0, u64 p1, u64 p2, u64 p3, u32 p4) {
   i1 = i32_load8_u(j1);
   i2 = p4;
   i1 &= i2;
-  l35 = i1;
+  l37 = i1;
   i32_store8(j0, i1);
   j0 = p1;
   j1 = 69ull;
   j0 += j1;
   i0 = (u32)(j0);
-  i1 = l35;
+  i1 = l37;
   i2 = 1u;
   i1 >>= (i2 & 31);
   i2 = 1u;
@@ -60242,10 +60323,10 @@ static void f54(module *self, u64 p0, u64 p1, u64 p2, u64 p3, u32 p4) {
   j2 = l20;
   i2 = (u32)(j2);
   i2 = i32_load8_u(j2);
-  l34 = i2;
+  l36 = i2;
   i3 = 7u;
   i2 &= i3;
-  i3 = l34;
+  i3 = l36;
   i4 = 3u;
   i3 >>= (i4 & 31);
   i4 = 3u;
@@ -60260,7 +60341,7 @@ static void f54(module *self, u64 p0, u64 p1, u64 p2, u64 p3, u32 p4) {
   i32_store8(j0, i1);
   j0 = l17;
   i0 = (u32)(j0);
-  i1 = l35;
+  i1 = l37;
   i2 = 2u;
   i1 >>= (i2 & 31);
   i2 = 3u;
@@ -60280,7 +60361,7 @@ static void f54(module *self, u64 p0, u64 p1, u64 p2, u64 p3, u32 p4) {
   i32_store(j0, i1);
 }
 
-static void f55(module *self, u64 p0, u32 p1, u32 p2, u32 p3) {
+static void f56(module *self, u64 p0, u32 p1, u32 p2, u32 p3) {
   u32 l5 = 0, l6 = 0, l7 = 0;
   u64 l4 = 0;
   u8 *m = self->memory;
@@ -60367,7 +60448,7 @@ static void f55(module *self, u64 p0, u32 p1, u32 p2, u32 p3) {
   j1 = p0;
   i2 = l6;
   i3 = p2;
-  f42(self, j0, j1, i2, i3);
+  f43(self, j0, j1, i2, i3);
   B0:;
   i0 = p1;
   i1 = 4294966337u;
@@ -60443,7 +60524,7 @@ static void f55(module *self, u64 p0, u32 p1, u32 p2, u32 p3) {
   j1 = p0;
   i2 = l6;
   i3 = p3;
-  f42(self, j0, j1, i2, i3);
+  f43(self, j0, j1, i2, i3);
   B4:;
   j0 = l4;
   j1 = 16ull;
@@ -60451,7 +60532,7 @@ static void f55(module *self, u64 p0, u32 p1, u32 p2, u32 p3) {
   self->g0 = j0;
 }
 
-static void f56(module *self, u64 p0, u64 p1, u64 p2, u32 p3, u64 p4) {
+static void f57(module *self, u64 p0, u64 p1, u64 p2, u32 p3, u64 p4) {
   u32 l5 = 0, l6 = 0, l7 = 0, l8 = 0, l9 = 0, l10 = 0, l11 = 0, l12 = 0, 
       l13 = 0, l14 = 0, l15 = 0, l16 = 0, l17 = 0, l18 = 0, l19 = 0, l20 = 0, 
       l21 = 0, l22 = 0, l23 = 0, l24 = 0, l25 = 0;
@@ -60793,7 +60874,7 @@ static void f56(module *self, u64 p0, u64 p1, u64 p2, u32 p3, u64 p4) {
       i3 = l10;
       i2 += i3;
       i3 = p3;
-      f62(self, j0, i1, i2, i3);
+      f63(self, j0, i1, i2, i3);
       i0 = l10;
       i1 = l11;
       i0 += i1;
@@ -60887,7 +60968,7 @@ static void f56(module *self, u64 p0, u64 p1, u64 p2, u32 p3, u64 p4) {
       i3 = l10;
       i2 += i3;
       i3 = p3;
-      f62(self, j0, i1, i2, i3);
+      f63(self, j0, i1, i2, i3);
       i0 = l10;
       i1 = l11;
       i0 += i1;
@@ -61110,7 +61191,7 @@ static void f56(module *self, u64 p0, u64 p1, u64 p2, u32 p3, u64 p4) {
       i2 = p3;
       i3 = 32u;
       i4 = l12;
-      f48(self, j0, i1, i2, i3, i4);
+      f49(self, j0, i1, i2, i3, i4);
       i0 = l10;
       i1 = l11;
       i0 += i1;
@@ -61172,7 +61253,7 @@ static void f56(module *self, u64 p0, u64 p1, u64 p2, u32 p3, u64 p4) {
       i2 = p3;
       i3 = 0u;
       i4 = 0u;
-      f48(self, j0, i1, i2, i3, i4);
+      f49(self, j0, i1, i2, i3, i4);
       i0 = l10;
       i1 = l11;
       i0 += i1;
@@ -61327,7 +61408,7 @@ static void f56(module *self, u64 p0, u64 p1, u64 p2, u32 p3, u64 p4) {
       i2 = p3;
       i3 = 255u;
       i4 = 255u;
-      f48(self, j0, i1, i2, i3, i4);
+      f49(self, j0, i1, i2, i3, i4);
       i0 = l10;
       i1 = l11;
       i0 += i1;
@@ -61487,7 +61568,7 @@ static void f56(module *self, u64 p0, u64 p1, u64 p2, u32 p3, u64 p4) {
       i2 = p3;
       i3 = l12;
       i4 = l12;
-      f48(self, j0, i1, i2, i3, i4);
+      f49(self, j0, i1, i2, i3, i4);
       i0 = l10;
       i1 = l11;
       i0 += i1;
@@ -61512,15 +61593,15 @@ static void f56(module *self, u64 p0, u64 p1, u64 p2, u32 p3, u64 p4) {
   Bfunc:;
 }
 
-static void f57(module *self, u64 p0, u64 p1, u32 p2, u32 p3, u32 p4, u32 p5) {
+static void f58(module *self, u64 p0, u64 p1, u32 p2, u32 p3, u32 p4, u32 p5) {
   u32 l28 = 0, l29 = 0, l30 = 0, l31 = 0, l32 = 0, l33 = 0, l34 = 0, l35 = 0, 
-      l36 = 0, l37 = 0, l38 = 0, l39 = 0, l40 = 0, l41 = 0, l42 = 0;
+      l36 = 0, l37 = 0, l38 = 0, l39 = 0, l40 = 0, l41 = 0, l42 = 0, l43 = 0;
   u64 l6 = 0, l7 = 0, l8 = 0, l9 = 0, l10 = 0, l11 = 0, l12 = 0, l13 = 0, 
       l14 = 0, l15 = 0, l16 = 0, l17 = 0, l18 = 0, l19 = 0, l20 = 0, l21 = 0, 
       l22 = 0, l23 = 0, l24 = 0, l25 = 0, l26 = 0, l27 = 0;
   u8 *m = self->memory;
   u32 i0, i1, i2, i3, i4, i5;
-  u64 j0, j1, j2, j3, j4, j5;
+  u64 j0, j1, j2, j3, j4;
   j0 = self->g0;
   j1 = 16ull;
   j0 -= j1;
@@ -61617,26 +61698,38 @@ static void f57(module *self, u64 p0, u64 p1, u32 p2, u32 p3, u32 p4, u32 p5) {
   i0 = i0 >= i1;
   if (i0) {goto B5;}
   j0 = p0;
+  j1 = 71ull;
+  j0 += j1;
+  i0 = (u32)(j0);
+  i0 = i32_load8_u(j0);
+  l28 = i0;
+  j0 = p0;
+  j1 = 70ull;
+  j0 += j1;
+  i0 = (u32)(j0);
+  i0 = i32_load8_u(j0);
+  l30 = i0;
+  j0 = p0;
+  j1 = 69ull;
+  j0 += j1;
+  i0 = (u32)(j0);
+  i0 = i32_load8_u(j0);
+  l31 = i0;
+  j0 = p0;
   j1 = p0;
   j2 = 72ull;
   j1 += j2;
   i1 = (u32)(j1);
   i1 = i32_load8_u(j1);
   i2 = p3;
-  i0 = f44(self, j0, i1, i2);
-  l28 = i0;
-  j0 = p0;
-  j1 = 71ull;
-  j0 += j1;
-  i0 = (u32)(j0);
-  i0 = i32_load8_u(j0);
-  l30 = i0;
+  i0 = f45(self, j0, i1, i2);
+  l32 = i0;
   j0 = p0;
   j1 = 68ull;
   j0 += j1;
   i0 = (u32)(j0);
   i0 = i32_load8_u(j0);
-  l31 = i0;
+  l33 = i0;
   i1 = 1u;
   i0 &= i1;
   i0 = !(i0);
@@ -61646,7 +61739,7 @@ static void f57(module *self, u64 p0, u64 p1, u32 p2, u32 p3, u32 p4, u32 p5) {
   i2 = 3u;
   i1 <<= (i2 & 31);
   i0 >>= (i1 & 31);
-  l32 = i0;
+  p3 = i0;
   goto B6;
   B7:;
   i0 = 15u;
@@ -61656,15 +61749,11 @@ static void f57(module *self, u64 p0, u64 p1, u32 p2, u32 p3, u32 p4, u32 p5) {
   i4 = 1u;
   i3 &= i4;
   i1 = i3 ? i1 : i2;
-  j2 = p0;
-  j3 = 70ull;
-  j2 += j3;
-  i2 = (u32)(j2);
-  i2 = i32_load8_u(j2);
+  i2 = l30;
   i3 = 1u;
   i2 &= i3;
   i0 = i2 ? i0 : i1;
-  l32 = i0;
+  p3 = i0;
   B6:;
   j0 = p0;
   i0 = (u32)(j0);
@@ -61676,15 +61765,11 @@ static void f57(module *self, u64 p0, u64 p1, u32 p2, u32 p3, u32 p4, u32 p5) {
   i3 = 65534u;
   i2 &= i3;
   i3 = l29;
-  j4 = p0;
-  j5 = 69ull;
-  j4 += j5;
-  i4 = (u32)(j4);
-  i4 = i32_load8_u(j4);
+  i4 = l31;
   i5 = 1u;
   i4 &= i5;
   i2 = i4 ? i2 : i3;
-  i3 = l31;
+  i3 = l33;
   i4 = 1u;
   i3 &= i4;
   i1 = i3 ? i1 : i2;
@@ -61696,14 +61781,14 @@ static void f57(module *self, u64 p0, u64 p1, u32 p2, u32 p3, u32 p4, u32 p5) {
   j0 += j1;
   p1 = j0;
   i0 = (u32)(j0);
-  i1 = l28;
+  i1 = l32;
   j2 = p1;
   i2 = (u32)(j2);
   i2 = i32_load(j2);
   l29 = i2;
   i1 ^= i2;
-  i2 = l32;
-  i3 = l30;
+  i2 = p3;
+  i3 = l28;
   i2 &= i3;
   i3 = 2u;
   i2 <<= (i3 & 31);
@@ -61751,26 +61836,38 @@ static void f57(module *self, u64 p0, u64 p1, u32 p2, u32 p3, u32 p4, u32 p5) {
   i0 = i0 >= i1;
   if (i0) {goto B1;}
   j0 = p0;
+  j1 = 71ull;
+  j0 += j1;
+  i0 = (u32)(j0);
+  i0 = i32_load8_u(j0);
+  p2 = i0;
+  j0 = p0;
+  j1 = 70ull;
+  j0 += j1;
+  i0 = (u32)(j0);
+  i0 = i32_load8_u(j0);
+  l32 = i0;
+  j0 = p0;
+  j1 = 69ull;
+  j0 += j1;
+  i0 = (u32)(j0);
+  i0 = i32_load8_u(j0);
+  l28 = i0;
+  j0 = p0;
   j1 = p0;
   j2 = 72ull;
   j1 += j2;
   i1 = (u32)(j1);
   i1 = i32_load8_u(j1);
   i2 = p4;
-  i0 = f44(self, j0, i1, i2);
-  p2 = i0;
-  j0 = p0;
-  j1 = 71ull;
-  j0 += j1;
-  i0 = (u32)(j0);
-  i0 = i32_load8_u(j0);
-  l28 = i0;
+  i0 = f45(self, j0, i1, i2);
+  p5 = i0;
   j0 = p0;
   j1 = 68ull;
   j0 += j1;
   i0 = (u32)(j0);
   i0 = i32_load8_u(j0);
-  p5 = i0;
+  l31 = i0;
   i1 = 1u;
   i0 &= i1;
   i0 = !(i0);
@@ -61780,7 +61877,7 @@ static void f57(module *self, u64 p0, u64 p1, u32 p2, u32 p3, u32 p4, u32 p5) {
   i2 = 3u;
   i1 <<= (i2 & 31);
   i0 >>= (i1 & 31);
-  l30 = i0;
+  l32 = i0;
   goto B8;
   B9:;
   i0 = 15u;
@@ -61790,15 +61887,11 @@ static void f57(module *self, u64 p0, u64 p1, u32 p2, u32 p3, u32 p4, u32 p5) {
   i4 = 1u;
   i3 &= i4;
   i1 = i3 ? i1 : i2;
-  j2 = p0;
-  j3 = 70ull;
-  j2 += j3;
-  i2 = (u32)(j2);
-  i2 = i32_load8_u(j2);
+  i2 = l32;
   i3 = 1u;
   i2 &= i3;
   i0 = i2 ? i0 : i1;
-  l30 = i0;
+  l32 = i0;
   B8:;
   j0 = p0;
   i0 = (u32)(j0);
@@ -61810,15 +61903,11 @@ static void f57(module *self, u64 p0, u64 p1, u32 p2, u32 p3, u32 p4, u32 p5) {
   i3 = 65534u;
   i2 &= i3;
   i3 = l29;
-  j4 = p0;
-  j5 = 69ull;
-  j4 += j5;
-  i4 = (u32)(j4);
-  i4 = i32_load8_u(j4);
+  i4 = l28;
   i5 = 1u;
   i4 &= i5;
   i2 = i4 ? i2 : i3;
-  i3 = p5;
+  i3 = l31;
   i4 = 1u;
   i3 &= i4;
   i1 = i3 ? i1 : i2;
@@ -61830,14 +61919,14 @@ static void f57(module *self, u64 p0, u64 p1, u32 p2, u32 p3, u32 p4, u32 p5) {
   j0 += j1;
   p0 = j0;
   i0 = (u32)(j0);
-  i1 = p2;
+  i1 = p5;
   j2 = p0;
   i2 = (u32)(j2);
   i2 = i32_load(j2);
   l29 = i2;
   i1 ^= i2;
-  i2 = l30;
-  i3 = l28;
+  i2 = l32;
+  i3 = p2;
   i2 &= i3;
   i3 = 2u;
   i2 <<= (i3 & 31);
@@ -61863,9 +61952,9 @@ static void f57(module *self, u64 p0, u64 p1, u32 p2, u32 p3, u32 p4, u32 p5) {
   i0 = !(i0);
   if (i0) {goto B0;}
   i0 = 1u;
-  l31 = i0;
+  l32 = i0;
   i0 = 0u;
-  l30 = i0;
+  l31 = i0;
   i0 = l29;
   i1 = 4294967293u;
   i0 += i1;
@@ -61879,9 +61968,9 @@ static void f57(module *self, u64 p0, u64 p1, u32 p2, u32 p3, u32 p4, u32 p5) {
   }
   B11:;
   i0 = 2u;
-  l31 = i0;
+  l32 = i0;
   i0 = 1u;
-  l30 = i0;
+  l31 = i0;
   B10:;
   j0 = p1;
   j1 = 4ull;
@@ -61902,8 +61991,8 @@ static void f57(module *self, u64 p0, u64 p1, u32 p2, u32 p3, u32 p4, u32 p5) {
   i3 = i3 == i4;
   i1 = i3 ? i1 : i2;
   i0 += i1;
-  l33 = i0;
-  i0 = l31;
+  l30 = i0;
+  i0 = l32;
   i1 = p5;
   i0 *= i1;
   l28 = i0;
@@ -61915,26 +62004,26 @@ static void f57(module *self, u64 p0, u64 p1, u32 p2, u32 p3, u32 p4, u32 p5) {
   i2 = p5;
   i1 *= i2;
   i0 -= i1;
-  i1 = l31;
+  i1 = l32;
   i0 *= i1;
   l34 = i0;
-  i0 = l30;
+  i0 = l31;
   if (i0) {goto B15;}
   j0 = p1;
   j1 = 32ull;
   j0 += j1;
   i0 = (u32)(j0);
   i0 = i32_load16_u(j0);
-  l30 = i0;
+  l31 = i0;
   i0 = p4;
   i0 = (u32)(s32)(s8)(u8)(i0);
   i1 = 4294967295u;
   i0 = (u32)((s32)i0 <= (s32)i1);
   if (i0) {goto B14;}
-  i0 = l30;
+  i0 = l31;
   if (i0) {goto B13;}
   i0 = 0u;
-  l30 = i0;
+  l31 = i0;
   i0 = 1u;
   l35 = i0;
   i0 = 0u;
@@ -61942,7 +62031,7 @@ static void f57(module *self, u64 p0, u64 p1, u32 p2, u32 p3, u32 p4, u32 p5) {
   goto B12;
   B15:;
   i0 = 1u;
-  l30 = i0;
+  l31 = i0;
   i0 = p4;
   i0 = (u32)(s32)(s8)(u8)(i0);
   i1 = 4294967295u;
@@ -61975,7 +62064,7 @@ static void f57(module *self, u64 p0, u64 p1, u32 p2, u32 p3, u32 p4, u32 p5) {
   i1 = i32_load8_u(j1);
   i2 = 24u;
   i1 &= i2;
-  l35 = i1;
+  l36 = i1;
   i32_store8(j0, i1);
   j0 = p0;
   j1 = 35ull;
@@ -62028,12 +62117,12 @@ static void f57(module *self, u64 p0, u64 p1, u32 p2, u32 p3, u32 p4, u32 p5) {
   j1 += j2;
   i1 = (u32)(j1);
   i1 = i32_load8_u(j1);
-  l32 = i1;
+  l33 = i1;
   i2 = 2u;
   i1 >>= (i2 & 31);
   i2 = 1u;
   i1 &= i2;
-  l31 = i1;
+  l32 = i1;
   i32_store8(j0, i1);
   j0 = p0;
   j1 = 69ull;
@@ -62056,12 +62145,12 @@ static void f57(module *self, u64 p0, u64 p1, u32 p2, u32 p3, u32 p4, u32 p5) {
   j0 += j1;
   l17 = j0;
   i0 = (u32)(j0);
-  i1 = l32;
+  i1 = l33;
   i2 = 3u;
   i1 >>= (i2 & 31);
   i2 = 1u;
   i1 &= i2;
-  l32 = i1;
+  l33 = i1;
   i32_store8(j0, i1);
   j0 = p0;
   j1 = 64ull;
@@ -62071,7 +62160,7 @@ static void f57(module *self, u64 p0, u64 p1, u32 p2, u32 p3, u32 p4, u32 p5) {
   i1 = p2;
   i2 = 2u;
   i1 >>= (i2 & 31);
-  l36 = i1;
+  l37 = i1;
   i2 = 3u;
   i1 &= i2;
   j1 = (u64)(i1);
@@ -62104,7 +62193,7 @@ static void f57(module *self, u64 p0, u64 p1, u32 p2, u32 p3, u32 p4, u32 p5) {
   i2 = 255u;
   i1 = i1 == i2;
   i2 = p4;
-  i3 = l35;
+  i3 = l36;
   i4 = 3u;
   i3 >>= (i4 & 31);
   i2 += i3;
@@ -62118,17 +62207,17 @@ static void f57(module *self, u64 p0, u64 p1, u32 p2, u32 p3, u32 p4, u32 p5) {
   i2 = !(i2);
   i1 &= i2;
   i32_store8(j0, i1);
-  i0 = l30;
+  i0 = l31;
   i0 = !(i0);
   if (i0) {goto B16;}
   i0 = l34;
-  i1 = l33;
+  i1 = l30;
   i0 += i1;
   p5 = i0;
-  i0 = l30;
+  i0 = l31;
   i1 = l29;
   i0 *= i1;
-  l31 = i0;
+  l32 = i0;
   i0 = p3;
   j0 = (u64)(i0);
   j1 = 255ull;
@@ -62145,13 +62234,13 @@ static void f57(module *self, u64 p0, u64 p1, u32 p2, u32 p3, u32 p4, u32 p5) {
   j1 = 14ull;
   j0 *= j1;
   l25 = j0;
-  i0 = l30;
+  i0 = l31;
   j0 = (u64)(i0);
   l26 = j0;
   j0 = 0ull;
   p1 = j0;
   L17: 
-    i0 = l30;
+    i0 = l31;
     i1 = 4294967288u;
     i0 += i1;
     switch (i0) {
@@ -62250,7 +62339,7 @@ static void f57(module *self, u64 p0, u64 p1, u32 p2, u32 p3, u32 p4, u32 p5) {
     j0 += j1;
     j1 = p0;
     i2 = p5;
-    i3 = l31;
+    i3 = l32;
     j4 = p1;
     i4 = (u32)(j4);
     i3 += i4;
@@ -62258,7 +62347,7 @@ static void f57(module *self, u64 p0, u64 p1, u32 p2, u32 p3, u32 p4, u32 p5) {
     i3 *= i4;
     i2 += i3;
     l29 = i2;
-    f32(self, j0, j1, i2);
+    f33(self, j0, j1, i2);
     j0 = p0;
     j1 = 2003ull;
     j0 += j1;
@@ -62284,26 +62373,38 @@ static void f57(module *self, u64 p0, u64 p1, u32 p2, u32 p3, u32 p4, u32 p5) {
     i0 = i0 >= i1;
     if (i0) {goto B25;}
     j0 = p0;
+    j1 = 71ull;
+    j0 += j1;
+    i0 = (u32)(j0);
+    i0 = i32_load8_u(j0);
+    l33 = i0;
+    j0 = p0;
+    j1 = 70ull;
+    j0 += j1;
+    i0 = (u32)(j0);
+    i0 = i32_load8_u(j0);
+    l34 = i0;
+    j0 = p0;
+    j1 = 69ull;
+    j0 += j1;
+    i0 = (u32)(j0);
+    i0 = i32_load8_u(j0);
+    p3 = i0;
+    j0 = p0;
     j1 = p0;
     j2 = 72ull;
     j1 += j2;
     i1 = (u32)(j1);
     i1 = i32_load8_u(j1);
     i2 = p2;
-    i0 = f44(self, j0, i1, i2);
+    i0 = f45(self, j0, i1, i2);
     p2 = i0;
-    j0 = p0;
-    j1 = 71ull;
-    j0 += j1;
-    i0 = (u32)(j0);
-    i0 = i32_load8_u(j0);
-    l32 = i0;
     j0 = p0;
     j1 = 68ull;
     j0 += j1;
     i0 = (u32)(j0);
     i0 = i32_load8_u(j0);
-    p3 = i0;
+    l30 = i0;
     i1 = 1u;
     i0 &= i1;
     i0 = !(i0);
@@ -62313,7 +62414,7 @@ static void f57(module *self, u64 p0, u64 p1, u32 p2, u32 p3, u32 p4, u32 p5) {
     i2 = 3u;
     i1 <<= (i2 & 31);
     i0 >>= (i1 & 31);
-    l33 = i0;
+    l34 = i0;
     goto B26;
     B27:;
     i0 = 15u;
@@ -62323,15 +62424,11 @@ static void f57(module *self, u64 p0, u64 p1, u32 p2, u32 p3, u32 p4, u32 p5) {
     i4 = 1u;
     i3 &= i4;
     i1 = i3 ? i1 : i2;
-    j2 = p0;
-    j3 = 70ull;
-    j2 += j3;
-    i2 = (u32)(j2);
-    i2 = i32_load8_u(j2);
+    i2 = l34;
     i3 = 1u;
     i2 &= i3;
     i0 = i2 ? i0 : i1;
-    l33 = i0;
+    l34 = i0;
     B26:;
     j0 = p0;
     i0 = (u32)(j0);
@@ -62343,15 +62440,11 @@ static void f57(module *self, u64 p0, u64 p1, u32 p2, u32 p3, u32 p4, u32 p5) {
     i3 = 65534u;
     i2 &= i3;
     i3 = l29;
-    j4 = p0;
-    j5 = 69ull;
-    j4 += j5;
-    i4 = (u32)(j4);
-    i4 = i32_load8_u(j4);
+    i4 = p3;
     i5 = 1u;
     i4 &= i5;
     i2 = i4 ? i2 : i3;
-    i3 = p3;
+    i3 = l30;
     i4 = 1u;
     i3 &= i4;
     i1 = i3 ? i1 : i2;
@@ -62369,8 +62462,8 @@ static void f57(module *self, u64 p0, u64 p1, u32 p2, u32 p3, u32 p4, u32 p5) {
     i2 = i32_load(j2);
     l29 = i2;
     i1 ^= i2;
-    i2 = l33;
-    i3 = l32;
+    i2 = l34;
+    i3 = l33;
     i2 &= i3;
     i3 = 2u;
     i2 <<= (i3 & 31);
@@ -62409,7 +62502,7 @@ static void f57(module *self, u64 p0, u64 p1, u32 p2, u32 p3, u32 p4, u32 p5) {
   p2 = i0;
   i1 = 2u;
   i0 >>= (i1 & 31);
-  l36 = i0;
+  l37 = i0;
   j0 = p0;
   j1 = 37ull;
   j0 += j1;
@@ -62420,13 +62513,13 @@ static void f57(module *self, u64 p0, u64 p1, u32 p2, u32 p3, u32 p4, u32 p5) {
   i0 >>= (i1 & 31);
   i1 = 1u;
   i0 &= i1;
-  l31 = i0;
+  l32 = i0;
   i0 = l29;
   i1 = 3u;
   i0 >>= (i1 & 31);
   i1 = 1u;
   i0 &= i1;
-  l32 = i0;
+  l33 = i0;
   j0 = p0;
   j1 = 30ull;
   j0 += j1;
@@ -62459,11 +62552,11 @@ static void f57(module *self, u64 p0, u64 p1, u32 p2, u32 p3, u32 p4, u32 p5) {
   i32_store16(j0, i1);
   j0 = l15;
   i0 = (u32)(j0);
-  i1 = l31;
+  i1 = l32;
   i32_store8(j0, i1);
   j0 = l17;
   i0 = (u32)(j0);
-  i1 = l32;
+  i1 = l33;
   i32_store8(j0, i1);
   j0 = l16;
   i0 = (u32)(j0);
@@ -62486,7 +62579,7 @@ static void f57(module *self, u64 p0, u64 p1, u32 p2, u32 p3, u32 p4, u32 p5) {
   i32_store8(j0, i1);
   j0 = l18;
   i0 = (u32)(j0);
-  i1 = l36;
+  i1 = l37;
   j1 = (u64)(i1);
   j2 = 3ull;
   j1 &= j2;
@@ -62522,30 +62615,30 @@ static void f57(module *self, u64 p0, u64 p1, u32 p2, u32 p3, u32 p4, u32 p5) {
   goto B1;
   B13:;
   i0 = l34;
-  i1 = l33;
-  i0 += i1;
-  l32 = i0;
-  i0 = l29;
   i1 = l30;
+  i0 += i1;
+  l33 = i0;
+  i0 = l29;
+  i1 = l31;
   i0 *= i1;
   p5 = i0;
-  i0 = l30;
+  i0 = l31;
   p2 = i0;
   i0 = 0u;
   l29 = i0;
   L28: 
     j0 = p0;
-    i1 = l32;
+    i1 = l33;
     i2 = l29;
     i3 = p5;
     i2 += i3;
     i3 = l28;
     i2 *= i3;
     i1 += i2;
-    i2 = l31;
+    i2 = l32;
     i3 = 0u;
     i4 = 0u;
-    f48(self, j0, i1, i2, i3, i4);
+    f49(self, j0, i1, i2, i3, i4);
     i0 = l29;
     i1 = 1u;
     i0 += i1;
@@ -62606,7 +62699,7 @@ static void f57(module *self, u64 p0, u64 p1, u32 p2, u32 p3, u32 p4, u32 p5) {
   i1 = i32_load8_u(j1);
   i2 = 1u;
   i1 &= i2;
-  l31 = i1;
+  l32 = i1;
   i32_store8(j0, i1);
   j0 = p0;
   j1 = 35ull;
@@ -62619,18 +62712,18 @@ static void f57(module *self, u64 p0, u64 p1, u32 p2, u32 p3, u32 p4, u32 p5) {
   j2 += j3;
   i2 = (u32)(j2);
   i2 = i32_load8_u(j2);
-  l32 = i2;
+  l33 = i2;
   i1 &= i2;
   i2 = 15u;
   i1 &= i2;
-  l36 = i1;
+  l37 = i1;
   i32_store8(j0, i1);
   j0 = p0;
   j1 = 71ull;
   j0 += j1;
   l14 = j0;
   i0 = (u32)(j0);
-  i1 = l36;
+  i1 = l37;
   i32_store8(j0, i1);
   j0 = p0;
   j1 = 70ull;
@@ -62642,31 +62735,31 @@ static void f57(module *self, u64 p0, u64 p1, u32 p2, u32 p3, u32 p4, u32 p5) {
   j1 += j2;
   i1 = (u32)(j1);
   i1 = i32_load8_u(j1);
-  p4 = i1;
+  l36 = i1;
   i2 = 2u;
   i1 >>= (i2 & 31);
   i2 = 1u;
   i1 &= i2;
-  l36 = i1;
+  l37 = i1;
   i32_store8(j0, i1);
   j0 = p0;
   j1 = 68ull;
   j0 += j1;
   l16 = j0;
   i0 = (u32)(j0);
-  i1 = p4;
+  i1 = l36;
   i2 = 3u;
   i1 >>= (i2 & 31);
   i2 = 1u;
   i1 &= i2;
-  p4 = i1;
+  l36 = i1;
   i32_store8(j0, i1);
   i0 = l35;
   if (i0) {goto B29;}
   i0 = l34;
-  i1 = l33;
+  i1 = l30;
   i0 += i1;
-  l33 = i0;
+  l34 = i0;
   i0 = p3;
   j0 = (u64)(i0);
   j1 = 255ull;
@@ -62683,13 +62776,13 @@ static void f57(module *self, u64 p0, u64 p1, u32 p2, u32 p3, u32 p4, u32 p5) {
   j1 = 14ull;
   j0 *= j1;
   l25 = j0;
-  i0 = l30;
+  i0 = l31;
   j0 = (u64)(i0);
   l26 = j0;
   j0 = 0ull;
   p1 = j0;
   L30: 
-    i0 = l30;
+    i0 = l31;
     i1 = 4294967288u;
     i0 += i1;
     switch (i0) {
@@ -62788,7 +62881,7 @@ static void f57(module *self, u64 p0, u64 p1, u32 p2, u32 p3, u32 p4, u32 p5) {
     i0 &= i1;
     i0 = !(i0);
     if (i0) {goto B38;}
-    i0 = l33;
+    i0 = l34;
     i1 = p5;
     j2 = p1;
     i2 = (u32)(j2);
@@ -62811,6 +62904,24 @@ static void f57(module *self, u64 p0, u64 p1, u32 p2, u32 p3, u32 p4, u32 p5) {
     i0 = i0 >= i1;
     if (i0) {goto B38;}
     j0 = p0;
+    j1 = 71ull;
+    j0 += j1;
+    i0 = (u32)(j0);
+    i0 = i32_load8_u(j0);
+    p2 = i0;
+    j0 = p0;
+    j1 = 70ull;
+    j0 += j1;
+    i0 = (u32)(j0);
+    i0 = i32_load8_u(j0);
+    l30 = i0;
+    j0 = p0;
+    j1 = 69ull;
+    j0 += j1;
+    i0 = (u32)(j0);
+    i0 = i32_load8_u(j0);
+    l32 = i0;
+    j0 = p0;
     j1 = p0;
     j2 = 72ull;
     j1 += j2;
@@ -62819,20 +62930,14 @@ static void f57(module *self, u64 p0, u64 p1, u32 p2, u32 p3, u32 p4, u32 p5) {
     j2 = l27;
     i2 = (u32)(j2);
     i2 = i32_load8_u(j2);
-    i0 = f44(self, j0, i1, i2);
-    p2 = i0;
-    j0 = p0;
-    j1 = 71ull;
-    j0 += j1;
-    i0 = (u32)(j0);
-    i0 = i32_load8_u(j0);
-    l31 = i0;
+    i0 = f45(self, j0, i1, i2);
+    l33 = i0;
     j0 = p0;
     j1 = 68ull;
     j0 += j1;
     i0 = (u32)(j0);
     i0 = i32_load8_u(j0);
-    l32 = i0;
+    p3 = i0;
     i1 = 1u;
     i0 &= i1;
     i0 = !(i0);
@@ -62842,7 +62947,7 @@ static void f57(module *self, u64 p0, u64 p1, u32 p2, u32 p3, u32 p4, u32 p5) {
     i2 = 3u;
     i1 <<= (i2 & 31);
     i0 >>= (i1 & 31);
-    p3 = i0;
+    l30 = i0;
     goto B39;
     B40:;
     i0 = 15u;
@@ -62852,15 +62957,11 @@ static void f57(module *self, u64 p0, u64 p1, u32 p2, u32 p3, u32 p4, u32 p5) {
     i4 = 1u;
     i3 &= i4;
     i1 = i3 ? i1 : i2;
-    j2 = p0;
-    j3 = 70ull;
-    j2 += j3;
-    i2 = (u32)(j2);
-    i2 = i32_load8_u(j2);
+    i2 = l30;
     i3 = 1u;
     i2 &= i3;
     i0 = i2 ? i0 : i1;
-    p3 = i0;
+    l30 = i0;
     B39:;
     j0 = p0;
     i0 = (u32)(j0);
@@ -62872,15 +62973,11 @@ static void f57(module *self, u64 p0, u64 p1, u32 p2, u32 p3, u32 p4, u32 p5) {
     i3 = 65534u;
     i2 &= i3;
     i3 = l29;
-    j4 = p0;
-    j5 = 69ull;
-    j4 += j5;
-    i4 = (u32)(j4);
-    i4 = i32_load8_u(j4);
+    i4 = l32;
     i5 = 1u;
     i4 &= i5;
     i2 = i4 ? i2 : i3;
-    i3 = l32;
+    i3 = p3;
     i4 = 1u;
     i3 &= i4;
     i1 = i3 ? i1 : i2;
@@ -62892,14 +62989,14 @@ static void f57(module *self, u64 p0, u64 p1, u32 p2, u32 p3, u32 p4, u32 p5) {
     j0 += j1;
     l27 = j0;
     i0 = (u32)(j0);
-    i1 = p2;
+    i1 = l33;
     j2 = l27;
     i2 = (u32)(j2);
     i2 = i32_load(j2);
     l29 = i2;
     i1 ^= i2;
-    i2 = p3;
-    i3 = l31;
+    i2 = l30;
+    i3 = p2;
     i2 &= i3;
     i3 = 2u;
     i2 <<= (i3 & 31);
@@ -62937,7 +63034,7 @@ static void f57(module *self, u64 p0, u64 p1, u32 p2, u32 p3, u32 p4, u32 p5) {
   i0 = i32_load8_u(j0);
   i1 = 1u;
   i0 &= i1;
-  l31 = i0;
+  l32 = i0;
   j0 = p0;
   j1 = 72ull;
   j0 += j1;
@@ -62964,19 +63061,19 @@ static void f57(module *self, u64 p0, u64 p1, u32 p2, u32 p3, u32 p4, u32 p5) {
   i0 >>= (i1 & 31);
   i1 = 1u;
   i0 &= i1;
-  l36 = i0;
+  l37 = i0;
   i0 = l28;
   i1 = 3u;
   i0 >>= (i1 & 31);
   i1 = 1u;
   i0 &= i1;
-  p4 = i0;
+  l36 = i0;
   j0 = p0;
   j1 = 30ull;
   j0 += j1;
   i0 = (u32)(j0);
   i0 = i32_load8_u(j0);
-  l32 = i0;
+  l33 = i0;
   B29:;
   j0 = l12;
   i0 = (u32)(j0);
@@ -62984,7 +63081,7 @@ static void f57(module *self, u64 p0, u64 p1, u32 p2, u32 p3, u32 p4, u32 p5) {
   i32_store16(j0, i1);
   j0 = l10;
   i0 = (u32)(j0);
-  i1 = l31;
+  i1 = l32;
   i32_store8(j0, i1);
   j0 = l9;
   i0 = (u32)(j0);
@@ -62992,14 +63089,14 @@ static void f57(module *self, u64 p0, u64 p1, u32 p2, u32 p3, u32 p4, u32 p5) {
   i32_store8(j0, i1);
   j0 = l14;
   i0 = (u32)(j0);
-  i1 = l32;
+  i1 = l33;
   i2 = 15u;
   i1 &= i2;
   p2 = i1;
   i32_store8(j0, i1);
   j0 = l15;
   i0 = (u32)(j0);
-  i1 = l36;
+  i1 = l37;
   i32_store8(j0, i1);
   j0 = l8;
   i0 = (u32)(j0);
@@ -63007,7 +63104,7 @@ static void f57(module *self, u64 p0, u64 p1, u32 p2, u32 p3, u32 p4, u32 p5) {
   i32_store8(j0, i1);
   j0 = l16;
   i0 = (u32)(j0);
-  i1 = p4;
+  i1 = l36;
   i32_store8(j0, i1);
   j0 = l13;
   i0 = (u32)(j0);
@@ -63024,7 +63121,7 @@ static void f57(module *self, u64 p0, u64 p1, u32 p2, u32 p3, u32 p4, u32 p5) {
   j0 += j1;
   i0 = (u32)(j0);
   i0 = i32_load16_u(j0);
-  l37 = i0;
+  l38 = i0;
   i0 = !(i0);
   if (i0) {goto B0;}
   j0 = p1;
@@ -63032,19 +63129,19 @@ static void f57(module *self, u64 p0, u64 p1, u32 p2, u32 p3, u32 p4, u32 p5) {
   j0 += j1;
   i0 = (u32)(j0);
   i0 = i32_load16_u(j0);
-  l38 = i0;
+  l39 = i0;
   i0 = !(i0);
   if (i0) {goto B1;}
-  i0 = l38;
+  i0 = l39;
   j0 = (u64)(i0);
-  l26 = j0;
+  l27 = j0;
   i0 = p2;
-  i1 = l37;
+  i1 = l38;
   if (i1 == 0) { self->is_broken = true; return; } i0 = i0 / i1;
   l29 = i0;
-  i1 = l38;
+  i1 = l39;
   i0 *= i1;
-  l39 = i0;
+  l40 = i0;
   i0 = p3;
   j0 = (u64)(i0);
   j1 = 255ull;
@@ -63052,21 +63149,21 @@ static void f57(module *self, u64 p0, u64 p1, u32 p2, u32 p3, u32 p4, u32 p5) {
   l23 = j0;
   j1 = 4ull;
   j0 <<= (j1 & 63);
-  l25 = j0;
+  l8 = j0;
   j0 = l23;
   j1 = 3ull;
   j0 <<= (j1 & 63);
-  l27 = j0;
+  l24 = j0;
   j0 = l23;
   j1 = 14ull;
   j0 *= j1;
-  l24 = j0;
+  l25 = j0;
   i0 = p2;
   i1 = l29;
-  i2 = l37;
+  i2 = l38;
   i1 *= i2;
   i0 -= i1;
-  l40 = i0;
+  l41 = i0;
   j0 = p1;
   j1 = 4ull;
   j0 += j1;
@@ -63077,17 +63174,17 @@ static void f57(module *self, u64 p0, u64 p1, u32 p2, u32 p3, u32 p4, u32 p5) {
   l29 = i0;
   i1 = 655360u;
   i0 += i1;
-  l33 = i0;
+  l34 = i0;
   i0 = l29;
   i1 = 3u;
   i0 <<= (i1 & 31);
   i1 = 5242880u;
   i0 += i1;
-  l41 = i0;
+  l42 = i0;
   j0 = 0ull;
-  l23 = j0;
+  l26 = j0;
   L41: 
-    i0 = l38;
+    i0 = l39;
     i1 = 4294967288u;
     i0 += i1;
     switch (i0) {
@@ -63119,9 +63216,9 @@ static void f57(module *self, u64 p0, u64 p1, u32 p2, u32 p3, u32 p4, u32 p5) {
     p1 = j0;
     B46:;
     j0 = p1;
-    j1 = l27;
+    j1 = l24;
     j0 += j1;
-    j1 = l23;
+    j1 = l26;
     j0 += j1;
     p1 = j0;
     goto B42;
@@ -63146,9 +63243,9 @@ static void f57(module *self, u64 p0, u64 p1, u32 p2, u32 p3, u32 p4, u32 p5) {
     p1 = j0;
     B47:;
     j0 = p1;
-    j1 = l24;
+    j1 = l25;
     j0 += j1;
-    j1 = l23;
+    j1 = l26;
     j0 += j1;
     p1 = j0;
     goto B42;
@@ -63173,30 +63270,30 @@ static void f57(module *self, u64 p0, u64 p1, u32 p2, u32 p3, u32 p4, u32 p5) {
     p1 = j0;
     B48:;
     j0 = p1;
-    j1 = l25;
+    j1 = l8;
     j0 += j1;
-    j1 = l23;
+    j1 = l26;
     j0 += j1;
     p1 = j0;
     B42:;
-    i0 = l39;
-    j1 = l23;
+    i0 = l40;
+    j1 = l26;
     i1 = (u32)(j1);
     i0 += i1;
-    i1 = l37;
+    i1 = l38;
     i0 *= i1;
-    i1 = l40;
+    i1 = l41;
     i0 += i1;
     i1 = 3u;
     i0 <<= (i1 & 31);
-    p3 = i0;
+    l30 = i0;
     j0 = p1;
     i0 = (u32)(j0);
     i0 = i32_load8_u(j0);
     l36 = i0;
     i0 = 0u;
     l29 = i0;
-    i0 = l41;
+    i0 = l42;
     l28 = i0;
     L49: 
       j0 = p0;
@@ -63208,7 +63305,7 @@ static void f57(module *self, u64 p0, u64 p1, u32 p2, u32 p3, u32 p4, u32 p5) {
       i0 &= i1;
       i0 = !(i0);
       if (i0) {goto B50;}
-      i0 = l33;
+      i0 = l34;
       i1 = l29;
       i0 += i1;
       j1 = p0;
@@ -63216,9 +63313,9 @@ static void f57(module *self, u64 p0, u64 p1, u32 p2, u32 p3, u32 p4, u32 p5) {
       j1 += j2;
       i1 = (u32)(j1);
       i1 = i32_load(j1);
-      l31 = i1;
+      l33 = i1;
       i0 -= i1;
-      i1 = p3;
+      i1 = l30;
       i0 += i1;
       p2 = i0;
       j1 = p0;
@@ -63228,6 +63325,14 @@ static void f57(module *self, u64 p0, u64 p1, u32 p2, u32 p3, u32 p4, u32 p5) {
       i1 = i32_load(j1);
       i0 = i0 >= i1;
       if (i0) {goto B50;}
+      j0 = p0;
+      j1 = 71ull;
+      j0 += j1;
+      p1 = j0;
+      j0 = p0;
+      j1 = 69ull;
+      j0 += j1;
+      l23 = j0;
       i0 = 0u;
       i1 = l36;
       i2 = 255u;
@@ -63243,7 +63348,13 @@ static void f57(module *self, u64 p0, u64 p1, u32 p2, u32 p3, u32 p4, u32 p5) {
       i0 -= i1;
       i1 = p4;
       i0 &= i1;
-      l30 = i0;
+      l32 = i0;
+      j0 = p0;
+      j1 = 68ull;
+      j0 += j1;
+      i0 = (u32)(j0);
+      i0 = i32_load8_u(j0);
+      l31 = i0;
       j0 = p0;
       j1 = 72ull;
       j0 += j1;
@@ -63253,7 +63364,7 @@ static void f57(module *self, u64 p0, u64 p1, u32 p2, u32 p3, u32 p4, u32 p5) {
       i0 &= i1;
       i0 = !(i0);
       if (i0) {goto B52;}
-      i0 = l30;
+      i0 = l32;
       i1 = 255u;
       i0 &= i1;
       i1 = 16843009u;
@@ -63298,7 +63409,7 @@ static void f57(module *self, u64 p0, u64 p1, u32 p2, u32 p3, u32 p4, u32 p5) {
       j0 += j1;
       i0 = (u32)(j0);
       i0 = i32_load(j0);
-      i1 = l30;
+      i1 = l32;
       i2 = 255u;
       i1 &= i2;
       j2 = p0;
@@ -63306,13 +63417,13 @@ static void f57(module *self, u64 p0, u64 p1, u32 p2, u32 p3, u32 p4, u32 p5) {
       j2 += j3;
       i2 = (u32)(j2);
       i2 = i32_load8_u(j2);
-      l32 = i2;
+      p3 = i2;
       i3 = 7u;
       i2 &= i3;
       i1 >>= (i2 & 31);
-      i2 = l30;
+      i2 = l32;
       i3 = 0u;
-      i4 = l32;
+      i4 = p3;
       i3 -= i4;
       i4 = 7u;
       i3 &= i4;
@@ -63322,7 +63433,7 @@ static void f57(module *self, u64 p0, u64 p1, u32 p2, u32 p3, u32 p4, u32 p5) {
       i1 &= i2;
       i2 = 16843009u;
       i1 *= i2;
-      l32 = i1;
+      p3 = i1;
       i0 ^= i1;
       j1 = p0;
       j2 = 48ull;
@@ -63339,12 +63450,12 @@ static void f57(module *self, u64 p0, u64 p1, u32 p2, u32 p3, u32 p4, u32 p5) {
       i1 = (u32)(j1);
       i1 = i32_load(j1);
       i0 &= i1;
-      i1 = l32;
+      i1 = p3;
       i0 ^= i1;
-      l32 = i0;
+      p3 = i0;
       goto B53;
       B55:;
-      i0 = l30;
+      i0 = l32;
       i1 = 2u;
       i0 <<= (i1 & 31);
       j0 = (u64)(i0);
@@ -63354,7 +63465,7 @@ static void f57(module *self, u64 p0, u64 p1, u32 p2, u32 p3, u32 p4, u32 p5) {
       j0 += j1;
       i0 = (u32)(j0);
       i0 = i32_load(j0);
-      l32 = i0;
+      p3 = i0;
       goto B53;
       B54:;
       j0 = p0;
@@ -63371,14 +63482,14 @@ static void f57(module *self, u64 p0, u64 p1, u32 p2, u32 p3, u32 p4, u32 p5) {
       j0 += j1;
       i0 = (u32)(j0);
       i0 = i32_load(j0);
-      l32 = i0;
+      p3 = i0;
       B53:;
       j0 = p0;
       j1 = 50ull;
       j0 += j1;
       i0 = (u32)(j0);
       i0 = i32_load8_u(j0);
-      l42 = i0;
+      l43 = i0;
       i1 = 3u;
       i0 >>= (i1 & 31);
       i1 = 3u;
@@ -63391,56 +63502,56 @@ static void f57(module *self, u64 p0, u64 p1, u32 p2, u32 p3, u32 p4, u32 p5) {
         default: goto B57;
       }
       B60:;
-      i0 = l32;
+      i0 = p3;
       i1 = p5;
       i0 &= i1;
-      l32 = i0;
+      p3 = i0;
       goto B57;
       B59:;
-      i0 = l32;
+      i0 = p3;
       i1 = p5;
       i0 |= i1;
-      l32 = i0;
+      p3 = i0;
       goto B57;
       B58:;
-      i0 = l32;
+      i0 = p3;
       i1 = p5;
       i0 ^= i1;
-      l32 = i0;
+      p3 = i0;
       B57:;
       j0 = p0;
       j1 = 55ull;
       j0 += j1;
       i0 = (u32)(j0);
       i0 = i32_load8_u(j0);
-      l34 = i0;
+      l37 = i0;
       i0 = l35;
       i1 = 3u;
       i0 = i0 != i1;
       if (i0) {goto B61;}
-      i0 = l34;
-      i1 = l30;
+      i0 = l37;
+      i1 = l32;
       i2 = 255u;
       i1 &= i2;
-      i2 = l42;
+      i2 = l43;
       i3 = 7u;
       i2 &= i3;
       i1 >>= (i2 & 31);
-      i2 = l30;
+      i2 = l32;
       i3 = 0u;
-      i4 = l42;
+      i4 = l43;
       i3 -= i4;
       i4 = 7u;
       i3 &= i4;
       i2 <<= (i3 & 31);
       i1 |= i2;
       i0 &= i1;
-      l34 = i0;
+      l37 = i0;
       B61:;
-      i0 = l32;
+      i0 = p3;
       i1 = p5;
       i0 ^= i1;
-      i1 = l34;
+      i1 = l37;
       i2 = 255u;
       i1 &= i2;
       i2 = 16843009u;
@@ -63450,32 +63561,29 @@ static void f57(module *self, u64 p0, u64 p1, u32 p2, u32 p3, u32 p4, u32 p5) {
       i0 ^= i1;
       p5 = i0;
       B51:;
-      j0 = p0;
-      j1 = 71ull;
-      j0 += j1;
-      i0 = (u32)(j0);
-      i0 = i32_load8_u(j0);
-      l30 = i0;
-      j0 = p0;
-      j1 = 68ull;
-      j0 += j1;
+      j0 = p1;
       i0 = (u32)(j0);
       i0 = i32_load8_u(j0);
       l32 = i0;
+      j0 = l23;
+      i0 = (u32)(j0);
+      i0 = i32_load8_u(j0);
+      p3 = i0;
+      i0 = l31;
       i1 = 1u;
       i0 &= i1;
       i0 = !(i0);
       if (i0) {goto B63;}
       i0 = 134480385u;
       i1 = l28;
-      i2 = l31;
+      i2 = l33;
       i3 = 3u;
       i2 <<= (i3 & 31);
       i1 -= i2;
       i2 = 24u;
       i1 &= i2;
       i0 >>= (i1 & 31);
-      l31 = i0;
+      l33 = i0;
       goto B62;
       B63:;
       i0 = 15u;
@@ -63493,7 +63601,7 @@ static void f57(module *self, u64 p0, u64 p1, u32 p2, u32 p3, u32 p4, u32 p5) {
       i3 = 1u;
       i2 &= i3;
       i0 = i2 ? i0 : i1;
-      l31 = i0;
+      l33 = i0;
       B62:;
       j0 = p0;
       i0 = (u32)(j0);
@@ -63505,15 +63613,11 @@ static void f57(module *self, u64 p0, u64 p1, u32 p2, u32 p3, u32 p4, u32 p5) {
       i3 = 65534u;
       i2 &= i3;
       i3 = p2;
-      j4 = p0;
-      j5 = 69ull;
-      j4 += j5;
-      i4 = (u32)(j4);
-      i4 = i32_load8_u(j4);
+      i4 = p3;
       i5 = 1u;
       i4 &= i5;
       i2 = i4 ? i2 : i3;
-      i3 = l32;
+      i3 = l31;
       i4 = 1u;
       i3 &= i4;
       i1 = i3 ? i1 : i2;
@@ -63531,8 +63635,8 @@ static void f57(module *self, u64 p0, u64 p1, u32 p2, u32 p3, u32 p4, u32 p5) {
       i2 = i32_load(j2);
       p2 = i2;
       i1 ^= i2;
-      i2 = l31;
-      i3 = l30;
+      i2 = l33;
+      i3 = l32;
       i2 &= i3;
       i3 = 2u;
       i2 <<= (i3 & 31);
@@ -63559,11 +63663,11 @@ static void f57(module *self, u64 p0, u64 p1, u32 p2, u32 p3, u32 p4, u32 p5) {
       i1 = 8u;
       i0 = i0 != i1;
       if (i0) {goto L49;}
-    j0 = l23;
+    j0 = l26;
     j1 = 1ull;
     j0 += j1;
-    l23 = j0;
-    j1 = l26;
+    l26 = j0;
+    j1 = l27;
     i0 = j0 != j1;
     if (i0) {goto L41;}
   B1:;
@@ -63577,7 +63681,7 @@ static void f57(module *self, u64 p0, u64 p1, u32 p2, u32 p3, u32 p4, u32 p5) {
   Bfunc:;
 }
 
-static u32 f58(module *self, u64 p0, u64 p1, u32 p2, u32 p3, u32 p4, u32 p5) {
+static u32 f59(module *self, u64 p0, u64 p1, u32 p2, u32 p3, u32 p4, u32 p5) {
   u32 l7 = 0;
   u64 l6 = 0;
   u8 *m = self->memory;
@@ -63620,7 +63724,7 @@ static u32 f58(module *self, u64 p0, u64 p1, u32 p2, u32 p3, u32 p4, u32 p5) {
   i2 = (u32)(j2);
   i2 = i32_load8_u(j2);
   i3 = p2;
-  i0 = f64(self, j0, j1, i2, i3); if (NEVER(self->is_broken)) return ZAK_BROKEN;
+  i0 = f65(self, j0, j1, i2, i3); if (NEVER(self->is_broken)) return ZAK_BROKEN;
   goto Bfunc;
   B2:;
   i0 = p2;
@@ -63654,7 +63758,7 @@ static u32 f58(module *self, u64 p0, u64 p1, u32 p2, u32 p3, u32 p4, u32 p5) {
   i3 = p3;
   i4 = p4;
   i5 = p5;
-  f57(self, j0, j1, i2, i3, i4, i5); if (NEVER(self->is_broken)) return ZAK_BROKEN;
+  f58(self, j0, j1, i2, i3, i4, i5); if (NEVER(self->is_broken)) return ZAK_BROKEN;
   i0 = l7;
   i1 = 1u;
   i0 += i1;
@@ -63681,7 +63785,7 @@ static u32 f58(module *self, u64 p0, u64 p1, u32 p2, u32 p3, u32 p4, u32 p5) {
   i2 = (u32)(j2);
   i2 = i32_load8_u(j2);
   i3 = p2;
-  i0 = f64(self, j0, j1, i2, i3); if (NEVER(self->is_broken)) return ZAK_BROKEN;
+  i0 = f65(self, j0, j1, i2, i3); if (NEVER(self->is_broken)) return ZAK_BROKEN;
   i1 = 65280u;
   i0 &= i1;
   p2 = i0;
@@ -63691,7 +63795,7 @@ static u32 f58(module *self, u64 p0, u64 p1, u32 p2, u32 p3, u32 p4, u32 p5) {
   return i0;
 }
 
-static void f59(module *self, u64 p0, u32 p1, u32 p2, u32 p3) {
+static void f60(module *self, u64 p0, u32 p1, u32 p2, u32 p3) {
   u32 l7 = 0, l8 = 0;
   u64 l4 = 0, l5 = 0, l6 = 0;
   u8 *m = self->memory;
@@ -63710,7 +63814,7 @@ static void f59(module *self, u64 p0, u32 p1, u32 p2, u32 p3) {
   i3 = 6u;
   i2 += i3;
   l7 = i2;
-  f24(self, j0, j1, i2); if (NEVER(self->is_broken)) return;
+  f25(self, j0, j1, i2); if (NEVER(self->is_broken)) return;
   j0 = p0;
   j1 = 146ull;
   j0 += j1;
@@ -63765,7 +63869,7 @@ static void f59(module *self, u64 p0, u32 p1, u32 p2, u32 p3) {
   j1 = 16ull;
   j0 += j1;
   j1 = l5;
-  f21(self, j0, j1);
+  f22(self, j0, j1);
   j0 = p0;
   j1 = 196ull;
   j0 += j1;
@@ -63849,7 +63953,7 @@ static void f59(module *self, u64 p0, u32 p1, u32 p2, u32 p3) {
   j1 = 16ull;
   j0 += j1;
   j1 = l5;
-  f21(self, j0, j1);
+  f22(self, j0, j1);
   j0 = p0;
   j1 = 196ull;
   j0 += j1;
@@ -63913,7 +64017,7 @@ static void f59(module *self, u64 p0, u32 p1, u32 p2, u32 p3) {
   j1 = 16ull;
   j0 += j1;
   j1 = l5;
-  f21(self, j0, j1);
+  f22(self, j0, j1);
   j0 = p0;
   j1 = 196ull;
   j0 += j1;
@@ -63944,14 +64048,14 @@ static void f59(module *self, u64 p0, u32 p1, u32 p2, u32 p3) {
   j0 = l4;
   j1 = p0;
   i2 = l7;
-  f24(self, j0, j1, i2); if (NEVER(self->is_broken)) return;
+  f25(self, j0, j1, i2); if (NEVER(self->is_broken)) return;
   j0 = l4;
   j1 = 32ull;
   j0 += j1;
   self->g0 = j0;
 }
 
-static void f60(module *self, u64 p0, u64 p1, u64 p2) {
+static void f61(module *self, u64 p0, u64 p1, u64 p2) {
   u32 l9 = 0, l10 = 0, l11 = 0, l12 = 0, l13 = 0;
   u64 l3 = 0, l4 = 0, l5 = 0, l6 = 0, l7 = 0, l8 = 0;
   u8 *m = self->memory;
@@ -64037,7 +64141,7 @@ static void f60(module *self, u64 p0, u64 p1, u64 p2) {
     i32_store8(j0, i1);
     j0 = l3;
     j1 = l6;
-    f21(self, j0, j1);
+    f22(self, j0, j1);
     j0 = l4;
     i0 = (u32)(j0);
     j1 = l3;
@@ -64108,7 +64212,7 @@ static void f60(module *self, u64 p0, u64 p1, u64 p2) {
     i32_store8(j0, i1);
     j0 = l3;
     j1 = l6;
-    f21(self, j0, j1);
+    f22(self, j0, j1);
     j0 = l4;
     i0 = (u32)(j0);
     j1 = l3;
@@ -64150,7 +64254,7 @@ static void f60(module *self, u64 p0, u64 p1, u64 p2) {
   self->g0 = j0;
 }
 
-static void f61(module *self, u64 p0, u32 p1, u32 p2, u64 p3) {
+static void f62(module *self, u64 p0, u32 p1, u32 p2, u64 p3) {
   u32 l7 = 0, l8 = 0;
   u64 l4 = 0, l5 = 0, l6 = 0;
   u8 *m = self->memory;
@@ -64169,7 +64273,7 @@ static void f61(module *self, u64 p0, u32 p1, u32 p2, u64 p3) {
   i3 = 6u;
   i2 += i3;
   l7 = i2;
-  f24(self, j0, j1, i2); if (NEVER(self->is_broken)) return;
+  f25(self, j0, j1, i2); if (NEVER(self->is_broken)) return;
   i0 = p2;
   i1 = 32u;
   i0 += i1;
@@ -64227,7 +64331,7 @@ static void f61(module *self, u64 p0, u32 p1, u32 p2, u64 p3) {
   j1 = 16ull;
   j0 += j1;
   j1 = l6;
-  f21(self, j0, j1);
+  f22(self, j0, j1);
   j0 = p0;
   j1 = 196ull;
   j0 += j1;
@@ -64292,7 +64396,7 @@ static void f61(module *self, u64 p0, u32 p1, u32 p2, u64 p3) {
   j0 = l4;
   j1 = p0;
   i2 = l7;
-  f24(self, j0, j1, i2); if (NEVER(self->is_broken)) return;
+  f25(self, j0, j1, i2); if (NEVER(self->is_broken)) return;
   j0 = p3;
   j1 = 3ull;
   j0 += j1;
@@ -64305,7 +64409,7 @@ static void f61(module *self, u64 p0, u32 p1, u32 p2, u64 p3) {
   self->g0 = j0;
 }
 
-static void f62(module *self, u64 p0, u32 p1, u32 p2, u32 p3) {
+static void f63(module *self, u64 p0, u32 p1, u32 p2, u32 p3) {
   u32 l6 = 0, l7 = 0, l8 = 0, l9 = 0, l10 = 0, l11 = 0, l12 = 0, l13 = 0, 
       l14 = 0, l15 = 0, l16 = 0;
   u64 l4 = 0, l5 = 0;
@@ -64346,7 +64450,7 @@ static void f62(module *self, u64 p0, u32 p1, u32 p2, u32 p3) {
   i4 = p2;
   i5 = p3;
   i6 = l6;
-  i1 = f63(self, j1, j2, i3, i4, i5, i6);
+  i1 = f64(self, j1, j2, i3, i4, i5, i6);
   l7 = i1;
   i0 = i0 <= i1;
   if (i0) {goto B0;}
@@ -64691,7 +64795,7 @@ static void f62(module *self, u64 p0, u32 p1, u32 p2, u32 p3) {
     i1 = (u32)(j1);
     i1 = i32_load8_u(j1);
     i2 = l15;
-    i0 = f44(self, j0, i1, i2);
+    i0 = f45(self, j0, i1, i2);
     l7 = i0;
     i0 = l6;
     i0 = !(i0);
@@ -64800,7 +64904,7 @@ static void f62(module *self, u64 p0, u32 p1, u32 p2, u32 p3) {
   self->g0 = j0;
 }
 
-static u32 f63(module *self, u64 p0, u64 p1, u32 p2, u32 p3, u32 p4, u32 p5) {
+static u32 f64(module *self, u64 p0, u64 p1, u32 p2, u32 p3, u32 p4, u32 p5) {
   u32 l6 = 0, l7 = 0, l8 = 0, l9 = 0, l10 = 0, l11 = 0, l12 = 0, l13 = 0, 
       l14 = 0;
   u8 *m = self->memory;
@@ -65229,7 +65333,7 @@ static u32 f63(module *self, u64 p0, u64 p1, u32 p2, u32 p3, u32 p4, u32 p5) {
   return i0;
 }
 
-static u32 f64(module *self, u64 p0, u64 p1, u32 p2, u32 p3) {
+static u32 f65(module *self, u64 p0, u64 p1, u32 p2, u32 p3) {
   u32 l5 = 0, l6 = 0, l7 = 0;
   u64 l4 = 0;
   u8 *m = self->memory;
@@ -65320,7 +65424,7 @@ static u32 f64(module *self, u64 p0, u64 p1, u32 p2, u32 p3) {
   i4 = 1u;
   i3 <<= (i4 & 31);
   i2 += i3;
-  f32(self, j0, j1, i2);
+  f33(self, j0, j1, i2);
   i0 = 4294967295u;
   j1 = l4;
   i1 = (u32)(j1);
@@ -65382,7 +65486,7 @@ static u32 f64(module *self, u64 p0, u64 p1, u32 p2, u32 p3) {
   j4 = l4;
   j5 = 32ull;
   j4 += j5;
-  f56(self, j0, j1, j2, i3, j4); if (NEVER(self->is_broken)) return ZAK_BROKEN;
+  f57(self, j0, j1, j2, i3, j4); if (NEVER(self->is_broken)) return ZAK_BROKEN;
   B0:;
   j0 = l4;
   j1 = 48ull;
@@ -65392,7 +65496,7 @@ static u32 f64(module *self, u64 p0, u64 p1, u32 p2, u32 p3) {
   return i0;
 }
 
-static void f65(module *self, u64 p0, u64 p1, u64 p2) {
+static void f66(module *self, u64 p0, u64 p1, u64 p2) {
   u64 l3 = 0, l4 = 0, l5 = 0, l6 = 0, l7 = 0, l8 = 0;
   u8 *m = self->memory;
   u32 i0, i1, i2;
@@ -65453,7 +65557,7 @@ static void f65(module *self, u64 p0, u64 p1, u64 p2) {
   j0 += j1;
   j1 = 2048ull;
   j2 = 1ull;
-  f148(self, j0, j1, j2); m = self->memory; if (NEVER(self->is_broken)) return;
+  f151(self, j0, j1, j2); m = self->memory; if (NEVER(self->is_broken)) return;
   j0 = l3;
   i0 = (u32)(j0);
   j0 = i64_load(j0 + 80u);
@@ -65543,7 +65647,7 @@ static void f65(module *self, u64 p0, u64 p1, u64 p2) {
   j0 += j1;
   j1 = 24ull;
   j2 = 8ull;
-  f148(self, j0, j1, j2); m = self->memory; if (NEVER(self->is_broken)) return;
+  f151(self, j0, j1, j2); m = self->memory; if (NEVER(self->is_broken)) return;
   j0 = l3;
   i0 = (u32)(j0);
   j0 = i64_load(j0 + 64u);
@@ -65552,7 +65656,7 @@ static void f65(module *self, u64 p0, u64 p1, u64 p2) {
   i0 &= i1;
   if (i0) {goto B2;}
   j0 = l4;
-  f151(self, j0);
+  f154(self, j0);
   B3:;
   j0 = p0;
   i0 = (u32)(j0);
@@ -65616,7 +65720,7 @@ static void f65(module *self, u64 p0, u64 p1, u64 p2) {
   j0 += j1;
   j1 = 3584ull;
   j2 = 1ull;
-  f148(self, j0, j1, j2); m = self->memory; if (NEVER(self->is_broken)) return;
+  f151(self, j0, j1, j2); m = self->memory; if (NEVER(self->is_broken)) return;
   j0 = l3;
   i0 = (u32)(j0);
   j0 = i64_load(j0 + 48u);
@@ -65709,7 +65813,7 @@ static void f65(module *self, u64 p0, u64 p1, u64 p2) {
   j0 += j1;
   j1 = 24ull;
   j2 = 8ull;
-  f148(self, j0, j1, j2); m = self->memory; if (NEVER(self->is_broken)) return;
+  f151(self, j0, j1, j2); m = self->memory; if (NEVER(self->is_broken)) return;
   j0 = l3;
   i0 = (u32)(j0);
   j0 = i64_load(j0 + 32u);
@@ -65718,7 +65822,7 @@ static void f65(module *self, u64 p0, u64 p1, u64 p2) {
   i0 &= i1;
   if (i0) {goto B7;}
   j0 = l4;
-  f151(self, j0);
+  f154(self, j0);
   B8:;
   j0 = l7;
   i0 = (u32)(j0);
@@ -65729,12 +65833,12 @@ static void f65(module *self, u64 p0, u64 p1, u64 p2) {
   j0 = i64_load(j0 + 16u);
   p2 = j0;
   j0 = l7;
-  f151(self, j0);
+  f154(self, j0);
   j0 = p2;
   i0 = !(j0);
   if (i0) {goto B12;}
   j0 = l5;
-  f151(self, j0);
+  f154(self, j0);
   B12:;
   j0 = p0;
   i0 = (u32)(j0);
@@ -65798,7 +65902,7 @@ static void f65(module *self, u64 p0, u64 p1, u64 p2) {
   j0 += j1;
   j1 = 4096ull;
   j2 = 1ull;
-  f148(self, j0, j1, j2); m = self->memory; if (NEVER(self->is_broken)) return;
+  f151(self, j0, j1, j2); m = self->memory; if (NEVER(self->is_broken)) return;
   j0 = l3;
   i0 = (u32)(j0);
   j0 = i64_load(j0 + 16u);
@@ -65889,7 +65993,7 @@ static void f65(module *self, u64 p0, u64 p1, u64 p2) {
   j0 = l3;
   j1 = 24ull;
   j2 = 8ull;
-  f148(self, j0, j1, j2); m = self->memory; if (NEVER(self->is_broken)) return;
+  f151(self, j0, j1, j2); m = self->memory; if (NEVER(self->is_broken)) return;
   j0 = l3;
   i0 = (u32)(j0);
   j0 = i64_load(j0);
@@ -65898,7 +66002,7 @@ static void f65(module *self, u64 p0, u64 p1, u64 p2) {
   i0 &= i1;
   if (i0) {goto B13;}
   j0 = l4;
-  f151(self, j0);
+  f154(self, j0);
   B14:;
   j0 = l8;
   i0 = (u32)(j0);
@@ -65909,12 +66013,12 @@ static void f65(module *self, u64 p0, u64 p1, u64 p2) {
   j0 = i64_load(j0 + 16u);
   p2 = j0;
   j0 = l8;
-  f151(self, j0);
+  f154(self, j0);
   j0 = p2;
   i0 = !(j0);
   if (i0) {goto B18;}
   j0 = l5;
-  f151(self, j0);
+  f154(self, j0);
   B18:;
   j0 = l7;
   i0 = (u32)(j0);
@@ -65925,12 +66029,12 @@ static void f65(module *self, u64 p0, u64 p1, u64 p2) {
   j0 = i64_load(j0 + 16u);
   p2 = j0;
   j0 = l7;
-  f151(self, j0);
+  f154(self, j0);
   j0 = p2;
   i0 = !(j0);
   if (i0) {goto B19;}
   j0 = l5;
-  f151(self, j0);
+  f154(self, j0);
   B19:;
   j0 = p0;
   i0 = (u32)(j0);
@@ -66036,7 +66140,7 @@ static void f65(module *self, u64 p0, u64 p1, u64 p2) {
   self->g0 = j0;
 }
 
-static void f66(module *self, u64 p0, u64 p1) {
+static void f67(module *self, u64 p0, u64 p1) {
   u32 l9 = 0, l10 = 0, l11 = 0;
   u64 l2 = 0, l3 = 0, l4 = 0, l5 = 0, l6 = 0, l7 = 0, l8 = 0;
   u8 *m = self->memory;
@@ -66118,7 +66222,7 @@ static void f66(module *self, u64 p0, u64 p1) {
   j0 = l2;
   j1 = 8ull;
   j0 += j1;
-  f20(self, j0); m = self->memory; if (NEVER(self->is_broken)) return;
+  f21(self, j0); m = self->memory; if (NEVER(self->is_broken)) return;
   j0 = l2;
   i0 = (u32)(j0);
   j0 = i64_load(j0 + 24u);
@@ -66292,12 +66396,12 @@ static void f66(module *self, u64 p0, u64 p1) {
   j0 = i64_load(j0 + 16u);
   l8 = j0;
   j0 = l3;
-  f151(self, j0);
+  f154(self, j0);
   j0 = l8;
   i0 = !(j0);
   if (i0) {goto B2;}
   j0 = l7;
-  f151(self, j0);
+  f154(self, j0);
   B2:;
   i0 = l10;
   i1 = 255u;
@@ -66314,12 +66418,12 @@ static void f66(module *self, u64 p0, u64 p1) {
   j0 = i64_load(j0 + 16u);
   l3 = j0;
   j0 = l4;
-  f151(self, j0);
+  f154(self, j0);
   j0 = l3;
   i0 = !(j0);
   if (i0) {goto B3;}
   j0 = l8;
-  f151(self, j0);
+  f154(self, j0);
   B3:;
   j0 = l6;
   j1 = 255ull;
@@ -66340,12 +66444,12 @@ static void f66(module *self, u64 p0, u64 p1) {
   j0 = i64_load(j0 + 16u);
   l4 = j0;
   j0 = p1;
-  f151(self, j0);
+  f154(self, j0);
   j0 = l4;
   i0 = !(j0);
   if (i0) {goto B4;}
   j0 = l6;
-  f151(self, j0);
+  f154(self, j0);
   B4:;
   j0 = p0;
   i0 = (u32)(j0);
@@ -66378,7 +66482,7 @@ static void f66(module *self, u64 p0, u64 p1) {
   self->g0 = j0;
 }
 
-static void f67(module *self, u64 p0, u64 p1, u32 p2, u32 p3) {
+static void f68(module *self, u64 p0, u64 p1, u32 p2, u32 p3) {
   u32 l6 = 0, l7 = 0, l8 = 0, l9 = 0, l10 = 0;
   u64 l4 = 0, l5 = 0;
   u8 *m = self->memory;
@@ -66879,7 +66983,7 @@ static void f67(module *self, u64 p0, u64 p1, u32 p2, u32 p3) {
   i2 = 965u;
   i3 = p3;
   i4 = l6;
-  f68(self, j0, j1, i2, i3, i4);
+  f69(self, j0, j1, i2, i3, i4);
   j0 = l4;
   i0 = (u32)(j0);
   i0 = i32_load8_u(j0 + 1u);
@@ -66897,7 +67001,7 @@ static void f67(module *self, u64 p0, u64 p1, u32 p2, u32 p3) {
   i2 = 966u;
   i3 = p3;
   i4 = l6;
-  f68(self, j0, j1, i2, i3, i4);
+  f69(self, j0, j1, i2, i3, i4);
   j0 = l4;
   i0 = (u32)(j0);
   i0 = i32_load8_u(j0 + 9u);
@@ -66915,7 +67019,7 @@ static void f67(module *self, u64 p0, u64 p1, u32 p2, u32 p3) {
   i2 = 967u;
   i3 = p3;
   i4 = l6;
-  f68(self, j0, j1, i2, i3, i4);
+  f69(self, j0, j1, i2, i3, i4);
   j0 = l4;
   i0 = (u32)(j0);
   i0 = i32_load8_u(j0 + 17u);
@@ -66933,7 +67037,7 @@ static void f67(module *self, u64 p0, u64 p1, u32 p2, u32 p3) {
   i2 = 968u;
   i3 = p3;
   i4 = l6;
-  f68(self, j0, j1, i2, i3, i4);
+  f69(self, j0, j1, i2, i3, i4);
   j0 = l4;
   i0 = (u32)(j0);
   i0 = i32_load8_u(j0 + 25u);
@@ -66961,7 +67065,7 @@ static void f67(module *self, u64 p0, u64 p1, u32 p2, u32 p3) {
   self->g0 = j0;
 }
 
-static void f68(module *self, u64 p0, u64 p1, u32 p2, u32 p3, u32 p4) {
+static void f69(module *self, u64 p0, u64 p1, u32 p2, u32 p3, u32 p4) {
   u32 l6 = 0, l7 = 0, l8 = 0, l9 = 0, l10 = 0;
   u64 l5 = 0;
   u8 *m = self->memory;
@@ -67052,7 +67156,7 @@ static void f68(module *self, u64 p0, u64 p1, u32 p2, u32 p3, u32 p4) {
   j1 = p1;
   i2 = l8;
   i3 = p3;
-  f42(self, j0, j1, i2, i3);
+  f43(self, j0, j1, i2, i3);
   j0 = l5;
   i0 = (u32)(j0);
   i0 = i32_load8_u(j0 + 8u);
@@ -67144,7 +67248,7 @@ static void f68(module *self, u64 p0, u64 p1, u32 p2, u32 p3, u32 p4) {
   j1 = p1;
   i2 = l8;
   i3 = p4;
-  f42(self, j0, j1, i2, i3);
+  f43(self, j0, j1, i2, i3);
   j0 = l5;
   i0 = (u32)(j0);
   i0 = i32_load8_u(j0 + 1u);
@@ -67168,7 +67272,7 @@ static void f68(module *self, u64 p0, u64 p1, u32 p2, u32 p3, u32 p4) {
   self->g0 = j0;
 }
 
-static void f69(module *self, u64 p0, u64 p1, u64 p2) {
+static void f70(module *self, u64 p0, u64 p1, u64 p2) {
   u32 l20 = 0, l21 = 0, l22 = 0, l23 = 0, l24 = 0, l25 = 0, l26 = 0, l27 = 0, 
       l28 = 0;
   u64 l3 = 0, l4 = 0, l5 = 0, l6 = 0, l7 = 0, l8 = 0, l9 = 0, l10 = 0, 
@@ -68538,7 +68642,7 @@ static void f69(module *self, u64 p0, u64 p1, u64 p2) {
     j0 += j1;
     j1 = l19;
     j2 = l18;
-    f70(self, j0, j1, j2);
+    f71(self, j0, j1, j2);
     j0 = l3;
     i0 = (u32)(j0);
     j0 = i64_load(j0 + 288u);
@@ -68731,7 +68835,7 @@ static void f69(module *self, u64 p0, u64 p1, u64 p2) {
     j2 = l5;
     j3 = l4;
     i4 = l21;
-    f71(self, j0, j1, j2, j3, i4); if (NEVER(self->is_broken)) return;
+    f72(self, j0, j1, j2, j3, i4); if (NEVER(self->is_broken)) return;
     j0 = l3;
     i0 = (u32)(j0);
     j0 = i64_load(j0 + 256u);
@@ -68828,7 +68932,7 @@ static void f69(module *self, u64 p0, u64 p1, u64 p2) {
   self->g0 = j0;
 }
 
-static void f70(module *self, u64 p0, u64 p1, u64 p2) {
+static void f71(module *self, u64 p0, u64 p1, u64 p2) {
   u32 l6 = 0, l7 = 0, l8 = 0, l9 = 0, l10 = 0, l11 = 0;
   u64 l3 = 0, l4 = 0, l5 = 0;
   u8 *m = self->memory;
@@ -69437,7 +69541,7 @@ static void f70(module *self, u64 p0, u64 p1, u64 p2) {
   Bfunc:;
 }
 
-static void f71(module *self, u64 p0, u64 p1, u64 p2, u64 p3, u32 p4) {
+static void f72(module *self, u64 p0, u64 p1, u64 p2, u64 p3, u32 p4) {
   u32 l25 = 0, l26 = 0, l27 = 0, l28 = 0, l29 = 0, l30 = 0, l31 = 0, l32 = 0;
   u64 l5 = 0, l6 = 0, l7 = 0, l8 = 0, l9 = 0, l10 = 0, l11 = 0, l12 = 0, 
       l13 = 0, l14 = 0, l15 = 0, l16 = 0, l17 = 0, l18 = 0, l19 = 0, l20 = 0, 
@@ -70567,7 +70671,7 @@ static void f71(module *self, u64 p0, u64 p1, u64 p2, u64 p3, u32 p4) {
     j0 += j1;
     j1 = l7;
     j2 = p1;
-    f70(self, j0, j1, j2);
+    f71(self, j0, j1, j2);
     j0 = l5;
     i0 = (u32)(j0);
     j0 = i64_load(j0 + 72u);
@@ -71694,7 +71798,7 @@ static void f71(module *self, u64 p0, u64 p1, u64 p2, u64 p3, u32 p4) {
   j0 += j1;
   j1 = l22;
   j2 = l23;
-  f70(self, j0, j1, j2);
+  f71(self, j0, j1, j2);
   j0 = l5;
   i0 = (u32)(j0);
   j0 = i64_load(j0 + 72u);
@@ -71990,7 +72094,7 @@ static void f71(module *self, u64 p0, u64 p1, u64 p2, u64 p3, u32 p4) {
   self->g0 = j0;
 }
 
-static void f72(module *self, u64 p0, u64 p1, u64 p2) {
+static void f73(module *self, u64 p0, u64 p1, u64 p2) {
   u32 l15 = 0, l16 = 0, l17 = 0, l18 = 0;
   u64 l3 = 0, l4 = 0, l5 = 0, l6 = 0, l7 = 0, l8 = 0, l9 = 0, l10 = 0, 
       l11 = 0, l12 = 0, l13 = 0, l14 = 0;
@@ -72154,7 +72258,7 @@ static void f72(module *self, u64 p0, u64 p1, u64 p2) {
   i5 = 4096u;
   i4 = i4 < i5;
   j2 = i4 ? j2 : j3;
-  f73(self, j0, i1, j2);
+  f74(self, j0, i1, j2);
   j0 = l3;
   j1 = 560ull;
   j0 += j1;
@@ -72212,7 +72316,7 @@ static void f72(module *self, u64 p0, u64 p1, u64 p2) {
   j0 += j1;
   i1 = l15;
   j2 = 2ull;
-  f73(self, j0, i1, j2);
+  f74(self, j0, i1, j2);
   j0 = l3;
   i0 = (u32)(j0);
   j0 = i64_load(j0 + 840u);
@@ -72254,7 +72358,7 @@ static void f72(module *self, u64 p0, u64 p1, u64 p2) {
   if (i0) {goto B17;}
   j0 = p1;
   j1 = p2;
-  i0 = f10(self, j0, j1); m = self->memory; if (NEVER(self->is_broken)) return;
+  i0 = f11(self, j0, j1); m = self->memory; if (NEVER(self->is_broken)) return;
   i0 = !(i0);
   if (i0) {goto B1;}
   j0 = p1;
@@ -72369,7 +72473,7 @@ static void f72(module *self, u64 p0, u64 p1, u64 p2) {
   i5 = 4096u;
   i4 = i4 < i5;
   j2 = i4 ? j2 : j3;
-  f73(self, j0, i1, j2);
+  f74(self, j0, i1, j2);
   j0 = l3;
   j1 = 488ull;
   j0 += j1;
@@ -72427,7 +72531,7 @@ static void f72(module *self, u64 p0, u64 p1, u64 p2) {
   j0 += j1;
   i1 = l15;
   j2 = 4ull;
-  f73(self, j0, i1, j2);
+  f74(self, j0, i1, j2);
   j0 = l3;
   i0 = (u32)(j0);
   j0 = i64_load(j0 + 840u);
@@ -72469,7 +72573,7 @@ static void f72(module *self, u64 p0, u64 p1, u64 p2) {
   if (i0) {goto B21;}
   j0 = p1;
   j1 = p2;
-  i0 = f10(self, j0, j1); m = self->memory; if (NEVER(self->is_broken)) return;
+  i0 = f11(self, j0, j1); m = self->memory; if (NEVER(self->is_broken)) return;
   i0 = !(i0);
   if (i0) {goto B1;}
   j0 = p1;
@@ -72584,7 +72688,7 @@ static void f72(module *self, u64 p0, u64 p1, u64 p2) {
   i5 = 4096u;
   i4 = i4 < i5;
   j2 = i4 ? j2 : j3;
-  f73(self, j0, i1, j2);
+  f74(self, j0, i1, j2);
   j0 = l3;
   j1 = 272ull;
   j0 += j1;
@@ -72650,7 +72754,7 @@ static void f72(module *self, u64 p0, u64 p1, u64 p2) {
   if (i0) {goto B24;}
   j0 = p1;
   j1 = p2;
-  i0 = f10(self, j0, j1); m = self->memory; if (NEVER(self->is_broken)) return;
+  i0 = f11(self, j0, j1); m = self->memory; if (NEVER(self->is_broken)) return;
   i0 = !(i0);
   if (i0) {goto B1;}
   j0 = p1;
@@ -72773,7 +72877,7 @@ static void f72(module *self, u64 p0, u64 p1, u64 p2) {
   i5 = 4096u;
   i4 = i4 < i5;
   j2 = i4 ? j2 : j3;
-  f73(self, j0, i1, j2);
+  f74(self, j0, i1, j2);
   j0 = l3;
   j1 = 200ull;
   j0 += j1;
@@ -72839,7 +72943,7 @@ static void f72(module *self, u64 p0, u64 p1, u64 p2) {
   if (i0) {goto B27;}
   j0 = p1;
   j1 = p2;
-  i0 = f10(self, j0, j1); m = self->memory; if (NEVER(self->is_broken)) return;
+  i0 = f11(self, j0, j1); m = self->memory; if (NEVER(self->is_broken)) return;
   i0 = !(i0);
   if (i0) {goto B1;}
   j0 = p1;
@@ -72972,7 +73076,7 @@ static void f72(module *self, u64 p0, u64 p1, u64 p2) {
   i5 = 1048576u;
   i4 = i4 < i5;
   j2 = i4 ? j2 : j3;
-  f73(self, j0, i1, j2);
+  f74(self, j0, i1, j2);
   j0 = l3;
   j1 = 416ull;
   j0 += j1;
@@ -73030,7 +73134,7 @@ static void f72(module *self, u64 p0, u64 p1, u64 p2) {
   j0 += j1;
   i1 = l15;
   j2 = 2ull;
-  f73(self, j0, i1, j2);
+  f74(self, j0, i1, j2);
   j0 = l3;
   i0 = (u32)(j0);
   j0 = i64_load(j0 + 840u);
@@ -73072,7 +73176,7 @@ static void f72(module *self, u64 p0, u64 p1, u64 p2) {
   if (i0) {goto B31;}
   j0 = p1;
   j1 = p2;
-  i0 = f10(self, j0, j1); m = self->memory; if (NEVER(self->is_broken)) return;
+  i0 = f11(self, j0, j1); m = self->memory; if (NEVER(self->is_broken)) return;
   i0 = !(i0);
   if (i0) {goto B1;}
   j0 = p1;
@@ -73197,7 +73301,7 @@ static void f72(module *self, u64 p0, u64 p1, u64 p2) {
   i5 = 1048576u;
   i4 = i4 < i5;
   j2 = i4 ? j2 : j3;
-  f73(self, j0, i1, j2);
+  f74(self, j0, i1, j2);
   j0 = l3;
   j1 = 344ull;
   j0 += j1;
@@ -73255,7 +73359,7 @@ static void f72(module *self, u64 p0, u64 p1, u64 p2) {
   j0 += j1;
   i1 = l15;
   j2 = 4ull;
-  f73(self, j0, i1, j2);
+  f74(self, j0, i1, j2);
   j0 = l3;
   i0 = (u32)(j0);
   j0 = i64_load(j0 + 840u);
@@ -73297,7 +73401,7 @@ static void f72(module *self, u64 p0, u64 p1, u64 p2) {
   if (i0) {goto B35;}
   j0 = p1;
   j1 = p2;
-  i0 = f10(self, j0, j1); m = self->memory; if (NEVER(self->is_broken)) return;
+  i0 = f11(self, j0, j1); m = self->memory; if (NEVER(self->is_broken)) return;
   i0 = !(i0);
   if (i0) {goto B1;}
   j0 = p1;
@@ -73430,7 +73534,7 @@ static void f72(module *self, u64 p0, u64 p1, u64 p2) {
   i5 = 1048576u;
   i4 = i4 < i5;
   j2 = i4 ? j2 : j3;
-  f73(self, j0, i1, j2);
+  f74(self, j0, i1, j2);
   j0 = l3;
   j1 = 128ull;
   j0 += j1;
@@ -73496,7 +73600,7 @@ static void f72(module *self, u64 p0, u64 p1, u64 p2) {
   if (i0) {goto B38;}
   j0 = p1;
   j1 = p2;
-  i0 = f10(self, j0, j1); m = self->memory; if (NEVER(self->is_broken)) return;
+  i0 = f11(self, j0, j1); m = self->memory; if (NEVER(self->is_broken)) return;
   i0 = !(i0);
   if (i0) {goto B1;}
   j0 = p1;
@@ -73621,7 +73725,7 @@ static void f72(module *self, u64 p0, u64 p1, u64 p2) {
   i5 = 1048576u;
   i4 = i4 < i5;
   j2 = i4 ? j2 : j3;
-  f73(self, j0, i1, j2);
+  f74(self, j0, i1, j2);
   j0 = l3;
   j1 = 56ull;
   j0 += j1;
@@ -73687,7 +73791,7 @@ static void f72(module *self, u64 p0, u64 p1, u64 p2) {
   if (i0) {goto B41;}
   j0 = p1;
   j1 = p2;
-  i0 = f10(self, j0, j1); m = self->memory; if (NEVER(self->is_broken)) return;
+  i0 = f11(self, j0, j1); m = self->memory; if (NEVER(self->is_broken)) return;
   i0 = !(i0);
   if (i0) {goto B1;}
   j0 = p1;
@@ -73847,7 +73951,7 @@ static void f72(module *self, u64 p0, u64 p1, u64 p2) {
   j0 += j1;
   i1 = l18;
   j2 = 4ull;
-  f73(self, j0, i1, j2);
+  f74(self, j0, i1, j2);
   j0 = l3;
   i0 = (u32)(j0);
   j0 = i64_load(j0 + 840u);
@@ -73877,7 +73981,7 @@ static void f72(module *self, u64 p0, u64 p1, u64 p2) {
   j0 += j1;
   i1 = l17;
   j2 = 4ull;
-  f73(self, j0, i1, j2);
+  f74(self, j0, i1, j2);
   j0 = l3;
   i0 = (u32)(j0);
   j0 = i64_load(j0 + 840u);
@@ -73907,7 +74011,7 @@ static void f72(module *self, u64 p0, u64 p1, u64 p2) {
   j0 += j1;
   i1 = l16;
   j2 = 4ull;
-  f73(self, j0, i1, j2);
+  f74(self, j0, i1, j2);
   j0 = l3;
   i0 = (u32)(j0);
   j0 = i64_load(j0 + 840u);
@@ -73937,7 +74041,7 @@ static void f72(module *self, u64 p0, u64 p1, u64 p2) {
   j0 += j1;
   i1 = l15;
   j2 = 4ull;
-  f73(self, j0, i1, j2);
+  f74(self, j0, i1, j2);
   j0 = l3;
   j1 = 632ull;
   j0 += j1;
@@ -74018,7 +74122,7 @@ static void f72(module *self, u64 p0, u64 p1, u64 p2) {
   if (i0) {goto B48;}
   j0 = p1;
   j1 = p2;
-  i0 = f10(self, j0, j1); m = self->memory; if (NEVER(self->is_broken)) return;
+  i0 = f11(self, j0, j1); m = self->memory; if (NEVER(self->is_broken)) return;
   i0 = !(i0);
   if (i0) {goto B1;}
   j0 = p1;
@@ -74147,7 +74251,7 @@ static void f72(module *self, u64 p0, u64 p1, u64 p2) {
   if (i0) {goto B53;}
   j0 = p1;
   j1 = p2;
-  i0 = f10(self, j0, j1); m = self->memory; if (NEVER(self->is_broken)) return;
+  i0 = f11(self, j0, j1); m = self->memory; if (NEVER(self->is_broken)) return;
   i0 = !(i0);
   if (i0) {goto B1;}
   j0 = p1;
@@ -74220,7 +74324,7 @@ static void f72(module *self, u64 p0, u64 p1, u64 p2) {
   j0 += j1;
   j1 = l10;
   j2 = 1ull;
-  f148(self, j0, j1, j2); m = self->memory; if (NEVER(self->is_broken)) return;
+  f151(self, j0, j1, j2); m = self->memory; if (NEVER(self->is_broken)) return;
   i0 = 1u;
   l15 = i0;
   j0 = l3;
@@ -74311,7 +74415,7 @@ static void f72(module *self, u64 p0, u64 p1, u64 p2) {
   if (i0) {goto B59;}
   j0 = p1;
   j1 = l10;
-  i0 = f10(self, j0, j1); m = self->memory; if (NEVER(self->is_broken)) return;
+  i0 = f11(self, j0, j1); m = self->memory; if (NEVER(self->is_broken)) return;
   i0 = !(i0);
   if (i0) {goto B58;}
   j0 = p1;
@@ -74484,7 +74588,7 @@ static void f72(module *self, u64 p0, u64 p1, u64 p2) {
   j1 = l13;
   i64_store(j0, j1);
   j0 = l7;
-  f151(self, j0);
+  f154(self, j0);
   j0 = l4;
   i0 = (u32)(j0);
   j0 = i64_load(j0);
@@ -74497,7 +74601,7 @@ static void f72(module *self, u64 p0, u64 p1, u64 p2) {
   if (i0) {goto B65;}
   j0 = p1;
   j1 = 1ull;
-  i0 = f10(self, j0, j1); m = self->memory; if (NEVER(self->is_broken)) return;
+  i0 = f11(self, j0, j1); m = self->memory; if (NEVER(self->is_broken)) return;
   i0 = !(i0);
   if (i0) {goto B0;}
   j0 = p1;
@@ -74539,7 +74643,7 @@ static void f72(module *self, u64 p0, u64 p1, u64 p2) {
   goto B2;
   B58:;
   j0 = l7;
-  f151(self, j0);
+  f154(self, j0);
   goto B0;
   B5:;
   j0 = p2;
@@ -74611,7 +74715,7 @@ static void f72(module *self, u64 p0, u64 p1, u64 p2) {
   j2 = 704ull;
   j1 += j2;
   i2 = l15;
-  f74(self, j0, j1, i2); if (NEVER(self->is_broken)) return;
+  f75(self, j0, j1, i2); if (NEVER(self->is_broken)) return;
   j0 = l3;
   i0 = (u32)(j0);
   j0 = i64_load(j0 + 32u);
@@ -74688,7 +74792,7 @@ static void f72(module *self, u64 p0, u64 p1, u64 p2) {
   if (i0) {goto B70;}
   j0 = p1;
   j1 = p2;
-  i0 = f10(self, j0, j1); m = self->memory; if (NEVER(self->is_broken)) return;
+  i0 = f11(self, j0, j1); m = self->memory; if (NEVER(self->is_broken)) return;
   i0 = !(i0);
   if (i0) {goto B1;}
   j0 = p1;
@@ -74761,7 +74865,7 @@ static void f72(module *self, u64 p0, u64 p1, u64 p2) {
   if (i0) {goto B72;}
   j0 = p1;
   j1 = 6ull;
-  i0 = f10(self, j0, j1); m = self->memory; if (NEVER(self->is_broken)) return;
+  i0 = f11(self, j0, j1); m = self->memory; if (NEVER(self->is_broken)) return;
   i0 = !(i0);
   if (i0) {goto B1;}
   j0 = p1;
@@ -74877,7 +74981,7 @@ static void f72(module *self, u64 p0, u64 p1, u64 p2) {
   if (i0) {goto B82;}
   j0 = p1;
   j1 = 10ull;
-  i0 = f10(self, j0, j1); m = self->memory; if (NEVER(self->is_broken)) return;
+  i0 = f11(self, j0, j1); m = self->memory; if (NEVER(self->is_broken)) return;
   if (i0) {goto B83;}
   i0 = 1u;
   l15 = i0;
@@ -75002,7 +75106,7 @@ static void f72(module *self, u64 p0, u64 p1, u64 p2) {
   j0 += j1;
   i1 = l15;
   j2 = 2ull;
-  f73(self, j0, i1, j2);
+  f74(self, j0, i1, j2);
   j0 = 64ull;
   p2 = j0;
   j0 = l3;
@@ -75046,7 +75150,7 @@ static void f72(module *self, u64 p0, u64 p1, u64 p2) {
   if (i0) {goto B87;}
   j0 = p1;
   j1 = p2;
-  i0 = f10(self, j0, j1); m = self->memory; if (NEVER(self->is_broken)) return;
+  i0 = f11(self, j0, j1); m = self->memory; if (NEVER(self->is_broken)) return;
   i0 = !(i0);
   if (i0) {goto B1;}
   j0 = p1;
@@ -75121,7 +75225,7 @@ static void f72(module *self, u64 p0, u64 p1, u64 p2) {
   if (i0) {goto B89;}
   j0 = p1;
   j1 = 10ull;
-  i0 = f10(self, j0, j1); m = self->memory; if (NEVER(self->is_broken)) return;
+  i0 = f11(self, j0, j1); m = self->memory; if (NEVER(self->is_broken)) return;
   if (i0) {goto B90;}
   i0 = 1u;
   l15 = i0;
@@ -75215,7 +75319,7 @@ static void f72(module *self, u64 p0, u64 p1, u64 p2) {
   if (i0) {goto B93;}
   j0 = p1;
   j1 = 13ull;
-  i0 = f10(self, j0, j1); m = self->memory; if (NEVER(self->is_broken)) return;
+  i0 = f11(self, j0, j1); m = self->memory; if (NEVER(self->is_broken)) return;
   i0 = !(i0);
   if (i0) {goto B1;}
   j0 = p1;
@@ -75353,7 +75457,7 @@ static void f72(module *self, u64 p0, u64 p1, u64 p2) {
   j0 += j1;
   i1 = l15;
   j2 = 1ull;
-  f73(self, j0, i1, j2);
+  f74(self, j0, i1, j2);
   j0 = 64ull;
   p2 = j0;
   j0 = l3;
@@ -75383,7 +75487,7 @@ static void f72(module *self, u64 p0, u64 p1, u64 p2) {
   j0 += j1;
   i1 = l17;
   j2 = 4ull;
-  f73(self, j0, i1, j2);
+  f74(self, j0, i1, j2);
   j0 = l3;
   i0 = (u32)(j0);
   j0 = i64_load(j0 + 840u);
@@ -75434,7 +75538,7 @@ static void f72(module *self, u64 p0, u64 p1, u64 p2) {
   j2 = 704ull;
   j1 += j2;
   i2 = l16;
-  f74(self, j0, j1, i2); if (NEVER(self->is_broken)) return;
+  f75(self, j0, j1, i2); if (NEVER(self->is_broken)) return;
   j0 = 64ull;
   l4 = j0;
   j0 = 64ull;
@@ -75509,7 +75613,7 @@ static void f72(module *self, u64 p0, u64 p1, u64 p2) {
   if (i0) {goto B101;}
   j0 = p1;
   j1 = l4;
-  i0 = f10(self, j0, j1); m = self->memory; if (NEVER(self->is_broken)) return;
+  i0 = f11(self, j0, j1); m = self->memory; if (NEVER(self->is_broken)) return;
   i0 = !(i0);
   if (i0) {goto B1;}
   j0 = p1;
@@ -75584,7 +75688,7 @@ static void f72(module *self, u64 p0, u64 p1, u64 p2) {
   p2 = j0;
   j0 = p1;
   j1 = 9ull;
-  i0 = f10(self, j0, j1); m = self->memory; if (NEVER(self->is_broken)) return;
+  i0 = f11(self, j0, j1); m = self->memory; if (NEVER(self->is_broken)) return;
   if (i0) {goto B104;}
   i0 = 1u;
   l15 = i0;
@@ -75678,7 +75782,7 @@ static void f72(module *self, u64 p0, u64 p1, u64 p2) {
   if (i0) {goto B107;}
   j0 = p1;
   j1 = 11ull;
-  i0 = f10(self, j0, j1); m = self->memory; if (NEVER(self->is_broken)) return;
+  i0 = f11(self, j0, j1); m = self->memory; if (NEVER(self->is_broken)) return;
   i0 = !(i0);
   if (i0) {goto B1;}
   j0 = p1;
@@ -75787,7 +75891,7 @@ static void f72(module *self, u64 p0, u64 p1, u64 p2) {
   self->g0 = j0;
 }
 
-static void f73(module *self, u64 p0, u32 p1, u64 p2) {
+static void f74(module *self, u64 p0, u32 p1, u64 p2) {
   u64 l3 = 0;
   u8 *m = self->memory;
   u32 i0, i1, i2, i3, i4;
@@ -75802,7 +75906,7 @@ static void f73(module *self, u64 p0, u32 p1, u64 p2) {
   j2 = p2;
   j3 = 18446744073709551615ull;
   j2 += j3;
-  f73(self, j0, i1, j2);
+  f74(self, j0, i1, j2);
   j0 = p0;
   j1 = 64ull;
   j0 += j1;
@@ -75840,7 +75944,7 @@ static void f73(module *self, u64 p0, u32 p1, u64 p2) {
   B0:;
 }
 
-static void f74(module *self, u64 p0, u64 p1, u32 p2) {
+static void f75(module *self, u64 p0, u64 p1, u32 p2) {
   u32 l7 = 0;
   u64 l3 = 0, l4 = 0, l5 = 0, l6 = 0;
   u8 *m = self->memory;
@@ -76022,7 +76126,370 @@ static void f74(module *self, u64 p0, u64 p1, u32 p2) {
   i64_store(j0, j1);
 }
 
-static u32 f75(module *self, u64 p0, u64 p1, u32 p2, u64 p3, u64 p4, u32 p5) {
+static u32 f76(module *self, u64 p0, u32 p1, u32 p2) {
+  u32 l3 = 0, l4 = 0, l5 = 0, l6 = 0, l7 = 0;
+  u64 l8 = 0;
+  u8 *m = self->memory;
+  u32 i0, i1, i2, i3, i4, i5;
+  u64 j0, j1, j2, j3;
+  j0 = p0;
+  j1 = 136ull;
+  j0 += j1;
+  i0 = (u32)(j0);
+  i0 = i32_load16_u(j0);
+  l3 = i0;
+  if (i0) {goto B1;}
+  j0 = p0;
+  j1 = 138ull;
+  j0 += j1;
+  i0 = (u32)(j0);
+  i0 = i32_load8_u(j0);
+  if (i0) {goto B1;}
+  i0 = 0u;
+  l4 = i0;
+  j0 = p0;
+  j1 = 134ull;
+  j0 += j1;
+  i0 = (u32)(j0);
+  i0 = i32_load16_u(j0);
+  i1 = 65535u;
+  i0 &= i1;
+  i0 = !(i0);
+  if (i0) {goto B0;}
+  B1:;
+  i0 = 0u;
+  l4 = i0;
+  i0 = l3;
+  j1 = p0;
+  j2 = 105ull;
+  j1 += j2;
+  i1 = (u32)(j1);
+  i1 = i32_load8_u(j1);
+  i2 = 5u;
+  i1 += i2;
+  l5 = i1;
+  i0 = i0 >= i1;
+  if (i0) {goto B0;}
+  j0 = p0;
+  j1 = 138ull;
+  j0 += j1;
+  i0 = (u32)(j0);
+  i0 = i32_load8_u(j0);
+  l6 = i0;
+  j1 = p0;
+  j2 = 34ull;
+  j1 += j2;
+  i1 = (u32)(j1);
+  i1 = i32_load8_u(j1);
+  i2 = 1u;
+  i1 &= i2;
+  i2 = 9u;
+  i1 ^= i2;
+  l7 = i1;
+  i0 = i0 >= i1;
+  if (i0) {goto B0;}
+  i0 = 0u;
+  l4 = i0;
+  i0 = p1;
+  i1 = 0u;
+  i2 = l7;
+  i3 = l6;
+  i4 = 1u;
+  i3 += i4;
+  i4 = 255u;
+  i3 &= i4;
+  i2 -= i3;
+  l6 = i2;
+  i3 = l6;
+  i4 = l7;
+  i3 = i3 > i4;
+  i1 = i3 ? i1 : i2;
+  i2 = 0u;
+  i3 = l5;
+  i4 = l3;
+  i5 = 1u;
+  i4 += i5;
+  i5 = 65535u;
+  i4 &= i5;
+  i3 -= i4;
+  l3 = i3;
+  i4 = l3;
+  i5 = l5;
+  i4 = i4 > i5;
+  i2 = i4 ? i2 : i3;
+  i3 = l7;
+  i2 *= i3;
+  i1 += i2;
+  i2 = 1u;
+  i1 += i2;
+  i0 = i0 > i1;
+  if (i0) {goto B0;}
+  j0 = p0;
+  j1 = 2003ull;
+  j0 += j1;
+  i0 = (u32)(j0);
+  i0 = i32_load8_u(j0);
+  i1 = 2u;
+  i0 &= i1;
+  i0 = !(i0);
+  if (i0) {goto B0;}
+  i0 = p2;
+  j1 = p0;
+  j2 = 60ull;
+  j1 += j2;
+  i1 = (u32)(j1);
+  i1 = i32_load(j1);
+  i0 -= i1;
+  l3 = i0;
+  j1 = p0;
+  j2 = 64ull;
+  j1 += j2;
+  i1 = (u32)(j1);
+  i1 = i32_load(j1);
+  i0 = i0 >= i1;
+  if (i0) {goto B0;}
+  j0 = p0;
+  j1 = 71ull;
+  j0 += j1;
+  i0 = (u32)(j0);
+  i0 = i32_load8_u(j0);
+  p1 = i0;
+  j0 = p0;
+  j1 = 69ull;
+  j0 += j1;
+  l8 = j0;
+  j0 = p0;
+  j1 = 68ull;
+  j0 += j1;
+  i0 = (u32)(j0);
+  i0 = i32_load8_u(j0);
+  l7 = i0;
+  i1 = 1u;
+  i0 &= i1;
+  i0 = !(i0);
+  if (i0) {goto B3;}
+  i0 = 134480385u;
+  i1 = l3;
+  i2 = 3u;
+  i1 <<= (i2 & 31);
+  i0 >>= (i1 & 31);
+  p2 = i0;
+  goto B2;
+  B3:;
+  i0 = 15u;
+  i1 = 10u;
+  i2 = 5u;
+  i3 = l3;
+  i4 = 1u;
+  i3 &= i4;
+  i1 = i3 ? i1 : i2;
+  j2 = p0;
+  j3 = 70ull;
+  j2 += j3;
+  i2 = (u32)(j2);
+  i2 = i32_load8_u(j2);
+  i3 = 1u;
+  i2 &= i3;
+  i0 = i2 ? i0 : i1;
+  p2 = i0;
+  B2:;
+  j0 = l8;
+  i0 = (u32)(j0);
+  i0 = i32_load8_u(j0);
+  l6 = i0;
+  i0 = 4u;
+  l5 = i0;
+  i0 = p1;
+  i1 = p2;
+  i0 &= i1;
+  i1 = 4u;
+  i0 &= i1;
+  i0 = !(i0);
+  if (i0) {goto B4;}
+  j0 = p0;
+  j1 = 53ull;
+  j0 += j1;
+  i0 = (u32)(j0);
+  i0 = i32_load8_u(j0);
+  i1 = 1u;
+  i0 &= i1;
+  i0 = !(i0);
+  if (i0) {goto B0;}
+  B4:;
+  i0 = l3;
+  i1 = 4294967292u;
+  i0 &= i1;
+  i1 = l3;
+  i2 = 4294967294u;
+  i1 &= i2;
+  i2 = l3;
+  i3 = l6;
+  i4 = 1u;
+  i3 &= i4;
+  i1 = i3 ? i1 : i2;
+  i2 = l7;
+  i3 = 1u;
+  i2 &= i3;
+  i0 = i2 ? i0 : i1;
+  l4 = i0;
+  j0 = p0;
+  j1 = 125ull;
+  j0 += j1;
+  i0 = (u32)(j0);
+  i0 = i32_load8_u(j0);
+  i1 = 64u;
+  i0 &= i1;
+  if (i0) {goto B5;}
+  i0 = 1u;
+  i1 = 2u;
+  j2 = p0;
+  j3 = 128ull;
+  j2 += j3;
+  i2 = (u32)(j2);
+  i2 = i32_load8_u(j2);
+  i3 = 64u;
+  i2 &= i3;
+  i0 = i2 ? i0 : i1;
+  l5 = i0;
+  B5:;
+  j0 = p0;
+  j1 = 106ull;
+  j0 += j1;
+  i0 = (u32)(j0);
+  i0 = i32_load8_u(j0);
+  i1 = 2u;
+  i0 += i1;
+  i1 = l5;
+  i0 *= i1;
+  i1 = l4;
+  j2 = p0;
+  j3 = 140ull;
+  j2 += j3;
+  i2 = (u32)(j2);
+  i2 = i32_load16_u(j2);
+  i3 = l5;
+  i2 *= i3;
+  i1 -= i2;
+  i2 = 65535u;
+  i1 &= i2;
+  i0 = i0 <= i1;
+  l4 = i0;
+  B0:;
+  i0 = l4;
+  return i0;
+}
+
+static u32 f77(module *self, u64 p0, u32 p1, u32 p2) {
+  u32 l3 = 0, l4 = 0, l5 = 0, l6 = 0, l7 = 0;
+  u8 *m = self->memory;
+  u32 i0, i1, i2, i3, i4, i5;
+  u64 j0, j1, j2;
+  i0 = 0u;
+  l3 = i0;
+  j0 = p0;
+  j1 = 136ull;
+  j0 += j1;
+  i0 = (u32)(j0);
+  i0 = i32_load16_u(j0);
+  l4 = i0;
+  j1 = p0;
+  j2 = 105ull;
+  j1 += j2;
+  i1 = (u32)(j1);
+  i1 = i32_load8_u(j1);
+  i2 = 5u;
+  i1 += i2;
+  l5 = i1;
+  i0 = i0 >= i1;
+  if (i0) {goto B1;}
+  j0 = p0;
+  j1 = 138ull;
+  j0 += j1;
+  i0 = (u32)(j0);
+  i0 = i32_load8_u(j0);
+  l6 = i0;
+  j1 = p0;
+  j2 = 34ull;
+  j1 += j2;
+  i1 = (u32)(j1);
+  i1 = i32_load8_u(j1);
+  i2 = 1u;
+  i1 &= i2;
+  i2 = 9u;
+  i1 ^= i2;
+  l7 = i1;
+  i0 = i0 >= i1;
+  if (i0) {goto B1;}
+  i0 = p1;
+  i1 = 0u;
+  i2 = l7;
+  i3 = l6;
+  i4 = 1u;
+  i3 += i4;
+  i4 = 255u;
+  i3 &= i4;
+  i2 -= i3;
+  l3 = i2;
+  i3 = l3;
+  i4 = l7;
+  i3 = i3 > i4;
+  i1 = i3 ? i1 : i2;
+  i2 = 0u;
+  i3 = l5;
+  i4 = l4;
+  i5 = 1u;
+  i4 += i5;
+  i5 = 65535u;
+  i4 &= i5;
+  i3 -= i4;
+  l3 = i3;
+  i4 = l3;
+  i5 = l5;
+  i4 = i4 > i5;
+  i2 = i4 ? i2 : i3;
+  i3 = l7;
+  i2 *= i3;
+  i1 += i2;
+  i2 = 1u;
+  i1 += i2;
+  l3 = i1;
+  i0 = i0 >= i1;
+  if (i0) {goto B2;}
+  i0 = p1;
+  l3 = i0;
+  goto B0;
+  B2:;
+  i0 = p1;
+  i1 = l3;
+  i0 -= i1;
+  i1 = l5;
+  i2 = l7;
+  i1 *= i2;
+  if (i1 == 0) { self->is_broken = true; return ZAK_BROKEN; } i0 = i0 % i1;
+  l3 = i0;
+  B1:;
+  j0 = p0;
+  i1 = p1;
+  i2 = l3;
+  i1 -= i2;
+  f2(self, j0, i1); m = self->memory; if (NEVER(self->is_broken)) return ZAK_BROKEN;
+  B0:;
+  j0 = p0;
+  i1 = l3;
+  i2 = p2;
+  i0 = f76(self, j0, i1, i2);
+  if (i0) {goto B3;}
+  j0 = p0;
+  i1 = l3;
+  f2(self, j0, i1); m = self->memory; if (NEVER(self->is_broken)) return ZAK_BROKEN;
+  i0 = 0u;
+  l3 = i0;
+  B3:;
+  i0 = l3;
+  return i0;
+}
+
+static u32 f78(module *self, u64 p0, u64 p1, u32 p2, u64 p3, u64 p4, u32 p5) {
   u32 l6 = 0, l7 = 0, l8 = 0, l9 = 0, l10 = 0, l11 = 0, l12 = 0;
   u8 *m = self->memory;
   u32 i0, i1, i2, i3;
@@ -76366,12 +76833,12 @@ static u32 f75(module *self, u64 p0, u64 p1, u32 p2, u64 p3, u64 p4, u32 p5) {
   return i0;
 }
 
-static void f76(module *self, u64 p0, u64 p1, u32 p2, u32 p3) {
-  u32 l4 = 0, l5 = 0, l6 = 0, l7 = 0, l8 = 0, l9 = 0;
-  u64 l10 = 0;
+static void f79(module *self, u64 p0, u64 p1, u32 p2, u32 p3) {
+  u32 l4 = 0, l5 = 0, l6 = 0, l7 = 0, l8 = 0, l9 = 0, l10 = 0;
+  u64 l11 = 0;
   u8 *m = self->memory;
   u32 i0, i1, i2, i3, i4, i5;
-  u64 j0, j1, j2, j3, j4, j5;
+  u64 j0, j1, j2, j3;
   i0 = 1u;
   l4 = i0;
   i0 = p2;
@@ -76423,26 +76890,38 @@ static void f76(module *self, u64 p0, u64 p1, u32 p2, u32 p3) {
   i0 = i0 >= i1;
   if (i0) {goto B0;}
   j0 = p1;
+  j1 = 71ull;
+  j0 += j1;
+  i0 = (u32)(j0);
+  i0 = i32_load8_u(j0);
+  l5 = i0;
+  j0 = p1;
+  j1 = 70ull;
+  j0 += j1;
+  i0 = (u32)(j0);
+  i0 = i32_load8_u(j0);
+  l4 = i0;
+  j0 = p1;
+  j1 = 69ull;
+  j0 += j1;
+  i0 = (u32)(j0);
+  i0 = i32_load8_u(j0);
+  l7 = i0;
+  j0 = p1;
   j1 = p1;
   j2 = 72ull;
   j1 += j2;
   i1 = (u32)(j1);
   i1 = i32_load8_u(j1);
   i2 = p3;
-  i0 = f44(self, j0, i1, i2);
-  l5 = i0;
-  j0 = p1;
-  j1 = 71ull;
-  j0 += j1;
-  i0 = (u32)(j0);
-  i0 = i32_load8_u(j0);
-  l7 = i0;
+  i0 = f45(self, j0, i1, i2);
+  l6 = i0;
   j0 = p1;
   j1 = 68ull;
   j0 += j1;
   i0 = (u32)(j0);
   i0 = i32_load8_u(j0);
-  l6 = i0;
+  l9 = i0;
   i1 = 1u;
   i0 &= i1;
   i0 = !(i0);
@@ -76452,7 +76931,7 @@ static void f76(module *self, u64 p0, u64 p1, u32 p2, u32 p3) {
   i2 = 3u;
   i1 <<= (i2 & 31);
   i0 >>= (i1 & 31);
-  l9 = i0;
+  l10 = i0;
   goto B1;
   B2:;
   i0 = 15u;
@@ -76462,15 +76941,11 @@ static void f76(module *self, u64 p0, u64 p1, u32 p2, u32 p3) {
   i4 = 1u;
   i3 &= i4;
   i1 = i3 ? i1 : i2;
-  j2 = p1;
-  j3 = 70ull;
-  j2 += j3;
-  i2 = (u32)(j2);
-  i2 = i32_load8_u(j2);
+  i2 = l4;
   i3 = 1u;
   i2 &= i3;
   i0 = i2 ? i0 : i1;
-  l9 = i0;
+  l10 = i0;
   B1:;
   i0 = 1u;
   l4 = i0;
@@ -76484,15 +76959,11 @@ static void f76(module *self, u64 p0, u64 p1, u32 p2, u32 p3) {
   i3 = 65534u;
   i2 &= i3;
   i3 = p2;
-  j4 = p1;
-  j5 = 69ull;
-  j4 += j5;
-  i4 = (u32)(j4);
-  i4 = i32_load8_u(j4);
+  i4 = l7;
   i5 = 1u;
   i4 &= i5;
   i2 = i4 ? i2 : i3;
-  i3 = l6;
+  i3 = l9;
   i4 = 1u;
   i3 &= i4;
   i1 = i3 ? i1 : i2;
@@ -76502,16 +76973,16 @@ static void f76(module *self, u64 p0, u64 p1, u32 p2, u32 p3) {
   j2 = 2ull;
   j1 <<= (j2 & 63);
   j0 += j1;
-  l10 = j0;
+  l11 = j0;
   i0 = (u32)(j0);
-  i1 = l5;
-  j2 = l10;
+  i1 = l6;
+  j2 = l11;
   i2 = (u32)(j2);
   i2 = i32_load(j2);
   p2 = i2;
   i1 ^= i2;
-  i2 = l9;
-  i3 = l7;
+  i2 = l10;
+  i3 = l5;
   i2 &= i3;
   i3 = 2u;
   i2 <<= (i3 & 31);
@@ -76551,6 +77022,24 @@ static void f76(module *self, u64 p0, u64 p1, u32 p2, u32 p3) {
   i0 = i0 >= i1;
   if (i0) {goto B0;}
   j0 = p1;
+  j1 = 71ull;
+  j0 += j1;
+  i0 = (u32)(j0);
+  i0 = i32_load8_u(j0);
+  l4 = i0;
+  j0 = p1;
+  j1 = 70ull;
+  j0 += j1;
+  i0 = (u32)(j0);
+  i0 = i32_load8_u(j0);
+  l6 = i0;
+  j0 = p1;
+  j1 = 69ull;
+  j0 += j1;
+  i0 = (u32)(j0);
+  i0 = i32_load8_u(j0);
+  l5 = i0;
+  j0 = p1;
   j1 = p1;
   j2 = 72ull;
   j1 += j2;
@@ -76561,20 +77050,14 @@ static void f76(module *self, u64 p0, u64 p1, u32 p2, u32 p3) {
   i2 &= i3;
   i3 = 8u;
   i2 >>= (i3 & 31);
-  i0 = f44(self, j0, i1, i2);
-  l4 = i0;
-  j0 = p1;
-  j1 = 71ull;
-  j0 += j1;
-  i0 = (u32)(j0);
-  i0 = i32_load8_u(j0);
-  l5 = i0;
+  i0 = f45(self, j0, i1, i2);
+  p3 = i0;
   j0 = p1;
   j1 = 68ull;
   j0 += j1;
   i0 = (u32)(j0);
   i0 = i32_load8_u(j0);
-  p3 = i0;
+  l7 = i0;
   i1 = 1u;
   i0 &= i1;
   i0 = !(i0);
@@ -76584,7 +77067,7 @@ static void f76(module *self, u64 p0, u64 p1, u32 p2, u32 p3) {
   i2 = 3u;
   i1 <<= (i2 & 31);
   i0 >>= (i1 & 31);
-  l7 = i0;
+  l6 = i0;
   goto B3;
   B4:;
   i0 = 15u;
@@ -76594,15 +77077,11 @@ static void f76(module *self, u64 p0, u64 p1, u32 p2, u32 p3) {
   i4 = 1u;
   i3 &= i4;
   i1 = i3 ? i1 : i2;
-  j2 = p1;
-  j3 = 70ull;
-  j2 += j3;
-  i2 = (u32)(j2);
-  i2 = i32_load8_u(j2);
+  i2 = l6;
   i3 = 1u;
   i2 &= i3;
   i0 = i2 ? i0 : i1;
-  l7 = i0;
+  l6 = i0;
   B3:;
   j0 = p1;
   i0 = (u32)(j0);
@@ -76614,15 +77093,11 @@ static void f76(module *self, u64 p0, u64 p1, u32 p2, u32 p3) {
   i3 = 65534u;
   i2 &= i3;
   i3 = p2;
-  j4 = p1;
-  j5 = 69ull;
-  j4 += j5;
-  i4 = (u32)(j4);
-  i4 = i32_load8_u(j4);
+  i4 = l5;
   i5 = 1u;
   i4 &= i5;
   i2 = i4 ? i2 : i3;
-  i3 = p3;
+  i3 = l7;
   i4 = 1u;
   i3 &= i4;
   i1 = i3 ? i1 : i2;
@@ -76634,14 +77109,14 @@ static void f76(module *self, u64 p0, u64 p1, u32 p2, u32 p3) {
   j0 += j1;
   p1 = j0;
   i0 = (u32)(j0);
-  i1 = l4;
+  i1 = p3;
   j2 = p1;
   i2 = (u32)(j2);
   i2 = i32_load(j2);
   p2 = i2;
   i1 ^= i2;
-  i2 = l7;
-  i3 = l5;
+  i2 = l6;
+  i3 = l4;
   i2 &= i3;
   i3 = 2u;
   i2 <<= (i3 & 31);
@@ -76669,7 +77144,7 @@ static void f76(module *self, u64 p0, u64 p1, u32 p2, u32 p3) {
   i32_store8(j0, i1);
 }
 
-static u32 f77(module *self, u64 p0, u64 p1, u64 p2) {
+static u32 f80(module *self, u64 p0, u64 p1, u64 p2) {
   u32 l10 = 0, l11 = 0, l12 = 0, l13 = 0, l14 = 0, l15 = 0, l16 = 0, l17 = 0, 
       l18 = 0, l19 = 0, l20 = 0, l21 = 0, l22 = 0, l23 = 0, l24 = 0, l25 = 0, 
       l26 = 0, l27 = 0;
@@ -76922,7 +77397,7 @@ static u32 f77(module *self, u64 p0, u64 p1, u64 p2) {
   j0 = l3;
   j1 = 14ull;
   j0 += j1;
-  i0 = f17(self, j0);
+  i0 = f18(self, j0);
   i0 = !(i0);
   if (i0) {goto B0;}
   j0 = p1;
@@ -77517,13 +77992,13 @@ static u32 f77(module *self, u64 p0, u64 p1, u64 p2) {
   j1 = 14ull;
   j0 += j1;
   j1 = l7;
-  f78(self, j0, j1);
+  f81(self, j0, j1);
   j0 = l3;
   j1 = 14ull;
   j0 += j1;
   j1 = l6;
   j2 = l5;
-  i0 = f79(self, j0, j1, j2);
+  i0 = f82(self, j0, j1, j2);
   i0 = !(i0);
   if (i0) {goto B0;}
   j0 = p0;
@@ -77653,7 +78128,7 @@ static u32 f77(module *self, u64 p0, u64 p1, u64 p2) {
   j2 = p2;
   j3 = 18446744073709551576ull;
   j2 += j3;
-  f22(self, j0, j1, j2); m = self->memory; if (NEVER(self->is_broken)) return ZAK_BROKEN;
+  f23(self, j0, j1, j2); m = self->memory; if (NEVER(self->is_broken)) return ZAK_BROKEN;
   B0:;
   j0 = l3;
   j1 = 48ull;
@@ -77663,7 +78138,7 @@ static u32 f77(module *self, u64 p0, u64 p1, u64 p2) {
   return i0;
 }
 
-static void f78(module *self, u64 p0, u64 p1) {
+static void f81(module *self, u64 p0, u64 p1) {
   u32 l2 = 0, l3 = 0, l4 = 0, l5 = 0, l6 = 0, l7 = 0, l8 = 0;
   u8 *m = self->memory;
   u32 i0, i1, i2;
@@ -77756,7 +78231,7 @@ static void f78(module *self, u64 p0, u64 p1) {
   i32_store8(j0 + 11, i1);
 }
 
-static u32 f79(module *self, u64 p0, u64 p1, u64 p2) {
+static u32 f82(module *self, u64 p0, u64 p1, u64 p2) {
   u32 l3 = 0, l4 = 0, l5 = 0, l6 = 0, l7 = 0, l8 = 0, l9 = 0, l10 = 0;
   u64 l11 = 0;
   u8 *m = self->memory;
@@ -77890,7 +78365,7 @@ static u32 f79(module *self, u64 p0, u64 p1, u64 p2) {
   return i0;
 }
 
-static void f80(module *self, u64 p0, u64 p1, u64 p2, u64 p3, u64 p4, u64 p5, u64 p6) {
+static void f83(module *self, u64 p0, u64 p1, u64 p2, u64 p3, u64 p4, u64 p5, u64 p6) {
   u32 l15 = 0, l16 = 0, l17 = 0, l18 = 0, l19 = 0;
   u64 l7 = 0, l8 = 0, l9 = 0, l10 = 0, l11 = 0, l12 = 0, l13 = 0, l14 = 0;
   u8 *m = self->memory;
@@ -77950,7 +78425,7 @@ static void f80(module *self, u64 p0, u64 p1, u64 p2, u64 p3, u64 p4, u64 p5, u6
   j4 = p4;
   j5 = p5;
   j6 = p6;
-  f53(self, j0, j1, j2, j3, j4, j5, j6); m = self->memory; if (NEVER(self->is_broken)) return;
+  f54(self, j0, j1, j2, j3, j4, j5, j6); m = self->memory; if (NEVER(self->is_broken)) return;
   j0 = l7;
   i0 = (u32)(j0);
   i0 = i32_load8_u(j0 + 40u);
@@ -78091,7 +78566,7 @@ static void f80(module *self, u64 p0, u64 p1, u64 p2, u64 p3, u64 p4, u64 p5, u6
   j1 = 208ull;
   j0 += j1;
   j1 = p3;
-  f81(self, j0, j1); if (NEVER(self->is_broken)) return;
+  f84(self, j0, j1); if (NEVER(self->is_broken)) return;
   j0 = l7;
   i0 = (u32)(j0);
   j0 = i64_load(j0 + 264u);
@@ -78728,7 +79203,7 @@ static void f80(module *self, u64 p0, u64 p1, u64 p2, u64 p3, u64 p4, u64 p5, u6
   if (i0) {goto B19;}
   j0 = p1;
   j1 = p3;
-  i0 = f82(self, j0, j1); m = self->memory; if (NEVER(self->is_broken)) return;
+  i0 = f85(self, j0, j1); m = self->memory; if (NEVER(self->is_broken)) return;
   i0 = !(i0);
   if (i0) {goto B6;}
   j0 = p1;
@@ -78872,7 +79347,7 @@ static void f80(module *self, u64 p0, u64 p1, u64 p2, u64 p3, u64 p4, u64 p5, u6
   if (i0) {goto B27;}
   j0 = p1;
   j1 = 7ull;
-  i0 = f82(self, j0, j1); m = self->memory; if (NEVER(self->is_broken)) return;
+  i0 = f85(self, j0, j1); m = self->memory; if (NEVER(self->is_broken)) return;
   i0 = !(i0);
   if (i0) {goto B26;}
   j0 = l10;
@@ -78956,7 +79431,7 @@ static void f80(module *self, u64 p0, u64 p1, u64 p2, u64 p3, u64 p4, u64 p5, u6
     if (i0) {goto B32;}
     j0 = p1;
     j1 = 2ull;
-    i0 = f82(self, j0, j1); m = self->memory; if (NEVER(self->is_broken)) return;
+    i0 = f85(self, j0, j1); m = self->memory; if (NEVER(self->is_broken)) return;
     i0 = !(i0);
     if (i0) {goto B30;}
     j0 = p1;
@@ -79498,7 +79973,7 @@ static void f80(module *self, u64 p0, u64 p1, u64 p2, u64 p3, u64 p4, u64 p5, u6
   if (i0) {goto B51;}
   j0 = p1;
   j1 = 10ull;
-  i0 = f82(self, j0, j1); m = self->memory; if (NEVER(self->is_broken)) return;
+  i0 = f85(self, j0, j1); m = self->memory; if (NEVER(self->is_broken)) return;
   i0 = !(i0);
   if (i0) {goto B50;}
   j0 = p1;
@@ -79684,7 +80159,7 @@ static void f80(module *self, u64 p0, u64 p1, u64 p2, u64 p3, u64 p4, u64 p5, u6
   if (i0) {goto B55;}
   j0 = p1;
   j1 = 11ull;
-  i0 = f82(self, j0, j1); m = self->memory; if (NEVER(self->is_broken)) return;
+  i0 = f85(self, j0, j1); m = self->memory; if (NEVER(self->is_broken)) return;
   i0 = !(i0);
   if (i0) {goto B54;}
   j0 = p1;
@@ -79886,7 +80361,7 @@ static void f80(module *self, u64 p0, u64 p1, u64 p2, u64 p3, u64 p4, u64 p5, u6
   if (i0) {goto B59;}
   j0 = p1;
   j1 = 12ull;
-  i0 = f82(self, j0, j1); m = self->memory; if (NEVER(self->is_broken)) return;
+  i0 = f85(self, j0, j1); m = self->memory; if (NEVER(self->is_broken)) return;
   i0 = !(i0);
   if (i0) {goto B58;}
   j0 = p1;
@@ -80088,7 +80563,7 @@ static void f80(module *self, u64 p0, u64 p1, u64 p2, u64 p3, u64 p4, u64 p5, u6
   if (i0) {goto B63;}
   j0 = p1;
   j1 = p3;
-  i0 = f82(self, j0, j1); m = self->memory; if (NEVER(self->is_broken)) return;
+  i0 = f85(self, j0, j1); m = self->memory; if (NEVER(self->is_broken)) return;
   i0 = !(i0);
   if (i0) {goto B62;}
   j0 = p1;
@@ -80289,7 +80764,7 @@ static void f80(module *self, u64 p0, u64 p1, u64 p2, u64 p3, u64 p4, u64 p5, u6
   if (i0) {goto B70;}
   j0 = p1;
   j1 = 1ull;
-  i0 = f82(self, j0, j1); m = self->memory; if (NEVER(self->is_broken)) return;
+  i0 = f85(self, j0, j1); m = self->memory; if (NEVER(self->is_broken)) return;
   i0 = !(i0);
   if (i0) {goto B69;}
   j0 = l10;
@@ -80372,12 +80847,12 @@ static void f80(module *self, u64 p0, u64 p1, u64 p2, u64 p3, u64 p4, u64 p5, u6
   j0 = i64_load(j0 + 16u);
   p3 = j0;
   j0 = p1;
-  f151(self, j0);
+  f154(self, j0);
   j0 = p3;
   i0 = !(j0);
   if (i0) {goto B0;}
   j0 = p6;
-  f151(self, j0);
+  f154(self, j0);
   B0:;
   j0 = p0;
   i0 = (u32)(j0);
@@ -80402,7 +80877,7 @@ static void f80(module *self, u64 p0, u64 p1, u64 p2, u64 p3, u64 p4, u64 p5, u6
   self->g0 = j0;
 }
 
-static void f81(module *self, u64 p0, u64 p1) {
+static void f84(module *self, u64 p0, u64 p1) {
   u32 l6 = 0, l7 = 0;
   u64 l2 = 0, l3 = 0, l4 = 0, l5 = 0;
   u8 *m = self->memory;
@@ -80682,7 +81157,7 @@ static void f81(module *self, u64 p0, u64 p1) {
   B8:;
 }
 
-static u32 f82(module *self, u64 p0, u64 p1) {
+static u32 f85(module *self, u64 p0, u64 p1) {
   u32 l6 = 0;
   u64 l2 = 0, l3 = 0, l4 = 0, l5 = 0;
   u8 *m = self->memory;
@@ -80751,7 +81226,7 @@ static u32 f82(module *self, u64 p0, u64 p1) {
   j2 = l3;
   j3 = p1;
   j4 = 1ull;
-  f150(self, j0, j1, j2, j3, j4); m = self->memory; if (NEVER(self->is_broken)) return ZAK_BROKEN;
+  f153(self, j0, j1, j2, j3, j4); m = self->memory; if (NEVER(self->is_broken)) return ZAK_BROKEN;
   j0 = l2;
   i0 = (u32)(j0);
   j0 = i64_load(j0 + 16u);
@@ -80769,7 +81244,7 @@ static u32 f82(module *self, u64 p0, u64 p1) {
   j0 = l2;
   j1 = l5;
   j2 = 1ull;
-  f148(self, j0, j1, j2); m = self->memory; if (NEVER(self->is_broken)) return ZAK_BROKEN;
+  f151(self, j0, j1, j2); m = self->memory; if (NEVER(self->is_broken)) return ZAK_BROKEN;
   j0 = l2;
   i0 = (u32)(j0);
   j0 = i64_load(j0);
@@ -80804,7 +81279,7 @@ static u32 f82(module *self, u64 p0, u64 p1) {
   return i0;
 }
 
-static void f83(module *self, u64 p0, u64 p1, u64 p2, u64 p3) {
+static void f86(module *self, u64 p0, u64 p1, u64 p2, u64 p3) {
   u32 l14 = 0, l15 = 0, l16 = 0;
   u64 l4 = 0, l5 = 0, l6 = 0, l7 = 0, l8 = 0, l9 = 0, l10 = 0, l11 = 0, 
       l12 = 0, l13 = 0;
@@ -80915,7 +81390,7 @@ static void f83(module *self, u64 p0, u64 p1, u64 p2, u64 p3) {
   j2 = 1792ull;
   j1 += j2;
   i2 = l15;
-  f74(self, j0, j1, i2); if (NEVER(self->is_broken)) return;
+  f75(self, j0, j1, i2); if (NEVER(self->is_broken)) return;
   j0 = l4;
   i0 = (u32)(j0);
   j0 = i64_load(j0 + 72u);
@@ -80949,7 +81424,7 @@ static void f83(module *self, u64 p0, u64 p1, u64 p2, u64 p3) {
   j2 = 1792ull;
   j1 += j2;
   i2 = l14;
-  f74(self, j0, j1, i2); if (NEVER(self->is_broken)) return;
+  f75(self, j0, j1, i2); if (NEVER(self->is_broken)) return;
   j0 = l4;
   i0 = (u32)(j0);
   j0 = i64_load(j0 + 56u);
@@ -80990,7 +81465,7 @@ static void f83(module *self, u64 p0, u64 p1, u64 p2, u64 p3) {
   j1 = 1792ull;
   j0 += j1;
   j1 = p2;
-  f81(self, j0, j1); if (NEVER(self->is_broken)) return;
+  f84(self, j0, j1); if (NEVER(self->is_broken)) return;
   i0 = l15;
   i1 = l14;
   i0 *= i1;
@@ -81071,7 +81546,7 @@ static void f83(module *self, u64 p0, u64 p1, u64 p2, u64 p3) {
   j2 = 1000ull;
   j1 += j2;
   i2 = l16;
-  f74(self, j0, j1, i2); if (NEVER(self->is_broken)) return;
+  f75(self, j0, j1, i2); if (NEVER(self->is_broken)) return;
   j0 = 52ull;
   j1 = p3;
   j0 -= j1;
@@ -81238,7 +81713,7 @@ static void f83(module *self, u64 p0, u64 p1, u64 p2, u64 p3) {
   if (i0) {goto B14;}
   j0 = p1;
   j1 = p3;
-  i0 = f82(self, j0, j1); m = self->memory; if (NEVER(self->is_broken)) return;
+  i0 = f85(self, j0, j1); m = self->memory; if (NEVER(self->is_broken)) return;
   i0 = !(i0);
   if (i0) {goto B4;}
   j0 = p1;
@@ -81359,7 +81834,7 @@ static void f83(module *self, u64 p0, u64 p1, u64 p2, u64 p3) {
   j2 = 2584ull;
   j1 += j2;
   i2 = l15;
-  f74(self, j0, j1, i2); if (NEVER(self->is_broken)) return;
+  f75(self, j0, j1, i2); if (NEVER(self->is_broken)) return;
   j0 = l4;
   i0 = (u32)(j0);
   j0 = i64_load(j0 + 24u);
@@ -81435,7 +81910,7 @@ static void f83(module *self, u64 p0, u64 p1, u64 p2, u64 p3) {
   j2 = 2584ull;
   j1 += j2;
   i2 = l14;
-  f74(self, j0, j1, i2); if (NEVER(self->is_broken)) return;
+  f75(self, j0, j1, i2); if (NEVER(self->is_broken)) return;
   j0 = 782ull;
   j1 = p3;
   j0 -= j1;
@@ -81541,7 +82016,7 @@ static void f83(module *self, u64 p0, u64 p1, u64 p2, u64 p3) {
   if (i0) {goto B23;}
   j0 = p1;
   j1 = p3;
-  i0 = f82(self, j0, j1); m = self->memory; if (NEVER(self->is_broken)) return;
+  i0 = f85(self, j0, j1); m = self->memory; if (NEVER(self->is_broken)) return;
   i0 = !(i0);
   if (i0) {goto B3;}
   j0 = p1;
@@ -81612,7 +82087,7 @@ static void f83(module *self, u64 p0, u64 p1, u64 p2, u64 p3) {
   if (i0) {goto B27;}
   j0 = p1;
   j1 = l5;
-  i0 = f82(self, j0, j1); m = self->memory; if (NEVER(self->is_broken)) return;
+  i0 = f85(self, j0, j1); m = self->memory; if (NEVER(self->is_broken)) return;
   i0 = !(i0);
   if (i0) {goto B2;}
   j0 = p1;
@@ -81790,7 +82265,7 @@ static void f83(module *self, u64 p0, u64 p1, u64 p2, u64 p3) {
   if (i0) {goto B34;}
   j0 = p1;
   j1 = 1ull;
-  i0 = f82(self, j0, j1); m = self->memory; if (NEVER(self->is_broken)) return;
+  i0 = f85(self, j0, j1); m = self->memory; if (NEVER(self->is_broken)) return;
   i0 = !(i0);
   if (i0) {goto B33;}
   j0 = p1;
@@ -81887,7 +82362,7 @@ static void f83(module *self, u64 p0, u64 p1, u64 p2, u64 p3) {
   j1 = 1792ull;
   j0 += j1;
   j1 = p2;
-  f81(self, j0, j1); if (NEVER(self->is_broken)) return;
+  f84(self, j0, j1); if (NEVER(self->is_broken)) return;
   j0 = l4;
   i0 = (u32)(j0);
   j0 = i64_load(j0 + 1848u);
@@ -81947,7 +82422,7 @@ static void f83(module *self, u64 p0, u64 p1, u64 p2, u64 p3) {
   if (i0) {goto B37;}
   j0 = p1;
   j1 = p3;
-  i0 = f82(self, j0, j1); m = self->memory; if (NEVER(self->is_broken)) return;
+  i0 = f85(self, j0, j1); m = self->memory; if (NEVER(self->is_broken)) return;
   i0 = !(i0);
   if (i0) {goto B36;}
   j0 = p1;
@@ -82068,7 +82543,7 @@ static void f83(module *self, u64 p0, u64 p1, u64 p2, u64 p3) {
   self->g0 = j0;
 }
 
-static void f84(module *self, u64 p0, u64 p1, u64 p2, u64 p3, u64 p4) {
+static void f87(module *self, u64 p0, u64 p1, u64 p2, u64 p3, u64 p4) {
   u32 l8 = 0;
   u64 l5 = 0, l6 = 0, l7 = 0;
   u8 *m = self->memory;
@@ -82141,7 +82616,7 @@ static void f84(module *self, u64 p0, u64 p1, u64 p2, u64 p3, u64 p4) {
   j1 = 32ull;
   j0 += j1;
   j1 = p2;
-  f81(self, j0, j1); if (NEVER(self->is_broken)) return;
+  f84(self, j0, j1); if (NEVER(self->is_broken)) return;
   j0 = l5;
   i0 = (u32)(j0);
   j0 = i64_load(j0 + 88u);
@@ -82167,7 +82642,7 @@ static void f84(module *self, u64 p0, u64 p1, u64 p2, u64 p3, u64 p4) {
   if (i0) {goto B6;}
   j0 = p1;
   j1 = p4;
-  i0 = f82(self, j0, j1); m = self->memory; if (NEVER(self->is_broken)) return;
+  i0 = f85(self, j0, j1); m = self->memory; if (NEVER(self->is_broken)) return;
   i0 = !(i0);
   if (i0) {goto B4;}
   j0 = p1;
@@ -82226,7 +82701,7 @@ static void f84(module *self, u64 p0, u64 p1, u64 p2, u64 p3, u64 p4) {
   j3 = l5;
   j4 = 26ull;
   j3 += j4;
-  f85(self, j0, j1, j2, j3); m = self->memory; if (NEVER(self->is_broken)) return;
+  f88(self, j0, j1, j2, j3); m = self->memory; if (NEVER(self->is_broken)) return;
   j0 = l5;
   i0 = (u32)(j0);
   i0 = i32_load8_u(j0);
@@ -82373,7 +82848,7 @@ static void f84(module *self, u64 p0, u64 p1, u64 p2, u64 p3, u64 p4) {
   if (i0) {goto B10;}
   j0 = p1;
   j1 = p2;
-  i0 = f82(self, j0, j1); m = self->memory; if (NEVER(self->is_broken)) return;
+  i0 = f85(self, j0, j1); m = self->memory; if (NEVER(self->is_broken)) return;
   i0 = !(i0);
   if (i0) {goto B9;}
   j0 = p1;
@@ -82466,7 +82941,7 @@ static void f84(module *self, u64 p0, u64 p1, u64 p2, u64 p3, u64 p4) {
   self->g0 = j0;
 }
 
-static void f85(module *self, u64 p0, u64 p1, u64 p2, u64 p3) {
+static void f88(module *self, u64 p0, u64 p1, u64 p2, u64 p3) {
   u32 l13 = 0, l14 = 0, l15 = 0, l16 = 0, l17 = 0, l18 = 0, l19 = 0, l20 = 0, 
       l21 = 0;
   u64 l4 = 0, l5 = 0, l6 = 0, l7 = 0, l8 = 0, l9 = 0, l10 = 0, l11 = 0, 
@@ -82610,7 +83085,7 @@ static void f85(module *self, u64 p0, u64 p1, u64 p2, u64 p3) {
   j5 = 33ull;
   j4 += j5;
   j5 = 5ull;
-  f86(self, j0, j1, j2, i3, j4, j5);
+  f89(self, j0, j1, j2, i3, j4, j5);
   j0 = l4;
   j1 = 2552ull;
   j0 += j1;
@@ -82625,7 +83100,7 @@ static void f85(module *self, u64 p0, u64 p1, u64 p2, u64 p3) {
   j5 = 105ull;
   j4 += j5;
   j5 = 25ull;
-  f86(self, j0, j1, j2, i3, j4, j5);
+  f89(self, j0, j1, j2, i3, j4, j5);
   j0 = l4;
   j1 = 2552ull;
   j0 += j1;
@@ -82640,7 +83115,7 @@ static void f85(module *self, u64 p0, u64 p1, u64 p2, u64 p3) {
   j5 = 47ull;
   j4 += j5;
   j5 = 9ull;
-  f86(self, j0, j1, j2, i3, j4, j5);
+  f89(self, j0, j1, j2, i3, j4, j5);
   j0 = l4;
   i0 = (u32)(j0);
   j0 = i64_load(j0 + 3336u);
@@ -83178,7 +83653,7 @@ static void f85(module *self, u64 p0, u64 p1, u64 p2, u64 p3) {
   if (i0) {goto B32;}
   j0 = p1;
   j1 = 19ull;
-  i0 = f82(self, j0, j1); m = self->memory; if (NEVER(self->is_broken)) return;
+  i0 = f85(self, j0, j1); m = self->memory; if (NEVER(self->is_broken)) return;
   i0 = !(i0);
   if (i0) {goto B31;}
   j0 = p1;
@@ -83686,7 +84161,7 @@ static void f85(module *self, u64 p0, u64 p1, u64 p2, u64 p3) {
   j2 = 136ull;
   j1 += j2;
   i2 = l17;
-  f74(self, j0, j1, i2); if (NEVER(self->is_broken)) return;
+  f75(self, j0, j1, i2); if (NEVER(self->is_broken)) return;
   j0 = l4;
   i0 = (u32)(j0);
   j0 = i64_load(j0 + 128u);
@@ -83952,7 +84427,7 @@ static void f85(module *self, u64 p0, u64 p1, u64 p2, u64 p3) {
   j2 = 136ull;
   j1 += j2;
   i2 = l15;
-  f74(self, j0, j1, i2); if (NEVER(self->is_broken)) return;
+  f75(self, j0, j1, i2); if (NEVER(self->is_broken)) return;
   j0 = 782ull;
   l7 = j0;
   j0 = 782ull;
@@ -84208,7 +84683,7 @@ static void f85(module *self, u64 p0, u64 p1, u64 p2, u64 p3) {
   j2 = 136ull;
   j1 += j2;
   i2 = l16;
-  f74(self, j0, j1, i2); if (NEVER(self->is_broken)) return;
+  f75(self, j0, j1, i2); if (NEVER(self->is_broken)) return;
   j0 = 782ull;
   l12 = j0;
   j0 = 782ull;
@@ -84476,7 +84951,7 @@ static void f85(module *self, u64 p0, u64 p1, u64 p2, u64 p3) {
   j2 = 136ull;
   j1 += j2;
   i2 = l13;
-  f74(self, j0, j1, i2); if (NEVER(self->is_broken)) return;
+  f75(self, j0, j1, i2); if (NEVER(self->is_broken)) return;
   j0 = 782ull;
   l7 = j0;
   j0 = 782ull;
@@ -84633,7 +85108,7 @@ static void f85(module *self, u64 p0, u64 p1, u64 p2, u64 p3) {
   j1 = 1049312ull;
   j2 = 4ull;
   i3 = l21;
-  f87(self, j0, j1, j2, i3);
+  f90(self, j0, j1, j2, i3);
   j0 = l4;
   i0 = (u32)(j0);
   j0 = i64_load(j0 + 3336u);
@@ -84741,7 +85216,7 @@ static void f85(module *self, u64 p0, u64 p1, u64 p2, u64 p3) {
   j2 = 136ull;
   j1 += j2;
   i2 = l20;
-  f74(self, j0, j1, i2); if (NEVER(self->is_broken)) return;
+  f75(self, j0, j1, i2); if (NEVER(self->is_broken)) return;
   j0 = 782ull;
   p2 = j0;
   j0 = 782ull;
@@ -84997,7 +85472,7 @@ static void f85(module *self, u64 p0, u64 p1, u64 p2, u64 p3) {
   j2 = 136ull;
   j1 += j2;
   i2 = l19;
-  f74(self, j0, j1, i2); if (NEVER(self->is_broken)) return;
+  f75(self, j0, j1, i2); if (NEVER(self->is_broken)) return;
   j0 = 782ull;
   l7 = j0;
   j0 = 782ull;
@@ -85265,7 +85740,7 @@ static void f85(module *self, u64 p0, u64 p1, u64 p2, u64 p3) {
   j2 = 136ull;
   j1 += j2;
   i2 = l18;
-  f74(self, j0, j1, i2); if (NEVER(self->is_broken)) return;
+  f75(self, j0, j1, i2); if (NEVER(self->is_broken)) return;
   j0 = 782ull;
   p2 = j0;
   j0 = 782ull;
@@ -85507,7 +85982,7 @@ static void f85(module *self, u64 p0, u64 p1, u64 p2, u64 p3) {
   j2 = 136ull;
   j1 += j2;
   i2 = l14;
-  f74(self, j0, j1, i2); if (NEVER(self->is_broken)) return;
+  f75(self, j0, j1, i2); if (NEVER(self->is_broken)) return;
   j0 = 782ull;
   j1 = p2;
   j0 -= j1;
@@ -85723,7 +86198,7 @@ static void f85(module *self, u64 p0, u64 p1, u64 p2, u64 p3) {
   if (i0) {goto B119;}
   j0 = p1;
   j1 = p3;
-  i0 = f82(self, j0, j1); m = self->memory; if (NEVER(self->is_broken)) return;
+  i0 = f85(self, j0, j1); m = self->memory; if (NEVER(self->is_broken)) return;
   i0 = !(i0);
   if (i0) {goto B118;}
   j0 = p1;
@@ -85833,7 +86308,7 @@ static void f85(module *self, u64 p0, u64 p1, u64 p2, u64 p3) {
   if (i0) {goto B122;}
   j0 = p1;
   j1 = 20ull;
-  i0 = f82(self, j0, j1); m = self->memory; if (NEVER(self->is_broken)) return;
+  i0 = f85(self, j0, j1); m = self->memory; if (NEVER(self->is_broken)) return;
   i0 = !(i0);
   if (i0) {goto B121;}
   j0 = p1;
@@ -86385,7 +86860,7 @@ static void f85(module *self, u64 p0, u64 p1, u64 p2, u64 p3) {
   if (i0) {goto B129;}
   j0 = p1;
   j1 = p3;
-  i0 = f82(self, j0, j1); m = self->memory; if (NEVER(self->is_broken)) return;
+  i0 = f85(self, j0, j1); m = self->memory; if (NEVER(self->is_broken)) return;
   i0 = !(i0);
   if (i0) {goto B128;}
   j0 = p1;
@@ -86588,7 +87063,7 @@ static void f85(module *self, u64 p0, u64 p1, u64 p2, u64 p3) {
   j3 += j4;
   i3 = (u32)(j3);
   i3 = i32_load16_u(j3);
-  f87(self, j0, j1, j2, i3);
+  f90(self, j0, j1, j2, i3);
   j0 = l4;
   j1 = 2552ull;
   j0 += j1;
@@ -86599,7 +87074,7 @@ static void f85(module *self, u64 p0, u64 p1, u64 p2, u64 p3) {
   j3 += j4;
   i3 = (u32)(j3);
   i3 = i32_load16_u(j3);
-  f87(self, j0, j1, j2, i3);
+  f90(self, j0, j1, j2, i3);
   j0 = l4;
   j1 = 2552ull;
   j0 += j1;
@@ -86610,7 +87085,7 @@ static void f85(module *self, u64 p0, u64 p1, u64 p2, u64 p3) {
   j3 += j4;
   i3 = (u32)(j3);
   i3 = i32_load16_u(j3);
-  f87(self, j0, j1, j2, i3);
+  f90(self, j0, j1, j2, i3);
   j0 = l4;
   i0 = (u32)(j0);
   j0 = i64_load(j0 + 3336u);
@@ -86809,7 +87284,7 @@ static void f85(module *self, u64 p0, u64 p1, u64 p2, u64 p3) {
   j3 += j4;
   i3 = (u32)(j3);
   i3 = i32_load16_u(j3);
-  f87(self, j0, j1, j2, i3);
+  f90(self, j0, j1, j2, i3);
   j0 = l4;
   i0 = (u32)(j0);
   j0 = i64_load(j0 + 3336u);
@@ -86955,7 +87430,7 @@ static void f85(module *self, u64 p0, u64 p1, u64 p2, u64 p3) {
   j3 += j4;
   i3 = (u32)(j3);
   i3 = i32_load16_u(j3);
-  f87(self, j0, j1, j2, i3);
+  f90(self, j0, j1, j2, i3);
   j0 = l4;
   i0 = (u32)(j0);
   j0 = i64_load(j0 + 3336u);
@@ -87101,7 +87576,7 @@ static void f85(module *self, u64 p0, u64 p1, u64 p2, u64 p3) {
   j3 += j4;
   i3 = (u32)(j3);
   i3 = i32_load16_u(j3);
-  f87(self, j0, j1, j2, i3);
+  f90(self, j0, j1, j2, i3);
   j0 = l4;
   i0 = (u32)(j0);
   j0 = i64_load(j0 + 3336u);
@@ -87171,7 +87646,7 @@ static void f85(module *self, u64 p0, u64 p1, u64 p2, u64 p3) {
   if (i0) {goto B149;}
   j0 = p1;
   j1 = p3;
-  i0 = f82(self, j0, j1); m = self->memory; if (NEVER(self->is_broken)) return;
+  i0 = f85(self, j0, j1); m = self->memory; if (NEVER(self->is_broken)) return;
   i0 = !(i0);
   if (i0) {goto B148;}
   j0 = p1;
@@ -87592,7 +88067,7 @@ static void f85(module *self, u64 p0, u64 p1, u64 p2, u64 p3) {
     if (i0) {goto B163;}
     j0 = p1;
     j1 = p3;
-    i0 = f82(self, j0, j1); m = self->memory; if (NEVER(self->is_broken)) return;
+    i0 = f85(self, j0, j1); m = self->memory; if (NEVER(self->is_broken)) return;
     i0 = !(i0);
     if (i0) {goto B151;}
     j0 = p1;
@@ -88057,7 +88532,7 @@ static void f85(module *self, u64 p0, u64 p1, u64 p2, u64 p3) {
   if (i0) {goto B171;}
   j0 = p1;
   j1 = p3;
-  i0 = f82(self, j0, j1); m = self->memory; if (NEVER(self->is_broken)) return;
+  i0 = f85(self, j0, j1); m = self->memory; if (NEVER(self->is_broken)) return;
   i0 = !(i0);
   if (i0) {goto B170;}
   j0 = p1;
@@ -88170,7 +88645,7 @@ static void f85(module *self, u64 p0, u64 p1, u64 p2, u64 p3) {
   self->g0 = j0;
 }
 
-static void f86(module *self, u64 p0, u64 p1, u64 p2, u32 p3, u64 p4, u64 p5) {
+static void f89(module *self, u64 p0, u64 p1, u64 p2, u32 p3, u64 p4, u64 p5) {
   u32 l8 = 0;
   u64 l6 = 0, l7 = 0;
   u8 *m = self->memory;
@@ -88458,7 +88933,7 @@ static void f86(module *self, u64 p0, u64 p1, u64 p2, u32 p3, u64 p4, u64 p5) {
   B3:;
 }
 
-static void f87(module *self, u64 p0, u64 p1, u64 p2, u32 p3) {
+static void f90(module *self, u64 p0, u64 p1, u64 p2, u32 p3) {
   u32 l7 = 0, l8 = 0;
   u64 l4 = 0, l5 = 0, l6 = 0;
   u8 *m = self->memory;
@@ -88680,7 +89155,7 @@ static void f87(module *self, u64 p0, u64 p1, u64 p2, u32 p3) {
   B4:;
 }
 
-static void f88(module *self, u64 p0, u64 p1, u64 p2, u64 p3, u64 p4, u64 p5) {
+static void f91(module *self, u64 p0, u64 p1, u64 p2, u64 p3, u64 p4, u64 p5) {
   u32 l37 = 0, l38 = 0, l39 = 0, l40 = 0, l41 = 0, l42 = 0, l43 = 0, l44 = 0, 
       l45 = 0, l46 = 0;
   u64 l6 = 0, l7 = 0, l8 = 0, l9 = 0, l10 = 0, l11 = 0, l12 = 0, l13 = 0, 
@@ -90104,7 +90579,7 @@ static void f88(module *self, u64 p0, u64 p1, u64 p2, u64 p3, u64 p4, u64 p5) {
     j0 += j1;
     j1 = l28;
     j2 = p4;
-    f70(self, j0, j1, j2);
+    f71(self, j0, j1, j2);
     j0 = l6;
     i0 = (u32)(j0);
     i0 = i32_load16_u(j0 + 178u);
@@ -90370,7 +90845,7 @@ static void f88(module *self, u64 p0, u64 p1, u64 p2, u64 p3, u64 p4, u64 p5) {
     j1 = l6;
     j2 = 64ull;
     j1 += j2;
-    f89(self, j0, j1); if (NEVER(self->is_broken)) return;
+    f92(self, j0, j1); if (NEVER(self->is_broken)) return;
     j0 = l6;
     i0 = (u32)(j0);
     j0 = i64_load(j0 + 112u);
@@ -91606,7 +92081,7 @@ static void f88(module *self, u64 p0, u64 p1, u64 p2, u64 p3, u64 p4, u64 p5) {
     j0 += j1;
     j1 = l22;
     j2 = l23;
-    f70(self, j0, j1, j2);
+    f71(self, j0, j1, j2);
     j0 = l6;
     i0 = (u32)(j0);
     i0 = i32_load16_u(j0 + 178u);
@@ -92040,7 +92515,7 @@ static void f88(module *self, u64 p0, u64 p1, u64 p2, u64 p3, u64 p4, u64 p5) {
     j1 = p3;
     i2 = l46;
     i3 = l40;
-    f42(self, j0, j1, i2, i3);
+    f43(self, j0, j1, i2, i3);
     j0 = l6;
     i0 = (u32)(j0);
     i0 = i32_load8_u(j0 + 8u);
@@ -92072,7 +92547,7 @@ static void f88(module *self, u64 p0, u64 p1, u64 p2, u64 p3, u64 p4, u64 p5) {
     i5 = 255u;
     i4 &= i5;
     i3 |= i4;
-    f67(self, j0, j1, i2, i3);
+    f68(self, j0, j1, i2, i3);
     j0 = l6;
     i0 = (u32)(j0);
     i0 = i32_load8_u(j0 + 16u);
@@ -92097,7 +92572,7 @@ static void f88(module *self, u64 p0, u64 p1, u64 p2, u64 p3, u64 p4, u64 p5) {
     i4 = 255u;
     i3 &= i4;
     i2 |= i3;
-    f51(self, j0, j1, i2); if (NEVER(self->is_broken)) return;
+    f52(self, j0, j1, i2); if (NEVER(self->is_broken)) return;
     j0 = l6;
     i0 = (u32)(j0);
     i0 = i32_load8_u(j0 + 440u);
@@ -92146,26 +92621,38 @@ static void f88(module *self, u64 p0, u64 p1, u64 p2, u64 p3, u64 p4, u64 p5) {
     i0 = i0 >= i1;
     if (i0) {goto B82;}
     j0 = p3;
+    j1 = 71ull;
+    j0 += j1;
+    i0 = (u32)(j0);
+    i0 = i32_load8_u(j0);
+    l46 = i0;
+    j0 = p3;
+    j1 = 70ull;
+    j0 += j1;
+    i0 = (u32)(j0);
+    i0 = i32_load8_u(j0);
+    l44 = i0;
+    j0 = p3;
+    j1 = 69ull;
+    j0 += j1;
+    i0 = (u32)(j0);
+    i0 = i32_load8_u(j0);
+    l39 = i0;
+    j0 = p3;
     j1 = p3;
     j2 = 72ull;
     j1 += j2;
     i1 = (u32)(j1);
     i1 = i32_load8_u(j1);
     i2 = l45;
-    i0 = f44(self, j0, i1, i2);
-    l46 = i0;
-    j0 = p3;
-    j1 = 71ull;
-    j0 += j1;
-    i0 = (u32)(j0);
-    i0 = i32_load8_u(j0);
-    l39 = i0;
+    i0 = f45(self, j0, i1, i2);
+    l38 = i0;
     j0 = p3;
     j1 = 68ull;
     j0 += j1;
     i0 = (u32)(j0);
     i0 = i32_load8_u(j0);
-    l38 = i0;
+    l45 = i0;
     i1 = 1u;
     i0 &= i1;
     i0 = !(i0);
@@ -92175,7 +92662,7 @@ static void f88(module *self, u64 p0, u64 p1, u64 p2, u64 p3, u64 p4, u64 p5) {
     i2 = 3u;
     i1 <<= (i2 & 31);
     i0 >>= (i1 & 31);
-    l45 = i0;
+    l44 = i0;
     goto B102;
     B103:;
     i0 = 15u;
@@ -92185,15 +92672,11 @@ static void f88(module *self, u64 p0, u64 p1, u64 p2, u64 p3, u64 p4, u64 p5) {
     i4 = 1u;
     i3 &= i4;
     i1 = i3 ? i1 : i2;
-    j2 = p3;
-    j3 = 70ull;
-    j2 += j3;
-    i2 = (u32)(j2);
-    i2 = i32_load8_u(j2);
+    i2 = l44;
     i3 = 1u;
     i2 &= i3;
     i0 = i2 ? i0 : i1;
-    l45 = i0;
+    l44 = i0;
     B102:;
     j0 = p3;
     i0 = (u32)(j0);
@@ -92205,15 +92688,11 @@ static void f88(module *self, u64 p0, u64 p1, u64 p2, u64 p3, u64 p4, u64 p5) {
     i3 = 65534u;
     i2 &= i3;
     i3 = l40;
-    j4 = p3;
-    j5 = 69ull;
-    j4 += j5;
-    i4 = (u32)(j4);
-    i4 = i32_load8_u(j4);
+    i4 = l39;
     i5 = 1u;
     i4 &= i5;
     i2 = i4 ? i2 : i3;
-    i3 = l38;
+    i3 = l45;
     i4 = 1u;
     i3 &= i4;
     i1 = i3 ? i1 : i2;
@@ -92225,14 +92704,14 @@ static void f88(module *self, u64 p0, u64 p1, u64 p2, u64 p3, u64 p4, u64 p5) {
     j0 += j1;
     p4 = j0;
     i0 = (u32)(j0);
-    i1 = l46;
+    i1 = l38;
     j2 = p4;
     i2 = (u32)(j2);
     i2 = i32_load(j2);
     l40 = i2;
     i1 ^= i2;
-    i2 = l45;
-    i3 = l39;
+    i2 = l44;
+    i3 = l46;
     i2 &= i3;
     i3 = 2u;
     i2 <<= (i3 & 31);
@@ -92261,7 +92740,7 @@ static void f88(module *self, u64 p0, u64 p1, u64 p2, u64 p3, u64 p4, u64 p5) {
     i5 = 255u;
     i4 &= i5;
     i3 |= i4;
-    f76(self, j0, j1, i2, i3);
+    f79(self, j0, j1, i2, i3);
     j0 = l6;
     i0 = (u32)(j0);
     i0 = i32_load8_u(j0 + 32u);
@@ -92320,7 +92799,7 @@ static void f88(module *self, u64 p0, u64 p1, u64 p2, u64 p3, u64 p4, u64 p5) {
     j0 += j1;
     j1 = p3;
     i2 = l40;
-    f32(self, j0, j1, i2);
+    f33(self, j0, j1, i2);
     j0 = l6;
     i0 = (u32)(j0);
     i0 = i32_load8_u(j0 + 57u);
@@ -92334,7 +92813,7 @@ static void f88(module *self, u64 p0, u64 p1, u64 p2, u64 p3, u64 p4, u64 p5) {
     j0 += j1;
     j1 = p3;
     i2 = l39;
-    f32(self, j0, j1, i2);
+    f33(self, j0, j1, i2);
     j0 = l6;
     i0 = (u32)(j0);
     i0 = i32_load8_u(j0 + 49u);
@@ -92389,7 +92868,7 @@ static void f88(module *self, u64 p0, u64 p1, u64 p2, u64 p3, u64 p4, u64 p5) {
     j4 |= j5;
     j5 = l28;
     j6 = p4;
-    f80(self, j0, j1, j2, j3, j4, j5, j6); m = self->memory; if (NEVER(self->is_broken)) return;
+    f83(self, j0, j1, j2, j3, j4, j5, j6); m = self->memory; if (NEVER(self->is_broken)) return;
     goto B78;
     B90:;
     i0 = l40;
@@ -92412,7 +92891,7 @@ static void f88(module *self, u64 p0, u64 p1, u64 p2, u64 p3, u64 p4, u64 p5) {
     j1 = 168ull;
     j0 += j1;
     j1 = p3;
-    f49(self, j0, j1); m = self->memory; if (NEVER(self->is_broken)) return;
+    f50(self, j0, j1); m = self->memory; if (NEVER(self->is_broken)) return;
     j0 = l6;
     j1 = 104ull;
     j0 += j1;
@@ -92421,7 +92900,7 @@ static void f88(module *self, u64 p0, u64 p1, u64 p2, u64 p3, u64 p4, u64 p5) {
     j3 = l6;
     j4 = 168ull;
     j3 += j4;
-    f83(self, j0, j1, j2, j3); m = self->memory; if (NEVER(self->is_broken)) return;
+    f86(self, j0, j1, j2, j3); m = self->memory; if (NEVER(self->is_broken)) return;
     goto B78;
     B88:;
     j0 = l6;
@@ -92457,7 +92936,7 @@ static void f88(module *self, u64 p0, u64 p1, u64 p2, u64 p3, u64 p4, u64 p5) {
     j4 = l6;
     j5 = 64ull;
     j4 += j5;
-    f84(self, j0, j1, j2, j3, j4); m = self->memory; if (NEVER(self->is_broken)) return;
+    f87(self, j0, j1, j2, j3, j4); m = self->memory; if (NEVER(self->is_broken)) return;
     goto B78;
     B87:;
     j0 = p3;
@@ -92561,7 +93040,7 @@ static void f88(module *self, u64 p0, u64 p1, u64 p2, u64 p3, u64 p4, u64 p5) {
     j0 += j1;
     j1 = p3;
     i2 = l40;
-    f32(self, j0, j1, i2);
+    f33(self, j0, j1, i2);
     j0 = l6;
     i0 = (u32)(j0);
     i0 = i32_load8_u(j0 + 41u);
@@ -92743,7 +93222,7 @@ static void f88(module *self, u64 p0, u64 p1, u64 p2, u64 p3, u64 p4, u64 p5) {
     i4 = 255u;
     i3 &= i4;
     i2 |= i3;
-    f24(self, j0, j1, i2); if (NEVER(self->is_broken)) return;
+    f25(self, j0, j1, i2); if (NEVER(self->is_broken)) return;
     j0 = l6;
     i0 = (u32)(j0);
     i0 = i32_load8_u(j0 + 25u);
@@ -93409,7 +93888,7 @@ static void f88(module *self, u64 p0, u64 p1, u64 p2, u64 p3, u64 p4, u64 p5) {
     if (i0) {goto B147;}
     j0 = p1;
     j1 = 10ull;
-    i0 = f82(self, j0, j1); m = self->memory; if (NEVER(self->is_broken)) return;
+    i0 = f85(self, j0, j1); m = self->memory; if (NEVER(self->is_broken)) return;
     i0 = !(i0);
     if (i0) {goto B146;}
     j0 = p1;
@@ -93594,7 +94073,7 @@ static void f88(module *self, u64 p0, u64 p1, u64 p2, u64 p3, u64 p4, u64 p5) {
     if (i0) {goto B151;}
     j0 = p1;
     j1 = 11ull;
-    i0 = f82(self, j0, j1); m = self->memory; if (NEVER(self->is_broken)) return;
+    i0 = f85(self, j0, j1); m = self->memory; if (NEVER(self->is_broken)) return;
     i0 = !(i0);
     if (i0) {goto B150;}
     j0 = p1;
@@ -93795,7 +94274,7 @@ static void f88(module *self, u64 p0, u64 p1, u64 p2, u64 p3, u64 p4, u64 p5) {
     if (i0) {goto B155;}
     j0 = p1;
     j1 = 12ull;
-    i0 = f82(self, j0, j1); m = self->memory; if (NEVER(self->is_broken)) return;
+    i0 = f85(self, j0, j1); m = self->memory; if (NEVER(self->is_broken)) return;
     i0 = !(i0);
     if (i0) {goto B154;}
     j0 = p1;
@@ -93996,7 +94475,7 @@ static void f88(module *self, u64 p0, u64 p1, u64 p2, u64 p3, u64 p4, u64 p5) {
     if (i0) {goto B159;}
     j0 = p1;
     j1 = p4;
-    i0 = f82(self, j0, j1); m = self->memory; if (NEVER(self->is_broken)) return;
+    i0 = f85(self, j0, j1); m = self->memory; if (NEVER(self->is_broken)) return;
     i0 = !(i0);
     if (i0) {goto B158;}
     j0 = p1;
@@ -94274,7 +94753,7 @@ static void f88(module *self, u64 p0, u64 p1, u64 p2, u64 p3, u64 p4, u64 p5) {
     B167:;
     j0 = l7;
     j1 = l28;
-    f81(self, j0, j1); if (NEVER(self->is_broken)) return;
+    f84(self, j0, j1); if (NEVER(self->is_broken)) return;
     j0 = p2;
     j1 = 72ull;
     j0 += j1;
@@ -94338,7 +94817,7 @@ static void f88(module *self, u64 p0, u64 p1, u64 p2, u64 p3, u64 p4, u64 p5) {
   self->g0 = j0;
 }
 
-static void f89(module *self, u64 p0, u64 p1) {
+static void f92(module *self, u64 p0, u64 p1) {
   u32 l9 = 0, l10 = 0;
   u64 l2 = 0, l3 = 0, l4 = 0, l5 = 0, l6 = 0, l7 = 0, l8 = 0;
   u8 *m = self->memory;
@@ -94653,7 +95132,7 @@ static void f89(module *self, u64 p0, u64 p1) {
   Bfunc:;
 }
 
-static void f90(module *self, u64 p0, u64 p1) {
+static void f93(module *self, u64 p0, u64 p1) {
   u32 l2 = 0, l3 = 0, l4 = 0, l5 = 0;
   u8 *m = self->memory;
   u32 i0, i1, i2;
@@ -94922,10 +95401,10 @@ static void f90(module *self, u64 p0, u64 p1) {
   j0 = p0;
   j1 = p1;
   j2 = 40ull;
-  f19(self, j0, j1, j2); if (NEVER(self->is_broken)) return;
+  f20(self, j0, j1, j2); if (NEVER(self->is_broken)) return;
 }
 
-static void f91(module *self, u64 p0, u64 p1, u64 p2) {
+static void f94(module *self, u64 p0, u64 p1, u64 p2) {
   u32 l16 = 0, l17 = 0, l18 = 0, l19 = 0, l20 = 0, l21 = 0, l22 = 0, l23 = 0, 
       l24 = 0, l25 = 0, l26 = 0, l27 = 0, l28 = 0, l29 = 0;
   u64 l3 = 0, l4 = 0, l5 = 0, l6 = 0, l7 = 0, l8 = 0, l9 = 0, l10 = 0, 
@@ -94999,7 +95478,7 @@ static void f91(module *self, u64 p0, u64 p1, u64 p2) {
   i2 = (u32)(j2);
   i2 = i32_load16_u(j2);
   l17 = i2;
-  f18(self, j0, i1, i2);
+  f19(self, j0, i1, i2);
   j0 = l3;
   i0 = (u32)(j0);
   i0 = i32_load8_u(j0 + 848u);
@@ -95860,7 +96339,7 @@ static void f91(module *self, u64 p0, u64 p1, u64 p2) {
     j0 = l3;
     j1 = 1744ull;
     j0 += j1;
-    i0 = f92(self, j0); m = self->memory; if (NEVER(self->is_broken)) return;
+    i0 = f95(self, j0); m = self->memory; if (NEVER(self->is_broken)) return;
     i0 = !(i0);
     if (i0) {goto B7;}
     j0 = l3;
@@ -96054,7 +96533,7 @@ static void f91(module *self, u64 p0, u64 p1, u64 p2) {
     j0 = l3;
     j1 = 1744ull;
     j0 += j1;
-    i0 = f93(self, j0); m = self->memory; if (NEVER(self->is_broken)) return;
+    i0 = f96(self, j0); m = self->memory; if (NEVER(self->is_broken)) return;
     i0 = !(i0);
     if (i0) {goto B14;}
     j0 = l3;
@@ -96075,13 +96554,13 @@ static void f91(module *self, u64 p0, u64 p1, u64 p2) {
     j0 = l3;
     i0 = (u32)(j0);
     j0 = i64_load(j0 + 1744u);
-    f151(self, j0);
+    f154(self, j0);
     B15:;
     j0 = l14;
     i0 = !(j0);
     if (i0) {goto B6;}
     j0 = l15;
-    f151(self, j0);
+    f154(self, j0);
     goto B6;
     B13:;
     j0 = l11;
@@ -96316,7 +96795,7 @@ static void f91(module *self, u64 p0, u64 p1, u64 p2) {
       j0 = l3;
       j1 = 1744ull;
       j0 += j1;
-      i0 = f93(self, j0); m = self->memory; if (NEVER(self->is_broken)) return;
+      i0 = f96(self, j0); m = self->memory; if (NEVER(self->is_broken)) return;
       i0 = !(i0);
       if (i0) {goto B17;}
       j0 = l3;
@@ -96451,7 +96930,7 @@ static void f91(module *self, u64 p0, u64 p1, u64 p2) {
       j0 = l3;
       j1 = 1744ull;
       j0 += j1;
-      i0 = f93(self, j0); m = self->memory; if (NEVER(self->is_broken)) return;
+      i0 = f96(self, j0); m = self->memory; if (NEVER(self->is_broken)) return;
       i0 = !(i0);
       if (i0) {goto B17;}
       j0 = l3;
@@ -96519,7 +96998,7 @@ static void f91(module *self, u64 p0, u64 p1, u64 p2) {
   j0 = l3;
   i0 = (u32)(j0);
   j0 = i64_load(j0 + 1744u);
-  f151(self, j0);
+  f154(self, j0);
   B25:;
   j0 = p0;
   j1 = 8ull;
@@ -96888,7 +97367,7 @@ static void f91(module *self, u64 p0, u64 p1, u64 p2) {
   j0 = l3;
   i0 = (u32)(j0);
   j0 = i64_load(j0 + 1744u);
-  f151(self, j0);
+  f154(self, j0);
   B6:;
   j0 = p0;
   j1 = 8ull;
@@ -96915,7 +97394,7 @@ static void f91(module *self, u64 p0, u64 p1, u64 p2) {
   self->g0 = j0;
 }
 
-static u32 f92(module *self, u64 p0) {
+static u32 f95(module *self, u64 p0) {
   u32 l6 = 0;
   u64 l1 = 0, l2 = 0, l3 = 0, l4 = 0, l5 = 0;
   u8 *m = self->memory;
@@ -96985,7 +97464,7 @@ static u32 f92(module *self, u64 p0) {
   j4 = 1ull;
   j3 <<= (j4 & 63);
   j4 = 1ull;
-  f150(self, j0, j1, j2, j3, j4); m = self->memory; if (NEVER(self->is_broken)) return ZAK_BROKEN;
+  f153(self, j0, j1, j2, j3, j4); m = self->memory; if (NEVER(self->is_broken)) return ZAK_BROKEN;
   j0 = l1;
   i0 = (u32)(j0);
   j0 = i64_load(j0 + 16u);
@@ -97005,7 +97484,7 @@ static u32 f92(module *self, u64 p0) {
   j2 = 1ull;
   j1 <<= (j2 & 63);
   j2 = 1ull;
-  f148(self, j0, j1, j2); m = self->memory; if (NEVER(self->is_broken)) return ZAK_BROKEN;
+  f151(self, j0, j1, j2); m = self->memory; if (NEVER(self->is_broken)) return ZAK_BROKEN;
   j0 = l1;
   i0 = (u32)(j0);
   j0 = i64_load(j0);
@@ -97040,7 +97519,7 @@ static u32 f92(module *self, u64 p0) {
   return i0;
 }
 
-static u32 f93(module *self, u64 p0) {
+static u32 f96(module *self, u64 p0) {
   u32 l6 = 0;
   u64 l1 = 0, l2 = 0, l3 = 0, l4 = 0, l5 = 0;
   u8 *m = self->memory;
@@ -97106,7 +97585,7 @@ static u32 f93(module *self, u64 p0) {
   j2 = l2;
   j3 = l3;
   j4 = 1ull;
-  f150(self, j0, j1, j2, j3, j4); m = self->memory; if (NEVER(self->is_broken)) return ZAK_BROKEN;
+  f153(self, j0, j1, j2, j3, j4); m = self->memory; if (NEVER(self->is_broken)) return ZAK_BROKEN;
   j0 = l1;
   i0 = (u32)(j0);
   j0 = i64_load(j0 + 16u);
@@ -97124,7 +97603,7 @@ static u32 f93(module *self, u64 p0) {
   j0 = l1;
   j1 = l5;
   j2 = 1ull;
-  f148(self, j0, j1, j2); m = self->memory; if (NEVER(self->is_broken)) return ZAK_BROKEN;
+  f151(self, j0, j1, j2); m = self->memory; if (NEVER(self->is_broken)) return ZAK_BROKEN;
   j0 = l1;
   i0 = (u32)(j0);
   j0 = i64_load(j0);
@@ -97159,7 +97638,7 @@ static u32 f93(module *self, u64 p0) {
   return i0;
 }
 
-static u32 f94(module *self, u64 p0, u64 p1, u64 p2, u64 p3, u64 p4) {
+static u32 f97(module *self, u64 p0, u64 p1, u64 p2, u64 p3, u64 p4) {
   u32 l11 = 0, l12 = 0, l13 = 0, l14 = 0;
   u64 l5 = 0, l6 = 0, l7 = 0, l8 = 0, l9 = 0, l10 = 0;
   u8 *m = self->memory;
@@ -97254,7 +97733,7 @@ static u32 f94(module *self, u64 p0, u64 p1, u64 p2, u64 p3, u64 p4) {
   j0 = p1;
   j1 = 2072ull;
   j0 += j1;
-  i0 = f17(self, j0);
+  i0 = f18(self, j0);
   i0 = !(i0);
   if (i0) {goto B2;}
   j0 = l5;
@@ -97289,7 +97768,7 @@ static u32 f94(module *self, u64 p0, u64 p1, u64 p2, u64 p3, u64 p4) {
   j3 = l5;
   j4 = 72ull;
   j3 += j4;
-  f85(self, j0, j1, j2, j3); m = self->memory; if (NEVER(self->is_broken)) return ZAK_BROKEN;
+  f88(self, j0, j1, j2, j3); m = self->memory; if (NEVER(self->is_broken)) return ZAK_BROKEN;
   j0 = l5;
   i0 = (u32)(j0);
   i0 = i32_load8_u(j0 + 8u);
@@ -97448,7 +97927,7 @@ static u32 f94(module *self, u64 p0, u64 p1, u64 p2, u64 p3, u64 p4) {
   i0 = !(j0);
   if (i0) {goto B2;}
   j0 = l8;
-  f151(self, j0);
+  f154(self, j0);
   goto B2;
   B4:;
   j0 = l5;
@@ -97465,7 +97944,7 @@ static u32 f94(module *self, u64 p0, u64 p1, u64 p2, u64 p3, u64 p4) {
   j0 = l5;
   i0 = (u32)(j0);
   j0 = i64_load(j0 + 32u);
-  f151(self, j0);
+  f154(self, j0);
   goto B2;
   B3:;
   i0 = 23u;
@@ -97478,7 +97957,7 @@ static u32 f94(module *self, u64 p0, u64 p1, u64 p2, u64 p3, u64 p4) {
   j0 = l5;
   i0 = (u32)(j0);
   j0 = i64_load(j0 + 32u);
-  f151(self, j0);
+  f154(self, j0);
   B2:;
   j0 = p0;
   i0 = (u32)(j0);
@@ -98225,7 +98704,7 @@ static u32 module_zak_assemble(module *self, u64 p0, u64 p1, u64 p2, u64 p3, u64
   j1 = 32ull;
   j0 += j1;
   j1 = 4ull;
-  i0 = f10(self, j0, j1); m = self->memory; if (NEVER(self->is_broken)) return ZAK_BROKEN;
+  i0 = f11(self, j0, j1); m = self->memory; if (NEVER(self->is_broken)) return ZAK_BROKEN;
   i0 = !(i0);
   if (i0) {goto B50;}
   j0 = l6;
@@ -98274,7 +98753,7 @@ static u32 module_zak_assemble(module *self, u64 p0, u64 p1, u64 p2, u64 p3, u64
   j1 = 32ull;
   j0 += j1;
   j1 = 1ull;
-  i0 = f10(self, j0, j1); m = self->memory; if (NEVER(self->is_broken)) return ZAK_BROKEN;
+  i0 = f11(self, j0, j1); m = self->memory; if (NEVER(self->is_broken)) return ZAK_BROKEN;
   i0 = !(i0);
   if (i0) {goto B53;}
   j0 = l6;
@@ -98810,7 +99289,7 @@ static u32 module_zak_assemble(module *self, u64 p0, u64 p1, u64 p2, u64 p3, u64
       j1 = 32ull;
       j0 += j1;
       j1 = 1ull;
-      i0 = f10(self, j0, j1); m = self->memory; if (NEVER(self->is_broken)) return ZAK_BROKEN;
+      i0 = f11(self, j0, j1); m = self->memory; if (NEVER(self->is_broken)) return ZAK_BROKEN;
       i0 = !(i0);
       if (i0) {goto B82;}
       j0 = l6;
@@ -98856,7 +99335,7 @@ static u32 module_zak_assemble(module *self, u64 p0, u64 p1, u64 p2, u64 p3, u64
       j1 = 32ull;
       j0 += j1;
       j1 = 2ull;
-      i0 = f10(self, j0, j1); m = self->memory; if (NEVER(self->is_broken)) return ZAK_BROKEN;
+      i0 = f11(self, j0, j1); m = self->memory; if (NEVER(self->is_broken)) return ZAK_BROKEN;
       i0 = !(i0);
       if (i0) {goto B82;}
       j0 = l6;
@@ -99202,7 +99681,7 @@ static u32 module_zak_assemble(module *self, u64 p0, u64 p1, u64 p2, u64 p3, u64
           j1 = 32ull;
           j0 += j1;
           j1 = 1ull;
-          i0 = f10(self, j0, j1); m = self->memory; if (NEVER(self->is_broken)) return ZAK_BROKEN;
+          i0 = f11(self, j0, j1); m = self->memory; if (NEVER(self->is_broken)) return ZAK_BROKEN;
           i0 = !(i0);
           if (i0) {goto B82;}
           j0 = l6;
@@ -99276,7 +99755,7 @@ static u32 module_zak_assemble(module *self, u64 p0, u64 p1, u64 p2, u64 p3, u64
         j1 += j2;
         j2 = l12;
         j3 = l14;
-        f12(self, j0, j1, j2, j3); m = self->memory; if (NEVER(self->is_broken)) return ZAK_BROKEN;
+        f13(self, j0, j1, j2, j3); m = self->memory; if (NEVER(self->is_broken)) return ZAK_BROKEN;
         j0 = l6;
         i0 = (u32)(j0);
         i0 = i32_load8_u(j0 + 16u);
@@ -99332,7 +99811,7 @@ static u32 module_zak_assemble(module *self, u64 p0, u64 p1, u64 p2, u64 p3, u64
     j1 += j2;
     j2 = l11;
     j3 = p1;
-    f12(self, j0, j1, j2, j3); m = self->memory; if (NEVER(self->is_broken)) return ZAK_BROKEN;
+    f13(self, j0, j1, j2, j3); m = self->memory; if (NEVER(self->is_broken)) return ZAK_BROKEN;
     j0 = l6;
     i0 = (u32)(j0);
     i0 = i32_load8_u(j0);
@@ -99378,7 +99857,7 @@ static u32 module_zak_assemble(module *self, u64 p0, u64 p1, u64 p2, u64 p3, u64
   j0 = l6;
   i0 = (u32)(j0);
   j0 = i64_load(j0 + 32u);
-  f151(self, j0);
+  f154(self, j0);
   goto B41;
   B50:;
   i0 = 9u;
@@ -99391,7 +99870,7 @@ static u32 module_zak_assemble(module *self, u64 p0, u64 p1, u64 p2, u64 p3, u64
   j0 = l6;
   i0 = (u32)(j0);
   j0 = i64_load(j0 + 32u);
-  f151(self, j0);
+  f154(self, j0);
   goto B41;
   B49:;
   j0 = 0ull;
@@ -99465,7 +99944,7 @@ static u32 module_zak_assemble(module *self, u64 p0, u64 p1, u64 p2, u64 p3, u64
     j1 += j2;
     j2 = l11;
     j3 = p0;
-    f12(self, j0, j1, j2, j3); m = self->memory; if (NEVER(self->is_broken)) return ZAK_BROKEN;
+    f13(self, j0, j1, j2, j3); m = self->memory; if (NEVER(self->is_broken)) return ZAK_BROKEN;
     j0 = l6;
     i0 = (u32)(j0);
     i0 = i32_load8_u(j0);
@@ -99528,7 +100007,7 @@ static u32 module_zak_assemble(module *self, u64 p0, u64 p1, u64 p2, u64 p3, u64
   j0 = l6;
   i0 = (u32)(j0);
   j0 = i64_load(j0 + 32u);
-  f151(self, j0);
+  f154(self, j0);
   goto B41;
   B45:;
   j0 = l6;
@@ -99552,13 +100031,13 @@ static u32 module_zak_assemble(module *self, u64 p0, u64 p1, u64 p2, u64 p3, u64
   i0 = !(j0);
   if (i0) {goto B1;}
   j0 = l16;
-  f151(self, j0);
+  f154(self, j0);
   goto B1;
   B43:;
   j0 = l6;
   i0 = (u32)(j0);
   j0 = i64_load(j0 + 32u);
-  f151(self, j0);
+  f154(self, j0);
   j0 = l9;
   l12 = j0;
   goto B41;
@@ -99593,7 +100072,7 @@ static u32 module_zak_assemble(module *self, u64 p0, u64 p1, u64 p2, u64 p3, u64
   j1 = 32ull;
   j0 += j1;
   j1 = p0;
-  i0 = f10(self, j0, j1); m = self->memory; if (NEVER(self->is_broken)) return ZAK_BROKEN;
+  i0 = f11(self, j0, j1); m = self->memory; if (NEVER(self->is_broken)) return ZAK_BROKEN;
   i0 = !(i0);
   if (i0) {goto B113;}
   j0 = l6;
@@ -99754,7 +100233,7 @@ static u32 module_zak_assemble(module *self, u64 p0, u64 p1, u64 p2, u64 p3, u64
   j0 = l6;
   i0 = (u32)(j0);
   j0 = i64_load(j0 + 32u);
-  f151(self, j0);
+  f154(self, j0);
   B119:;
   j0 = 0ull;
   p1 = j0;
@@ -99767,7 +100246,7 @@ static u32 module_zak_assemble(module *self, u64 p0, u64 p1, u64 p2, u64 p3, u64
   i0 = !(j0);
   if (i0) {goto B120;}
   j0 = l16;
-  f151(self, j0);
+  f154(self, j0);
   B120:;
   i0 = l27;
   if (i0) {goto B40;}
@@ -99939,7 +100418,7 @@ static u32 module_zak_assemble(module *self, u64 p0, u64 p1, u64 p2, u64 p3, u64
   i0 = !(j0);
   if (i0) {goto B0;}
   j0 = l20;
-  f151(self, j0);
+  f154(self, j0);
   goto B0;
   B39:;
   j0 = p5;
@@ -99993,8 +100472,8 @@ static u32 module_zak_assemble(module *self, u64 p0, u64 p1, u64 p2, u64 p3, u64
 }
 
 static u32 module_zak_block(module *self, u64 p0, u64 p1, u64 p2) {
-  u32 l7 = 0;
-  u64 l3 = 0, l4 = 0, l5 = 0, l6 = 0;
+  u32 l8 = 0;
+  u64 l3 = 0, l4 = 0, l5 = 0, l6 = 0, l7 = 0;
   u8 *m = self->memory;
   u32 i0, i1, i2;
   u64 j0, j1, j2, j3;
@@ -100004,7 +100483,7 @@ static u32 module_zak_block(module *self, u64 p0, u64 p1, u64 p2) {
   l3 = j0;
   self->g0 = j0;
   i0 = 20u;
-  l7 = i0;
+  l8 = i0;
   j0 = p0;
   i0 = (u32)(j0);
   i0 = i32_load8_u(j0);
@@ -100056,13 +100535,17 @@ static u32 module_zak_block(module *self, u64 p0, u64 p1, u64 p2) {
   j2 = i64_load16_u(j2);
   p1 = j2;
   j1 |= j2;
-  f16(self, j0, j1);
+  f17(self, j0, j1);
   j0 = l3;
   i0 = (u32)(j0);
   i0 = i32_load8_u(j0);
   i1 = 1u;
   i0 = i0 != i1;
   if (i0) {goto B2;}
+  j0 = l3;
+  i0 = (u32)(j0);
+  j0 = i64_load(j0 + 4u);
+  l6 = j0;
   j0 = l3;
   i0 = (u32)(j0);
   j0 = i64_load8_u(j0 + 2u);
@@ -100075,14 +100558,15 @@ static u32 module_zak_block(module *self, u64 p0, u64 p1, u64 p2) {
     default: goto B2;
   }
   B4:;
-  j0 = l3;
+  j0 = l6;
   i0 = (u32)(j0);
-  i0 = i32_load8_u(j0 + 4u);
-  l7 = i0;
+  i1 = 255u;
+  i0 &= i1;
+  l8 = i0;
   i1 = 12u;
   i0 = i0 < i1;
   if (i0) {goto B2;}
-  i0 = l7;
+  i0 = l8;
   i1 = 4294967284u;
   i0 += i1;
   switch (i0) {
@@ -100093,26 +100577,29 @@ static u32 module_zak_block(module *self, u64 p0, u64 p1, u64 p2) {
     default: goto B6;
   }
   B6:;
-  j0 = l3;
-  i0 = (u32)(j0);
-  j0 = i64_load16_u(j0 + 10u);
-  l6 = j0;
+  j0 = l6;
+  j1 = 48ull;
+  j0 >>= (j1 & 63);
+  l7 = j0;
   i0 = 1u;
-  j1 = l3;
+  j1 = l6;
+  j2 = 16ull;
+  j1 >>= (j2 & 63);
   i1 = (u32)(j1);
-  i1 = i32_load8_u(j1 + 6u);
-  l7 = i1;
+  i2 = 255u;
+  i1 &= i2;
+  l8 = i1;
   i0 <<= (i1 & 31);
   i1 = 1915u;
   i0 &= i1;
   if (i0) {goto B2;}
   j0 = 17ull;
   l4 = j0;
-  i0 = l7;
+  i0 = l8;
   i1 = 2u;
   i0 = i0 == i1;
   if (i0) {goto B2;}
-  j0 = l6;
+  j0 = l7;
   j1 = 3ull;
   j0 *= j1;
   l4 = j0;
@@ -100123,34 +100610,33 @@ static u32 module_zak_block(module *self, u64 p0, u64 p1, u64 p2) {
   j0 = i64_load16_u(j0 + 12u);
   j1 = l3;
   i1 = (u32)(j1);
-  j1 = i64_load8_u(j1 + 14u);
+  i1 = i32_load8_u(j1 + 14u);
+  j1 = (u64)(i1);
   j2 = 1ull;
   j1 &= j2;
   j0 <<= (j1 & 63);
   l4 = j0;
   goto B2;
   B3:;
-  j0 = l3;
-  i0 = (u32)(j0);
-  j0 = i64_load(j0 + 4u);
-  l6 = j0;
-  j1 = 281474976710656ull;
-  j0 &= j1;
-  i0 = !(j0);
-  if (i0) {goto B2;}
   j0 = l6;
-  j1 = 32ull;
-  j0 >>= (j1 & 63);
-  j1 = 65535ull;
-  j0 &= j1;
+  j1 = 15ull;
+  j0 <<= (j1 & 63);
+  j1 = 63ull;
+  j0 = (u64)((s64)j0 >> (j1 & 63));
   j1 = l6;
-  j2 = 255ull;
+  j2 = 32ull;
+  j1 >>= (j2 & 63);
+  j2 = 65535ull;
   j1 &= j2;
-  j0 *= j1;
+  j2 = l6;
+  j3 = 255ull;
+  j2 &= j3;
+  j1 *= j2;
+  j0 &= j1;
   l4 = j0;
   B2:;
   i0 = 0u;
-  l7 = i0;
+  l8 = i0;
   j0 = p2;
   i0 = (u32)(j0);
   i1 = 0u;
@@ -100192,7 +100678,7 @@ static u32 module_zak_block(module *self, u64 p0, u64 p1, u64 p2) {
   j1 = 16ull;
   j0 += j1;
   self->g0 = j0;
-  i0 = l7;
+  i0 = l8;
   return i0;
 }
 
@@ -100778,24 +101264,24 @@ static u32 module_zak_close(module *self, u64 p0) {
   j0 = i64_load(j0 + 16u);
   l12 = j0;
   j0 = l4;
-  f151(self, j0);
+  f154(self, j0);
   j0 = l12;
   i0 = !(j0);
   if (i0) {goto B2;}
   j0 = l11;
-  f151(self, j0);
+  f154(self, j0);
   B2:;
   j0 = l9;
   i0 = !(j0);
   if (i0) {goto B3;}
   j0 = l10;
-  f151(self, j0);
+  f154(self, j0);
   B3:;
   j0 = l7;
   i0 = !(j0);
   if (i0) {goto B4;}
   j0 = l8;
-  f151(self, j0);
+  f154(self, j0);
   B4:;
   i0 = l3;
   i1 = 255u;
@@ -100811,12 +101297,12 @@ static u32 module_zak_close(module *self, u64 p0) {
   j0 = i64_load(j0 + 16u);
   l4 = j0;
   j0 = l6;
-  f151(self, j0);
+  f154(self, j0);
   j0 = l4;
   i0 = !(j0);
   if (i0) {goto B5;}
   j0 = l7;
-  f151(self, j0);
+  f154(self, j0);
   B5:;
   i0 = l1;
   i1 = 255u;
@@ -100832,12 +101318,12 @@ static u32 module_zak_close(module *self, u64 p0) {
   j0 = i64_load(j0 + 16u);
   l4 = j0;
   j0 = l5;
-  f151(self, j0);
+  f154(self, j0);
   j0 = l4;
   i0 = !(j0);
   if (i0) {goto B6;}
   j0 = l6;
-  f151(self, j0);
+  f154(self, j0);
   B6:;
   i0 = 0u;
   l1 = i0;
@@ -100855,12 +101341,12 @@ static u32 module_zak_close(module *self, u64 p0) {
   j0 = i64_load(j0 + 16u);
   l4 = j0;
   j0 = p0;
-  f151(self, j0);
+  f154(self, j0);
   j0 = l4;
   i0 = !(j0);
   if (i0) {goto B0;}
   j0 = l5;
-  f151(self, j0);
+  f154(self, j0);
   B0:;
   i0 = l1;
   return i0;
@@ -100912,7 +101398,7 @@ static u32 module_zak_cycles(module *self, u64 p0, u64 p1, u64 p2, u64 p3, u64 p
   j0 = l8;
   j1 = 2072ull;
   j0 += j1;
-  i0 = f17(self, j0);
+  i0 = f18(self, j0);
   if (i0) {goto B3;}
   i0 = 27u;
   l23 = i0;
@@ -101146,7 +101632,7 @@ static u32 module_zak_cycles(module *self, u64 p0, u64 p1, u64 p2, u64 p3, u64 p
   j0 += j1;
   j1 = p1;
   j2 = 1ull;
-  f148(self, j0, j1, j2); m = self->memory; if (NEVER(self->is_broken)) return ZAK_BROKEN;
+  f151(self, j0, j1, j2); m = self->memory; if (NEVER(self->is_broken)) return ZAK_BROKEN;
   j0 = l7;
   i0 = (u32)(j0);
   j0 = i64_load(j0 + 32u);
@@ -101174,7 +101660,7 @@ static u32 module_zak_cycles(module *self, u64 p0, u64 p1, u64 p2, u64 p3, u64 p
   j0 += j1;
   j1 = 265046ull;
   j2 = 1ull;
-  f148(self, j0, j1, j2); m = self->memory; if (NEVER(self->is_broken)) return ZAK_BROKEN;
+  f151(self, j0, j1, j2); m = self->memory; if (NEVER(self->is_broken)) return ZAK_BROKEN;
   j0 = l7;
   i0 = (u32)(j0);
   j0 = i64_load(j0 + 16u);
@@ -101217,11 +101703,11 @@ static u32 module_zak_cycles(module *self, u64 p0, u64 p1, u64 p2, u64 p3, u64 p
   j0 = l8;
   j1 = l10;
   j2 = 0ull;
-  f19(self, j0, j1, j2); if (NEVER(self->is_broken)) return ZAK_BROKEN;
+  f20(self, j0, j1, j2); if (NEVER(self->is_broken)) return ZAK_BROKEN;
   j0 = l7;
   j1 = 6208ull;
   j0 += j1;
-  f20(self, j0); m = self->memory; if (NEVER(self->is_broken)) return ZAK_BROKEN;
+  f21(self, j0); m = self->memory; if (NEVER(self->is_broken)) return ZAK_BROKEN;
   j0 = l7;
   i0 = (u32)(j0);
   i0 = i32_load8_u(j0 + 6208u);
@@ -101258,7 +101744,7 @@ static u32 module_zak_cycles(module *self, u64 p0, u64 p1, u64 p2, u64 p3, u64 p
   j0 += j1;
   j1 = l10;
   j2 = p1;
-  f22(self, j0, j1, j2); m = self->memory; if (NEVER(self->is_broken)) return ZAK_BROKEN;
+  f23(self, j0, j1, j2); m = self->memory; if (NEVER(self->is_broken)) return ZAK_BROKEN;
   j0 = l7;
   i0 = (u32)(j0);
   j1 = l7;
@@ -101359,7 +101845,7 @@ static u32 module_zak_cycles(module *self, u64 p0, u64 p1, u64 p2, u64 p3, u64 p
   i0 = l23;
   if (i0) {goto B16;}
   j0 = l10;
-  f151(self, j0);
+  f154(self, j0);
   B16:;
   j0 = p5;
   j1 = 16777216ull;
@@ -101470,7 +101956,7 @@ static u32 module_zak_cycles(module *self, u64 p0, u64 p1, u64 p2, u64 p3, u64 p
   i0 = l23;
   if (i0) {goto B6;}
   j0 = l10;
-  f151(self, j0);
+  f154(self, j0);
   i0 = 23u;
   l23 = i0;
   goto B2;
@@ -101478,7 +101964,7 @@ static u32 module_zak_cycles(module *self, u64 p0, u64 p1, u64 p2, u64 p3, u64 p
   j0 = l7;
   j1 = p1;
   j2 = 1ull;
-  f148(self, j0, j1, j2); m = self->memory; if (NEVER(self->is_broken)) return ZAK_BROKEN;
+  f151(self, j0, j1, j2); m = self->memory; if (NEVER(self->is_broken)) return ZAK_BROKEN;
   j0 = l7;
   i0 = (u32)(j0);
   j0 = i64_load(j0);
@@ -101505,19 +101991,19 @@ static u32 module_zak_cycles(module *self, u64 p0, u64 p1, u64 p2, u64 p3, u64 p
   i0 = !(j0);
   if (i0) {goto B19;}
   j0 = l13;
-  f151(self, j0);
+  f154(self, j0);
   B19:;
   j0 = l19;
   i0 = !(j0);
   if (i0) {goto B20;}
   j0 = l21;
-  f151(self, j0);
+  f154(self, j0);
   B20:;
   j0 = l15;
   i0 = !(j0);
   if (i0) {goto B6;}
   j0 = l17;
-  f151(self, j0);
+  f154(self, j0);
   i0 = 23u;
   l23 = i0;
   goto B2;
@@ -101828,7 +102314,7 @@ static u32 module_zak_cycles(module *self, u64 p0, u64 p1, u64 p2, u64 p3, u64 p
   j6 = i8 ? j6 : j7;
   j5 += j6;
   j6 = p3;
-  f23(self, j0, j1, j2, j3, j4, j5, j6); m = self->memory; if (NEVER(self->is_broken)) return ZAK_BROKEN;
+  f24(self, j0, j1, j2, j3, j4, j5, j6); m = self->memory; if (NEVER(self->is_broken)) return ZAK_BROKEN;
   j0 = l7;
   i0 = (u32)(j0);
   i0 = i32_load8_u(j0 + 48u);
@@ -101876,25 +102362,25 @@ static u32 module_zak_cycles(module *self, u64 p0, u64 p1, u64 p2, u64 p3, u64 p
   i0 = !(j0);
   if (i0) {goto B23;}
   j0 = l10;
-  f151(self, j0);
+  f154(self, j0);
   B23:;
   j0 = l15;
   i0 = !(j0);
   if (i0) {goto B24;}
   j0 = l17;
-  f151(self, j0);
+  f154(self, j0);
   B24:;
   j0 = l11;
   i0 = !(j0);
   if (i0) {goto B25;}
   j0 = l13;
-  f151(self, j0);
+  f154(self, j0);
   B25:;
   j0 = p3;
   i0 = !(j0);
   if (i0) {goto B5;}
   j0 = l19;
-  f151(self, j0);
+  f154(self, j0);
   goto B5;
   B22:;
   j0 = l7;
@@ -101905,19 +102391,19 @@ static u32 module_zak_cycles(module *self, u64 p0, u64 p1, u64 p2, u64 p3, u64 p
   i0 = !(j0);
   if (i0) {goto B26;}
   j0 = l17;
-  f151(self, j0);
+  f154(self, j0);
   B26:;
   j0 = l11;
   i0 = !(j0);
   if (i0) {goto B27;}
   j0 = l13;
-  f151(self, j0);
+  f154(self, j0);
   B27:;
   j0 = p3;
   i0 = !(j0);
   if (i0) {goto B28;}
   j0 = l19;
-  f151(self, j0);
+  f154(self, j0);
   B28:;
   j0 = p1;
   p3 = j0;
@@ -101955,19 +102441,19 @@ static u32 module_zak_cycles(module *self, u64 p0, u64 p1, u64 p2, u64 p3, u64 p
   j0 = l7;
   i0 = (u32)(j0);
   j0 = i64_load(j0 + 2112u);
-  f151(self, j0);
+  f154(self, j0);
   B30:;
   j0 = p5;
   i0 = !(j0);
   if (i0) {goto B31;}
   j0 = p3;
-  f151(self, j0);
+  f154(self, j0);
   B31:;
   j0 = p1;
   i0 = !(j0);
   if (i0) {goto B32;}
   j0 = p2;
-  f151(self, j0);
+  f154(self, j0);
   B32:;
   j0 = l7;
   i0 = (u32)(j0);
@@ -101977,7 +102463,7 @@ static u32 module_zak_cycles(module *self, u64 p0, u64 p1, u64 p2, u64 p3, u64 p
   j0 = l7;
   i0 = (u32)(j0);
   j0 = i64_load(j0 + 4184u);
-  f151(self, j0);
+  f154(self, j0);
   B33:;
   i0 = l23;
   i1 = 1u;
@@ -102009,19 +102495,19 @@ static u32 module_zak_cycles(module *self, u64 p0, u64 p1, u64 p2, u64 p3, u64 p
   j0 = l7;
   i0 = (u32)(j0);
   j0 = i64_load(j0 + 2112u);
-  f151(self, j0);
+  f154(self, j0);
   B34:;
   j0 = p5;
   i0 = !(j0);
   if (i0) {goto B35;}
   j0 = p3;
-  f151(self, j0);
+  f154(self, j0);
   B35:;
   j0 = p1;
   i0 = !(j0);
   if (i0) {goto B36;}
   j0 = p2;
-  f151(self, j0);
+  f154(self, j0);
   B36:;
   j0 = l7;
   i0 = (u32)(j0);
@@ -102031,7 +102517,7 @@ static u32 module_zak_cycles(module *self, u64 p0, u64 p1, u64 p2, u64 p3, u64 p
   j0 = l7;
   i0 = (u32)(j0);
   j0 = i64_load(j0 + 4184u);
-  f151(self, j0);
+  f154(self, j0);
   B6:;
   i0 = 23u;
   l23 = i0;
@@ -102072,12 +102558,12 @@ static u32 module_zak_cycles(module *self, u64 p0, u64 p1, u64 p2, u64 p3, u64 p
   j0 = i64_load(j0 + 16u);
   l15 = j0;
   j0 = l11;
-  f151(self, j0);
+  f154(self, j0);
   j0 = l15;
   i0 = !(j0);
   if (i0) {goto B37;}
   j0 = l19;
-  f151(self, j0);
+  f154(self, j0);
   B37:;
   j0 = p1;
   j1 = 16777216ull;
@@ -102238,7 +102724,7 @@ static u32 module_zak_cycles(module *self, u64 p0, u64 p1, u64 p2, u64 p3, u64 p
   i0 = !(j0);
   if (i0) {goto B2;}
   j0 = l10;
-  f151(self, j0);
+  f154(self, j0);
   B2:;
   j0 = p0;
   i0 = (u32)(j0);
@@ -102266,11 +102752,12 @@ static u32 module_zak_cycles(module *self, u64 p0, u64 p1, u64 p2, u64 p3, u64 p
 }
 
 static u32 module_zak_fill_bytes(module *self, u64 p0, u32 p1, u32 p2, u64 p3, u32 p4, u64 p5) {
-  u32 l6 = 0, l7 = 0, l8 = 0, l9 = 0, l10 = 0, l11 = 0, l12 = 0;
-  u64 l13 = 0, l14 = 0;
+  u32 l6 = 0, l7 = 0, l8 = 0, l9 = 0, l10 = 0, l11 = 0, l12 = 0, l13 = 0, 
+      l14 = 0;
+  u64 l15 = 0, l16 = 0;
   u8 *m = self->memory;
   u32 i0, i1, i2, i3, i4, i5;
-  u64 j0, j1, j2, j3, j4, j5;
+  u64 j0, j1, j2, j3;
   i0 = 20u;
   l6 = i0;
   j0 = p0;
@@ -102290,7 +102777,7 @@ static u32 module_zak_fill_bytes(module *self, u64 p0, u32 p1, u32 p2, u64 p3, u
   f1(self, j0); m = self->memory; if (NEVER(self->is_broken)) return ZAK_BROKEN;
   B1:;
   j0 = 0ull;
-  l13 = j0;
+  l15 = j0;
   j0 = p0;
   i0 = (u32)(j0);
   j1 = 0ull;
@@ -102298,7 +102785,7 @@ static u32 module_zak_fill_bytes(module *self, u64 p0, u32 p1, u32 p2, u64 p3, u
   j0 = p0;
   i0 = (u32)(j0);
   j0 = i64_load(j0 + 8u);
-  l14 = j0;
+  l16 = j0;
   j0 = p0;
   i0 = (u32)(j0);
   j1 = 0ull;
@@ -102315,7 +102802,7 @@ static u32 module_zak_fill_bytes(module *self, u64 p0, u32 p1, u32 p2, u64 p3, u
   j0 = p3;
   i0 = (u32)(j0);
   l7 = i0;
-  j0 = l14;
+  j0 = l16;
   j1 = 2003ull;
   j0 += j1;
   i0 = (u32)(j0);
@@ -102325,13 +102812,13 @@ static u32 module_zak_fill_bytes(module *self, u64 p0, u32 p1, u32 p2, u64 p3, u
   i0 = !(i0);
   if (i0) {goto B3;}
   i0 = 0u;
-  j1 = l14;
+  j1 = l16;
   j2 = 60ull;
   j1 += j2;
   i1 = (u32)(j1);
   i1 = i32_load(j1);
   l6 = i1;
-  j2 = l14;
+  j2 = l16;
   j3 = 64ull;
   j2 += j3;
   i2 = (u32)(j2);
@@ -102360,11 +102847,11 @@ static u32 module_zak_fill_bytes(module *self, u64 p0, u32 p1, u32 p2, u64 p3, u
   i2 = i2 > i3;
   i0 = i2 ? i0 : i1;
   j0 = (u64)(i0);
-  l13 = j0;
+  l15 = j0;
   B3:;
   j0 = p5;
   i0 = (u32)(j0);
-  j1 = l13;
+  j1 = l15;
   i64_store(j0, j1);
   i0 = p4;
   i1 = 1u;
@@ -102389,7 +102876,7 @@ static u32 module_zak_fill_bytes(module *self, u64 p0, u32 p1, u32 p2, u64 p3, u
   i0 += i1;
   p4 = i0;
   L5: 
-    j0 = l14;
+    j0 = l16;
     j1 = 2003ull;
     j0 += j1;
     i0 = (u32)(j0);
@@ -102401,7 +102888,7 @@ static u32 module_zak_fill_bytes(module *self, u64 p0, u32 p1, u32 p2, u64 p3, u
     i0 = l10;
     i1 = l7;
     i0 += i1;
-    j1 = l14;
+    j1 = l16;
     j2 = 60ull;
     j1 += j2;
     i1 = (u32)(j1);
@@ -102409,34 +102896,46 @@ static u32 module_zak_fill_bytes(module *self, u64 p0, u32 p1, u32 p2, u64 p3, u
     l8 = i1;
     i0 -= i1;
     p1 = i0;
-    j1 = l14;
+    j1 = l16;
     j2 = 64ull;
     j1 += j2;
     i1 = (u32)(j1);
     i1 = i32_load(j1);
     i0 = i0 >= i1;
     if (i0) {goto B6;}
-    j0 = l14;
-    j1 = l14;
+    j0 = l16;
+    j1 = 71ull;
+    j0 += j1;
+    i0 = (u32)(j0);
+    i0 = i32_load8_u(j0);
+    l9 = i0;
+    j0 = l16;
+    j1 = 70ull;
+    j0 += j1;
+    i0 = (u32)(j0);
+    i0 = i32_load8_u(j0);
+    l11 = i0;
+    j0 = l16;
+    j1 = 69ull;
+    j0 += j1;
+    i0 = (u32)(j0);
+    i0 = i32_load8_u(j0);
+    l12 = i0;
+    j0 = l16;
+    j1 = l16;
     j2 = 72ull;
     j1 += j2;
     i1 = (u32)(j1);
     i1 = i32_load8_u(j1);
     i2 = p2;
-    i0 = f44(self, j0, i1, i2);
-    l9 = i0;
-    j0 = l14;
-    j1 = 71ull;
-    j0 += j1;
-    i0 = (u32)(j0);
-    i0 = i32_load8_u(j0);
-    l11 = i0;
-    j0 = l14;
+    i0 = f45(self, j0, i1, i2);
+    l13 = i0;
+    j0 = l16;
     j1 = 68ull;
     j0 += j1;
     i0 = (u32)(j0);
     i0 = i32_load8_u(j0);
-    l12 = i0;
+    l14 = i0;
     i1 = 1u;
     i0 &= i1;
     i0 = !(i0);
@@ -102460,17 +102959,13 @@ static u32 module_zak_fill_bytes(module *self, u64 p0, u32 p1, u32 p2, u64 p3, u
     i4 = 1u;
     i3 &= i4;
     i1 = i3 ? i1 : i2;
-    j2 = l14;
-    j3 = 70ull;
-    j2 += j3;
-    i2 = (u32)(j2);
-    i2 = i32_load8_u(j2);
+    i2 = l11;
     i3 = 1u;
     i2 &= i3;
     i0 = i2 ? i0 : i1;
     l8 = i0;
     B7:;
-    j0 = l14;
+    j0 = l16;
     i0 = (u32)(j0);
     j0 = i64_load(j0);
     i1 = p1;
@@ -102480,15 +102975,11 @@ static u32 module_zak_fill_bytes(module *self, u64 p0, u32 p1, u32 p2, u64 p3, u
     i3 = 65534u;
     i2 &= i3;
     i3 = p1;
-    j4 = l14;
-    j5 = 69ull;
-    j4 += j5;
-    i4 = (u32)(j4);
-    i4 = i32_load8_u(j4);
+    i4 = l12;
     i5 = 1u;
     i4 &= i5;
     i2 = i4 ? i2 : i3;
-    i3 = l12;
+    i3 = l14;
     i4 = 1u;
     i3 &= i4;
     i1 = i3 ? i1 : i2;
@@ -102500,14 +102991,14 @@ static u32 module_zak_fill_bytes(module *self, u64 p0, u32 p1, u32 p2, u64 p3, u
     j0 += j1;
     p3 = j0;
     i0 = (u32)(j0);
-    i1 = l9;
+    i1 = l13;
     j2 = p3;
     i2 = (u32)(j2);
     i2 = i32_load(j2);
     p1 = i2;
     i1 ^= i2;
     i2 = l8;
-    i3 = l11;
+    i3 = l9;
     i2 &= i3;
     i3 = 2u;
     i2 <<= (i3 & 31);
@@ -102535,12 +103026,12 @@ static u32 module_zak_fill_bytes(module *self, u64 p0, u32 p1, u32 p2, u64 p3, u
     goto B2;
   { self->is_broken = true; return ZAK_BROKEN; }
   B4:;
-  j0 = l14;
+  j0 = l16;
   i1 = p1;
   i2 = l7;
   i3 = p2;
   i4 = p2;
-  f48(self, j0, i1, i2, i3, i4);
+  f49(self, j0, i1, i2, i3, i4);
   i0 = 0u;
   l6 = i0;
   B2:;
@@ -102558,7 +103049,7 @@ static u32 module_zak_fill_bytes(module *self, u64 p0, u32 p1, u32 p2, u64 p3, u
   i32_store(j0 + 4, i1);
   j0 = p0;
   i0 = (u32)(j0);
-  j1 = l14;
+  j1 = l16;
   i64_store(j0 + 8, j1);
   B0:;
   i0 = l6;
@@ -102624,7 +103115,7 @@ static u32 module_zak_frame(module *self, u64 p0, u64 p1, u64 p2, u64 p3) {
   i64_store(j0, j1);
   j0 = l4;
   j1 = l5;
-  f49(self, j0, j1); m = self->memory; if (NEVER(self->is_broken)) return ZAK_BROKEN;
+  f50(self, j0, j1); m = self->memory; if (NEVER(self->is_broken)) return ZAK_BROKEN;
   j0 = l4;
   i0 = (u32)(j0);
   i0 = i32_load8_u(j0);
@@ -103407,7 +103898,7 @@ static u32 module_zak_frame_words(module *self, u64 p0, u32 p1, u64 p2, u64 p3, 
   j1 = 16ull;
   j0 += j1;
   j1 = l7;
-  f49(self, j0, j1); m = self->memory; if (NEVER(self->is_broken)) return ZAK_BROKEN;
+  f50(self, j0, j1); m = self->memory; if (NEVER(self->is_broken)) return ZAK_BROKEN;
   i0 = 24u;
   l15 = i0;
   j0 = l6;
@@ -103716,7 +104207,7 @@ static u32 module_zak_frame_xrgb(module *self, u64 p0, u64 p1, u64 p2, u64 p3, u
   j1 = 16ull;
   j0 += j1;
   j1 = l6;
-  f49(self, j0, j1); m = self->memory; if (NEVER(self->is_broken)) return ZAK_BROKEN;
+  f50(self, j0, j1); m = self->memory; if (NEVER(self->is_broken)) return ZAK_BROKEN;
   i0 = 24u;
   l13 = i0;
   j0 = l5;
@@ -103895,7 +104386,7 @@ static u32 module_zak_frame_xrgb(module *self, u64 p0, u64 p1, u64 p2, u64 p3, u
 }
 
 static u32 module_zak_get(module *self, u64 p0, u32 p1, u64 p2) {
-  u32 l5 = 0;
+  u32 l5 = 0, l6 = 0;
   u64 l3 = 0, l4 = 0;
   u8 *m = self->memory;
   u32 i0, i1, i2;
@@ -103918,11 +104409,12 @@ static u32 module_zak_get(module *self, u64 p0, u32 p1, u64 p2) {
   j0 += j1;
   i0 = (u32)(j0);
   i0 = i32_load(j0);
-  i0 = !(i0);
-  if (i0) {goto B1;}
+  l6 = i0;
+  i1 = 16777217u;
+  i0 = i0 < i1;
+  if (i0) {goto B2;}
   j0 = p0;
   f1(self, j0); m = self->memory; if (NEVER(self->is_broken)) return ZAK_BROKEN;
-  B1:;
   j0 = p0;
   i0 = (u32)(j0);
   j1 = 0ull;
@@ -103935,12 +104427,29 @@ static u32 module_zak_get(module *self, u64 p0, u32 p1, u64 p2) {
   i0 = (u32)(j0);
   j1 = 0ull;
   i64_store(j0 + 8, j1);
+  i0 = 0u;
+  l6 = i0;
+  goto B1;
+  B2:;
+  j0 = p0;
+  i0 = (u32)(j0);
+  j1 = 0ull;
+  i64_store(j0, j1);
+  j0 = p0;
+  i0 = (u32)(j0);
+  j0 = i64_load(j0 + 8u);
+  l4 = j0;
+  j0 = p0;
+  i0 = (u32)(j0);
+  j1 = 0ull;
+  i64_store(j0 + 8, j1);
+  B1:;
   j0 = l3;
   j1 = 8ull;
   j0 += j1;
   j1 = l4;
   i2 = p1;
-  f32(self, j0, j1, i2);
+  f33(self, j0, j1, i2);
   j0 = l3;
   i0 = (u32)(j0);
   i0 = i32_load8_u(j0 + 9u);
@@ -103948,28 +104457,26 @@ static u32 module_zak_get(module *self, u64 p0, u32 p1, u64 p2) {
   j0 = l3;
   i0 = (u32)(j0);
   i0 = i32_load8_u(j0 + 8u);
-  i1 = 1u;
-  i0 &= i1;
-  if (i0) {goto B3;}
+  if (i0) {goto B4;}
   j0 = p2;
   i0 = (u32)(j0);
   i1 = l5;
   i32_store8(j0, i1);
   i0 = 0u;
   l5 = i0;
-  goto B2;
-  B3:;
+  goto B3;
+  B4:;
   i0 = l5;
   i1 = 255u;
   i0 &= i1;
   i1 = 1u;
   i0 += i1;
   l5 = i0;
-  B2:;
+  B3:;
   j0 = p0;
   i0 = (u32)(j0);
   i1 = 0u;
-  i32_store(j0 + 1, i1);
+  i32_store16(j0 + 1, i1);
   j0 = p0;
   i0 = (u32)(j0);
   i1 = 1u;
@@ -103977,11 +104484,17 @@ static u32 module_zak_get(module *self, u64 p0, u32 p1, u64 p2) {
   j0 = p0;
   i0 = (u32)(j0);
   i1 = 0u;
-  i32_store(j0 + 4, i1);
+  i32_store8(j0 + 3, i1);
   j0 = p0;
   i0 = (u32)(j0);
   j1 = l4;
   i64_store(j0 + 8, j1);
+  j0 = p0;
+  j1 = 4ull;
+  j0 += j1;
+  i0 = (u32)(j0);
+  i1 = l6;
+  i32_store(j0, i1);
   B0:;
   j0 = l3;
   j1 = 16ull;
@@ -104133,7 +104646,7 @@ static u32 module_zak_get_bytes(module *self, u64 p0, u32 p1, u64 p2, u64 p3, u3
     j0 += j1;
     j1 = l8;
     i2 = p1;
-    f32(self, j0, j1, i2);
+    f33(self, j0, j1, i2);
     j0 = p2;
     j1 = p3;
     j0 += j1;
@@ -104439,7 +104952,7 @@ static u32 module_zak_get_bytes(module *self, u64 p0, u32 p1, u64 p2, u64 p3, u3
   i2 = p1;
   j3 = p2;
   j4 = p3;
-  f50(self, j0, j1, i2, j3, j4); if (NEVER(self->is_broken)) return ZAK_BROKEN;
+  f51(self, j0, j1, i2, j3, j4); if (NEVER(self->is_broken)) return ZAK_BROKEN;
   i0 = l11;
   i1 = p4;
   i2 = 4294967295u;
@@ -104611,7 +105124,7 @@ static u32 module_zak_get_word(module *self, u64 p0, u32 p1, u64 p2) {
   j0 += j1;
   j1 = l4;
   i2 = p1;
-  f32(self, j0, j1, i2);
+  f33(self, j0, j1, i2);
   j0 = l3;
   i0 = (u32)(j0);
   i0 = i32_load8_u(j0 + 9u);
@@ -104623,7 +105136,7 @@ static u32 module_zak_get_word(module *self, u64 p0, u32 p1, u64 p2) {
   j0 = l3;
   j1 = l4;
   i2 = l7;
-  f32(self, j0, j1, i2);
+  f33(self, j0, j1, i2);
   j0 = l3;
   i0 = (u32)(j0);
   i0 = i32_load8_u(j0 + 1u);
@@ -104683,11 +105196,11 @@ static u32 module_zak_get_word(module *self, u64 p0, u32 p1, u64 p2) {
 }
 
 static u32 module_zak_in(module *self, u64 p0, u32 p1, u64 p2) {
-  u32 l5 = 0;
+  u32 l5 = 0, l6 = 0, l7 = 0, l8 = 0, l9 = 0, l10 = 0;
   u64 l3 = 0, l4 = 0;
   u8 *m = self->memory;
-  u32 i0, i1, i2;
-  u64 j0, j1;
+  u32 i0, i1, i2, i3, i4, i5;
+  u64 j0, j1, j2, j3, j4;
   j0 = self->g0;
   j1 = 16ull;
   j0 -= j1;
@@ -104706,11 +105219,12 @@ static u32 module_zak_in(module *self, u64 p0, u32 p1, u64 p2) {
   j0 += j1;
   i0 = (u32)(j0);
   i0 = i32_load(j0);
-  i0 = !(i0);
-  if (i0) {goto B1;}
+  l5 = i0;
+  i1 = 16777217u;
+  i0 = i0 < i1;
+  if (i0) {goto B2;}
   j0 = p0;
   f1(self, j0); m = self->memory; if (NEVER(self->is_broken)) return ZAK_BROKEN;
-  B1:;
   j0 = p0;
   i0 = (u32)(j0);
   j1 = 0ull;
@@ -104723,41 +105237,424 @@ static u32 module_zak_in(module *self, u64 p0, u32 p1, u64 p2) {
   i0 = (u32)(j0);
   j1 = 0ull;
   i64_store(j0 + 8, j1);
-  j0 = l3;
-  j1 = 8ull;
+  i0 = 0u;
+  l5 = i0;
+  goto B1;
+  B2:;
+  j0 = p0;
+  i0 = (u32)(j0);
+  j1 = 0ull;
+  i64_store(j0, j1);
+  j0 = p0;
+  i0 = (u32)(j0);
+  j0 = i64_load(j0 + 8u);
+  l4 = j0;
+  j0 = p0;
+  i0 = (u32)(j0);
+  j1 = 0ull;
+  i64_store(j0 + 8, j1);
+  B1:;
+  i0 = 0u;
+  l6 = i0;
+  j0 = l4;
+  j1 = 136ull;
   j0 += j1;
+  i0 = (u32)(j0);
+  i0 = i32_load16_u(j0);
+  l7 = i0;
   j1 = l4;
-  i2 = p1;
-  f24(self, j0, j1, i2); if (NEVER(self->is_broken)) return ZAK_BROKEN;
+  j2 = 105ull;
+  j1 += j2;
+  i1 = (u32)(j1);
+  i1 = i32_load8_u(j1);
+  i2 = 5u;
+  i1 += i2;
+  l8 = i1;
+  i0 = i0 >= i1;
+  if (i0) {goto B4;}
+  j0 = l4;
+  j1 = 138ull;
+  j0 += j1;
+  i0 = (u32)(j0);
+  i0 = i32_load8_u(j0);
+  l9 = i0;
+  j1 = l4;
+  j2 = 34ull;
+  j1 += j2;
+  i1 = (u32)(j1);
+  i1 = i32_load8_u(j1);
+  i2 = 1u;
+  i1 &= i2;
+  i2 = 9u;
+  i1 ^= i2;
+  l10 = i1;
+  i0 = i0 >= i1;
+  if (i0) {goto B4;}
+  i0 = l5;
+  i1 = 0u;
+  i2 = l10;
+  i3 = l9;
+  i4 = 1u;
+  i3 += i4;
+  i4 = 255u;
+  i3 &= i4;
+  i2 -= i3;
+  l6 = i2;
+  i3 = l6;
+  i4 = l10;
+  i3 = i3 > i4;
+  i1 = i3 ? i1 : i2;
+  i2 = 0u;
+  i3 = l8;
+  i4 = l7;
+  i5 = 1u;
+  i4 += i5;
+  i5 = 65535u;
+  i4 &= i5;
+  i3 -= i4;
+  l6 = i3;
+  i4 = l6;
+  i5 = l8;
+  i4 = i4 > i5;
+  i2 = i4 ? i2 : i3;
+  i3 = l10;
+  i2 *= i3;
+  i1 += i2;
+  i2 = 1u;
+  i1 += i2;
+  l6 = i1;
+  i0 = i0 > i1;
+  if (i0) {goto B5;}
+  i0 = l5;
+  l6 = i0;
+  goto B3;
+  B5:;
+  i0 = l5;
+  i1 = l6;
+  i0 -= i1;
+  i1 = l8;
+  i2 = l10;
+  i1 *= i2;
+  if (i1 == 0) { self->is_broken = true; return ZAK_BROKEN; } i0 = i0 % i1;
+  l6 = i0;
+  B4:;
+  j0 = l4;
+  i1 = l5;
+  i2 = l6;
+  i1 -= i2;
+  f2(self, j0, i1); m = self->memory; if (NEVER(self->is_broken)) return ZAK_BROKEN;
+  B3:;
+  i0 = l6;
+  i0 = !(i0);
+  if (i0) {goto B9;}
+  j0 = l4;
+  j1 = 136ull;
+  j0 += j1;
+  i0 = (u32)(j0);
+  i0 = i32_load16_u(j0);
+  l8 = i0;
+  j1 = l4;
+  j2 = 105ull;
+  j1 += j2;
+  i1 = (u32)(j1);
+  i1 = i32_load8_u(j1);
+  i2 = 5u;
+  i1 += i2;
+  l5 = i1;
+  i0 = i0 >= i1;
+  if (i0) {goto B9;}
+  j0 = l4;
+  j1 = 138ull;
+  j0 += j1;
+  i0 = (u32)(j0);
+  i0 = i32_load8_u(j0);
+  l7 = i0;
+  j1 = l4;
+  j2 = 34ull;
+  j1 += j2;
+  i1 = (u32)(j1);
+  i1 = i32_load8_u(j1);
+  i2 = 1u;
+  i1 &= i2;
+  i2 = 9u;
+  i1 ^= i2;
+  l10 = i1;
+  i0 = i0 >= i1;
+  if (i0) {goto B9;}
+  i0 = l6;
+  i1 = 0u;
+  i2 = l10;
+  i3 = l7;
+  i4 = 1u;
+  i3 += i4;
+  i4 = 255u;
+  i3 &= i4;
+  i2 -= i3;
+  l7 = i2;
+  i3 = l7;
+  i4 = l10;
+  i3 = i3 > i4;
+  i1 = i3 ? i1 : i2;
+  i2 = 0u;
+  i3 = l5;
+  i4 = l8;
+  i5 = 1u;
+  i4 += i5;
+  i5 = 65535u;
+  i4 &= i5;
+  i3 -= i4;
+  l7 = i3;
+  i4 = l7;
+  i5 = l5;
+  i4 = i4 > i5;
+  i2 = i4 ? i2 : i3;
+  i3 = l10;
+  i2 *= i3;
+  i1 += i2;
+  i2 = 1u;
+  i1 += i2;
+  i0 = i0 > i1;
+  if (i0) {goto B9;}
+  i0 = p1;
+  i1 = 65535u;
+  i0 &= i1;
+  l5 = i0;
+  i1 = 4294966336u;
+  i0 += i1;
+  i1 = 11u;
+  i0 = i0 < i1;
+  if (i0) {goto B9;}
+  i0 = l5;
+  i1 = 4294966324u;
+  i0 += i1;
+  l5 = i0;
+  i1 = 3u;
+  i0 = i0 > i1;
+  if (i0) {goto B10;}
+  i0 = l5;
+  i1 = 1u;
+  i0 = i0 != i1;
+  if (i0) {goto B9;}
+  B10:;
+  i0 = p1;
+  i1 = 65535u;
+  i0 &= i1;
+  l5 = i0;
+  i1 = 980u;
+  i2 = 948u;
+  j3 = l4;
+  j4 = 2003ull;
+  j3 += j4;
+  i3 = (u32)(j3);
+  i3 = i32_load8_u(j3);
+  i4 = 1u;
+  i3 &= i4;
+  i1 = i3 ? i1 : i2;
+  l7 = i1;
+  i0 = i0 == i1;
+  if (i0) {goto B9;}
+  i0 = l5;
+  i1 = l7;
+  i2 = 1u;
+  i1 |= i2;
+  i2 = 65535u;
+  i1 &= i2;
+  i0 = i0 == i1;
+  l9 = i0;
+  i1 = l9;
+  i2 = l5;
+  i3 = l7;
+  i4 = 6u;
+  i3 += i4;
+  l7 = i3;
+  i4 = 65535u;
+  i3 &= i4;
+  i2 = i2 == i3;
+  i1 |= i2;
+  i0 = i0 == i1;
+  if (i0) {goto B9;}
+  i0 = p1;
+  i1 = 65535u;
+  i0 &= i1;
+  i1 = l7;
+  i2 = 65535u;
+  i1 &= i2;
+  i0 = i0 != i1;
+  if (i0) {goto B9;}
   j0 = l3;
   i0 = (u32)(j0);
-  i0 = i32_load8_u(j0 + 9u);
+  i1 = l8;
+  i32_store16(j0 + 6, i1);
+  j0 = l3;
+  i0 = (u32)(j0);
+  j1 = l4;
+  j2 = 138ull;
+  j1 += j2;
+  i1 = (u32)(j1);
+  j1 = i64_load(j1);
+  i64_store(j0 + 8, j1);
+  j0 = l3;
+  i0 = (u32)(j0);
+  j1 = l4;
+  j2 = 132ull;
+  j1 += j2;
+  i1 = (u32)(j1);
+  i1 = i32_load(j1);
+  i32_store(j0 + 2, i1);
+  j0 = l3;
+  j1 = 2ull;
+  j0 += j1;
+  j1 = l4;
+  j2 = 80ull;
+  j1 += j2;
+  i2 = l10;
+  i3 = l6;
+  f6(self, j0, j1, i2, i3); if (NEVER(self->is_broken)) return ZAK_BROKEN;
+  j0 = l4;
+  j1 = 112ull;
+  j0 += j1;
+  i0 = (u32)(j0);
+  i0 = i32_load8_u(j0);
+  p1 = i0;
+  i0 = 1u;
   l5 = i0;
   j0 = l3;
   i0 = (u32)(j0);
-  i0 = i32_load8_u(j0 + 8u);
-  i1 = 1u;
+  i0 = i32_load16_u(j0 + 4u);
+  l8 = i0;
+  j0 = l3;
+  i0 = (u32)(j0);
+  i0 = i32_load16_u(j0 + 6u);
+  j1 = l4;
+  j2 = 106ull;
+  j1 += j2;
+  i1 = (u32)(j1);
+  i1 = i32_load8_u(j1);
+  i0 = i0 > i1;
+  if (i0) {goto B11;}
+  i0 = l8;
+  i1 = 65535u;
   i0 &= i1;
-  if (i0) {goto B3;}
+  i1 = p1;
+  i2 = 7u;
+  i1 <<= (i2 & 31);
+  i2 = 256u;
+  i1 &= i2;
+  j2 = l4;
+  j3 = 123ull;
+  j2 += j3;
+  i2 = (u32)(j2);
+  i2 = i32_load8_u(j2);
+  i1 |= i2;
+  i2 = p1;
+  i3 = 3u;
+  i2 <<= (i3 & 31);
+  i3 = 512u;
+  i2 &= i3;
+  i1 |= i2;
+  i2 = 65535u;
+  i1 &= i2;
+  i0 = i0 > i1;
+  l5 = i0;
+  B11:;
+  i0 = p1;
+  i1 = 6u;
+  i0 <<= (i1 & 31);
+  i1 = 256u;
+  i0 &= i1;
+  i1 = p1;
+  i2 = 128u;
+  i1 &= i2;
+  i2 = 2u;
+  i1 <<= (i2 & 31);
+  i0 |= i1;
+  j1 = l4;
+  j2 = 121ull;
+  j1 += j2;
+  i1 = (u32)(j1);
+  i1 = i32_load8_u(j1);
+  p1 = i1;
+  i0 |= i1;
+  l10 = i0;
+  i1 = l8;
+  i2 = 65535u;
+  i1 &= i2;
+  l8 = i1;
+  i0 = i0 > i1;
+  if (i0) {goto B12;}
+  i0 = 8u;
+  i1 = 0u;
+  i2 = l8;
+  j3 = l4;
+  j4 = 122ull;
+  j3 += j4;
+  i3 = (u32)(j3);
+  i3 = i32_load8_u(j3);
+  i4 = p1;
+  i3 -= i4;
+  i4 = 15u;
+  i3 &= i4;
+  p1 = i3;
+  i4 = 16u;
+  i5 = p1;
+  i3 = i5 ? i3 : i4;
+  i4 = l10;
+  i3 += i4;
+  i4 = 65535u;
+  i3 &= i4;
+  i2 = i2 < i3;
+  i0 = i2 ? i0 : i1;
+  i1 = l5;
+  i0 |= i1;
+  l5 = i0;
+  B12:;
+  j0 = l4;
+  j1 = 205ull;
+  j0 += j1;
+  i0 = (u32)(j0);
+  i1 = 0u;
+  i32_store8(j0, i1);
+  goto B8;
+  B9:;
+  j0 = l4;
+  i1 = l6;
+  f2(self, j0, i1); m = self->memory; if (NEVER(self->is_broken)) return ZAK_BROKEN;
+  j0 = l3;
+  j1 = l4;
+  i2 = p1;
+  f25(self, j0, j1, i2); if (NEVER(self->is_broken)) return ZAK_BROKEN;
+  j0 = l3;
+  i0 = (u32)(j0);
+  i0 = i32_load8_u(j0 + 1u);
+  l5 = i0;
+  j0 = l3;
+  i0 = (u32)(j0);
+  i0 = i32_load8_u(j0);
+  if (i0) {goto B7;}
+  i0 = 0u;
+  l6 = i0;
+  B8:;
   j0 = p2;
   i0 = (u32)(j0);
   i1 = l5;
   i32_store8(j0, i1);
   i0 = 0u;
   l5 = i0;
-  goto B2;
-  B3:;
+  goto B6;
+  B7:;
   i0 = l5;
   i1 = 255u;
   i0 &= i1;
   i1 = 1u;
   i0 += i1;
   l5 = i0;
-  B2:;
+  i0 = 0u;
+  l6 = i0;
+  B6:;
   j0 = p0;
   i0 = (u32)(j0);
   i1 = 0u;
-  i32_store(j0 + 1, i1);
+  i32_store16(j0 + 1, i1);
   j0 = p0;
   i0 = (u32)(j0);
   i1 = 1u;
@@ -104765,11 +105662,17 @@ static u32 module_zak_in(module *self, u64 p0, u32 p1, u64 p2) {
   j0 = p0;
   i0 = (u32)(j0);
   i1 = 0u;
-  i32_store(j0 + 4, i1);
+  i32_store8(j0 + 3, i1);
   j0 = p0;
   i0 = (u32)(j0);
   j1 = l4;
   i64_store(j0 + 8, j1);
+  j0 = p0;
+  j1 = 4ull;
+  j0 += j1;
+  i0 = (u32)(j0);
+  i1 = l6;
+  i32_store(j0, i1);
   B0:;
   j0 = l3;
   j1 = 16ull;
@@ -104825,7 +105728,7 @@ static u32 module_zak_in_word(module *self, u64 p0, u32 p1, u64 p2) {
   j0 += j1;
   j1 = l4;
   i2 = p1;
-  f51(self, j0, j1, i2); if (NEVER(self->is_broken)) return ZAK_BROKEN;
+  f52(self, j0, j1, i2); if (NEVER(self->is_broken)) return ZAK_BROKEN;
   j0 = l3;
   i0 = (u32)(j0);
   i0 = i32_load8_u(j0 + 12u);
@@ -104920,7 +105823,7 @@ static u32 module_zak_int10(module *self, u64 p0, u64 p1, u64 p2, u64 p3, u64 p4
   j1 = 2072ull;
   j0 += j1;
   l9 = j0;
-  i0 = f17(self, j0);
+  i0 = f18(self, j0);
   i0 = !(i0);
   if (i0) {goto B2;}
   j0 = l7;
@@ -104962,7 +105865,7 @@ static u32 module_zak_int10(module *self, u64 p0, u64 p1, u64 p2, u64 p3, u64 p4
   j6 = i8 ? j6 : j7;
   j5 += j6;
   j6 = p3;
-  f53(self, j0, j1, j2, j3, j4, j5, j6); m = self->memory; if (NEVER(self->is_broken)) return ZAK_BROKEN;
+  f54(self, j0, j1, j2, j3, j4, j5, j6); m = self->memory; if (NEVER(self->is_broken)) return ZAK_BROKEN;
   j0 = l7;
   i0 = (u32)(j0);
   i0 = i32_load8_u(j0 + 8u);
@@ -105217,12 +106120,12 @@ static u32 module_zak_int10(module *self, u64 p0, u64 p1, u64 p2, u64 p3, u64 p4
   j0 = i64_load(j0 + 16u);
   p1 = j0;
   j0 = p2;
-  f151(self, j0);
+  f154(self, j0);
   j0 = p1;
   i0 = !(j0);
   if (i0) {goto B2;}
   j0 = p3;
-  f151(self, j0);
+  f154(self, j0);
   goto B2;
   B3:;
   i0 = 23u;
@@ -105564,11 +106467,12 @@ static u32 module_zak_line(module *self, u64 p0, u32 p1, u64 p2, u64 p3, u64 p4)
 }
 
 static u32 module_zak_move_bytes(module *self, u64 p0, u32 p1, u32 p2, u64 p3, u32 p4, u64 p5) {
-  u32 l9 = 0, l10 = 0, l11 = 0, l12 = 0, l13 = 0, l14 = 0, l15 = 0;
+  u32 l9 = 0, l10 = 0, l11 = 0, l12 = 0, l13 = 0, l14 = 0, l15 = 0, l16 = 0, 
+      l17 = 0;
   u64 l6 = 0, l7 = 0, l8 = 0;
   u8 *m = self->memory;
   u32 i0, i1, i2, i3, i4, i5, i6;
-  u64 j0, j1, j2, j3, j4, j5;
+  u64 j0, j1, j2, j3, j4;
   j0 = self->g0;
   j1 = 16ull;
   j0 -= j1;
@@ -105735,7 +106639,7 @@ static u32 module_zak_move_bytes(module *self, u64 p0, u32 p1, u32 p2, u64 p3, u
     i2 = p4;
     i3 = l10;
     i2 += i3;
-    f32(self, j0, j1, i2);
+    f33(self, j0, j1, i2);
     j0 = l7;
     j1 = 2003ull;
     j0 += j1;
@@ -105764,6 +106668,24 @@ static u32 module_zak_move_bytes(module *self, u64 p0, u32 p1, u32 p2, u64 p3, u
     i0 = i0 >= i1;
     if (i0) {goto B6;}
     j0 = l7;
+    j1 = 71ull;
+    j0 += j1;
+    i0 = (u32)(j0);
+    i0 = i32_load8_u(j0);
+    l12 = i0;
+    j0 = l7;
+    j1 = 70ull;
+    j0 += j1;
+    i0 = (u32)(j0);
+    i0 = i32_load8_u(j0);
+    l15 = i0;
+    j0 = l7;
+    j1 = 69ull;
+    j0 += j1;
+    i0 = (u32)(j0);
+    i0 = i32_load8_u(j0);
+    l13 = i0;
+    j0 = l7;
     j1 = l7;
     j2 = 72ull;
     j1 += j2;
@@ -105779,20 +106701,14 @@ static u32 module_zak_move_bytes(module *self, u64 p0, u32 p1, u32 p2, u64 p3, u
     i5 = 255u;
     i4 &= i5;
     i2 = i4 ? i2 : i3;
-    i0 = f44(self, j0, i1, i2);
-    l12 = i0;
-    j0 = l7;
-    j1 = 71ull;
-    j0 += j1;
-    i0 = (u32)(j0);
-    i0 = i32_load8_u(j0);
-    l13 = i0;
+    i0 = f45(self, j0, i1, i2);
+    l16 = i0;
     j0 = l7;
     j1 = 68ull;
     j0 += j1;
     i0 = (u32)(j0);
     i0 = i32_load8_u(j0);
-    l15 = i0;
+    l17 = i0;
     i1 = 1u;
     i0 &= i1;
     i0 = !(i0);
@@ -105816,11 +106732,7 @@ static u32 module_zak_move_bytes(module *self, u64 p0, u32 p1, u32 p2, u64 p3, u
     i4 = 1u;
     i3 &= i4;
     i1 = i3 ? i1 : i2;
-    j2 = l7;
-    j3 = 70ull;
-    j2 += j3;
-    i2 = (u32)(j2);
-    i2 = i32_load8_u(j2);
+    i2 = l15;
     i3 = 1u;
     i2 &= i3;
     i0 = i2 ? i0 : i1;
@@ -105836,15 +106748,11 @@ static u32 module_zak_move_bytes(module *self, u64 p0, u32 p1, u32 p2, u64 p3, u
     i3 = 65534u;
     i2 &= i3;
     i3 = p1;
-    j4 = l7;
-    j5 = 69ull;
-    j4 += j5;
-    i4 = (u32)(j4);
-    i4 = i32_load8_u(j4);
+    i4 = l13;
     i5 = 1u;
     i4 &= i5;
     i2 = i4 ? i2 : i3;
-    i3 = l15;
+    i3 = l17;
     i4 = 1u;
     i3 &= i4;
     i1 = i3 ? i1 : i2;
@@ -105856,14 +106764,14 @@ static u32 module_zak_move_bytes(module *self, u64 p0, u32 p1, u32 p2, u64 p3, u
     j0 += j1;
     p3 = j0;
     i0 = (u32)(j0);
-    i1 = l12;
+    i1 = l16;
     j2 = p3;
     i2 = (u32)(j2);
     i2 = i32_load(j2);
     p1 = i2;
     i1 ^= i2;
     i2 = l11;
-    i3 = l13;
+    i3 = l12;
     i2 &= i3;
     i3 = 2u;
     i2 <<= (i3 & 31);
@@ -105895,7 +106803,7 @@ static u32 module_zak_move_bytes(module *self, u64 p0, u32 p1, u32 p2, u64 p3, u
   i1 = p1;
   i2 = p2;
   i3 = l10;
-  f62(self, j0, i1, i2, i3);
+  f63(self, j0, i1, i2, i3);
   i0 = 0u;
   l9 = i0;
   B2:;
@@ -105981,7 +106889,7 @@ static u32 module_zak_open(module *self, u64 p0, u64 p1, u64 p2) {
   j2 = i4 ? j2 : j3;
   j1 += j2;
   j2 = p2;
-  f65(self, j0, j1, j2); m = self->memory; if (NEVER(self->is_broken)) return ZAK_BROKEN;
+  f66(self, j0, j1, j2); m = self->memory; if (NEVER(self->is_broken)) return ZAK_BROKEN;
   j0 = l3;
   i0 = (u32)(j0);
   j0 = i64_load(j0 + 2120u);
@@ -106030,7 +106938,7 @@ static u32 module_zak_open(module *self, u64 p0, u64 p1, u64 p2) {
   j1 = l3;
   j2 = 2064ull;
   j1 += j2;
-  f66(self, j0, j1); m = self->memory; if (NEVER(self->is_broken)) return ZAK_BROKEN;
+  f67(self, j0, j1); m = self->memory; if (NEVER(self->is_broken)) return ZAK_BROKEN;
   j0 = l3;
   i0 = (u32)(j0);
   j1 = l3;
@@ -106227,7 +107135,7 @@ static u32 module_zak_open(module *self, u64 p0, u64 p1, u64 p2) {
   j0 = l3;
   j1 = 2160ull;
   j2 = 8ull;
-  f148(self, j0, j1, j2); m = self->memory; if (NEVER(self->is_broken)) return ZAK_BROKEN;
+  f151(self, j0, j1, j2); m = self->memory; if (NEVER(self->is_broken)) return ZAK_BROKEN;
   j0 = l3;
   i0 = (u32)(j0);
   j0 = i64_load(j0);
@@ -106450,19 +107358,19 @@ static u32 module_zak_open(module *self, u64 p0, u64 p1, u64 p2) {
   i0 = !(j0);
   if (i0) {goto B3;}
   j0 = p1;
-  f151(self, j0);
+  f154(self, j0);
   B3:;
   j0 = l11;
   i0 = !(j0);
   if (i0) {goto B4;}
   j0 = l13;
-  f151(self, j0);
+  f154(self, j0);
   B4:;
   j0 = l7;
   i0 = !(j0);
   if (i0) {goto B5;}
   j0 = l9;
-  f151(self, j0);
+  f154(self, j0);
   B5:;
   i0 = l17;
   i1 = 255u;
@@ -106479,12 +107387,12 @@ static u32 module_zak_open(module *self, u64 p0, u64 p1, u64 p2) {
   j0 = i64_load(j0 + 16u);
   p0 = j0;
   j0 = l14;
-  f151(self, j0);
+  f154(self, j0);
   j0 = p0;
   i0 = !(j0);
   if (i0) {goto B6;}
   j0 = p1;
-  f151(self, j0);
+  f154(self, j0);
   B6:;
   i0 = l18;
   i1 = 255u;
@@ -106501,12 +107409,12 @@ static u32 module_zak_open(module *self, u64 p0, u64 p1, u64 p2) {
   j0 = i64_load(j0 + 16u);
   p0 = j0;
   j0 = l15;
-  f151(self, j0);
+  f154(self, j0);
   j0 = p0;
   i0 = !(j0);
   if (i0) {goto B7;}
   j0 = p1;
-  f151(self, j0);
+  f154(self, j0);
   B7:;
   i0 = 23u;
   l17 = i0;
@@ -106525,12 +107433,12 @@ static u32 module_zak_open(module *self, u64 p0, u64 p1, u64 p2) {
   j0 = i64_load(j0 + 16u);
   p0 = j0;
   j0 = l16;
-  f151(self, j0);
+  f154(self, j0);
   j0 = p0;
   i0 = !(j0);
   if (i0) {goto B0;}
   j0 = p1;
-  f151(self, j0);
+  f154(self, j0);
   goto B0;
   B1:;
   i0 = 22u;
@@ -106669,17 +107577,19 @@ static u32 module_zak_out(module *self, u64 p0, u32 p1, u32 p2) {
   j1 = l4;
   i2 = l6;
   i3 = p2;
-  f42(self, j0, j1, i2, i3);
+  f43(self, j0, j1, i2, i3);
   j0 = l3;
   i0 = (u32)(j0);
   i0 = i32_load8_u(j0 + 9u);
+  i1 = 255u;
+  i0 &= i1;
   i1 = 1u;
   i0 += i1;
   i1 = 0u;
   j2 = l3;
   i2 = (u32)(j2);
   i2 = i32_load8_u(j2 + 8u);
-  i3 = 1u;
+  i3 = 255u;
   i2 &= i3;
   i0 = i2 ? i0 : i1;
   l5 = i0;
@@ -106756,14 +107666,14 @@ static u32 module_zak_out_word(module *self, u64 p0, u32 p1, u32 p2) {
   j1 = l4;
   i2 = p1;
   i3 = p2;
-  f67(self, j0, j1, i2, i3);
-  j0 = l3;
-  i0 = (u32)(j0);
-  i0 = i32_load8_u(j0 + 9u);
-  l5 = i0;
+  f68(self, j0, j1, i2, i3);
   j0 = l3;
   i0 = (u32)(j0);
   i0 = i32_load8_u(j0 + 8u);
+  l5 = i0;
+  j0 = l3;
+  i0 = (u32)(j0);
+  i0 = i32_load8_u(j0 + 9u);
   p2 = i0;
   j0 = p0;
   i0 = (u32)(j0);
@@ -106781,13 +107691,11 @@ static u32 module_zak_out_word(module *self, u64 p0, u32 p1, u32 p2) {
   i0 = (u32)(j0);
   j1 = l4;
   i64_store(j0 + 8, j1);
-  i0 = l5;
+  i0 = p2;
   i1 = 1u;
   i0 += i1;
   i1 = 0u;
-  i2 = p2;
-  i3 = 1u;
-  i2 &= i3;
+  i2 = l5;
   i0 = i2 ? i0 : i1;
   l5 = i0;
   B0:;
@@ -106839,7 +107747,7 @@ static u32 module_zak_print(module *self, u64 p0, u64 p1, u64 p2, u64 p3, u64 p4
   j1 += j2;
   l8 = j1;
   j2 = p1;
-  f69(self, j0, j1, j2); if (NEVER(self->is_broken)) return ZAK_BROKEN;
+  f70(self, j0, j1, j2); if (NEVER(self->is_broken)) return ZAK_BROKEN;
   j0 = l6;
   i0 = (u32)(j0);
   i0 = i32_load8_u(j0 + 48u);
@@ -106877,7 +107785,7 @@ static u32 module_zak_print(module *self, u64 p0, u64 p1, u64 p2, u64 p3, u64 p4
   j1 = 176ull;
   j0 += j1;
   j1 = p1;
-  i0 = f10(self, j0, j1); m = self->memory; if (NEVER(self->is_broken)) return ZAK_BROKEN;
+  i0 = f11(self, j0, j1); m = self->memory; if (NEVER(self->is_broken)) return ZAK_BROKEN;
   i0 = !(i0);
   if (i0) {goto B12;}
   j0 = l6;
@@ -107033,7 +107941,7 @@ static u32 module_zak_print(module *self, u64 p0, u64 p1, u64 p2, u64 p3, u64 p4
   j0 = l6;
   i0 = (u32)(j0);
   j0 = i64_load(j0 + 176u);
-  f151(self, j0);
+  f154(self, j0);
   goto B9;
   B11:;
   j0 = l6;
@@ -107080,7 +107988,7 @@ static u32 module_zak_print(module *self, u64 p0, u64 p1, u64 p2, u64 p3, u64 p4
   j1 = 24ull;
   j0 += j1;
   j1 = 10ull;
-  i0 = f10(self, j0, j1); m = self->memory; if (NEVER(self->is_broken)) return ZAK_BROKEN;
+  i0 = f11(self, j0, j1); m = self->memory; if (NEVER(self->is_broken)) return ZAK_BROKEN;
   i0 = !(i0);
   if (i0) {goto B20;}
   j0 = l6;
@@ -107375,7 +108283,7 @@ static u32 module_zak_print(module *self, u64 p0, u64 p1, u64 p2, u64 p3, u64 p4
     j2 = l10;
     j3 = 0ull;
     i4 = l35;
-    f71(self, j0, j1, j2, j3, i4); if (NEVER(self->is_broken)) return ZAK_BROKEN;
+    f72(self, j0, j1, j2, j3, i4); if (NEVER(self->is_broken)) return ZAK_BROKEN;
     j0 = l6;
     i0 = (u32)(j0);
     i0 = i32_load8_u(j0 + 48u);
@@ -107486,7 +108394,7 @@ static u32 module_zak_print(module *self, u64 p0, u64 p1, u64 p2, u64 p3, u64 p4
     j2 = 248ull;
     j1 += j2;
     i2 = l34;
-    f74(self, j0, j1, i2); if (NEVER(self->is_broken)) return ZAK_BROKEN;
+    f75(self, j0, j1, i2); if (NEVER(self->is_broken)) return ZAK_BROKEN;
     j0 = l6;
     i0 = (u32)(j0);
     j0 = i64_load(j0 + 16u);
@@ -107557,7 +108465,7 @@ static u32 module_zak_print(module *self, u64 p0, u64 p1, u64 p2, u64 p3, u64 p4
     j1 = 24ull;
     j0 += j1;
     j1 = l15;
-    i0 = f10(self, j0, j1); m = self->memory; if (NEVER(self->is_broken)) return ZAK_BROKEN;
+    i0 = f11(self, j0, j1); m = self->memory; if (NEVER(self->is_broken)) return ZAK_BROKEN;
     i0 = !(i0);
     if (i0) {goto B37;}
     j0 = l6;
@@ -108929,7 +109837,7 @@ static u32 module_zak_print(module *self, u64 p0, u64 p1, u64 p2, u64 p3, u64 p4
       j0 += j1;
       j1 = l14;
       j2 = p0;
-      f70(self, j0, j1, j2);
+      f71(self, j0, j1, j2);
       j0 = l6;
       i0 = (u32)(j0);
       j0 = i64_load(j0 + 224u);
@@ -109202,7 +110110,7 @@ static u32 module_zak_print(module *self, u64 p0, u64 p1, u64 p2, u64 p3, u64 p4
       j2 = l6;
       j3 = 248ull;
       j2 += j3;
-      f72(self, j0, j1, j2); m = self->memory; if (NEVER(self->is_broken)) return ZAK_BROKEN;
+      f73(self, j0, j1, j2); m = self->memory; if (NEVER(self->is_broken)) return ZAK_BROKEN;
       j0 = l12;
       l15 = j0;
       j0 = l8;
@@ -109238,7 +110146,7 @@ static u32 module_zak_print(module *self, u64 p0, u64 p1, u64 p2, u64 p3, u64 p4
     j1 = 24ull;
     j0 += j1;
     j1 = 4ull;
-    i0 = f10(self, j0, j1); m = self->memory; if (NEVER(self->is_broken)) return ZAK_BROKEN;
+    i0 = f11(self, j0, j1); m = self->memory; if (NEVER(self->is_broken)) return ZAK_BROKEN;
     if (i0) {goto B76;}
     i0 = 9u;
     l32 = i0;
@@ -109309,7 +110217,7 @@ static u32 module_zak_print(module *self, u64 p0, u64 p1, u64 p2, u64 p3, u64 p4
     j2 = 24ull;
     j1 += j2;
     j2 = l31;
-    f72(self, j0, j1, j2); m = self->memory; if (NEVER(self->is_broken)) return ZAK_BROKEN;
+    f73(self, j0, j1, j2); m = self->memory; if (NEVER(self->is_broken)) return ZAK_BROKEN;
     j0 = l6;
     i0 = (u32)(j0);
     i0 = i32_load8_u(j0 + 152u);
@@ -109341,7 +110249,7 @@ static u32 module_zak_print(module *self, u64 p0, u64 p1, u64 p2, u64 p3, u64 p4
     j0 = l6;
     i0 = (u32)(j0);
     j0 = i64_load(j0 + 24u);
-    f151(self, j0);
+    f154(self, j0);
     goto B19;
     B30:;
     j0 = l10;
@@ -109385,12 +110293,12 @@ static u32 module_zak_print(module *self, u64 p0, u64 p1, u64 p2, u64 p3, u64 p4
   j0 = l6;
   i0 = (u32)(j0);
   j0 = i64_load(j0 + 24u);
-  f151(self, j0);
+  f154(self, j0);
   B19:;
   i0 = l33;
   if (i0) {goto B79;}
   j0 = l9;
-  f151(self, j0);
+  f154(self, j0);
   B79:;
   i0 = l32;
   if (i0) {goto B8;}
@@ -109569,7 +110477,7 @@ static u32 module_zak_print(module *self, u64 p0, u64 p1, u64 p2, u64 p3, u64 p4
   i0 = l34;
   if (i0) {goto B0;}
   j0 = l11;
-  f151(self, j0);
+  f154(self, j0);
   goto B0;
   B7:;
   j0 = p5;
@@ -109623,11 +110531,11 @@ static u32 module_zak_print(module *self, u64 p0, u64 p1, u64 p2, u64 p3, u64 p4
 }
 
 static u32 module_zak_put(module *self, u64 p0, u32 p1, u32 p2) {
-  u32 l3 = 0, l4 = 0, l5 = 0, l6 = 0;
-  u64 l7 = 0, l8 = 0;
+  u32 l3 = 0, l4 = 0, l5 = 0, l6 = 0, l7 = 0;
+  u64 l8 = 0, l9 = 0;
   u8 *m = self->memory;
   u32 i0, i1, i2, i3, i4, i5;
-  u64 j0, j1, j2, j3, j4, j5;
+  u64 j0, j1, j2, j3;
   i0 = 20u;
   l3 = i0;
   j0 = p0;
@@ -109641,11 +110549,12 @@ static u32 module_zak_put(module *self, u64 p0, u32 p1, u32 p2) {
   j0 += j1;
   i0 = (u32)(j0);
   i0 = i32_load(j0);
-  i0 = !(i0);
-  if (i0) {goto B1;}
+  l4 = i0;
+  i1 = 16777217u;
+  i0 = i0 < i1;
+  if (i0) {goto B5;}
   j0 = p0;
   f1(self, j0); m = self->memory; if (NEVER(self->is_broken)) return ZAK_BROKEN;
-  B1:;
   j0 = p0;
   i0 = (u32)(j0);
   j1 = 0ull;
@@ -109653,12 +110562,43 @@ static u32 module_zak_put(module *self, u64 p0, u32 p1, u32 p2) {
   j0 = p0;
   i0 = (u32)(j0);
   j0 = i64_load(j0 + 8u);
-  l7 = j0;
+  l8 = j0;
   j0 = p0;
   i0 = (u32)(j0);
   j1 = 0ull;
   i64_store(j0 + 8, j1);
-  j0 = l7;
+  i0 = 0u;
+  l4 = i0;
+  goto B4;
+  B5:;
+  j0 = p0;
+  i0 = (u32)(j0);
+  j1 = 0ull;
+  i64_store(j0, j1);
+  j0 = p0;
+  i0 = (u32)(j0);
+  j0 = i64_load(j0 + 8u);
+  l8 = j0;
+  j0 = p0;
+  i0 = (u32)(j0);
+  j1 = 0ull;
+  i64_store(j0 + 8, j1);
+  i0 = l4;
+  if (i0) {goto B6;}
+  i0 = 0u;
+  l4 = i0;
+  goto B4;
+  B6:;
+  j0 = l8;
+  i1 = l4;
+  i2 = p1;
+  i0 = f76(self, j0, i1, i2);
+  i0 = !(i0);
+  if (i0) {goto B3;}
+  B4:;
+  i0 = 1u;
+  l3 = i0;
+  j0 = l8;
   j1 = 2003ull;
   j0 += j1;
   i0 = (u32)(j0);
@@ -109666,56 +110606,67 @@ static u32 module_zak_put(module *self, u64 p0, u32 p1, u32 p2) {
   i1 = 2u;
   i0 &= i1;
   i0 = !(i0);
-  i1 = p1;
-  j2 = l7;
-  j3 = 60ull;
-  j2 += j3;
-  i2 = (u32)(j2);
-  i2 = i32_load(j2);
-  i1 -= i2;
-  p1 = i1;
-  j2 = l7;
-  j3 = 64ull;
-  j2 += j3;
-  i2 = (u32)(j2);
-  i2 = i32_load(j2);
-  i1 = i1 >= i2;
-  i0 |= i1;
+  if (i0) {goto B1;}
+  i0 = p1;
+  j1 = l8;
+  j2 = 60ull;
+  j1 += j2;
+  i1 = (u32)(j1);
+  i1 = i32_load(j1);
+  i0 -= i1;
+  p1 = i0;
+  j1 = l8;
+  j2 = 64ull;
+  j1 += j2;
+  i1 = (u32)(j1);
+  i1 = i32_load(j1);
+  i0 = i0 >= i1;
+  if (i0) {goto B1;}
+  j0 = l8;
+  j1 = 71ull;
+  j0 += j1;
+  i0 = (u32)(j0);
+  i0 = i32_load8_u(j0);
   l3 = i0;
-  if (i0) {goto B2;}
-  j0 = l7;
-  j1 = l7;
+  j0 = l8;
+  j1 = 70ull;
+  j0 += j1;
+  i0 = (u32)(j0);
+  i0 = i32_load8_u(j0);
+  l5 = i0;
+  j0 = l8;
+  j1 = 69ull;
+  j0 += j1;
+  i0 = (u32)(j0);
+  i0 = i32_load8_u(j0);
+  l6 = i0;
+  j0 = l8;
+  j1 = l8;
   j2 = 72ull;
   j1 += j2;
   i1 = (u32)(j1);
   i1 = i32_load8_u(j1);
   i2 = p2;
-  i0 = f44(self, j0, i1, i2);
+  i0 = f45(self, j0, i1, i2);
   p2 = i0;
-  j0 = l7;
-  j1 = 71ull;
-  j0 += j1;
-  i0 = (u32)(j0);
-  i0 = i32_load8_u(j0);
-  l4 = i0;
-  j0 = l7;
+  j0 = l8;
   j1 = 68ull;
   j0 += j1;
   i0 = (u32)(j0);
   i0 = i32_load8_u(j0);
-  l5 = i0;
+  l7 = i0;
   i1 = 1u;
   i0 &= i1;
   i0 = !(i0);
-  if (i0) {goto B4;}
+  if (i0) {goto B8;}
   i0 = 134480385u;
   i1 = p1;
   i2 = 3u;
   i1 <<= (i2 & 31);
   i0 >>= (i1 & 31);
-  l6 = i0;
-  goto B3;
-  B4:;
+  l5 = i0;
+  goto B7;
+  B8:;
   i0 = 15u;
   i1 = 10u;
   i2 = 5u;
@@ -109723,17 +110674,13 @@ static u32 module_zak_put(module *self, u64 p0, u32 p1, u32 p2) {
   i4 = 1u;
   i3 &= i4;
   i1 = i3 ? i1 : i2;
-  j2 = l7;
-  j3 = 70ull;
-  j2 += j3;
-  i2 = (u32)(j2);
-  i2 = i32_load8_u(j2);
+  i2 = l5;
   i3 = 1u;
   i2 &= i3;
   i0 = i2 ? i0 : i1;
-  l6 = i0;
-  B3:;
-  j0 = l7;
+  l5 = i0;
+  B7:;
+  j0 = l8;
   i0 = (u32)(j0);
   j0 = i64_load(j0);
   i1 = p1;
@@ -109743,15 +110690,11 @@ static u32 module_zak_put(module *self, u64 p0, u32 p1, u32 p2) {
   i3 = 65534u;
   i2 &= i3;
   i3 = p1;
-  j4 = l7;
-  j5 = 69ull;
-  j4 += j5;
-  i4 = (u32)(j4);
-  i4 = i32_load8_u(j4);
+  i4 = l6;
   i5 = 1u;
   i4 &= i5;
   i2 = i4 ? i2 : i3;
-  i3 = l5;
+  i3 = l7;
   i4 = 1u;
   i3 &= i4;
   i1 = i3 ? i1 : i2;
@@ -109761,16 +110704,155 @@ static u32 module_zak_put(module *self, u64 p0, u32 p1, u32 p2) {
   j2 = 2ull;
   j1 <<= (j2 & 63);
   j0 += j1;
-  l8 = j0;
+  l9 = j0;
   i0 = (u32)(j0);
   i1 = p2;
-  j2 = l8;
+  j2 = l9;
   i2 = (u32)(j2);
   i2 = i32_load(j2);
   p1 = i2;
   i1 ^= i2;
-  i2 = l6;
-  i3 = l4;
+  i2 = l5;
+  i3 = l3;
+  i2 &= i3;
+  i3 = 2u;
+  i2 <<= (i3 & 31);
+  j2 = (u64)(i2);
+  j3 = 60ull;
+  j2 &= j3;
+  j3 = 1048844ull;
+  j2 += j3;
+  i2 = (u32)(j2);
+  i2 = i32_load(j2);
+  i1 &= i2;
+  i2 = p1;
+  i1 ^= i2;
+  i32_store(j0, i1);
+  goto B2;
+  B3:;
+  j0 = l8;
+  i1 = l4;
+  i2 = p1;
+  i0 = f77(self, j0, i1, i2); m = self->memory; if (NEVER(self->is_broken)) return ZAK_BROKEN;
+  l4 = i0;
+  i0 = 1u;
+  l3 = i0;
+  j0 = l8;
+  j1 = 2003ull;
+  j0 += j1;
+  i0 = (u32)(j0);
+  i0 = i32_load8_u(j0);
+  i1 = 2u;
+  i0 &= i1;
+  i0 = !(i0);
+  if (i0) {goto B1;}
+  i0 = p1;
+  j1 = l8;
+  j2 = 60ull;
+  j1 += j2;
+  i1 = (u32)(j1);
+  i1 = i32_load(j1);
+  i0 -= i1;
+  p1 = i0;
+  j1 = l8;
+  j2 = 64ull;
+  j1 += j2;
+  i1 = (u32)(j1);
+  i1 = i32_load(j1);
+  i0 = i0 >= i1;
+  if (i0) {goto B1;}
+  j0 = l8;
+  j1 = 71ull;
+  j0 += j1;
+  i0 = (u32)(j0);
+  i0 = i32_load8_u(j0);
+  l3 = i0;
+  j0 = l8;
+  j1 = 70ull;
+  j0 += j1;
+  i0 = (u32)(j0);
+  i0 = i32_load8_u(j0);
+  l5 = i0;
+  j0 = l8;
+  j1 = 69ull;
+  j0 += j1;
+  i0 = (u32)(j0);
+  i0 = i32_load8_u(j0);
+  l6 = i0;
+  j0 = l8;
+  j1 = l8;
+  j2 = 72ull;
+  j1 += j2;
+  i1 = (u32)(j1);
+  i1 = i32_load8_u(j1);
+  i2 = p2;
+  i0 = f45(self, j0, i1, i2);
+  p2 = i0;
+  j0 = l8;
+  j1 = 68ull;
+  j0 += j1;
+  i0 = (u32)(j0);
+  i0 = i32_load8_u(j0);
+  l7 = i0;
+  i1 = 1u;
+  i0 &= i1;
+  i0 = !(i0);
+  if (i0) {goto B10;}
+  i0 = 134480385u;
+  i1 = p1;
+  i2 = 3u;
+  i1 <<= (i2 & 31);
+  i0 >>= (i1 & 31);
+  l5 = i0;
+  goto B9;
+  B10:;
+  i0 = 15u;
+  i1 = 10u;
+  i2 = 5u;
+  i3 = p1;
+  i4 = 1u;
+  i3 &= i4;
+  i1 = i3 ? i1 : i2;
+  i2 = l5;
+  i3 = 1u;
+  i2 &= i3;
+  i0 = i2 ? i0 : i1;
+  l5 = i0;
+  B9:;
+  j0 = l8;
+  i0 = (u32)(j0);
+  j0 = i64_load(j0);
+  i1 = p1;
+  i2 = 65532u;
+  i1 &= i2;
+  i2 = p1;
+  i3 = 65534u;
+  i2 &= i3;
+  i3 = p1;
+  i4 = l6;
+  i5 = 1u;
+  i4 &= i5;
+  i2 = i4 ? i2 : i3;
+  i3 = l7;
+  i4 = 1u;
+  i3 &= i4;
+  i1 = i3 ? i1 : i2;
+  j1 = (u64)(i1);
+  j2 = 65535ull;
+  j1 &= j2;
+  j2 = 2ull;
+  j1 <<= (j2 & 63);
+  j0 += j1;
+  l9 = j0;
+  i0 = (u32)(j0);
+  i1 = p2;
+  j2 = l9;
+  i2 = (u32)(j2);
+  i2 = i32_load(j2);
+  p1 = i2;
+  i1 ^= i2;
+  i2 = l5;
+  i3 = l3;
   i2 &= i3;
   i3 = 2u;
   i2 <<= (i3 & 31);
@@ -109786,10 +110868,13 @@ static u32 module_zak_put(module *self, u64 p0, u32 p1, u32 p2) {
   i1 ^= i2;
   i32_store(j0, i1);
   B2:;
+  i0 = 0u;
+  l3 = i0;
+  B1:;
   j0 = p0;
   i0 = (u32)(j0);
   i1 = 0u;
-  i32_store(j0 + 1, i1);
+  i32_store16(j0 + 1, i1);
   j0 = p0;
   i0 = (u32)(j0);
   i1 = 1u;
@@ -109797,18 +110882,24 @@ static u32 module_zak_put(module *self, u64 p0, u32 p1, u32 p2) {
   j0 = p0;
   i0 = (u32)(j0);
   i1 = 0u;
-  i32_store(j0 + 4, i1);
+  i32_store8(j0 + 3, i1);
   j0 = p0;
   i0 = (u32)(j0);
-  j1 = l7;
+  j1 = l8;
   i64_store(j0 + 8, j1);
+  j0 = p0;
+  j1 = 4ull;
+  j0 += j1;
+  i0 = (u32)(j0);
+  i1 = l4;
+  i32_store(j0, i1);
   B0:;
   i0 = l3;
   return i0;
 }
 
 static u32 module_zak_put_bytes(module *self, u64 p0, u32 p1, u64 p2, u64 p3, u32 p4, u64 p5) {
-  u32 l11 = 0, l12 = 0, l13 = 0, l14 = 0, l15 = 0, l16 = 0;
+  u32 l11 = 0, l12 = 0, l13 = 0, l14 = 0, l15 = 0, l16 = 0, l17 = 0, l18 = 0;
   u64 l6 = 0, l7 = 0, l8 = 0, l9 = 0, l10 = 0;
   u8 *m = self->memory;
   u32 i0, i1, i2, i3, i4, i5, i6;
@@ -109973,6 +111064,24 @@ static u32 module_zak_put_bytes(module *self, u64 p0, u32 p1, u64 p2, u64 p3, u3
     i0 = i0 >= i1;
     if (i0) {goto B6;}
     j0 = l8;
+    j1 = 71ull;
+    j0 += j1;
+    i0 = (u32)(j0);
+    i0 = i32_load8_u(j0);
+    l14 = i0;
+    j0 = l8;
+    j1 = 70ull;
+    j0 += j1;
+    i0 = (u32)(j0);
+    i0 = i32_load8_u(j0);
+    l15 = i0;
+    j0 = l8;
+    j1 = 69ull;
+    j0 += j1;
+    i0 = (u32)(j0);
+    i0 = i32_load8_u(j0);
+    l16 = i0;
+    j0 = l8;
     j1 = l8;
     j2 = 72ull;
     j1 += j2;
@@ -109983,20 +111092,14 @@ static u32 module_zak_put_bytes(module *self, u64 p0, u32 p1, u64 p2, u64 p3, u3
     j2 += j3;
     i2 = (u32)(j2);
     i2 = i32_load8_u(j2);
-    i0 = f44(self, j0, i1, i2);
-    l14 = i0;
-    j0 = l8;
-    j1 = 71ull;
-    j0 += j1;
-    i0 = (u32)(j0);
-    i0 = i32_load8_u(j0);
-    l15 = i0;
+    i0 = f45(self, j0, i1, i2);
+    l17 = i0;
     j0 = l8;
     j1 = 68ull;
     j0 += j1;
     i0 = (u32)(j0);
     i0 = i32_load8_u(j0);
-    l16 = i0;
+    l18 = i0;
     i1 = 1u;
     i0 &= i1;
     i0 = !(i0);
@@ -110020,11 +111123,7 @@ static u32 module_zak_put_bytes(module *self, u64 p0, u32 p1, u64 p2, u64 p3, u3
     i4 = 1u;
     i3 &= i4;
     i1 = i3 ? i1 : i2;
-    j2 = l8;
-    j3 = 70ull;
-    j2 += j3;
-    i2 = (u32)(j2);
-    i2 = i32_load8_u(j2);
+    i2 = l15;
     i3 = 1u;
     i2 &= i3;
     i0 = i2 ? i0 : i1;
@@ -110040,15 +111139,11 @@ static u32 module_zak_put_bytes(module *self, u64 p0, u32 p1, u64 p2, u64 p3, u3
     i3 = 65534u;
     i2 &= i3;
     i3 = p4;
-    j4 = l8;
-    j5 = 69ull;
-    j4 += j5;
-    i4 = (u32)(j4);
-    i4 = i32_load8_u(j4);
+    i4 = l16;
     i5 = 1u;
     i4 &= i5;
     i2 = i4 ? i2 : i3;
-    i3 = l16;
+    i3 = l18;
     i4 = 1u;
     i3 &= i4;
     i1 = i3 ? i1 : i2;
@@ -110060,14 +111155,14 @@ static u32 module_zak_put_bytes(module *self, u64 p0, u32 p1, u64 p2, u64 p3, u3
     j0 += j1;
     p2 = j0;
     i0 = (u32)(j0);
-    i1 = l14;
+    i1 = l17;
     j2 = p2;
     i2 = (u32)(j2);
     i2 = i32_load(j2);
     p4 = i2;
     i1 ^= i2;
     i2 = l13;
-    i3 = l15;
+    i3 = l14;
     i2 &= i3;
     i3 = 2u;
     i2 <<= (i3 & 31);
@@ -110130,8 +111225,8 @@ static u32 module_zak_put_bytes(module *self, u64 p0, u32 p1, u64 p2, u64 p3, u3
   j4 = l10;
   j5 = p3;
   i6 = p4;
-  i1 = f75(self, j1, j2, i3, j4, j5, i6);
-  l15 = i1;
+  i1 = f78(self, j1, j2, i3, j4, j5, i6);
+  l16 = i1;
   i0 = i0 <= i1;
   if (i0) {goto B9;}
   i0 = p4;
@@ -110142,7 +111237,7 @@ static u32 module_zak_put_bytes(module *self, u64 p0, u32 p1, u64 p2, u64 p3, u3
   j0 = l6;
   i0 = (u32)(j0);
   i0 = i32_load8_u(j0 + 11u);
-  l16 = i0;
+  l17 = i0;
   j0 = l6;
   i0 = (u32)(j0);
   i0 = i32_load(j0 + 4u);
@@ -110155,7 +111250,7 @@ static u32 module_zak_put_bytes(module *self, u64 p0, u32 p1, u64 p2, u64 p3, u3
   i0 = (u32)(j0);
   i0 = i32_load8_u(j0 + 12u);
   l14 = i0;
-  i0 = l15;
+  i0 = l16;
   j0 = (u64)(i0);
   l7 = j0;
   j0 = l6;
@@ -110166,7 +111261,7 @@ static u32 module_zak_put_bytes(module *self, u64 p0, u32 p1, u64 p2, u64 p3, u3
   i0 = !(i0);
   if (i0) {goto B10;}
   i0 = l12;
-  i1 = l15;
+  i1 = l16;
   i0 -= i1;
   l13 = i0;
   j0 = p2;
@@ -110175,7 +111270,7 @@ static u32 module_zak_put_bytes(module *self, u64 p0, u32 p1, u64 p2, u64 p3, u3
   j1 += j2;
   j0 += j1;
   p3 = j0;
-  i0 = l15;
+  i0 = l16;
   i1 = p1;
   i0 += i1;
   i1 = p4;
@@ -110210,13 +111305,13 @@ static u32 module_zak_put_bytes(module *self, u64 p0, u32 p1, u64 p2, u64 p3, u3
     j3 = p3;
     i3 = (u32)(j3);
     i3 = i32_load8_u(j3);
-    i1 = f44(self, j1, i2, i3);
+    i1 = f45(self, j1, i2, i3);
     j2 = p2;
     i2 = (u32)(j2);
     i2 = i32_load(j2);
-    l15 = i2;
+    l16 = i2;
     i1 ^= i2;
-    i2 = l16;
+    i2 = l17;
     i3 = 134480385u;
     i4 = p4;
     i5 = 24u;
@@ -110231,7 +111326,7 @@ static u32 module_zak_put_bytes(module *self, u64 p0, u32 p1, u64 p2, u64 p3, u3
     i2 = (u32)(j2);
     i2 = i32_load(j2 + 1048844u);
     i1 &= i2;
-    i2 = l15;
+    i2 = l16;
     i1 ^= i2;
     i32_store(j0, i1);
     B12:;
@@ -110274,7 +111369,7 @@ static u32 module_zak_put_bytes(module *self, u64 p0, u32 p1, u64 p2, u64 p3, u3
   j1 = l7;
   j0 -= j1;
   p5 = j0;
-  i0 = l15;
+  i0 = l16;
   i1 = p1;
   i0 += i1;
   i1 = p4;
@@ -110310,7 +111405,7 @@ static u32 module_zak_put_bytes(module *self, u64 p0, u32 p1, u64 p2, u64 p3, u3
     j3 = p3;
     i3 = (u32)(j3);
     i3 = i32_load8_u(j3);
-    i1 = f44(self, j1, i2, i3);
+    i1 = f45(self, j1, i2, i3);
     j2 = p2;
     i2 = (u32)(j2);
     i2 = i32_load(j2);
@@ -110327,7 +111422,7 @@ static u32 module_zak_put_bytes(module *self, u64 p0, u32 p1, u64 p2, u64 p3, u3
     i5 = 1u;
     i4 &= i5;
     i2 = i4 ? i2 : i3;
-    i3 = l16;
+    i3 = l17;
     i2 &= i3;
     j2 = (u64)(i2);
     j3 = 2ull;
@@ -110371,7 +111466,7 @@ static u32 module_zak_put_bytes(module *self, u64 p0, u32 p1, u64 p2, u64 p3, u3
   j1 += j2;
   j0 += j1;
   p3 = j0;
-  i0 = l15;
+  i0 = l16;
   i1 = p1;
   i0 += i1;
   i1 = p4;
@@ -110402,7 +111497,7 @@ static u32 module_zak_put_bytes(module *self, u64 p0, u32 p1, u64 p2, u64 p3, u3
     j3 = p3;
     i3 = (u32)(j3);
     i3 = i32_load8_u(j3);
-    i1 = f44(self, j1, i2, i3);
+    i1 = f45(self, j1, i2, i3);
     j2 = p2;
     i2 = (u32)(j2);
     i2 = i32_load(j2);
@@ -110414,7 +111509,7 @@ static u32 module_zak_put_bytes(module *self, u64 p0, u32 p1, u64 p2, u64 p3, u3
     i5 = 1u;
     i4 &= i5;
     i2 = i4 ? i2 : i3;
-    i3 = l16;
+    i3 = l17;
     i2 &= i3;
     j2 = (u64)(i2);
     j3 = 2ull;
@@ -110458,7 +111553,7 @@ static u32 module_zak_put_bytes(module *self, u64 p0, u32 p1, u64 p2, u64 p3, u3
   j1 += j2;
   j0 += j1;
   p3 = j0;
-  i0 = l15;
+  i0 = l16;
   i1 = p1;
   i0 += i1;
   i1 = p4;
@@ -110467,7 +111562,7 @@ static u32 module_zak_put_bytes(module *self, u64 p0, u32 p1, u64 p2, u64 p3, u3
   i1 = 2u;
   i0 <<= (i1 & 31);
   p4 = i0;
-  i0 = l16;
+  i0 = l17;
   i1 = 2u;
   i0 <<= (i1 & 31);
   j0 = (u64)(i0);
@@ -110496,7 +111591,7 @@ static u32 module_zak_put_bytes(module *self, u64 p0, u32 p1, u64 p2, u64 p3, u3
     j3 = p3;
     i3 = (u32)(j3);
     i3 = i32_load8_u(j3);
-    i1 = f44(self, j1, i2, i3);
+    i1 = f45(self, j1, i2, i3);
     j2 = p2;
     i2 = (u32)(j2);
     i2 = i32_load(j2);
@@ -110607,14 +111702,14 @@ static u32 module_zak_put_word(module *self, u64 p0, u32 p1, u32 p2) {
   j1 = l4;
   i2 = p1;
   i3 = p2;
-  f76(self, j0, j1, i2, i3);
-  j0 = l3;
-  i0 = (u32)(j0);
-  i0 = i32_load8_u(j0 + 9u);
-  l5 = i0;
+  f79(self, j0, j1, i2, i3);
   j0 = l3;
   i0 = (u32)(j0);
   i0 = i32_load8_u(j0 + 8u);
+  l5 = i0;
+  j0 = l3;
+  i0 = (u32)(j0);
+  i0 = i32_load8_u(j0 + 9u);
   p2 = i0;
   j0 = p0;
   i0 = (u32)(j0);
@@ -110632,13 +111727,11 @@ static u32 module_zak_put_word(module *self, u64 p0, u32 p1, u32 p2) {
   i0 = (u32)(j0);
   j1 = l4;
   i64_store(j0 + 8, j1);
-  i0 = l5;
+  i0 = p2;
   i1 = 1u;
   i0 += i1;
   i1 = 0u;
-  i2 = p2;
-  i3 = 1u;
-  i2 &= i3;
+  i2 = l5;
   i0 = i2 ? i0 : i1;
   l5 = i0;
   B0:;
@@ -111831,7 +112924,7 @@ static u32 module_zak_restore(module *self, u64 p0, u64 p1, u64 p2) {
   j0 = p1;
   j1 = l4;
   j2 = p2;
-  i0 = f77(self, j0, j1, j2); m = self->memory; if (NEVER(self->is_broken)) return ZAK_BROKEN;
+  i0 = f80(self, j0, j1, j2); m = self->memory; if (NEVER(self->is_broken)) return ZAK_BROKEN;
   l3 = i0;
   j0 = p0;
   i0 = (u32)(j0);
@@ -112032,7 +113125,7 @@ static u32 module_zak_restore_fixed(module *self, u64 p0, u64 p1, u64 p2) {
   j0 = l8;
   j1 = l9;
   j2 = l10;
-  i0 = f77(self, j0, j1, j2); m = self->memory; if (NEVER(self->is_broken)) return ZAK_BROKEN;
+  i0 = f80(self, j0, j1, j2); m = self->memory; if (NEVER(self->is_broken)) return ZAK_BROKEN;
   l3 = i0;
   B2:;
   j0 = p0;
@@ -112128,7 +113221,7 @@ static u32 module_zak_run(module *self, u64 p0, u64 p1, u64 p2, u64 p3, u64 p4, 
   j2 = i4 ? j2 : j3;
   j1 += j2;
   j2 = p3;
-  f65(self, j0, j1, j2); m = self->memory; if (NEVER(self->is_broken)) return ZAK_BROKEN;
+  f66(self, j0, j1, j2); m = self->memory; if (NEVER(self->is_broken)) return ZAK_BROKEN;
   j0 = l8;
   i0 = (u32)(j0);
   j0 = i64_load(j0 + 56u);
@@ -112181,7 +113274,7 @@ static u32 module_zak_run(module *self, u64 p0, u64 p1, u64 p2, u64 p3, u64 p4, 
   j1 += j2;
   p0 = j1;
   j2 = p1;
-  f69(self, j0, j1, j2); if (NEVER(self->is_broken)) return ZAK_BROKEN;
+  f70(self, j0, j1, j2); if (NEVER(self->is_broken)) return ZAK_BROKEN;
   j0 = l8;
   i0 = (u32)(j0);
   i0 = i32_load8_u(j0 + 144u);
@@ -112264,7 +113357,7 @@ static u32 module_zak_run(module *self, u64 p0, u64 p1, u64 p2, u64 p3, u64 p4, 
   j1 = l8;
   j2 = 96ull;
   j1 += j2;
-  f66(self, j0, j1); m = self->memory; if (NEVER(self->is_broken)) return ZAK_BROKEN;
+  f67(self, j0, j1); m = self->memory; if (NEVER(self->is_broken)) return ZAK_BROKEN;
   j0 = l8;
   i0 = (u32)(j0);
   j0 = i64_load(j0 + 160u);
@@ -112344,7 +113437,7 @@ static u32 module_zak_run(module *self, u64 p0, u64 p1, u64 p2, u64 p3, u64 p4, 
   j1 = 4616ull;
   j0 += j1;
   j1 = 1ull;
-  f81(self, j0, j1); if (NEVER(self->is_broken)) return ZAK_BROKEN;
+  f84(self, j0, j1); if (NEVER(self->is_broken)) return ZAK_BROKEN;
   j0 = l8;
   i0 = (u32)(j0);
   j1 = l8;
@@ -112416,7 +113509,7 @@ static u32 module_zak_run(module *self, u64 p0, u64 p1, u64 p2, u64 p3, u64 p4, 
   j5 = 4472ull;
   j4 += j5;
   j5 = 18446744073709551615ull;
-  f88(self, j0, j1, j2, j3, j4, j5); m = self->memory; if (NEVER(self->is_broken)) return ZAK_BROKEN;
+  f91(self, j0, j1, j2, j3, j4, j5); m = self->memory; if (NEVER(self->is_broken)) return ZAK_BROKEN;
   j0 = l8;
   i0 = (u32)(j0);
   j0 = i64_load(j0 + 4528u);
@@ -112453,19 +113546,19 @@ static u32 module_zak_run(module *self, u64 p0, u64 p1, u64 p2, u64 p3, u64 p4, 
   j0 = l8;
   i0 = (u32)(j0);
   j0 = i64_load(j0 + 2312u);
-  f151(self, j0);
+  f154(self, j0);
   B7:;
   j0 = p3;
   i0 = !(j0);
   if (i0) {goto B8;}
   j0 = l9;
-  f151(self, j0);
+  f154(self, j0);
   B8:;
   j0 = p2;
   i0 = !(j0);
   if (i0) {goto B9;}
   j0 = p1;
-  f151(self, j0);
+  f154(self, j0);
   B9:;
   j0 = l8;
   i0 = (u32)(j0);
@@ -112501,12 +113594,12 @@ static u32 module_zak_run(module *self, u64 p0, u64 p1, u64 p2, u64 p3, u64 p4, 
   j0 = i64_load(j0 + 16u);
   l9 = j0;
   j0 = p1;
-  f151(self, j0);
+  f154(self, j0);
   j0 = l9;
   i0 = !(j0);
   if (i0) {goto B10;}
   j0 = l10;
-  f151(self, j0);
+  f154(self, j0);
   B10:;
   i0 = l14;
   i1 = 255u;
@@ -112523,12 +113616,12 @@ static u32 module_zak_run(module *self, u64 p0, u64 p1, u64 p2, u64 p3, u64 p4, 
   j0 = i64_load(j0 + 16u);
   p1 = j0;
   j0 = p3;
-  f151(self, j0);
+  f154(self, j0);
   j0 = p1;
   i0 = !(j0);
   if (i0) {goto B11;}
   j0 = l9;
-  f151(self, j0);
+  f154(self, j0);
   B11:;
   i0 = l12;
   i1 = 255u;
@@ -112545,12 +113638,12 @@ static u32 module_zak_run(module *self, u64 p0, u64 p1, u64 p2, u64 p3, u64 p4, 
   j0 = i64_load(j0 + 16u);
   p3 = j0;
   j0 = p2;
-  f151(self, j0);
+  f154(self, j0);
   j0 = p3;
   i0 = !(j0);
   if (i0) {goto B12;}
   j0 = p1;
-  f151(self, j0);
+  f154(self, j0);
   B12:;
   i0 = l11;
   i1 = 255u;
@@ -112602,12 +113695,12 @@ static u32 module_zak_run(module *self, u64 p0, u64 p1, u64 p2, u64 p3, u64 p4, 
   j0 = i64_load(j0 + 16u);
   p3 = j0;
   j0 = p2;
-  f151(self, j0);
+  f154(self, j0);
   j0 = p3;
   i0 = !(j0);
   if (i0) {goto B13;}
   j0 = p1;
-  f151(self, j0);
+  f154(self, j0);
   B13:;
   i0 = l12;
   i1 = 255u;
@@ -112624,12 +113717,12 @@ static u32 module_zak_run(module *self, u64 p0, u64 p1, u64 p2, u64 p3, u64 p4, 
   j0 = i64_load(j0 + 16u);
   p2 = j0;
   j0 = l10;
-  f151(self, j0);
+  f154(self, j0);
   j0 = p2;
   i0 = !(j0);
   if (i0) {goto B14;}
   j0 = p3;
-  f151(self, j0);
+  f154(self, j0);
   B14:;
   i0 = l11;
   i1 = 255u;
@@ -112646,12 +113739,12 @@ static u32 module_zak_run(module *self, u64 p0, u64 p1, u64 p2, u64 p3, u64 p4, 
   j0 = i64_load(j0 + 16u);
   p2 = j0;
   j0 = l9;
-  f151(self, j0);
+  f154(self, j0);
   j0 = p2;
   i0 = !(j0);
   if (i0) {goto B1;}
   j0 = p3;
-  f151(self, j0);
+  f154(self, j0);
   goto B1;
   B5:;
   j0 = p4;
@@ -112791,7 +113884,7 @@ static u32 module_zak_run(module *self, u64 p0, u64 p1, u64 p2, u64 p3, u64 p4, 
   i0 = !(j0);
   if (i0) {goto B0;}
   j0 = p7;
-  f151(self, j0);
+  f154(self, j0);
   goto B0;
   B3:;
   j0 = p2;
@@ -112813,7 +113906,7 @@ static u32 module_zak_run(module *self, u64 p0, u64 p1, u64 p2, u64 p3, u64 p4, 
   j0 = l8;
   i0 = (u32)(j0);
   j0 = i64_load(j0);
-  f151(self, j0);
+  f154(self, j0);
   B20:;
   i0 = 22u;
   l11 = i0;
@@ -112935,7 +114028,7 @@ static u32 module_zak_run_on(module *self, u64 p0, u64 p1, u64 p2, u32 p3, u32 p
   j0 = l11;
   j1 = 2072ull;
   j0 += j1;
-  i0 = f17(self, j0);
+  i0 = f18(self, j0);
   i0 = !(i0);
   if (i0) {goto B2;}
   j0 = l10;
@@ -112962,7 +114055,7 @@ static u32 module_zak_run_on(module *self, u64 p0, u64 p1, u64 p2, u32 p3, u32 p
   j1 += j2;
   l12 = j1;
   j2 = p2;
-  f69(self, j0, j1, j2); if (NEVER(self->is_broken)) return ZAK_BROKEN;
+  f70(self, j0, j1, j2); if (NEVER(self->is_broken)) return ZAK_BROKEN;
   j0 = l10;
   i0 = (u32)(j0);
   i0 = i32_load8_u(j0 + 120u);
@@ -113300,7 +114393,7 @@ static u32 module_zak_run_on(module *self, u64 p0, u64 p1, u64 p2, u32 p3, u32 p
     j0 += j1;
     j1 = l16;
     j2 = p9;
-    f70(self, j0, j1, j2);
+    f71(self, j0, j1, j2);
     j0 = l10;
     i0 = (u32)(j0);
     i0 = i32_load8_u(j0 + 120u);
@@ -113333,7 +114426,7 @@ static u32 module_zak_run_on(module *self, u64 p0, u64 p1, u64 p2, u32 p3, u32 p
     j1 = l10;
     j2 = 56ull;
     j1 += j2;
-    f89(self, j0, j1); if (NEVER(self->is_broken)) return ZAK_BROKEN;
+    f92(self, j0, j1); if (NEVER(self->is_broken)) return ZAK_BROKEN;
     j0 = l10;
     i0 = (u32)(j0);
     i0 = i32_load16_u(j0 + 232u);
@@ -113595,7 +114688,7 @@ static u32 module_zak_run_on(module *self, u64 p0, u64 p1, u64 p2, u32 p3, u32 p
     j0 += j1;
     j1 = p2;
     j2 = p1;
-    f70(self, j0, j1, j2);
+    f71(self, j0, j1, j2);
     j0 = l10;
     i0 = (u32)(j0);
     i0 = i32_load8_u(j0 + 120u);
@@ -113730,7 +114823,7 @@ static u32 module_zak_run_on(module *self, u64 p0, u64 p1, u64 p2, u32 p3, u32 p
   j2 = 1ull;
   j1 += j2;
   p1 = j1;
-  f81(self, j0, j1); if (NEVER(self->is_broken)) return ZAK_BROKEN;
+  f84(self, j0, j1); if (NEVER(self->is_broken)) return ZAK_BROKEN;
   j0 = l10;
   i0 = (u32)(j0);
   j1 = l10;
@@ -113803,7 +114896,7 @@ static u32 module_zak_run_on(module *self, u64 p0, u64 p1, u64 p2, u32 p3, u32 p
   j4 += j5;
   i5 = p4;
   j5 = (u64)(i5);
-  f88(self, j0, j1, j2, j3, j4, j5); m = self->memory; if (NEVER(self->is_broken)) return ZAK_BROKEN;
+  f91(self, j0, j1, j2, j3, j4, j5); m = self->memory; if (NEVER(self->is_broken)) return ZAK_BROKEN;
   j0 = l10;
   i0 = (u32)(j0);
   i0 = i32_load8_u(j0 + 96u);
@@ -113976,7 +115069,7 @@ static u32 module_zak_run_on(module *self, u64 p0, u64 p1, u64 p2, u32 p3, u32 p
   i0 = !(j0);
   if (i0) {goto B2;}
   j0 = p7;
-  f151(self, j0);
+  f154(self, j0);
   goto B2;
   B39:;
   i0 = 23u;
@@ -113989,7 +115082,7 @@ static u32 module_zak_run_on(module *self, u64 p0, u64 p1, u64 p2, u32 p3, u32 p
   j0 = l10;
   i0 = (u32)(j0);
   j0 = i64_load(j0 + 16u);
-  f151(self, j0);
+  f154(self, j0);
   goto B2;
   B3:;
   j0 = l10;
@@ -114172,7 +115265,7 @@ static u32 module_zak_save(module *self, u64 p0, u64 p1, u64 p2, u64 p3) {
   i4 = !(j4);
   j2 = i4 ? j2 : j3;
   j1 += j2;
-  f90(self, j0, j1); if (NEVER(self->is_broken)) return ZAK_BROKEN;
+  f93(self, j0, j1); if (NEVER(self->is_broken)) return ZAK_BROKEN;
   i0 = 0u;
   l4 = i0;
   B4:;
@@ -114283,7 +115376,7 @@ static u32 module_zak_save_fixed(module *self, u64 p0, u64 p1, u64 p2) {
   j2 = i4 ? j2 : j3;
   j1 += j2;
   l8 = j1;
-  f90(self, j0, j1); if (NEVER(self->is_broken)) return ZAK_BROKEN;
+  f93(self, j0, j1); if (NEVER(self->is_broken)) return ZAK_BROKEN;
   j0 = p2;
   j1 = 18446744073709551612ull;
   j0 += j1;
@@ -114588,7 +115681,7 @@ static u32 module_zak_screen_cell(module *self, u64 p0, u32 p1, u32 p2, u32 p3, 
   j2 = l6;
   j3 = 2072ull;
   j2 += j3;
-  f91(self, j0, j1, j2); m = self->memory; if (NEVER(self->is_broken)) return ZAK_BROKEN;
+  f94(self, j0, j1, j2); m = self->memory; if (NEVER(self->is_broken)) return ZAK_BROKEN;
   j0 = l5;
   i0 = (u32)(j0);
   i0 = i32_load8_u(j0 + 8u);
@@ -114710,19 +115803,19 @@ static u32 module_zak_screen_cell(module *self, u64 p0, u32 p1, u32 p2, u32 p3, 
   i0 = !(j0);
   if (i0) {goto B6;}
   j0 = l8;
-  f151(self, j0);
+  f154(self, j0);
   B6:;
   j0 = l10;
   i0 = !(j0);
   if (i0) {goto B7;}
   j0 = l11;
-  f151(self, j0);
+  f154(self, j0);
   B7:;
   j0 = p4;
   i0 = !(j0);
   if (i0) {goto B2;}
   j0 = l9;
-  f151(self, j0);
+  f154(self, j0);
   B2:;
   j0 = p0;
   i0 = (u32)(j0);
@@ -114801,7 +115894,7 @@ static u32 module_zak_screen_cursor(module *self, u64 p0, u32 p1, u64 p2) {
   j2 = l4;
   j3 = 2072ull;
   j2 += j3;
-  f91(self, j0, j1, j2); m = self->memory; if (NEVER(self->is_broken)) return ZAK_BROKEN;
+  f94(self, j0, j1, j2); m = self->memory; if (NEVER(self->is_broken)) return ZAK_BROKEN;
   j0 = l3;
   i0 = (u32)(j0);
   i0 = i32_load8_u(j0);
@@ -114873,7 +115966,7 @@ static u32 module_zak_screen_cursor(module *self, u64 p0, u32 p1, u64 p2) {
   j0 = l3;
   i0 = (u32)(j0);
   j0 = i64_load(j0 + 936u);
-  f151(self, j0);
+  f154(self, j0);
   B6:;
   j0 = l3;
   i0 = (u32)(j0);
@@ -114883,7 +115976,7 @@ static u32 module_zak_screen_cursor(module *self, u64 p0, u32 p1, u64 p2) {
   j0 = l3;
   i0 = (u32)(j0);
   j0 = i64_load(j0 + 960u);
-  f151(self, j0);
+  f154(self, j0);
   B7:;
   j0 = l3;
   i0 = (u32)(j0);
@@ -114893,7 +115986,7 @@ static u32 module_zak_screen_cursor(module *self, u64 p0, u32 p1, u64 p2) {
   j0 = l3;
   i0 = (u32)(j0);
   j0 = i64_load(j0 + 1792u);
-  f151(self, j0);
+  f154(self, j0);
   B2:;
   j0 = p0;
   i0 = (u32)(j0);
@@ -114976,7 +116069,7 @@ static u32 module_zak_screen_pixel(module *self, u64 p0, u32 p1, u32 p2, u32 p3,
   j2 = l6;
   j3 = 2072ull;
   j2 += j3;
-  f91(self, j0, j1, j2); m = self->memory; if (NEVER(self->is_broken)) return ZAK_BROKEN;
+  f94(self, j0, j1, j2); m = self->memory; if (NEVER(self->is_broken)) return ZAK_BROKEN;
   j0 = l5;
   i0 = (u32)(j0);
   i0 = i32_load8_u(j0 + 8u);
@@ -115093,19 +116186,19 @@ static u32 module_zak_screen_pixel(module *self, u64 p0, u32 p1, u32 p2, u32 p3,
   j0 = l5;
   i0 = (u32)(j0);
   j0 = i64_load(j0 + 40u);
-  f151(self, j0);
+  f154(self, j0);
   B6:;
   j0 = l9;
   i0 = !(j0);
   if (i0) {goto B7;}
   j0 = l7;
-  f151(self, j0);
+  f154(self, j0);
   B7:;
   j0 = p4;
   i0 = !(j0);
   if (i0) {goto B2;}
   j0 = l10;
-  f151(self, j0);
+  f154(self, j0);
   B2:;
   j0 = p0;
   i0 = (u32)(j0);
@@ -115184,7 +116277,7 @@ static u32 module_zak_screen_read(module *self, u64 p0, u64 p1) {
   j2 = l3;
   j3 = 2072ull;
   j2 += j3;
-  f91(self, j0, j1, j2); m = self->memory; if (NEVER(self->is_broken)) return ZAK_BROKEN;
+  f94(self, j0, j1, j2); m = self->memory; if (NEVER(self->is_broken)) return ZAK_BROKEN;
   j0 = l2;
   i0 = (u32)(j0);
   i0 = i32_load8_u(j0);
@@ -115243,7 +116336,7 @@ static u32 module_zak_screen_read(module *self, u64 p0, u64 p1) {
   i2 = (u32)(j2);
   i2 = i32_load16_u(j2);
   l11 = i2;
-  f18(self, j0, i1, i2);
+  f19(self, j0, i1, i2);
   j0 = l2;
   i0 = (u32)(j0);
   i0 = i32_load8_u(j0 + 920u);
@@ -115332,19 +116425,19 @@ static u32 module_zak_screen_read(module *self, u64 p0, u64 p1) {
   i0 = !(j0);
   if (i0) {goto B7;}
   j0 = l9;
-  f151(self, j0);
+  f154(self, j0);
   B7:;
   j0 = l6;
   i0 = !(j0);
   if (i0) {goto B8;}
   j0 = l7;
-  f151(self, j0);
+  f154(self, j0);
   B8:;
   j0 = l4;
   i0 = !(j0);
   if (i0) {goto B2;}
   j0 = l5;
-  f151(self, j0);
+  f154(self, j0);
   B2:;
   j0 = p0;
   i0 = (u32)(j0);
@@ -115407,7 +116500,7 @@ static u32 module_zak_show_bda(module *self, u64 p0, u64 p1, u64 p2, u64 p3) {
   j2 += j3;
   j3 = p2;
   j4 = p3;
-  i0 = f94(self, j0, j1, j2, j3, j4); m = self->memory; if (NEVER(self->is_broken)) return ZAK_BROKEN;
+  i0 = f97(self, j0, j1, j2, j3, j4); m = self->memory; if (NEVER(self->is_broken)) return ZAK_BROKEN;
   l5 = i0;
   j0 = l4;
   j1 = 16ull;
@@ -115453,7 +116546,7 @@ static u32 module_zak_show_beam(module *self, u64 p0, u64 p1, u64 p2, u64 p3) {
   j2 += j3;
   j3 = p2;
   j4 = p3;
-  i0 = f94(self, j0, j1, j2, j3, j4); m = self->memory; if (NEVER(self->is_broken)) return ZAK_BROKEN;
+  i0 = f97(self, j0, j1, j2, j3, j4); m = self->memory; if (NEVER(self->is_broken)) return ZAK_BROKEN;
   l5 = i0;
   j0 = l4;
   j1 = 16ull;
@@ -115499,7 +116592,7 @@ static u32 module_zak_show_cells(module *self, u64 p0, u64 p1, u64 p2, u64 p3) {
   j2 += j3;
   j3 = p2;
   j4 = p3;
-  i0 = f94(self, j0, j1, j2, j3, j4); m = self->memory; if (NEVER(self->is_broken)) return ZAK_BROKEN;
+  i0 = f97(self, j0, j1, j2, j3, j4); m = self->memory; if (NEVER(self->is_broken)) return ZAK_BROKEN;
   l5 = i0;
   j0 = l4;
   j1 = 16ull;
@@ -115544,7 +116637,7 @@ static u32 module_zak_show_dac(module *self, u64 p0, u32 p1, u64 p2, u64 p3, u64
   j2 += j3;
   j3 = p3;
   j4 = p4;
-  i0 = f94(self, j0, j1, j2, j3, j4); m = self->memory; if (NEVER(self->is_broken)) return ZAK_BROKEN;
+  i0 = f97(self, j0, j1, j2, j3, j4); m = self->memory; if (NEVER(self->is_broken)) return ZAK_BROKEN;
   p1 = i0;
   j0 = l5;
   j1 = 16ull;
@@ -115590,7 +116683,7 @@ static u32 module_zak_show_latches(module *self, u64 p0, u64 p1, u64 p2, u64 p3)
   j2 += j3;
   j3 = p2;
   j4 = p3;
-  i0 = f94(self, j0, j1, j2, j3, j4); m = self->memory; if (NEVER(self->is_broken)) return ZAK_BROKEN;
+  i0 = f97(self, j0, j1, j2, j3, j4); m = self->memory; if (NEVER(self->is_broken)) return ZAK_BROKEN;
   l5 = i0;
   j0 = l4;
   j1 = 16ull;
@@ -115674,7 +116767,7 @@ static u32 module_zak_show_plane(module *self, u64 p0, u32 p1, u32 p2, u32 p3, u
   j2 += j3;
   j3 = p5;
   j4 = p6;
-  i0 = f94(self, j0, j1, j2, j3, j4); m = self->memory; if (NEVER(self->is_broken)) return ZAK_BROKEN;
+  i0 = f97(self, j0, j1, j2, j3, j4); m = self->memory; if (NEVER(self->is_broken)) return ZAK_BROKEN;
   l8 = i0;
   B0:;
   j0 = l7;
@@ -115717,7 +116810,7 @@ static u32 module_zak_show_regs(module *self, u64 p0, u64 p1, u64 p2, u64 p3) {
   j2 += j3;
   j3 = p2;
   j4 = p3;
-  i0 = f94(self, j0, j1, j2, j3, j4); m = self->memory; if (NEVER(self->is_broken)) return ZAK_BROKEN;
+  i0 = f97(self, j0, j1, j2, j3, j4); m = self->memory; if (NEVER(self->is_broken)) return ZAK_BROKEN;
   l5 = i0;
   j0 = l4;
   j1 = 16ull;
@@ -115746,7 +116839,7 @@ static u64 module_page_take(module *self, u64 p0) {
   j0 = l1;
   j1 = p0;
   j2 = 16ull;
-  f148(self, j0, j1, j2); m = self->memory; if (NEVER(self->is_broken)) return 0;
+  f151(self, j0, j1, j2); m = self->memory; if (NEVER(self->is_broken)) return 0;
   j0 = l1;
   i0 = (u32)(j0);
   j0 = i64_load(j0);
@@ -115771,12 +116864,12 @@ static u32 module_page_give(module *self, u64 p0) {
   u32 i0;
   u64 j0;
   j0 = p0;
-  f151(self, j0);
+  f154(self, j0);
   i0 = 0u;
   return i0;
 }
 
-static void f148(module *self, u64 p0, u64 p1, u64 p2) {
+static void f151(module *self, u64 p0, u64 p1, u64 p2) {
   u64 l3 = 0;
   u8 *m = self->memory;
   u32 i0, i1;
@@ -115788,7 +116881,7 @@ static void f148(module *self, u64 p0, u64 p1, u64 p2) {
   i0 = j0 > j1;
   if (i0) {goto B0;}
   j0 = p1;
-  j0 = f149(self, j0); m = self->memory; if (NEVER(self->is_broken)) return;
+  j0 = f152(self, j0); m = self->memory; if (NEVER(self->is_broken)) return;
   l3 = j0;
   B0:;
   j0 = p0;
@@ -115804,7 +116897,7 @@ static void f148(module *self, u64 p0, u64 p1, u64 p2) {
   i64_store(j0, j1);
 }
 
-static u64 f149(module *self, u64 p0) {
+static u64 f152(module *self, u64 p0) {
   u32 l8 = 0;
   u64 l1 = 0, l2 = 0, l3 = 0, l4 = 0, l5 = 0, l6 = 0, l7 = 0;
   u8 *m = self->memory;
@@ -116279,7 +117372,7 @@ static u64 f149(module *self, u64 p0) {
   return j0;
 }
 
-static void f150(module *self, u64 p0, u64 p1, u64 p2, u64 p3, u64 p4) {
+static void f153(module *self, u64 p0, u64 p1, u64 p2, u64 p3, u64 p4) {
   u32 l8 = 0;
   u64 l5 = 0, l6 = 0, l7 = 0;
   u8 *m = self->memory;
@@ -116315,7 +117408,7 @@ static void f150(module *self, u64 p0, u64 p1, u64 p2, u64 p3, u64 p4) {
   i0 = j0 > j1;
   if (i0) {goto B1;}
   j0 = p3;
-  j0 = f149(self, j0); m = self->memory; if (NEVER(self->is_broken)) return;
+  j0 = f152(self, j0); m = self->memory; if (NEVER(self->is_broken)) return;
   l7 = j0;
   i0 = !(j0);
   i0 = !(i0);
@@ -116452,7 +117545,7 @@ static void f150(module *self, u64 p0, u64 p1, u64 p2, u64 p3, u64 p4) {
   Bfunc:;
 }
 
-static void f151(module *self, u64 p0) {
+static void f154(module *self, u64 p0) {
   u32 l6 = 0;
   u64 l1 = 0, l2 = 0, l3 = 0, l4 = 0, l5 = 0;
   u8 *m = self->memory;
