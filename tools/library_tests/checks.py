@@ -112,8 +112,8 @@ COUNTED: dict[str, tuple[Sequence[str], Sequence[str], str]] = {
     "state": (SANITIZED, (), "readings are those of dumps and screens"),
     # What zak_clock tells comes after just so many dots, over pseudo-random registers.
     "clock": (["-O2"], ["100000"], "settings of registers, each with an event that comes when it is told"),
-    # Dots that are added up are those that are drawn one call after the other.
-    "advances": (SANITIZED, ["400"], "advances, each the same with a read after it"),
+    # Dots that are left to be drawn after a cycle are those that are drawn one call after the other.
+    "advances": (SANITIZED, ["1000"], "advances, each the same with a read after it, and cycles among them"),
     # Calls for many bytes leave and answer what their single cycles do, over pseudo-random registers.
     "transfers": (SANITIZED, ["20000"], "transfers, each the same as its cycles"),
     # Pictures in words are those in bytes, in each form, over pseudo-random registers.

@@ -1,6 +1,7 @@
-/* zak_advance in any pieces: one card whose dots follow one another with no other call between
- * them, and one that is looked at after each. Prints how many advances were compared, or what was
- * wrong.
+/* zak_advance in any pieces, with cycles among them: one card that may leave dots to be drawn later,
+ * and one that is looked at after each advance, so that it has drawn them all. Each cycle answers the
+ * same on both, and the states are the same at last. Prints how many advances were compared, or what
+ * was wrong.
  *
  *     advances FONTS ROUNDS */
 #include <stdio.h>
@@ -9,7 +10,7 @@
 
 #include "zaklimot.h"
 
-/* A round has at most so many advances, most of them of a few dots. */
+/* A round has fewer advances than this, most of them of a few dots, and a cycle after every other. */
 #define MOST_ADVANCES 40u
 #define FEW_DOTS 64u
 
@@ -69,14 +70,68 @@ static void advance_both(void)
     advances++;
 }
 
-/* A cycle, so that the dots before it and after it differ. */
-static void write_both(void)
+/* An address of the window that most modes have, or of text; near the beam's line now and then. */
+static uint32_t random_address(void)
 {
-    uint32_t address = 0xA0000 + random_below(0x10000);
-    uint8_t value = (uint8_t)random_below(256);
-    require(zak_put(&card, address, value) == zak_put(&other, address, value), "a put differs");
+    static uint32_t near;
     if (random_below(4) == 0)
-        require(zak_out(&card, 0x3C8, value) == zak_out(&other, 0x3C8, value), "an out differs");
+        near = random_below(0x10000);
+    uint32_t offset = (near + random_below(random_below(2) ? 0x200 : 0x10000)) & 0xFFFF;
+    return random_below(4) ? 0xA0000 + offset : 0xB8000 + (offset & 0x7FFF);
+}
+
+/* A write of a register: mostly of those that software writes again and again as it draws. */
+static void write_register(void)
+{
+    static const uint16_t words[] = {0x3C4, 0x3CE, 0x3CE, 0x3CE, 0x3D4};
+    static const uint16_t bytes[] = {0x3C0, 0x3C4, 0x3C5, 0x3C8, 0x3C9, 0x3CE, 0x3CF, 0x3D5};
+    uint16_t value = (uint16_t)random_below(0x10000);
+    if (random_below(2)) {
+        uint16_t port = words[random_below(sizeof words / sizeof *words)];
+        /* Of the CRT controller only the cursor and the start address, so that frames stay short. */
+        value = (uint16_t)((value & 0xFF00) | (port == 0x3D4 ? 0x0A + random_below(6) : random_below(10)));
+        require(zak_out_word(&card, port, value) == zak_out_word(&other, port, value), "out of a word");
+    } else {
+        uint16_t port = bytes[random_below(sizeof bytes / sizeof *bytes)];
+        require(zak_out(&card, port, (uint8_t)value) == zak_out(&other, port, (uint8_t)value), "out");
+    }
+}
+
+static void read_port(void)
+{
+    static const uint16_t ports[] = {0x3DA, 0x3DA, 0x3BA, 0x3C1, 0x3C5, 0x3C9, 0x3CC, 0x3CF, 0x3D5};
+    uint16_t port = ports[random_below(sizeof ports / sizeof *ports)];
+    uint8_t answers[2] = {0, 0};
+    require(zak_in(&card, port, &answers[0]) == zak_in(&other, port, &answers[1]), "in");
+    require(answers[0] == answers[1], "in answers something else");
+}
+
+static void read_memory(void)
+{
+    uint32_t address = random_address();
+    uint8_t answers[2] = {0, 0};
+    require(zak_get(&card, address, &answers[0]) == zak_get(&other, address, &answers[1]), "get");
+    require(answers[0] == answers[1], "get answers something else");
+}
+
+/* A cycle, so that the dots before it and after it differ. */
+static void cycle_both(void)
+{
+    uint32_t address = random_address();
+    uint8_t value = (uint8_t)random_below(256);
+    switch (random_below(8)) {
+    case 0:
+        write_register();
+        break;
+    case 1:
+        read_port();
+        break;
+    case 2:
+        read_memory();
+        break;
+    default:
+        require(zak_put(&card, address, value) == zak_put(&other, address, value), "put");
+    }
 }
 
 static void compare_states(void)
@@ -102,9 +157,12 @@ int main(int argc, char **argv)
             set_mode(&card, mode);
             set_mode(&other, mode);
         }
-        for (uint32_t n = random_below(MOST_ADVANCES); n > 0; n--)
+        for (uint32_t n = random_below(MOST_ADVANCES); n > 0; n--) {
             advance_both();
-        write_both();
+            if (random_below(2))
+                cycle_both();
+        }
+        cycle_both();
         compare_states();
     }
     zak_close(&card);
