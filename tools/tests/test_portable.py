@@ -146,7 +146,7 @@ class Compiled(Cache):
 
     def test_two_runs_at_once(self) -> None:
         begun = self.folder / "begun"
-        os.environ["CC"] = self.compiler("slow", f"echo 1 > {begun}; sleep 1", "echo ran")
+        os.environ["CC"] = self.compiler("slow", f"echo 1 > {begun}; sleep 4", "echo ran")
         own = {"env": dict(os.environ), "text": True}
         runs = [begin("tests/finding.py", **own)]
         self.wait_for(begun, runs[0])
